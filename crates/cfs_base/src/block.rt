@@ -1,0 +1,140 @@
+//! A block, and the numbers in it.
+ghost use Rattle.std.specs.Prelude.{◌≡◌, ◌+◌, ◌≤◌, ◌++◌, ◌^◌, length, replicate, take, drop, slice_range};
+ghost use Rattle.std.specs.Int.{from_be_bytes, to_be_bytes, w16, w32, w64};
+
+use std::marker::Model;
+
+/// A block of 512 bytes. Numbers in it are big-endian.
+#[derive(Clone, Copy, Debug, PartialEq, Eq)]
+pub struct Block {
+    bytes: [u8; 512],
+}
+
+impl Model for Block {
+    ghost use Rattle.std.specs.Prelude.{List, ℕ};
+    ghost use Rattle.std.specs.Coded.{coded_list, coded_ℕ};
+
+    ghost Value = { List ℕ };
+
+    ghost coded = { coded_list coded_ℕ };
+
+    ghost use Rattle.std.specs.Prelude.{◌≡◌, length};
+
+    ghost view = { λ a. a.bytes };
+
+    ghost invariant = { λ a. length a.bytes ≡ 512 };
+
+    ghost inverse = { λ d. record { bytes = d } };
+}
+
+impl Block {
+    /// The block of 512 zero bytes.
+    pub fn zero() -> Block
+        ensures { result ≡ replicate 512 0 }
+    {
+        Block { bytes: [0; 512] }
+    }
+
+    /// The block with these bytes.
+    pub fn of(bytes: [u8; 512]) -> Block
+        ensures { result ≡ bytes }
+    {
+        Block { bytes }
+    }
+
+    pub fn bytes(&self) -> &[u8; 512]
+        ensures bytes { result.now ≡ self.now }
+        ensures long { length self.now ≡ 512 }
+    {
+        &self.bytes
+    }
+
+    /// The number in the 2 bytes from this place on.
+    pub fn u16_at(&self, at: usize) -> u16
+        requires { at + 2 ≤ 512 }
+        ensures value { result ≡ from_be_bytes w16 (slice_range self.now at (at + 2)) }
+        ensures long { length self.now ≡ 512 }
+    {
+        let b = &self.bytes;
+        u16::from_be_bytes([b[at], b[at + 1]])
+    }
+
+    /// The number in the 4 bytes from this place on.
+    pub fn u32_at(&self, at: usize) -> u32
+        requires { at + 4 ≤ 512 }
+        ensures value { result ≡ from_be_bytes w32 (slice_range self.now at (at + 4)) }
+        ensures long { length self.now ≡ 512 }
+    {
+        let b = &self.bytes;
+        u32::from_be_bytes([b[at], b[at + 1], b[at + 2], b[at + 3]])
+    }
+
+    /// The number in the 8 bytes from this place on.
+    pub fn u64_at(&self, at: usize) -> u64
+        requires { at + 8 ≤ 512 }
+        ensures value { result ≡ from_be_bytes w64 (slice_range self.now at (at + 8)) }
+        ensures long { length self.now ≡ 512 }
+    {
+        let b = &self.bytes;
+        u64::from_be_bytes([
+            b[at],
+            b[at + 1],
+            b[at + 2],
+            b[at + 3],
+            b[at + 4],
+            b[at + 5],
+            b[at + 6],
+            b[at + 7],
+        ])
+    }
+
+    /// Puts the number into the 2 bytes from this place on, and changes no other.
+    pub fn put_u16(&mut self, at: usize, value: u16)
+        requires { at + 2 ≤ 512 }
+        ensures put { self.new ≡ take at self.old ++ to_be_bytes w16 value ++ drop (at + 2) self.old }
+        ensures long { length self.old ≡ 512 }
+    {
+        self.bytes[at..at + 2].copy_from_slice(&value.to_be_bytes());
+    }
+
+    /// Puts the number into the 4 bytes from this place on, and changes no other.
+    pub fn put_u32(&mut self, at: usize, value: u32)
+        requires { at + 4 ≤ 512 }
+        ensures put { self.new ≡ take at self.old ++ to_be_bytes w32 value ++ drop (at + 4) self.old }
+        ensures long { length self.old ≡ 512 }
+    {
+        self.bytes[at..at + 4].copy_from_slice(&value.to_be_bytes());
+    }
+
+    /// Puts the number into the 8 bytes from this place on, and changes no other.
+    pub fn put_u64(&mut self, at: usize, value: u64)
+        requires { at + 8 ≤ 512 }
+        ensures put { self.new ≡ take at self.old ++ to_be_bytes w64 value ++ drop (at + 8) self.old }
+        ensures long { length self.old ≡ 512 }
+    {
+        self.bytes[at..at + 8].copy_from_slice(&value.to_be_bytes());
+    }
+}
+
+#[cfg(test)]
+mod tests {
+    use super::*;
+    use std::test::Fail;
+
+    #[test]
+    fn numbers_are_big_endian(rt: HostRuntime) {
+        let mut block = Block::zero();
+        block.put_u16(0, 0x0102);
+        block.put_u32(2, 0x0304_0506);
+        block.put_u64(504, 0x0708_090a_0b0c_0d0e);
+        assert_eq!(rt; block.bytes()[0], 1);
+        assert_eq!(rt; block.bytes()[1], 2);
+        assert_eq!(rt; block.bytes()[5], 6);
+        assert_eq!(rt; block.bytes()[6], 0);
+        assert_eq!(rt; block.bytes()[511], 0x0e);
+        assert_eq!(rt; block.u16_at(4), 0x0506);
+        assert_eq!(rt; block.u32_at(0), 0x0102_0304);
+        assert_eq!(rt; block.u64_at(504), 0x0708_090a_0b0c_0d0e);
+        assert_eq!(rt; Block::of(*block.bytes()), block);
+    }
+}

@@ -1,0 +1,22 @@
+//! The plain types that every layer speaks of, and the traits of the outside: disk, source, sink and gate.
+//! The layers above use the meanings of these traits, and that a call answers `Failed` only where the count of
+//! faults of its own object rose.
+#![tactic(auto)]
+
+mod block;
+mod disk;
+mod gate;
+mod identifier;
+mod kind;
+mod lists;
+mod outside;
+mod refusal;
+
+pub use block::Block;
+pub use disk::Disk;
+pub use gate::Gate;
+pub use identifier::{BlockNo, Puid, Session, Tuid};
+pub use kind::{FileKind, Kind, Mode, Place};
+pub use lists::{Bytes, Ids};
+pub use outside::{Sink, Source};
+pub use refusal::{Damage, Failed, Need, NoMemory, Refused, Trouble};
