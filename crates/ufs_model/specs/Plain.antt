@@ -1,0 +1,43 @@
+-- What the slow server is to its callers, and how it answers.
+use Rattle.std.specs.Prelude.{◌≡◌, ℕ, Bool, true, false, Option, Some, None}
+use Rattle.ufs_model.specs.declared.asked.Ref.TheVariants.{Direct}
+use Rattle.ufs_model.specs.declared.asked.Request.{Request}
+use Rattle.ufs_model.specs.declared.asked.Request.TheVariants as asks
+use Rattle.ufs_model.specs.declared.asked.Reply.{Reply}
+use Rattle.ufs_model.specs.declared.asked.Reply.TheVariants as replies
+use Rattle.ufs_model.specs.Graph.{IsLeastFreeRoot}
+use Rattle.ufs_model.specs.State.{State}
+use Rattle.ufs_model.specs.Refusal.{refusal_of}
+use Rattle.ufs_model.specs.Outcome.{outcome_of, creates, block_named}
+
+-- a server: the seed of its words, and its state
+pub record Server : Type 0 where
+  pub seed : ℕ
+  pub state : State
+
+-- the refusal, which changes nothing, or else the outcome
+abbrev pub refused_or : Option Reply → State → Reply × State → Reply × State
+refused_or (Some reply) s done = (reply, s)
+refused_or None s done = done
+
+-- the answer to a request and the state after it, where b is the root block of a new object
+abbrev pub answer_of : ℕ → State → ℕ → Request → ℕ → Reply × State
+answer_of seed s who request b = refused_or (refusal_of s who request) s (outcome_of seed s who request b)
+
+abbrev pub is_id : Reply → Bool
+is_id (replies.Id id) = true
+is_id reply = false
+
+-- reply and state are those of the answer, and a new object's root block is the least that is free
+pub record IsAnswer (seed : ℕ) (s : State) (who : ℕ) (request : Request) (reply : Reply) (after : State) : Type 0 where
+  pub is : answer_of seed s who request (block_named reply) ≡ (reply, after)
+  pub least : creates request ≡ true → is_id reply ≡ true → IsLeastFreeRoot s.graph.objects (block_named reply)
+
+-- the requests that are served so far: those on an index, by its identifier
+abbrev pub IsServed : Request → Type 0
+IsServed (asks.CreateIndex slots (Direct id) slot) = Unit {0}
+IsServed (asks.Retain (Direct id) slot x) = Unit {0}
+IsServed (asks.Retrieve (Direct id) slot) = Unit {0}
+IsServed (asks.Delete (Direct id) slot) = Unit {0}
+IsServed (asks.Slots (Direct id)) = Unit {0}
+IsServed request = ⊥

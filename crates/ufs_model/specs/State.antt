@@ -1,0 +1,112 @@
+-- What the server remembers, and what a reference of a session goes to.
+use Rattle.std.specs.Prelude.{ℕ, Bool, not, ◌&&◌, ◌==◌, is_none, if◌then◌else◌, List, [], ◌∷◌, ◌++◌, map, filter, find, Option, Some, None, option_and_then, unwrap_or}
+use Rattle.cfs_base.specs.declared.identifier.Puid.{Puid}
+use Rattle.cfs_base.specs.declared.identifier.Tuid.{Tuid}
+use Rattle.cfs_base.specs.declared.kind.FileKind.TheVariants as kinds
+use Rattle.ufs_model.specs.declared.asked.Ref.{Ref}
+use Rattle.ufs_model.specs.declared.asked.Ref.TheVariants.{Direct, Through}
+use Rattle.ufs_model.specs.declared.collection.Collection.{Collection}
+use Rattle.ufs_model.specs.declared.collection.Collection.TheVariants as collections
+use Rattle.ufs_model.specs.declared.object.Object.{Object}
+use Rattle.ufs_model.specs.declared.object.Object.TheVariants as objects
+use Rattle.ufs_model.specs.declared.object.File.{File}
+use Rattle.ufs_model.specs.declared.object.Index.{Index}
+use Rattle.ufs_model.specs.declared.object.Draft.{Draft}
+use Rattle.ufs_model.specs.declared.object.Grant.{Grant}
+use Rattle.ufs_model.specs.Identifier.{same_tuid}
+use Rattle.ufs_model.specs.Object.{Change, changed_object, fresh_after, new_file, new_index}
+use Rattle.ufs_model.specs.Graph.{Graph, object_at, with_object, graph_pairs}
+
+pub record State : Type 0 where
+  pub graph : Graph
+  pub grants : List Grant
+  -- how many words were drawn
+  pub drawn : ℕ
+  -- the moment at which the server stopped
+  pub stopped : Option ℕ
+  pub collection : Collection
+
+-- where a run begins
+abbrev pub opening : Graph → State
+opening g = record { graph = g; grants = []; drawn = 0; stopped = None; collection = collections.None }
+
+abbrev pub is_running : State → Bool
+is_running s = is_none s.stopped
+
+abbrev pub stopped_at : ℕ → State → State
+stopped_at moment s = record s { stopped = Some moment }
+
+-- index i refers to x: each such pair that stands now
+abbrev pub pairs_of : State → List (Puid × Puid)
+pairs_of s = graph_pairs s.graph
+
+-- ---- grants
+
+abbrev pub is_grant : ℕ → Tuid → Grant → Bool
+is_grant who t g = (g.session == who) && same_tuid g.tuid t
+
+-- the session's standing grant of that identifier
+abbrev pub grant_of : State → ℕ → Tuid → Option Grant
+grant_of s who t = find (is_grant who t) s.grants
+
+-- the objects that are open
+abbrev pub open_ids : State → List Puid
+open_ids s = map (λ g. g.id) s.grants
+
+-- the session's grants, with their drafts, are dropped
+abbrev pub after_leave : State → ℕ → State
+after_leave s who = record s { grants = filter (λ g. not (g.session == who)) s.grants }
+
+-- ---- what a reference goes to
+
+-- the identifier that it names
+abbrev pub named : State → ℕ → Ref → Option Puid
+named s who (Direct id) = Some id
+named s who (Through t) = option_and_then (λ g. Some g.id) (grant_of s who t)
+
+abbrev pub object_of : State → ℕ → Ref → Option Object
+object_of s who ref = option_and_then (object_at s.graph) (named s who ref)
+
+abbrev pub draft_of : State → ℕ → Ref → Option Draft
+draft_of s who (Direct id) = None
+draft_of s who (Through t) = option_and_then (λ g. g.draft) (grant_of s who t)
+
+-- what is seen through it: the grant's draft where it has one, else the object, of which nothing is fresh. A reference
+-- that is refused shows an empty index
+abbrev pub seen : State → ℕ → Ref → Draft
+seen s who ref = unwrap_or (draft_of s who ref) (record {
+  object = unwrap_or (object_of s who ref) (objects.Index (new_index 0));
+  fresh = [];
+})
+
+-- as an index, and as a file
+abbrev pub the_index : Object → Index
+the_index (objects.Index i) = i
+the_index (objects.File f) = new_index 0
+
+abbrev pub the_file : Object → File
+the_file (objects.File f) = f
+the_file (objects.Index i) = new_file kinds.Normal 0
+
+abbrev pub index_seen : State → ℕ → Ref → Index
+index_seen s who ref = the_index (seen s who ref).object
+
+abbrev pub file_seen : State → ℕ → Ref → File
+file_seen s who ref = the_file (seen s who ref).object
+
+-- ---- what a reference goes to, changed
+
+abbrev pub changed_draft : Change → Draft → Draft
+changed_draft c d = record { object = changed_object c d.object; fresh = fresh_after c d.object d.fresh }
+
+abbrev put_object : State → Option Puid → Object → State
+put_object s None o = s
+put_object s (Some id) o = record s { graph = with_object s.graph id o }
+
+abbrev put_draft : State → ℕ → Ref → Draft → State
+put_draft s who (Direct id) d = s
+put_draft s who (Through t) d = record s { grants = map (λ g. if is_grant who t g then record g { draft = Some d } else g) s.grants }
+
+-- the state with this to be seen through the reference: in the grant's draft where it has one, else in the graph
+abbrev pub put : State → ℕ → Ref → Draft → State
+put s who ref d = elim (draft_of s who ref) [ Some old ↦ put_draft s who ref d | None ↦ put_object s (named s who ref) d.object ]

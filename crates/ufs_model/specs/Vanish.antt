@@ -1,0 +1,64 @@
+-- What a collection may take, and what it must.
+use Rattle.std.specs.Prelude.{ℕ, Bool, true, false, not, ◌&&◌, ◌||◌, IsTrue, List, [], ◌∷◌, length}
+use Rattle.std.specs.List.{list_all}
+use Rattle.cfs_base.specs.declared.identifier.Puid.{Puid}
+use Rattle.ufs_model.specs.declared.collection.Collection.{Collection}
+use Rattle.ufs_model.specs.declared.collection.Collection.TheVariants as collections
+use Rattle.ufs_model.specs.Identifier.{is_among, rises}
+use Rattle.ufs_model.specs.Graph.{Graph, ids_of, is_there, has_pair}
+use Rattle.ufs_model.specs.State.{State, pairs_of}
+use Rattle.ufs_model.specs.Reach.{reached, kept}
+
+-- ---- the collection's memory
+
+-- the pairs that stood at any time since the collection began
+abbrev pub edges : Collection → List (Puid × Puid)
+edges (collections.Marking stood opened) = stood
+edges collections.None = []
+edges collections.Sweeping = []
+
+-- the root, and what was open at any time since
+abbrev pub starts : Collection → List Puid
+starts (collections.Marking stood opened) = opened
+starts collections.None = []
+starts collections.Sweeping = []
+
+abbrev pub is_marking : Collection → Bool
+is_marking (collections.Marking stood opened) = true
+is_marking collections.None = false
+is_marking collections.Sweeping = false
+
+-- ---- cut off
+
+-- what is reached from any of the starts through any of the edges
+abbrev pub reached_since : Collection → List Puid
+reached_since c = reached (length (edges c)) (edges c) (starts c)
+
+-- an object of the graph that was reached at no time since the collection began: it is cut off throughout
+abbrev pub is_cut_off : State → Puid → Bool
+is_cut_off s x = is_there s.graph x && not (is_among x (reached_since s.collection))
+
+abbrev pub IsCutOff : State → Puid → Type 0
+IsCutOff s x = IsTrue (is_cut_off s x)
+
+-- ---- whether exactly these may vanish
+
+abbrev are_there : State → List Puid → Bool
+are_there s ids = rises ids && list_all (is_there s.graph) ids
+
+abbrev has_no_kept : State → List Puid → Bool
+has_no_kept s ids = list_all (λ x. not (is_among x ids)) (kept s)
+
+-- no index that remains refers to one
+abbrev leaves_no_reference : State → List Puid → Bool
+leaves_no_reference s ids = list_all (λ e. is_among e.0 ids || not (is_among e.1 ids)) (pairs_of s)
+
+abbrev has_all_cut_off : State → List Puid → Bool
+has_all_cut_off s ids = list_all (λ x. not (is_cut_off s x) || is_among x ids) (ids_of s.graph)
+
+abbrev pub may_vanish : State → List Puid → Bool
+may_vanish s ids =
+    is_marking s.collection && are_there s ids && has_no_kept s ids && leaves_no_reference s ids && has_all_cut_off s ids
+
+abbrev pub MayVanish : State → List Puid → Type 0
+MayVanish s ids = IsTrue (may_vanish s ids)
