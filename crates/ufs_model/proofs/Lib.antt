@@ -9,3 +9,4 @@ pub mod RootBlocks
 pub mod Entries
 pub mod Answered
 pub mod Legal
+pub mod ServedForms

@@ -1,6 +1,5 @@
 -- What the slow server is to its callers, and how it answers.
 use Rattle.std.specs.Prelude.{◌≡◌, ℕ, Bool, true, false, Option, Some, None}
-use Rattle.ufs_model.specs.declared.asked.Ref.TheVariants.{Direct}
 use Rattle.ufs_model.specs.declared.asked.Request.{Request}
 use Rattle.ufs_model.specs.declared.asked.Request.TheVariants as asks
 use Rattle.ufs_model.specs.declared.asked.Reply.{Reply}
@@ -33,11 +32,11 @@ pub record IsAnswer (seed : ℕ) (s : State) (who : ℕ) (request : Request) (re
   pub is : answer_of seed s who request (block_named reply) ≡ (reply, after)
   pub least : creates request ≡ true → is_id reply ≡ true → IsLeastFreeRoot s.graph.objects (block_named reply)
 
--- the requests that are served so far: those on an index, by its identifier
+-- the requests that are served so far: those on an index
 abbrev pub IsServed : Request → Type 0
-IsServed (asks.CreateIndex slots (Direct id) slot) = Unit {0}
-IsServed (asks.Retain (Direct id) slot x) = Unit {0}
-IsServed (asks.Retrieve (Direct id) slot) = Unit {0}
-IsServed (asks.Delete (Direct id) slot) = Unit {0}
-IsServed (asks.Slots (Direct id)) = Unit {0}
+IsServed (asks.CreateIndex slots index slot) = Unit {0}
+IsServed (asks.Retain index slot id) = Unit {0}
+IsServed (asks.Retrieve index slot) = Unit {0}
+IsServed (asks.Delete index slot) = Unit {0}
+IsServed (asks.Slots index) = Unit {0}
 IsServed request = ⊥

@@ -37,7 +37,7 @@ Unbound ⊛ Unbound = Unbound
 Unbound ⊛ Bad = Bad
 Bad ⊛ r = Bad
 
-abbrev only_if : {A : Type 0} → Bool → Reading A → Reading A
+abbrev pub only_if : {A : Type 0} → Bool → Reading A → Reading A
 only_if b r = if b then r else Bad
 
 abbrev is_word : List ℕ → List ℕ → Bool
@@ -222,11 +222,11 @@ all_forms =
 abbrev pub form_of : List Form → List ℕ → Option Form
 form_of forms verb = find (λ form. is_word verb form.verb) forms
 
-abbrev read_words : Form → Names → List (List ℕ) → Reading Request
+abbrev pub read_words : Form → Names → List (List ℕ) → Reading Request
 read_words form names [] = form.reads names []
 read_words form names (w ∷ words) = if form.binds then only_if (is_name w) (form.reads names words) else form.reads names (w ∷ words)
 
-abbrev read_with : Option Form → Names → List (List ℕ) → Reading Request
+abbrev pub read_with : Option Form → Names → List (List ℕ) → Reading Request
 read_with None names words = Bad
 read_with (Some form) names words = read_words form names words
 

@@ -1,5 +1,5 @@
 //! Which root blocks the objects of a graph have.
-ghost use Rattle.std.specs.Prelude.{◌≡◌, ◌<◌, ◌≤◌, ◌^◌, ℕ, true, IfSome};
+ghost use Rattle.std.specs.Prelude.{◌≡◌, ◌<◌, ◌≤◌, ◌^◌, ℕ, true, None, IfSome};
 ghost use Rattle.ufs_model.specs.Graph.{IsLeastFreeRoot, has_block};
 
 use crate::object::Object;
@@ -28,6 +28,7 @@ pub fn least_free_root(objects: &BTreeMap<Puid, Object>, from: u32) -> Option<u3
     requires taken { (c : ℕ) → 3 ≤ c → c < from → has_block objects.now.entries c ≡ true }
     ensures least { IfSome result (λ b. IsLeastFreeRoot objects.now.entries b) }
     ensures fits { IfSome result (λ b. b < 4294967295) }
+    ensures none { result ≡ None → (c : ℕ) → 3 ≤ c → c < 4294967295 → has_block objects.now.entries c ≡ true }
 {
     for block in from..u32::MAX {
         if !is_taken(objects, block) {

@@ -133,6 +133,11 @@ impl Plain {
             Request::Slots {
                 index: Ref::Direct(index),
             } => Ok(self.slots(*index)),
+            Request::CreateIndex { .. }
+            | Request::Retain { .. }
+            | Request::Retrieve { .. }
+            | Request::Delete { .. }
+            | Request::Slots { .. } => Ok(Reply::NoGrant),
             _ => unreachable!(),
         }
     }
