@@ -1,1 +1,3 @@
+pub mod Disk
 pub mod Outside
+pub mod Run

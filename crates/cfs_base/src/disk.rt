@@ -1,13 +1,41 @@
-//! A disk of blocks, as the server calls it.
-ghost use Rattle.std.specs.Prelude.{◌≡◌, ◌<◌, ◌≤◌, ℕ, IsErr};
-ghost use Rattle.cfs_base.specs.Outside.{Rose};
+//! A disk of blocks, as the server calls it: what it holds, and what a crash may leave of it.
+ghost use Rattle.std.specs.Prelude.{◌≡◌, ◌≢◌, ◌⊎◌, ◌<◌, ℕ, Bool, IsTrue, List, length, set, OnOk, OnErr, IsErr};
+ghost use Rattle.cfs_base.specs.Disk.{block_at, Nothing, Written, Only, IsSameDisk, LeavesOnly, KeepsLeft, CountsRead, CountsTry};
 
 use crate::{Block, BlockNo, Failed};
 
-/// A disk of blocks that are numbered from 0.
+/// A disk of blocks that are numbered from 0. A block is written whole or not at all. A crash leaves of each block,
+/// whatever it leaves of the others, what it held at the last barrier that was done, or what some write since has put
+/// there, be it a write that failed.
+///
+/// A disk may tell nothing: then it counts, and promises nothing of its content and its images.
 pub trait Disk {
     /// How many blocks it has.
     ghost blocks: { Self → ℕ };
+
+    /// Whether it tells its content.
+    ghost honest: { Self → Bool };
+
+    /// What each block holds or, where this isn't told, will hold after the next barrier that is done.
+    ghost content: { Self → List (List ℕ) };
+
+    /// Whether a read of this block gives its content. After a write that failed it need not, until a barrier is done.
+    ghost told: { Self → ℕ → Bool };
+
+    /// Whether it tells its crash images.
+    ghost tells_images: { Self → Bool };
+
+    /// What a crash at some moment since this one may have left. Nothing where the disk doesn't tell.
+    ghost left_since: { Self → ℕ → List (List ℕ) → Type 0 };
+
+    /// A clock, which never falls. Writes, barriers and calls that fail raise it up to the last number of a u64.
+    ghost moment: { Self → ℕ };
+
+    /// How many reads, writes and barriers were called, up to the last number of a u64.
+    ghost calls: { Self → ℕ };
+
+    /// How many writes and barriers were called, up to the last number of a u64.
+    ghost tries: { Self → ℕ };
 
     /// How often a call failed.
     ghost faults: { Self → ℕ };
@@ -17,25 +45,52 @@ pub trait Disk {
         ensures { result ≡ blocks self.now };
 
     /// The disk's clock.
-    fn moment(&self) -> u64;
+    fn moment(&self) -> u64
+        ensures { result ≡ moment self.now };
 
-    /// Reads a block.
+    /// The number of calls.
+    fn calls(&self) -> u64
+        ensures { result ≡ calls self.now };
+
+    /// Reads a block. One that fails may leave anything in `into`.
     fn read(&mut self, at: BlockNo, into: &mut Block) -> Result<(), Failed>
         requires { at.0 < blocks self.old }
-        ensures blocks { blocks self.new ≡ blocks self.old }
-        ensures faults { faults self.old ≤ faults self.new }
-        ensures failed { IsErr result → Rose (faults self.old) (faults self.new) };
+        ensures bytes { OnOk result (IsTrue (told self.old at.0) → into.new ≡ block_at (content self.old) at.0) }
+        ensures content { content self.new ≡ content self.old }
+        ensures told { (n : ℕ) → IsTrue (told self.old n) → IsTrue (told self.new n) }
+        ensures images { LeavesOnly moment left_since self.old self.new Nothing }
+        ensures keeps { KeepsLeft moment left_since self.old self.new }
+        ensures same { IsSameDisk blocks honest tells_images self.old self.new }
+        ensures counts { CountsRead moment calls tries faults self.old self.new (IsErr result) };
 
-    /// Writes a block.
+    /// Writes a block. After one that fails the block has either content, and isn't told.
     fn write(&mut self, at: BlockNo, from: &Block) -> Result<(), Failed>
         requires { at.0 < blocks self.old }
-        ensures blocks { blocks self.new ≡ blocks self.old }
-        ensures faults { faults self.old ≤ faults self.new }
-        ensures failed { IsErr result → Rose (faults self.old) (faults self.new) };
+        ensures written { OnOk result (content self.new ≡ set (content self.old) at.0 from.now) }
+        ensures either { OnErr result ((content self.new ≡ content self.old)
+            ⊎ (content self.new ≡ set (content self.old) at.0 from.now)) }
+        ensures told { OnOk result ((n : ℕ) → IsTrue (told self.old n) → IsTrue (told self.new n)) }
+        ensures told_others { (n : ℕ) → n ≢ at.0 → IsTrue (told self.old n) → IsTrue (told self.new n) }
+        ensures images { LeavesOnly moment left_since self.old self.new
+            (Written (left_since self.old (moment self.old)) at.0 from.now) }
+        ensures keeps { KeepsLeft moment left_since self.old self.new }
+        ensures same { IsSameDisk blocks honest tells_images self.old self.new }
+        ensures counts { CountsTry moment calls tries faults tells_images self.old self.new (IsErr result) };
 
-    /// Makes the writes before it last over a crash.
+    /// Makes the writes before it outlast a crash. One that fails is no barrier.
     fn barrier(&mut self) -> Result<(), Failed>
-        ensures blocks { blocks self.new ≡ blocks self.old }
-        ensures faults { faults self.old ≤ faults self.new }
-        ensures failed { IsErr result → Rose (faults self.old) (faults self.new) };
+        ensures content { content self.new ≡ content self.old }
+        ensures told { (n : ℕ) → IsTrue (told self.old n) → IsTrue (told self.new n) }
+        ensures all_told { OnOk result (IsTrue (honest self.old) → (n : ℕ) → IsTrue (told self.new n)) }
+        ensures durable { OnOk result (Only (content self.new) (left_since self.new (moment self.new))) }
+        ensures images { LeavesOnly moment left_since self.old self.new Nothing }
+        ensures keeps { KeepsLeft moment left_since self.old self.new }
+        ensures same { IsSameDisk blocks honest tells_images self.old self.new }
+        ensures counts { CountsTry moment calls tries faults tells_images self.old self.new (IsErr result) };
+
+    /// Only an honest disk tells a block.
+    ghost only_honest: { (d : Self) (n : ℕ) → IsTrue (told d n) → IsTrue (honest d) };
+
+    /// The content of an honest disk is as long as the disk.
+    ghost sized: { (d : Self) → IsTrue (honest d) → length (content d) ≡ blocks d };
 }

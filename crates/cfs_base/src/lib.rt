@@ -11,6 +11,8 @@ mod kind;
 mod lists;
 mod outside;
 mod refusal;
+#[cfg(test)]
+mod steps;
 
 pub use block::Block;
 pub use disk::Disk;

@@ -17,12 +17,16 @@ pub fn read_whole<S: Source>(
     limit: usize,
 ) -> Result<Vec<u8>, ReadFault>
     // Of a source that tells its bytes, the answer is all of them, or that they are too many.
-    ensures whole { (left : List ℕ) → (S.supply source.old).left ≡ Some left → IfOk result (λ v. v.items ≡ left) }
+    ensures whole { (left : List ℕ) → (S.supply source.old).left ≡ Some left
+        → IfOk result (λ v. v.items ≡ left) }
     ensures fits { IfOk result (λ v. vec_len v ≤ limit) }
-    ensures long { IsErrOf result ReadFault.Long → (left : List ℕ) → (S.supply source.old).left ≡ Some left → limit < length left }
-    ensures not_long { (left : List ℕ) → (S.supply source.old).left ≡ Some left → limit < length left → IsErr result }
+    ensures long { IsErrOf result ReadFault.Long
+        → (left : List ℕ) → (S.supply source.old).left ≡ Some left → limit < length left }
+    ensures not_long { (left : List ℕ) → (S.supply source.old).left ≡ Some left
+        → limit < length left → IsErr result }
 
-    ensures failed { IsErrOf result ReadFault.Failed → Rose (S.supply source.old).faults (S.supply source.new).faults }
+    ensures failed { IsErrOf result ReadFault.Failed
+        → Rose (S.supply source.old).faults (S.supply source.new).faults }
     ensures kept { (S.supply source.old).faults ≤ (S.supply source.new).faults }
     ensures taken { GaveUpTo (limit + 1) (S.supply source.old) (S.supply source.new) }
 {
@@ -45,14 +49,17 @@ fn read_more<S: Source>(
     buffer: &mut [u8],
 ) -> Result<usize, ReadFault>
     requires { 0 < length buffer.old }
-    ensures gave { IfOk result (λ n. Gave (S.supply source.old) (S.supply source.new) (take n buffer.new)) }
+    ensures gave { IfOk result (λ n.
+        Gave (S.supply source.old) (S.supply source.new) (take n buffer.new)) }
     ensures more { IfOk result (λ n. bytes.new.items ≡ bytes.old.items ++ take n buffer.new) }
     ensures within { IfOk result (λ n. n ≤ length buffer.new) }
     ensures ended { IfOk result (λ n. n ≡ 0 → IsAtEnd (S.supply source.old)) }
 
     ensures not_long { result ≢ Err ReadFault.Long }
-    ensures failed { IsErrOf result ReadFault.Failed → Rose (S.supply source.old).faults (S.supply source.new).faults }
-    ensures taken { OnErr result (GaveUpTo (length buffer.old) (S.supply source.old) (S.supply source.new)) }
+    ensures failed { IsErrOf result ReadFault.Failed
+        → Rose (S.supply source.old).faults (S.supply source.new).faults }
+    ensures taken { OnErr result
+        (GaveUpTo (length buffer.old) (S.supply source.old) (S.supply source.new)) }
 {
     let count = source.read(buffer)?;
     bytes.extend_from_slice(&buffer[..count])?;

@@ -1,5 +1,6 @@
 -- What the slow server is to its callers, and how it answers.
-use Rattle.std.specs.Prelude.{◌≡◌, ℕ, Bool, true, false, Option, Some, None}
+use Rattle.std.specs.Prelude.{◌≡◌, ℕ, ◌≤◌, Bool, true, false, length, Option, Some, None}
+use Rattle.ufs_model.specs.declared.limits.TheConstants.{MOST_AT_ONCE}
 use Rattle.ufs_model.specs.declared.asked.Request.{Request}
 use Rattle.ufs_model.specs.declared.asked.Request.TheVariants as asks
 use Rattle.ufs_model.specs.declared.asked.Reply.{Reply}
@@ -31,6 +32,15 @@ is_id reply = false
 pub record IsAnswer (seed : ℕ) (s : State) (who : ℕ) (request : Request) (reply : Reply) (after : State) : Type 0 where
   pub is : answer_of seed s who request (block_named reply) ≡ (reply, after)
   pub least : creates request ≡ true → is_id reply ≡ true → IsLeastFreeRoot s.graph.objects (block_named reply)
+
+-- It has no disk, is never full and doesn't stop; and a content is no longer than one read
+abbrev pub IsPlainReply : Reply → Type 0
+IsPlainReply (replies.Content bytes) = length bytes ≤ MOST_AT_ONCE
+IsPlainReply (replies.Full n) = ⊥
+IsPlainReply (replies.Stopped moment) = ⊥
+IsPlainReply (replies.Disk doubt) = ⊥
+IsPlainReply (replies.Damaged damage moment) = ⊥
+IsPlainReply reply = Unit {0}
 
 -- the requests that are served so far: those on an index
 abbrev pub IsServed : Request → Type 0

@@ -20,3 +20,4 @@ pub use limits::{
 };
 pub use object::{Draft, File, Grant, Index, Levels, Numbers, Object, Slots};
 pub use plain::Plain;
+pub use word::word_of;

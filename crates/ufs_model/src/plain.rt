@@ -5,7 +5,7 @@ ghost use Rattle.ufs_model.specs.declared.asked.Request.TheVariants as asks;
 ghost use Rattle.ufs_model.specs.declared.asked.Ref.TheVariants.{Direct};
 ghost use Rattle.ufs_model.specs.declared.asked.Event.TheVariants as events;
 ghost use Rattle.ufs_model.specs.declared.object.Object.TheVariants as objects;
-ghost use Rattle.ufs_model.specs.Plain.{Server, IsAnswer, IsServed, answer_of};
+ghost use Rattle.ufs_model.specs.Plain.{Server, IsAnswer, IsPlainReply, IsServed, answer_of};
 ghost use Rattle.ufs_model.specs.Graph.{fresh_graph, object_at};
 ghost use Rattle.ufs_model.specs.State.{opening, is_running};
 ghost use Rattle.ufs_model.specs.Next.{next};
@@ -94,6 +94,7 @@ impl Plain {
         requires served { IsServed request.now }
         requires words { self.old.state.drawn < 4294967295 }
         ensures step { next self.old.seed self.old.state (events.Ask who request.now result) ≡ Some self.new.state }
+        ensures plain { IsPlainReply result }
         ensures answer { result ≢ replies.Memory → IsAnswer self.old.seed self.old.state who request.now result self.new.state }
         ensures seed { self.new.seed ≡ self.old.seed }
         ensures drawn { self.new.state.drawn ≤ self.old.state.drawn + 1 }
@@ -106,6 +107,7 @@ impl Plain {
         requires words { self.old.state.drawn < 4294967295 }
         ensures answer { IfOk result (λ reply. IsAnswer self.old.seed self.old.state who request.now reply self.new.state) }
         ensures memory { OnErr result (self.new ≡ self.old) }
+        ensures plain { IfOk result IsPlainReply }
         ensures running { IsTrue (is_running self.old.state) }
         ensures seed { self.new.seed ≡ self.old.seed }
         ensures drawn { self.new.state.drawn ≤ self.old.state.drawn + 1 }
@@ -143,7 +145,8 @@ impl Plain {
     }
 
     fn retrieve(&self, index: Puid, slot: u64) -> Reply
-        ensures { (who b : ℕ) → answer_of self.now.seed self.now.state who (asks.Retrieve (Direct index) slot) b ≡ (result, self.now.state) }
+        ensures plain { IsPlainReply result }
+        ensures answer { (who b : ℕ) → answer_of self.now.seed self.now.state who (asks.Retrieve (Direct index) slot) b ≡ (result, self.now.state) }
     {
         let index = match self.objects.get(&index) {
             Some(Object::Index(index)) => index,
@@ -160,7 +163,8 @@ impl Plain {
     }
 
     fn slots(&self, index: Puid) -> Reply
-        ensures { (who b : ℕ) → answer_of self.now.seed self.now.state who (asks.Slots (Direct index)) b ≡ (result, self.now.state) }
+        ensures plain { IsPlainReply result }
+        ensures answer { (who b : ℕ) → answer_of self.now.seed self.now.state who (asks.Slots (Direct index)) b ≡ (result, self.now.state) }
     {
         match self.objects.get(&index) {
             Some(Object::Index(index)) => Reply::Number(index.len()),
@@ -171,6 +175,7 @@ impl Plain {
 
     fn delete(&mut self, index: Puid, slot: u64) -> Reply
         ensures answer { (who b : ℕ) → answer_of self.old.seed self.old.state who (asks.Delete (Direct index) slot) b ≡ (result, self.new.state) }
+        ensures plain { IsPlainReply result }
         ensures seed { self.new.seed ≡ self.old.seed }
         ensures drawn { self.new.state.drawn ≡ self.old.state.drawn }
     {
@@ -192,6 +197,7 @@ impl Plain {
     fn retain(&mut self, alloc: Global, index: Puid, slot: u64, id: Puid) -> Result<Reply, NoMemory>
         ensures answer { IfOk result (λ reply. (who b : ℕ) → answer_of self.old.seed self.old.state who (asks.Retain (Direct index) slot id) b ≡ (reply, self.new.state)) }
         ensures memory { OnErr result (self.new ≡ self.old) }
+        ensures plain { IfOk result IsPlainReply }
         ensures seed { self.new.seed ≡ self.old.seed }
         ensures drawn { self.new.state.drawn ≡ self.old.state.drawn }
     {
@@ -221,6 +227,7 @@ impl Plain {
         requires { self.old.state.drawn < 4294967295 }
         ensures answer { IfOk result (λ reply. (who : ℕ) → IsAnswer self.old.seed self.old.state who (asks.CreateIndex slots (Direct index) slot) reply self.new.state) }
         ensures memory { OnErr result (self.new ≡ self.old) }
+        ensures plain { IfOk result IsPlainReply }
         ensures seed { self.new.seed ≡ self.old.seed }
         ensures drawn { self.new.state.drawn ≤ self.old.state.drawn + 1 }
     {

@@ -17,13 +17,13 @@ no_create seed s who request reply after none is = record { is = is who (block_n
 pub returns-in-Slots-Direct-clause-answer : goal.returns-in-Slots-Direct-clause-answer
 returns-in-Slots-Direct-clause-answer c =
     let whole : c.args.request.now ≡ asks.Slots (Direct c.in-Slots-Direct.index) = search rules in
-    rw whole (no_create _ _ _ _ _ _ refl c.slots.ensures)
+    rw whole (no_create _ _ _ _ _ _ refl c.slots.ensures.answer)
 
 pub returns-in-Retrieve-Direct-default-clause-answer : goal.returns-in-Retrieve-Direct-default-clause-answer
 returns-in-Retrieve-Direct-default-clause-answer c =
     let arm = c.in-Retrieve-Direct-default in
     let whole : c.args.request.now ≡ asks.Retrieve (Direct arm.index) arm.slot = search rules in
-    rw whole (no_create _ _ _ _ _ _ refl c.retrieve.ensures)
+    rw whole (no_create _ _ _ _ _ _ refl c.retrieve.ensures.answer)
 
 pub returns-in-Delete-Direct-default-clause-answer : goal.returns-in-Delete-Direct-default-clause-answer
 returns-in-Delete-Direct-default-clause-answer c =

@@ -1,0 +1,8 @@
+pub mod Numbers
+pub mod Bytes
+pub mod Fields
+pub mod Spellings
+pub mod Trees
+pub mod Faults
+pub mod Walks
+mod Rows

@@ -1,0 +1,5 @@
+use Rattle.std.proofs.Common.{◌≡◌, ◌%◌, ◌<◌, ◌≤◌, ℕ, get_or}
+use Rattle.block_tree.proofs.walk.held_in_node.Given as goal
+
+abbrev pub invariant-loop-place : goal.invariant-loop-place
+invariant-loop-place l = (i : ℕ) → l.from % 128 ≤ i → i < l.place → get_or l.node.leaves i 0 ≡ 0

@@ -1,0 +1,93 @@
+-- A tree of blocks over an image: what stands at the end of each path of pointers, from a root's content down.
+use Rattle.std.specs.Prelude.{◌≡◌, ◌≢◌, ◌⊎◌, ℕ, zero, suc, ◌*◌, ◌/◌, ◌%◌, ◌<◌, ◌≤◌, List, [], ◌∷◌, ◌++◌, length, get_or, replicate, filter, not, ◌==◌}
+use Rattle.std.specs.List.{range_with_len}
+use Rattle.cfs_base.specs.Disk.{Image, block_at}
+use Rattle.block_tree.specs.Reads.{IsPast}
+use Rattle.block_tree.specs.Pointers.{Level, pointers_of, node_pointers, leaf_pointers}
+
+-- ---- levels and paths
+
+-- the levels of pointers below a root of this content: the root's to its nodes, and the nodes' to their leaves
+unfoldable pub levels_of : List ℕ → List Level
+levels_of root = node_pointers ∷ leaf_pointers ∷ []
+
+-- how many leaves lie below a block with these levels
+abbrev pub width : List Level → ℕ
+width [] = 1
+width (level ∷ levels) = level.count * width levels
+
+-- the path of a leaf: at each level the place of a pointer
+unfoldable pub path_to : List Level → ℕ → List ℕ
+path_to [] leaf = []
+path_to (level ∷ levels) leaf = leaf / width levels ∷ path_to levels (leaf % width levels)
+
+-- ---- the tree
+
+-- the pointer at a place, 0 past the last
+abbrev pub pointer : Level → List ℕ → ℕ → ℕ
+pointer level content k = get_or (pointers_of level content) k 0
+
+-- The block at the end of a path that begins at block n. Block 0 is no block: pointer 0 leads nowhere, and so does a path with more places than levels.
+abbrev pub end_of : Image → List Level → ℕ → List ℕ → ℕ
+end_of image levels n [] = n
+end_of image levels zero (k ∷ path) = 0
+end_of image [] (suc n) (k ∷ path) = 0
+end_of image (level ∷ levels) (suc n) (k ∷ path) = end_of image levels (pointer level (block_at image (suc n)) k) path
+
+-- the block at the end of each path below a block of this content, 0 where none stands there
+abbrev pub below : Image → List Level → List ℕ → List ℕ → ℕ
+below image levels content [] = 0
+below image [] content (k ∷ path) = 0
+below image (level ∷ levels) content (k ∷ path) = end_of image levels (pointer level content k) path
+
+-- the tree of a root of this content
+abbrev pub tree_of : Image → List ℕ → List ℕ → ℕ
+tree_of image root = below image (levels_of root) root
+
+-- ---- leaves
+
+-- how many leaves the tree may have
+abbrev pub leaf_count : List ℕ → ℕ
+leaf_count root = width (levels_of root)
+
+-- the block of a leaf, 0 where the leaf is absent
+abbrev pub leaf_block : Image → List ℕ → ℕ → ℕ
+leaf_block image root leaf = tree_of image root (path_to (levels_of root) leaf)
+
+-- of the first so many leaves those that are there, in rising order
+abbrev pub held_leaves : Image → List ℕ → ℕ → List ℕ
+held_leaves image root count = filter (λ leaf. not (leaf_block image root leaf == 0)) (range_with_len 0 count)
+
+-- what a leaf with this block reads as: its content, or fill bytes where it is absent
+abbrev pub bytes_in : Image → ℕ → ℕ → List ℕ
+bytes_in image fill zero = replicate 512 fill
+bytes_in image fill (suc n) = block_at image (suc n)
+
+-- the bytes of a leaf; the root's second byte is the fill byte
+abbrev pub leaf_bytes : Image → List ℕ → ℕ → List ℕ
+leaf_bytes image root leaf = bytes_in image (get_or root 1 0) (leaf_block image root leaf)
+
+-- each block of the tree leads on to a leaf, or is one
+abbrev pub HasNoDeadEnd : Image → List ℕ → Type 0
+HasNoDeadEnd image root =
+    (path : List ℕ) → tree_of image root path ≢ 0 → length path < length (levels_of root) → (k : ℕ) × (tree_of image root (path ++ k ∷ []) ≢ 0)
+
+-- ---- pointers past the end
+
+-- a pointer on this leaf's path, but for the last, is past the end
+abbrev pub PastAbove : Image → ℕ → List ℕ → ℕ → ℕ → Type 0
+PastAbove image size root leaf block =
+    (path : List ℕ) × (k : ℕ) × (rest : List ℕ) × (path ++ k ∷ rest ≡ path_to (levels_of root) leaf) × (tree_of image root path ≡ block) × IsPast size block
+
+-- a pointer on this leaf's path is past the end, be it the last
+abbrev pub PastOn : Image → ℕ → List ℕ → ℕ → ℕ → Type 0
+PastOn image size root leaf block = PastAbove image size root leaf block ⊎ ((leaf_block image root leaf ≡ block) × IsPast size block)
+
+-- the leaf is absent, and no pointer on its path is past the end
+pub record IsQuiet (image : Image) (size : ℕ) (root : List ℕ) (leaf : ℕ) : Type 0 where
+  pub absent : leaf_block image root leaf ≡ 0
+  pub followed : (block : ℕ) → ¬ PastAbove image size root leaf block
+
+-- all leaves from one on up to another are quiet
+abbrev pub AreQuiet : Image → ℕ → List ℕ → ℕ → ℕ → Type 0
+AreQuiet image size root from to = (leaf : ℕ) → from ≤ leaf → leaf < to → IsQuiet image size root leaf

@@ -1,0 +1,41 @@
+-- What a walk over the held leaves finds.
+use Rattle.std.specs.Prelude.{◌≡◌, ◌≢◌, ℕ, ◌/◌, ◌%◌, ◌<◌, ◌≤◌, List, Option, Some, None}
+use Rattle.cfs_base.specs.Disk.{Image}
+use Rattle.block_tree.specs.declared.walk.HeldLeaf.{HeldLeaf}
+use Rattle.block_tree.specs.Tree.{leaf_block, leaf_count, PastAbove, AreQuiet}
+
+-- the first leaf from one on that is held; nothing before it stops the walk
+pub record IsFirstHeld (image : Image) (size : ℕ) (root : List ℕ) (from : ℕ) (held : HeldLeaf) : Type 0 where
+  pub on : from ≤ held.leaf
+  pub inside : held.leaf < leaf_count root
+  pub block : leaf_block image root held.leaf ≡ held.block
+  pub is_held : held.block ≢ 0
+  pub before : AreQuiet image size root from held.leaf
+  pub followed : (block : ℕ) → ¬ PastAbove image size root held.leaf block
+
+-- what is found from a leaf on: the first that is held, or that all are quiet
+abbrev pub IsFound : Image → ℕ → List ℕ → ℕ → Option HeldLeaf → Type 0
+IsFound image size root from (Some held) = IsFirstHeld image size root from held
+IsFound image size root from None = AreQuiet image size root from (leaf_count root)
+
+-- the pointer at which the walk stops: past the end above a leaf, and nothing before that leaf stops the walk
+pub record IsFirstPast (image : Image) (size : ℕ) (root : List ℕ) (from block : ℕ) : Type 0 where
+  pub leaf : ℕ
+  pub on : from ≤ leaf
+  pub inside : leaf < leaf_count root
+  pub past : PastAbove image size root leaf block
+  pub before : AreQuiet image size root from leaf
+
+-- ---- within one node
+
+-- a leaf of the same node as another, not before it, whose pointer is this block
+pub record IsLaterIn (from : ℕ) (held : HeldLeaf) : Type 0 where
+  pub on : from ≤ held.leaf
+  pub same_node : held.leaf / 128 ≡ from / 128
+  pub is_held : held.block ≢ 0
+
+-- the first leaf of a node with these pointers, from one on, whose pointer isn't 0
+abbrev pub IsFirstOf : (ℕ → ℕ) → ℕ → Option HeldLeaf → Type 0
+IsFirstOf pointer from (Some held) =
+    (pointer (held.leaf % 128) ≡ held.block) × ((place : ℕ) → from % 128 ≤ place → place < held.leaf % 128 → pointer place ≡ 0)
+IsFirstOf pointer from None = (place : ℕ) → from % 128 ≤ place → place < 128 → pointer place ≡ 0

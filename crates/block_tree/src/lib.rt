@@ -1,0 +1,22 @@
+//! The tree of blocks below an object's root: the roots and nodes as blocks, and the leaves by their numbers.
+//! The layer above uses that a root block or node decodes to the one value that it spells, and that a leaf read is
+//! the leaf of the tree that hangs on the root's content.
+#![tactic(auto)]
+
+mod fault;
+mod head;
+mod laws;
+mod leaf;
+mod node;
+mod pointers;
+mod root;
+#[cfg(test)]
+mod tests;
+mod walk;
+
+pub use fault::TreeFault;
+pub use laws::{node_again, node_block_again, one_spelling, root_again, root_block_again};
+pub use leaf::{LEAF_LIMIT, leaf_at, leaf_of, node_of, read_leaf};
+pub use node::Node;
+pub use root::{BadRoot, Root, SIZE_LIMIT};
+pub use walk::{HeldLeaf, walk_held};

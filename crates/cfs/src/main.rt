@@ -1,0 +1,48 @@
+//! The Cambridge File Server. `cfs play CYLINDERS SEED 0 IN OUT` serves the requests of the file IN on a new volume in
+//! memory, writes a reply for each to OUT, and a report to standard output. `-` is a standard stream.
+#![tactic(auto)]
+
+mod opening;
+
+use cfs_fakes::{MemoryDisk, OpenGate};
+use cfs_host::FileSink;
+use cfs_serve::{Bay, top};
+use opening::{AnySink, AnySource, open, tell_starved};
+use std::alloc::Global;
+use std::env;
+use std::process::ExitCode;
+
+/// The words after the program's name. Nothing for want of memory.
+fn words(rt: &HostRuntime, alloc: Global) -> Option<Vec<String>> {
+    let mut words = Vec::new(alloc);
+    for word in env::args(rt).ok()?.skip(1) {
+        words.push(word).ok()?;
+    }
+    Some(words)
+}
+
+/// Does what the words ask, and answers the status.
+fn run(rt: &HostRuntime, alloc: Global) -> Result<u8, u8> {
+    let Some(words) = words(rt, alloc) else {
+        return Err(tell_starved(rt));
+    };
+    let opened = open(rt, alloc, words.as_slice())?;
+    let Ok(report) = FileSink::named(rt, "-", rt.stdout()) else {
+        unreachable!();
+    };
+    let bay: Bay<MemoryDisk, AnySource, AnySink> = Bay {
+        disk: None,
+        sources: opened.sources,
+        sinks: opened.sinks,
+        report,
+    };
+    Ok(top(alloc, words.as_slice(), bay, &OpenGate).status)
+}
+
+fn main(rt: HostRuntime) -> ExitCode {
+    let alloc = rt.alloc();
+    match run(&rt, alloc) {
+        Ok(status) => ExitCode::from(status),
+        Err(status) => ExitCode::from(status),
+    }
+}

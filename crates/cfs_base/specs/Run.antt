@@ -1,0 +1,43 @@
+-- Runs of calls on one disk, as the contracts of the crates above speak of them.
+use Rattle.std.specs.Prelude.{◌≡◌, ℕ, IsTrue, length}
+use Rattle.cfs_base.specs.Disk.{Image, LeavesOnly, Only, block_at}
+use Rattle.cfs_base.specs.declared.disk.Disk.{Ghosts}
+
+-- what a crash at this moment may leave
+abbrev pub left_now : {D : Type 0} → Ghosts D → D → Image → Type 0
+left_now g d c = g.left_since d (g.moment d) c
+
+-- A crash between old and new leaves only what it might have left before, and what has P.
+abbrev pub Leaves : {D : Type 0} → Ghosts D → D → D → (Image → Type 0) → Type 0
+Leaves g old new P = LeavesOnly g.moment g.left_since old new P
+
+-- the disk tells its whole content
+pub record Tells {D : Type 0} (g : Ghosts D) (d : D) : Type 0 where
+  pub honest : IsTrue (g.honest d)
+  pub told : (n : ℕ) → IsTrue (g.told d n)
+
+-- the disk tells its whole content, and a crash now leaves that alone: no write waits for a barrier
+pub record IsSettled {D : Type 0} (g : Ghosts D) (d : D) : Type 0 where
+  pub tells : Tells g d
+  pub only : Only (g.content d) (left_now g d)
+
+-- The images of a run from `start` to `now`: a crash now leaves what has N, and a crash on the way what it might have
+-- left before `start`, and what has P.
+pub record Crashes {D : Type 0} (g : Ghosts D) (start now : D) (N P : Image → Type 0) : Type 0 where
+  pub here : (c : Image) → left_now g now c → N c
+  pub leaves : Leaves g start now P
+
+-- a run from `start` has come to `now` with no failure, and the disk tells that it holds this image
+pub record Comes {D : Type 0} (g : Ghosts D) (start now : D) (image : Image) (N P : Image → Type 0) : Type 0 where
+  pub tells : Tells g now
+  pub content : g.content now ≡ image
+  pub crashes : Crashes g start now N P
+
+-- c is the image but for blocks that are free to change
+pub record OnlyAt (free : ℕ → Type 0) (image c : Image) : Type 0 where
+  pub size : length c ≡ length image
+  pub same : (n : ℕ) → ¬ free n → block_at c n ≡ block_at image n
+
+-- one of these images but for blocks that are free to change
+abbrev pub Near : (ℕ → Type 0) → (Image → Type 0) → Image → Type 0
+Near free images c = (d : Image) × images d × OnlyAt free d c

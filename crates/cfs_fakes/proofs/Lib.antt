@@ -1,0 +1,4 @@
+mod Chunks
+mod Images
+mod Lifts
+mod Replays

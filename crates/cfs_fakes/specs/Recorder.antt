@@ -1,0 +1,23 @@
+-- What a recorder has kept.
+use Rattle.std.specs.Prelude.{◌≡◌, ℕ}
+use Rattle.cfs_base.specs.Disk.{Image}
+use Rattle.cfs_fakes.specs.Replay.{State, zeros, replay, Left}
+use Rattle.cfs_fakes.specs.declared.recorder.Recorder.{Recorder}
+
+abbrev pub clock : Recorder → ℕ
+clock r = r.moment
+
+-- the state of a disk of zeros after the kept calls made before moment t
+abbrev pub state_at : Recorder → ℕ → State
+state_at r t = replay (zeros r.blocks) t r.kept.items
+
+abbrev pub state_now : Recorder → State
+state_now r = state_at r r.moment
+
+-- a crash at some moment since t may leave it
+abbrev pub left_of : Recorder → ℕ → Image → Type 0
+left_of r t c = Left r.keeps (zeros r.blocks) r.moment r.kept.items t c
+
+pub record IsSameRecorder (old new : Recorder) : Type 0 where
+  pub blocks : new.blocks ≡ old.blocks
+  pub keeps : new.keeps ≡ old.keeps

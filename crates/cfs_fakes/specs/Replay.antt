@@ -1,0 +1,59 @@
+-- What a crash leaves of a disk whose calls were kept.
+use Rattle.std.specs.Prelude.{◌≡◌, ℕ, ◌≤◌, ◌<◌, ◌&&◌, Bool, true, IsTrue, nat_eq, nat_lt, if◌then◌else◌, List, [], ◌∷◌, length, set, replicate}
+use Rattle.cfs_base.specs.Disk.{Image, block_at}
+use Rattle.cfs_fakes.specs.declared.kept.Call.{Call}
+use Rattle.cfs_fakes.specs.declared.kept.Call.TheVariants.{Write, Barrier}
+use Rattle.cfs_fakes.specs.declared.kept.Kept.{Kept}
+
+-- the content, the content at the last barrier, and the writes since then, the newest first, with their blocks
+pub record State : Type 0 where
+  pub content : Image
+  pub base : Image
+  pub pending : List (ℕ × List ℕ)
+
+-- a disk of zeros
+abbrev pub zeros : ℕ → State
+zeros blocks = record { content = replicate blocks (replicate 512 0); base = replicate blocks (replicate 512 0); pending = [] }
+
+-- What a kept call does. A write that failed changes no content, and waits for the next barrier like one that is done.
+abbrev pub after : Call → State → State
+after (Write at block done) s = record { content = if done then set s.content at block else s.content; base = s.base; pending = (at, block) ∷ s.pending }
+after Barrier s = record { content = s.content; base = s.content; pending = [] }
+
+-- the same, where the call was made before moment t
+abbrev pub after_before : ℕ → Kept → State → State
+after_before t kept s = if nat_lt kept.moment t then after kept.call s else s
+
+-- the state at moment t, after the calls made before it
+abbrev pub replay : State → ℕ → List Kept → State
+replay s t [] = s
+replay s t (kept ∷ later) = replay (after_before t kept s) t later
+
+-- each call was made before moment t
+abbrev pub all_before : ℕ → List Kept → Bool
+all_before t [] = true
+all_before t (kept ∷ later) = nat_lt kept.moment t && all_before t later
+
+-- the writes to one block
+abbrev pub writes_to : ℕ → List (ℕ × List ℕ) → List (List ℕ)
+writes_to n [] = []
+writes_to n (w ∷ older) = if nat_eq w.0 n then w.1 ∷ writes_to n older else writes_to n older
+
+-- What a block holds by a choice: 0 is its content at the last barrier, k the k-th write since then, or the last where
+-- there are fewer. The newest write stands first.
+abbrev pub chosen : ℕ → List ℕ → List (List ℕ) → List ℕ
+chosen k base [] = base
+chosen k base (block ∷ older) = if nat_lt (length older) k then block else chosen k base older
+
+-- the image in which each block holds its choice
+pub record IsChoice (s : State) (choice : ℕ → ℕ) (c : Image) : Type 0 where
+  pub size : length c ≡ length s.base
+  pub each : (n : ℕ) → n < length c → block_at c n ≡ chosen (choice n) (block_at s.base n) (writes_to n s.pending)
+
+-- a crash may leave it: each block holds some choice
+abbrev pub IsImage : State → Image → Type 0
+IsImage s c = (choice : ℕ → ℕ) × IsChoice s choice c
+
+-- a crash at some moment from t to now may leave it, on a disk that keeps its calls
+abbrev pub Left : Bool → State → ℕ → List Kept → ℕ → Image → Type 0
+Left keeps s now calls t c = IsTrue keeps × ((m : ℕ) × (t ≤ m) × (m ≤ now) × IsImage (replay s m calls) c)

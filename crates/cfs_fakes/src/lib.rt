@@ -1,0 +1,22 @@
+//! Disks, sources and sinks in memory, and a gate that holds nobody up. Each keeps the meaning of its trait, and a
+//! recording disk gives exactly the images that a crash may leave, so that what the layers above promise can be tried.
+#![tactic(auto)]
+
+mod faults;
+mod gate;
+mod kept;
+mod listed;
+mod memory_disk;
+mod memory_sink;
+mod memory_source;
+mod recorder;
+mod rerun;
+mod store;
+#[cfg(test)]
+mod tests;
+
+pub use gate::OpenGate;
+pub use kept::Pick;
+pub use memory_disk::MemoryDisk;
+pub use memory_sink::MemorySink;
+pub use memory_source::MemorySource;

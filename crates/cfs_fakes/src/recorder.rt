@@ -1,0 +1,112 @@
+//! The clock of a disk in memory, and the calls that it keeps where it records.
+ghost use Rattle.std.specs.Prelude.{◌≡◌, ◌<◌, ◌≤◌, ◌-◌, ◌^◌, ◌↔◌, IsTrue, OnOk, OnErr, [], IfOk};
+ghost use Rattle.std.specs.Bool.{OnFalse};
+ghost use Rattle.cfs_base.specs.Outside.{Rose, count_after};
+ghost use Rattle.cfs_fakes.specs.Picks.{choice_of};
+ghost use Rattle.cfs_fakes.specs.Replay.{after, all_before, IsChoice, IsImage};
+
+use crate::kept::{Call, Kept, Pick};
+use crate::rerun::image_at;
+use crate::store::Store;
+use std::alloc::{AllocError, Global};
+
+/// Counts the calls of a disk that was made of zeros. One that keeps calls tells which images a crash may leave.
+#[derive(Debug, Drop)]
+pub struct Recorder {
+    blocks: u32,
+    keeps: bool,
+    moment: u64,
+    kept: Vec<Kept>,
+    ghost past: { IsTrue (all_before moment kept.items) },
+}
+
+impl Recorder {
+    ghost use Rattle.std.specs.Prelude.{ℕ};
+    ghost use Rattle.cfs_base.specs.Disk.{Image, Nothing, LeavesOnly, KeepsLeft};
+    ghost use Rattle.cfs_fakes.specs.Recorder.{clock, state_at, state_now, left_of, IsSameRecorder};
+
+    /// Nothing was called yet. Takes no memory.
+    pub fn new(alloc: Global, blocks: u32, keeps: bool) -> Recorder
+        ensures blocks { result.blocks ≡ blocks }
+        ensures keeps { result.keeps ≡ keeps }
+        ensures moment { result.moment ≡ 0 }
+        ensures kept { result.kept.items ≡ [] }
+    {
+        Recorder {
+            blocks,
+            keeps,
+            moment: 0,
+            kept: Vec::new(alloc),
+        }
+    }
+
+    pub fn moment(&self) -> u64
+        ensures { result ≡ clock self.now }
+    {
+        self.moment
+    }
+
+    pub fn keeps(&self) -> bool
+        ensures { result ≡ self.now.keeps }
+    {
+        self.keeps
+    }
+
+    /// Whether it keeps calls and the clock has come to its end, so that no further call can be kept.
+    pub fn is_over(&self) -> bool
+        ensures over { IsTrue result ↔ (IsTrue self.now.keeps × (clock self.now ≡ 2 ^ 64 - 1)) }
+        ensures room { OnFalse result (IsTrue self.now.keeps → clock self.now < 2 ^ 64 - 1) }
+    {
+        self.keeps && self.moment == u64::MAX
+    }
+
+    /// A call that changes nothing is made.
+    pub fn pass(&mut self)
+        ensures clock { clock self.new ≡ count_after (clock self.old) }
+        ensures rose { Rose (clock self.old) (clock self.new) }
+        ensures state { state_now self.new ≡ state_now self.old }
+        ensures images { LeavesOnly clock left_of self.old self.new Nothing }
+        ensures earlier { KeepsLeft clock left_of self.old self.new }
+        ensures past { (t : ℕ) → t ≤ clock self.old → state_at self.new t ≡ state_at self.old t }
+        ensures same { IsSameRecorder self.old self.new }
+    {
+        self.moment = self.moment.saturating_add(1);
+    }
+
+    /// A call is made that changes the disk or tried to. For want of memory it isn't kept.
+    pub fn keep(&mut self, call: Call) -> Result<(), AllocError>
+        requires { IsTrue self.old.keeps → clock self.old < 2 ^ 64 - 1 }
+        ensures clock { clock self.new ≡ count_after (clock self.old) }
+        ensures rose { Rose (clock self.old) (clock self.new) }
+        ensures kept { OnOk result (IsTrue self.old.keeps → state_now self.new ≡ after call (state_now self.old)) }
+        ensures starved { OnErr result (IsTrue self.old.keeps × (state_now self.new ≡ state_now self.old)) }
+        ensures images { LeavesOnly clock left_of self.old self.new
+            (λ c. IsTrue self.old.keeps × IsImage (after call (state_now self.old)) c) }
+        ensures here { OnOk result ((c : Image) → left_of self.new (clock self.new) c → IsImage (after call (state_now self.old)) c) }
+        ensures earlier { KeepsLeft clock left_of self.old self.new }
+        ensures past { (t : ℕ) → t ≤ clock self.old → state_at self.new t ≡ state_at self.old t }
+        ensures same { IsSameRecorder self.old self.new }
+    {
+        if !self.keeps {
+            self.pass();
+            return Ok(());
+        }
+        let kept = Kept {
+            moment: self.moment,
+            call,
+        };
+        let Ok(()) = self.kept.push(kept) else {
+            self.pass();
+            return Err(AllocError);
+        };
+        self.moment += 1;
+        Ok(())
+    }
+
+    /// The image that a crash at this moment leaves by these picks.
+    pub fn image(&self, alloc: Global, at: u64, picks: &[Pick]) -> Result<Store, AllocError>
+        ensures { IfOk result (λ image. IsChoice (state_at self.now at) (choice_of picks.now) image) }
+    {
+        image_at(alloc, self.blocks, &self.kept, at, picks)
+    }
+}

@@ -1,0 +1,116 @@
+//! Calls made again, up to a crash.
+ghost use Rattle.std.specs.Prelude.{◌≡◌, length, IfOk};
+ghost use Rattle.cfs_fakes.specs.Picks.{choice_of, IsWanted};
+ghost use Rattle.cfs_fakes.specs.Replay.{State, zeros, after, after_before, replay, IsChoice};
+
+use crate::kept::{Call, Kept, Pick};
+use crate::store::Store;
+use cfs_base::Block;
+use std::alloc::{AllocError, Global};
+
+/// A disk of which the calls are made again, and the image that a crash then leaves.
+#[derive(Drop)]
+struct Rerun {
+    content: Store,
+    image: Store,
+    /// For each block, which write a crash leaves.
+    wanted: Vec<u32>,
+    /// For each block, how many of its writes until then are still to come.
+    left: Vec<u32>,
+    ghost image_size: { length image ≡ length content },
+    ghost wanted_size: { length wanted.items ≡ length content },
+    ghost left_size: { length left.items ≡ length content },
+}
+
+impl Rerun {
+    ghost use Rattle.std.specs.Prelude.{[], replicate, List};
+    ghost use Rattle.cfs_fakes.specs.Rerun.{Follows};
+
+    /// Disk and image are of zeros.
+    fn new(alloc: Global, blocks: u32, picks: &[Pick]) -> Result<Rerun, AllocError>
+        ensures zeros { IfOk result (λ r. Follows r (zeros blocks)) }
+        ensures wanted { IfOk result (λ r. IsWanted r.wanted.items picks.now blocks) }
+        ensures size { IfOk result (λ r. length r.wanted.items ≡ blocks) }
+    {
+        let content = Store::zeros(alloc, blocks)?;
+        let image = Store::zeros(alloc, blocks)?;
+        let wanted = choices(alloc, blocks, picks)?;
+        let left = wanted.clone()?;
+        Ok(Rerun {
+            content,
+            image,
+            wanted,
+            left,
+        })
+    }
+
+    /// Makes the call again, if it was made before this moment.
+    fn make_before(&mut self, at: u64, kept: &Kept)
+        ensures follows { (s : State) → Follows self.old s → Follows self.new (after_before at kept.now s) }
+        ensures wanted { self.new.wanted ≡ self.old.wanted }
+    {
+        if kept.moment < at {
+            match &kept.call {
+                Call::Write(n, block, done) => self.write(*n, block, *done),
+                Call::Barrier => self.barrier(),
+            }
+        }
+    }
+
+    fn write(&mut self, at: u32, block: &Block, done: bool)
+        ensures follows { (s : State) → Follows self.old s → Follows self.new (after (Call.Write at block.now done) s) }
+        ensures wanted { self.new.wanted ≡ self.old.wanted }
+    {
+        if at >= self.content.count() {
+            return;
+        }
+        if done {
+            self.content.write(at, block);
+        }
+        let left = self.left[at as usize];
+        if left > 0 {
+            self.left[at as usize] = left - 1;
+            self.image.write(at, block);
+        }
+    }
+
+    fn barrier(&mut self)
+        ensures follows { (s : State) → Follows self.old s → Follows self.new (after Call.Barrier s) }
+        ensures wanted { self.new.wanted ≡ self.old.wanted }
+    {
+        self.image.copy_from(&self.content);
+        self.left.copy_from_slice(&self.wanted);
+    }
+}
+
+// the choice of each block
+fn choices(alloc: Global, blocks: u32, picks: &[Pick]) -> Result<Vec<u32>, AllocError>
+    ensures wanted { IfOk result (λ v. IsWanted v.items picks.now blocks) }
+    ensures size { IfOk result (λ v. length v.items ≡ blocks) }
+{
+    let mut wanted = vec![in alloc; 0u32; blocks as usize]?;
+    for i in (0..picks.len()).rev() {
+        let pick = picks[i];
+        if pick.block < blocks {
+            wanted[pick.block as usize] = pick.choice;
+        }
+    }
+    Ok(wanted)
+}
+
+/// The image that a crash at this moment leaves of a disk of zeros on which these calls were made.
+pub fn image_at(
+    alloc: Global,
+    blocks: u32,
+    calls: &[Kept],
+    at: u64,
+    picks: &[Pick],
+) -> Result<Store, AllocError>
+    ensures { IfOk result (λ image. IsChoice (replay (zeros blocks) at calls.now) (choice_of picks.now) image) }
+{
+    let mut rerun = Rerun::new(alloc, blocks, picks)?;
+    for kept in calls {
+        rerun.make_before(at, kept);
+    }
+    Ok(rerun.image)
+}

@@ -1,0 +1,12 @@
+//! The files and standard streams of the system as the service's sources and sinks. The layers above use that these are
+//! a `Source` and a `Sink`: they tell what the reader or writer inside tells, and of the system's files that is nothing.
+#![tactic(auto)]
+
+mod faults;
+mod sink;
+mod source;
+mod stream;
+
+pub use sink::FileSink;
+pub use source::FileSource;
+pub use stream::Stream;

@@ -1,0 +1,50 @@
+//! Request files.
+ghost use Rattle.std.specs.Prelude.{◌≡◌, IsOk, codes};
+
+use crate::faults::failed;
+use crate::stream::{Stream, is_standard};
+use cfs_base::{Failed, Source};
+use std::io::Read;
+use std::rt::Files;
+use std::{fs, io};
+
+/// A file that is read, or standard input. It tells of its bytes what its reader does: nothing, of the system's files. A
+/// call of the system that fails is a fault.
+#[derive(Drop)]
+pub struct FileSource<R> {
+    reader: R,
+    faults: u64,
+}
+
+impl<F: Read + Drop, S: Read + Drop> FileSource<Stream<F, S>> {
+    /// Opens the file of this name. `-` names standard input, which is handed in. A folder may be opened, and its first
+    /// read fails.
+    pub fn named<R: Files<File = F>>(
+        rt: &R,
+        path: &str,
+        standard: S,
+    ) -> io::Result<FileSource<Stream<F, S>>>
+        ensures standard { path.now ≡ codes "-" → IsOk result }
+    {
+        let reader = if is_standard(path) {
+            Stream::Standard(standard)
+        } else {
+            Stream::File(fs::open(rt, path)?)
+        };
+        Ok(FileSource { reader, faults: 0 })
+    }
+}
+
+impl<R: Read> Source for FileSource<R> {
+    ghost supply = { λ s. record { left = R.remaining s.reader; faults = s.faults } };
+
+    fn read(&mut self, into: &mut [u8]) -> Result<usize, Failed> {
+        match self.reader.read(into) {
+            Ok(count) => Ok(count),
+            Err(_) => Err(failed(&mut self.faults)),
+        }
+    }
+}
+
+#[cfg(test)]
+mod tests;

@@ -1,0 +1,5 @@
+mod LineLemmas
+mod Lookups
+mod Readings
+mod Steady
+mod WordLemmas

@@ -1,0 +1,4 @@
+pub mod Room
+pub mod NameTable
+pub mod Language
+pub mod Read

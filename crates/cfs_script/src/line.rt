@@ -1,0 +1,124 @@
+//! The request lines of a script, one after another.
+ghost use Rattle.std.specs.Prelude.{◌≡◌, ◌↔◌, ◌∷◌, [], ◌+◌, ◌<◌, ◌≤◌, length, drop, if◌then◌else◌, IsNone, IfSome, position, ◌==◌};
+ghost use Rattle.std.specs.List.{list_all};
+ghost use Rattle.ufs_model.specs.Script.{LF, is_blank, is_request_line, request_lines, without_cr};
+
+/// A request line without its end, and how many bytes of the text it takes, with what stands before it and its end.
+#[derive(Clone, Copy, Debug)]
+pub struct NextLine<'a> {
+    pub line: &'a [u8],
+    pub taken: usize,
+}
+
+/// Whether this is a space or a tab.
+pub fn is_blank(byte: u8) -> bool
+    ensures { result ≡ is_blank byte }
+{
+    byte == b' ' || byte == b'\t'
+}
+
+/// The line without one CR at its end.
+fn without_cr(line: &[u8]) -> &[u8]
+    ensures { result.now ≡ without_cr line.now }
+{
+    line.strip_suffix(b"\r").unwrap_or(line)
+}
+
+/// Whether the line has blanks alone.
+fn is_blank_line(line: &[u8]) -> bool
+    ensures { result ≡ list_all is_blank line.now }
+{
+    line.iter().all(|byte| is_blank(*byte))
+}
+
+/// Whether the line is neither blank nor a comment.
+fn is_request_line(line: &[u8]) -> bool
+    ensures { result ≡ is_request_line line.now }
+{
+    match line {
+        [] | [b'#', ..] => false,
+        _ => !is_blank_line(line),
+    }
+}
+
+/// Where the first LF stands.
+fn line_end(text: &[u8]) -> Option<usize>
+    ensures { result ≡ position (λ c. c == LF) text.now }
+{
+    text.iter().position(|byte| *byte == b'\n')
+}
+
+/// The first line of the text, a request line or not.
+fn first_line(text: &[u8]) -> NextLine<'_>
+    requires { 0 < length text.now }
+    ensures line { request_lines text.now ≡ (if is_request_line result.line.now
+        then result.line.now ∷ request_lines (drop result.taken text.now)
+        else request_lines (drop result.taken text.now)) }
+    ensures some { 0 < result.taken }
+    ensures within { result.taken ≤ length text.now }
+{
+    match line_end(text) {
+        Some(end) => NextLine {
+            line: without_cr(&text[..end]),
+            taken: end + 1,
+        },
+        None => NextLine {
+            line: without_cr(text),
+            taken: text.len(),
+        },
+    }
+}
+
+/// The first request line of the text; nothing where it has none.
+pub fn next_line(text: &[u8]) -> Option<NextLine<'_>>
+    ensures none { IsNone result ↔ (request_lines text.now ≡ []) }
+    ensures line { IfSome result (λ next. request_lines text.now ≡ next.line.now ∷ request_lines (drop next.taken text.now)) }
+    ensures some { IfSome result (λ next. 0 < next.taken) }
+    ensures within { IfSome result (λ next. next.taken ≤ length text.now) }
+{
+    let mut start = 0;
+    while start < text.len() {
+        let first = first_line(&text[start..]);
+        start += first.taken;
+        if is_request_line(first.line) {
+            return Some(NextLine {
+                line: first.line,
+                taken: start,
+            });
+        }
+    }
+    None
+}
+
+#[cfg(test)]
+mod tests {
+    use super::*;
+    use std::process::Abort;
+    use std::test::Fail;
+
+    fn expect_line(rt: &impl Abort, text: &[u8], line: &[u8], taken: usize) {
+        let next = next_line(text).expect(rt, "a request line");
+        assert_eq!(rt; next.line, line);
+        assert_eq!(rt; next.taken, taken);
+    }
+
+    #[test]
+    fn blank_lines_and_comments_are_no_request_lines(rt: HostRuntime) {
+        expect_line(&rt, b"slots root\r\n\nx", b"slots root", 12);
+        expect_line(&rt, b"\n# a comment\n  \t\n # none\nx", b" # none", 25);
+        assert!(rt; next_line(b"").is_none());
+        assert!(rt; next_line(b"\n\r\n#\n \t ").is_none());
+    }
+
+    #[test]
+    fn one_carriage_return_is_dropped_at_the_end_of_a_line(rt: HostRuntime) {
+        expect_line(&rt, b"slots root\r\r\n", b"slots root\r", 13);
+        expect_line(&rt, b"slots \rroot\n", b"slots \rroot", 12);
+        expect_line(&rt, b"slots a\r", b"slots a", 8);
+    }
+
+    #[test]
+    fn the_last_line_may_lack_its_line_feed(rt: HostRuntime) {
+        expect_line(&rt, b"slots a", b"slots a", 7);
+    }
+}

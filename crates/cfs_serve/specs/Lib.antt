@@ -1,0 +1,9 @@
+pub mod Words
+pub mod Told
+pub mod Report
+pub mod Trail
+pub mod Heard
+pub mod Session
+pub mod Shown
+pub mod Played
+pub mod Whole

@@ -1,0 +1,34 @@
+-- The report of a run: what was served, what ended it, and the status.
+use Rattle.std.specs.Prelude.{ℕ, ◌==◌, if◌then◌else◌, List, [], ◌++◌, codes, Option, Some, None}
+use Rattle.cfs_serve.specs.Told.{told}
+use Rattle.cfs_serve.specs.declared.report.Counts.{Counts}
+use Rattle.cfs_serve.specs.declared.report.Cause.{Cause}
+use Rattle.cfs_serve.specs.declared.report.Cause.TheVariants as causes
+use Rattle.cfs_serve.specs.declared.report.Report.{Report}
+
+abbrev pub status_of : Cause → ℕ
+status_of causes.Nothing = 0
+status_of causes.Words = 2
+status_of causes.Sink = 5
+status_of (causes.Source i) = 6
+status_of causes.Memory = 7
+status_of (causes.Long i) = 9
+status_of causes.LongTotal = 9
+
+abbrev pub counts_text : Option Counts → List ℕ
+counts_text None = []
+counts_text (Some c) =
+    told (codes "sessions") c.sessions ++ told (codes "replies") c.replies
+    ++ told (codes "collections") c.collections ++ told (codes "objects") c.objects
+
+abbrev pub cause_text : Cause → List ℕ
+cause_text causes.Nothing = []
+cause_text causes.Words = codes "words\n"
+cause_text causes.Sink = codes "sink\n"
+cause_text (causes.Source i) = told (codes "source") i
+cause_text causes.Memory = codes "memory\n"
+cause_text (causes.Long i) = told (codes "long") i
+cause_text causes.LongTotal = codes "long total\n"
+
+abbrev pub report_text : Report → List ℕ
+report_text r = counts_text r.counts ++ cause_text r.cause ++ told (codes "status") (status_of r.cause)

@@ -1,0 +1,62 @@
+-- A whole run: what it comes to, for the words, the sources, the sinks, the sink of the report, the status and the trail.
+use Rattle.std.specs.Prelude.{◌≡◌, ℕ, Bool, true, false, List, [], ◌∷◌, length, Option, Some, None}
+use Rattle.cfs_base.specs.Outside.{Intake, Supply}
+use Rattle.ufs_model.specs.declared.asked.Event.{Event}
+use Rattle.ufs_model.specs.Spoken.{Form}
+use Rattle.cfs_serve.specs.declared.report.Cause.{Cause}
+use Rattle.cfs_serve.specs.declared.report.Cause.TheVariants as causes
+use Rattle.cfs_serve.specs.declared.report.Report.{Report}
+use Rattle.cfs_serve.specs.Words.{Play}
+use Rattle.cfs_serve.specs.Report.{status_of, report_text}
+use Rattle.cfs_serve.specs.Session.{Replied}
+use Rattle.cfs_serve.specs.Played.{IsRunOf}
+
+-- what is outside: what is known of the sources, and of the sinks
+pub record Places : Type 0 where
+  pub sources : List Supply
+  pub sinks : List Intake
+
+-- a source and a sink for one session, or none
+abbrev pub HasPlaces : Option Play → (sources sinks : ℕ) → Type 0
+HasPlaces (Some play) sources sinks = (sources ≡ 1) × (sinks ≡ 1)
+HasPlaces None sources sinks = (sources ≡ 0) × (sinks ≡ 0)
+
+-- no words that ask for a run: nothing was served, and no sink took a byte
+pub record AsksNothing (old new : Places) (report : Report) (trail : List Event) : Type 0 where
+  pub no_event : trail ≡ []
+  pub untouched : new ≡ old
+  pub told : report ≡ record { counts = None; cause = causes.Words }
+
+-- one session was asked for, and so it went
+pub record AsksOne (forms : List Form) (seed : ℕ) (old new : Places) (report : Report) (trail : List Event) : Type 0 where
+  pub source : Supply
+  pub source_after : Supply
+  pub sink : Intake
+  pub sink_after : Intake
+  pub sources : (old.sources ≡ source ∷ []) × (new.sources ≡ source_after ∷ [])
+  pub sinks : (old.sinks ≡ sink ∷ []) × (new.sinks ≡ sink_after ∷ [])
+  pub run : IsRunOf forms seed source source_after sink sink_after report trail
+
+abbrev pub Asks : List Form → Option Play → (old new : Places) → Report → List Event → Type 0
+Asks forms (Some play) old new report trail = AsksOne forms play.seed old new report trail
+Asks forms None old new report trail = AsksNothing old new report trail
+
+-- the status: that of the cause, but for a report that could not be written where nothing worse is told
+abbrev pub ended : (written : Bool) → Cause → ℕ
+ended true cause = status_of cause
+ended false causes.Nothing = 5
+ended false causes.Memory = 5
+ended false causes.Words = 2
+ended false causes.Sink = 5
+ended false (causes.Source i) = 6
+ended false (causes.Long i) = 9
+ended false causes.LongTotal = 9
+
+pub record IsWhole (forms : List Form) (asked : Option Play) (old new : Places) (report report_after : Intake) (status : ℕ) (trail : List Event) : Type 0 where
+  -- what is told, as the run went
+  pub told : Report
+  pub run : Asks forms asked old new told trail
+  -- the sink of the report has taken all of it, or some of its beginning
+  pub written : Bool
+  pub reported : Replied report report_after (report_text told) written
+  pub said : status ≡ ended written told.cause

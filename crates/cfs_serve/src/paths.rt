@@ -1,0 +1,81 @@
+//! The files that a command names.
+ghost use Rattle.std.specs.Prelude.{◌≡◌, [], ◌∷◌, IfOk};
+
+use std::alloc::{AllocError, Global};
+use std::marker::Model;
+
+/// The name of a file. `-` is a standard stream.
+#[derive(Debug, Drop)]
+pub struct Path {
+    text: String,
+}
+
+impl Model for Path {
+    ghost use Rattle.std.specs.Prelude.{List, ℕ, string_bytes};
+
+    ghost Value = { List ℕ };
+
+    ghost view = { λ p. string_bytes p.text };
+}
+
+impl Path {
+    pub fn as_str(&self) -> &str
+        ensures { result.now ≡ self.now }
+    {
+        self.text.as_str()
+    }
+}
+
+/// Names of files, in order.
+#[derive(Debug, Drop)]
+pub struct Paths {
+    paths: Vec<Path>,
+}
+
+impl Model for Paths {
+    ghost use Rattle.std.specs.Prelude.{List, ℕ};
+
+    ghost Value = { List (List ℕ) };
+
+    ghost view = { λ a. a.paths.items };
+}
+
+impl Paths {
+    pub fn as_slice(&self) -> &[Path]
+        ensures { result.now ≡ self.now }
+    {
+        self.paths.as_slice()
+    }
+}
+
+/// What a command names: the sources of its sessions and their sinks, session by session.
+#[derive(Debug, Drop)]
+pub struct Names {
+    pub sources: Paths,
+    pub sinks: Paths,
+}
+
+/// Why words name nothing.
+#[derive(Clone, Copy, Debug, PartialEq, Eq)]
+pub enum WordsFault {
+    /// They are of no form.
+    Words,
+    /// Want of memory.
+    Memory,
+}
+
+fn path_of(alloc: Global, text: &str) -> Result<Path, AllocError>
+    ensures { IfOk result (λ p. p ≡ text.now) }
+{
+    Ok(Path {
+        text: String::from_str(alloc, text)?,
+    })
+}
+
+pub(crate) fn one_path(alloc: Global, text: &str) -> Result<Paths, AllocError>
+    ensures { IfOk result (λ p. p ≡ text.now ∷ []) }
+{
+    let mut paths = Vec::new(alloc);
+    paths.push(path_of(alloc, text)?)?;
+    Ok(Paths { paths })
+}

@@ -1,0 +1,130 @@
+//! The report of a run, and its status.
+ghost use Rattle.std.specs.Prelude.{◌≡◌};
+ghost use Rattle.cfs_streams.specs.Writing.{WritesWhole};
+ghost use Rattle.cfs_serve.specs.Told.{told};
+
+use cfs_base::{Failed, Sink};
+use cfs_streams::write_whole;
+use itoa::Buffer;
+
+/// What was served.
+#[derive(Clone, Copy, Debug, PartialEq, Eq)]
+pub struct Counts {
+    pub sessions: u64,
+    /// Request lines that were answered.
+    pub replies: u64,
+    /// Collections that were finished.
+    pub collections: u64,
+    /// Objects in the graph.
+    pub objects: u64,
+}
+
+/// What ended a run before its end, or spoiled it.
+#[derive(Clone, Copy, Debug, PartialEq, Eq)]
+pub enum Cause {
+    Nothing,
+    /// The words are of no form.
+    Words,
+    /// A session's sink failed.
+    Sink,
+    /// That source failed.
+    Source(u64),
+    /// Want of memory, in a reply or elsewhere.
+    Memory,
+    /// That source has more bytes than a request file may have.
+    Long(u64),
+    /// The files have more request lines than a run may have.
+    LongTotal,
+}
+
+impl Cause {
+    ghost use Rattle.cfs_serve.specs.Report.{status_of};
+
+    /// The status of a run that ended so.
+    pub fn status(self) -> u8
+        ensures { result ≡ status_of self }
+    {
+        match self {
+            Cause::Nothing => 0,
+            Cause::Words => 2,
+            Cause::Sink => 5,
+            Cause::Source(_) => 6,
+            Cause::Memory => 7,
+            Cause::Long(_) | Cause::LongTotal => 9,
+        }
+    }
+
+    ghost use Rattle.cfs_serve.specs.Report.{cause_text};
+
+    /// Writes the line of the cause, where it has one.
+    fn write<K: Sink>(self, sink: &mut K) -> Result<(), Failed>
+        ensures { WritesWhole (K.intake sink.old) (K.intake sink.new) (cause_text self) result }
+    {
+        match self {
+            Cause::Nothing => Ok(()),
+            Cause::Words => write_whole(sink, b"words\n"),
+            Cause::Sink => write_whole(sink, b"sink\n"),
+            Cause::Source(source) => write_number(sink, b"source", source),
+            Cause::Memory => write_whole(sink, b"memory\n"),
+            Cause::Long(source) => write_number(sink, b"long", source),
+            Cause::LongTotal => write_whole(sink, b"long total\n"),
+        }
+    }
+}
+
+/// Writes a line of a word and a number.
+fn write_number<K: Sink>(sink: &mut K, word: &[u8], number: u64) -> Result<(), Failed>
+    ensures { WritesWhole (K.intake sink.old) (K.intake sink.new) (told word.now number) result }
+{
+    let mut digits = Buffer::new();
+    write_whole(sink, word)?;
+    write_whole(sink, b" ")?;
+    write_whole(sink, digits.format(number).as_bytes())?;
+    write_whole(sink, b"\n")
+}
+
+impl Counts {
+    ghost use Rattle.std.specs.Prelude.{Some};
+    ghost use Rattle.cfs_serve.specs.Report.{counts_text};
+
+    /// Writes a line for each.
+    fn write<K: Sink>(self, sink: &mut K) -> Result<(), Failed>
+        ensures { WritesWhole (K.intake sink.old) (K.intake sink.new) (counts_text (Some self)) result }
+    {
+        write_number(sink, b"sessions", self.sessions)?;
+        write_number(sink, b"replies", self.replies)?;
+        write_number(sink, b"collections", self.collections)?;
+        write_number(sink, b"objects", self.objects)
+    }
+}
+
+/// What is told of a run.
+#[derive(Clone, Copy, Debug, PartialEq, Eq)]
+pub struct Report {
+    /// Nothing where nothing was served.
+    pub counts: Option<Counts>,
+    pub cause: Cause,
+}
+
+impl Report {
+    ghost use Rattle.std.specs.Prelude.{◌≡◌};
+    ghost use Rattle.cfs_serve.specs.Report.{counts_text, report_text};
+
+    fn write_counts<K: Sink>(self, sink: &mut K) -> Result<(), Failed>
+        ensures { WritesWhole (K.intake sink.old) (K.intake sink.new) (counts_text self.counts) result }
+    {
+        match self.counts {
+            Some(counts) => counts.write(sink),
+            None => Ok(()),
+        }
+    }
+
+    /// Writes the lines of the report.
+    pub fn write<K: Sink>(self, sink: &mut K) -> Result<(), Failed>
+        ensures { WritesWhole (K.intake sink.old) (K.intake sink.new) (report_text self) result }
+    {
+        self.write_counts(sink)?;
+        self.cause.write(sink)?;
+        write_number(sink, b"status", u64::from(self.cause.status()))
+    }
+}

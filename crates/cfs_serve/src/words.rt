@@ -1,0 +1,114 @@
+//! The words of a command.
+ghost use Rattle.std.specs.Prelude.{◌≡◌, ◌↔◌, List, ℕ, [], ◌∷◌, map, Some, None, IsNone, IfSome, IfOk, Err, string_bytes};
+ghost use Rattle.std.specs.Str.{all_ascii_digits};
+ghost use Rattle.cfs_serve.specs.Words.{Play, play_in, number_of};
+
+use crate::limits::MOST_CYLINDERS;
+use crate::paths::{Names, WordsFault, one_path};
+use std::alloc::Global;
+
+/// A service of one session on a new volume in memory.
+#[derive(Clone, Copy, Debug)]
+pub(crate) struct Played<'a> {
+    pub cylinders: u64,
+    pub seed: u64,
+    pub input: &'a str,
+    pub output: &'a str,
+}
+
+fn are_digits(word: &[u8]) -> bool
+    ensures { result ≡ all_ascii_digits word.now }
+{
+    for byte in word {
+        if !byte.is_ascii_digit() {
+            return false;
+        }
+    }
+    true
+}
+
+/// The number that a word writes: 1 to 20 decimal digits within a u64.
+fn number(word: &str) -> Option<u64>
+    ensures { result ≡ number_of word.now }
+{
+    if word.len() > 20 {
+        return None;
+    }
+    if !are_digits(word.as_bytes()) {
+        return None;
+    }
+    match word.parse::<u64>() {
+        Ok(number) => Some(number),
+        Err(_) => None,
+    }
+}
+
+/// What six words ask for.
+fn six_words<'a>(
+    verb: &str,
+    cylinders: &str,
+    seed: &str,
+    collections: &str,
+    input: &'a str,
+    output: &'a str,
+) -> Option<Played<'a>>
+    ensures none { IsNone result ↔ (play_in (verb.now ∷ cylinders.now ∷ seed.now ∷ collections.now ∷ input.now ∷ output.now ∷ []) ≡ None) }
+    ensures some { IfSome result (λ a. play_in (verb.now ∷ cylinders.now ∷ seed.now ∷ collections.now ∷ input.now ∷ output.now ∷ [])
+        ≡ Some (record { cylinders = a.cylinders; seed = a.seed; input = a.input.now; output = a.output.now })) }
+{
+    if verb != "play" {
+        return None;
+    }
+    let cylinders = number(cylinders)?;
+    let seed = number(seed)?;
+    let collections = number(collections)?;
+    if cylinders == 0 || cylinders > MOST_CYLINDERS || collections != 0 {
+        return None;
+    }
+    if input.is_empty() || output.is_empty() {
+        return None;
+    }
+    Some(Played {
+        cylinders,
+        seed,
+        input,
+        output,
+    })
+}
+
+/// What the words ask for; nothing where they are of no form.
+pub(crate) fn play_asked(words: &[String]) -> Option<Played<'_>>
+    ensures none { IsNone result ↔ (play_in (map string_bytes words.now) ≡ None) }
+    ensures some { IfSome result (λ a. play_in (map string_bytes words.now)
+        ≡ Some (record { cylinders = a.cylinders; seed = a.seed; input = a.input.now; output = a.output.now })) }
+{
+    let [verb, cylinders, seed, collections, input, output] = words else {
+        return None;
+    };
+    six_words(
+        verb.as_str(),
+        cylinders.as_str(),
+        seed.as_str(),
+        collections.as_str(),
+        input.as_str(),
+        output.as_str(),
+    )
+}
+
+/// What the words of a command name. `Words` comes exactly where they are of no form.
+pub fn names(alloc: Global, words: &[String]) -> Result<Names, WordsFault>
+    ensures words { result ≡ Err WordsFault.Words ↔ (play_in (map string_bytes words.now) ≡ None) }
+    ensures sources { IfOk result (λ n. (p : Play) → play_in (map string_bytes words.now) ≡ Some p → n.sources ≡ p.input ∷ []) }
+    ensures sinks { IfOk result (λ n. (p : Play) → play_in (map string_bytes words.now) ≡ Some p → n.sinks ≡ p.output ∷ []) }
+{
+    let Some(play) = play_asked(words) else {
+        return Err(WordsFault::Words);
+    };
+    let Ok(sources) = one_path(alloc, play.input) else {
+        return Err(WordsFault::Memory);
+    };
+    let Ok(sinks) = one_path(alloc, play.output) else {
+        return Err(WordsFault::Memory);
+    };
+    Ok(Names { sources, sinks })
+}

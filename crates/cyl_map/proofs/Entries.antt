@@ -1,0 +1,223 @@
+-- The entries of the whole table, from those of its rows.
+use Rattle.std.proofs.Common.{◌≡◌, ◌⊎◌, ⊎_elim, inl, inr, ℕ, ◌+◌, ◌%◌, ◌^◌, ◌<◌, ◌≤◌, Bool, true, false, cond, not, ◌&&◌, ◌||◌, ◌==◌, List, [], ◌∷◌, ◌++◌, length, take, drop, get_or, Option, Some, None, Result, Err, ◌↔◌, refl, sym, ◌∙◌, ap, subst, append_assoc, arith}
+use Rattle.std.specs.List.{list_any, list_all}
+use Rattle.std.specs.Prelude.{nat_lt}
+use Rattle.std.specs.Str.{bytes_eq}
+use Rattle.std.proofs.lemmas.Bool.Decides.{nat_tests}
+use Rattle.std.proofs.lemmas.List.{take_more, take-take, take-append-drop}
+use Rattle.std.proofs.lemmas.List.Folds.{list_any-append}
+use Rattle.std.proofs.lemmas.List.Recursion.{or_at}
+use Rattle.std.proofs.lemmas.Nat.{from_be_bytes-to_be_bytes_2, from_be_bytes-to_be_bytes_4}
+use Rattle.std.proofs.lemmas.Slice.Eq.{bytes_eq-Decides}
+use Rattle.cfs_base.specs.declared.kind.Place.{Place}
+use Rattle.cfs_base.specs.declared.kind.Place.TheVariants.{Root, ShadowRoot, Node, Leaf}
+use Rattle.cyl_map.specs.declared.state.BlockState.{BlockState}
+use Rattle.cyl_map.specs.declared.state.BlockState.TheVariants.{Free, Allocated, IntendAllocate, IntendDeallocate}
+use Rattle.cyl_map.specs.declared.entry.BadEntry.{BadEntry}
+use Rattle.cyl_map.specs.declared.entry.MapEntry.{MapEntry}
+use Rattle.cyl_map.specs.declared.row.Row.{Row}
+use Rattle.cyl_map.specs.Entry.{IsEntry, is_entry, is_of, spelling, table, first_byte, place_code, place_number}
+use Rattle.cyl_map.specs.Reading.{BeginsEntry, IsFirstBad, entry_of, said_by, state_of, place_of}
+use Rattle.cyl_map.specs.Row.{BeginsEntryOf, IsFirstBadOf}
+use Rattle.cyl_map.proofs.Rows.{and_true, and_left, and_right, made, of_row, owned_within, unowned_zero}
+
+or_cases : (x y : Bool) → (x || y) ≡ true → (x ≡ true) ⊎ (y ≡ true)
+or_cases true y is = inl refl
+or_cases false y is = inr is
+
+-- ---- beginnings
+
+-- some entry of these rows begins with these bytes
+abbrev pub BeginsAmong : List Row → List ℕ → Type 0
+BeginsAmong rows bytes = (e : MapEntry) × (list_any (λ row. is_of row e) rows ≡ true) × (rest : List ℕ) × (spelling e ≡ bytes ++ rest)
+
+-- what begins with the bytes up to a place begins with those up to an earlier one
+shorter : (xs bytes rest : List ℕ) (k m : ℕ) → k ≤ m → xs ≡ take m bytes ++ rest → xs ≡ take k bytes ++ (drop k (take m bytes) ++ rest)
+shorter xs bytes rest k m le is =
+    let cut : take k (take m bytes) ++ drop k (take m bytes) ≡ take m bytes = take-append-drop k (take m bytes) in
+    let same : take k (take m bytes) ≡ take k bytes = take-take k m bytes le in
+    is ∙ ap (λ ys. ys ++ rest) (sym cut ∙ ap (λ ys. ys ++ drop k (take m bytes)) same) ∙ append_assoc (take k bytes) (drop k (take m bytes)) rest
+
+pub shorter_of : (row : Row) (bytes : List ℕ) (k m : ℕ) → k ≤ m → BeginsEntryOf row (take m bytes) → BeginsEntryOf row (take k bytes)
+shorter_of row bytes k m le (e, is, rest, spelled) = (e, is, drop k (take m bytes) ++ rest, shorter (spelling e) bytes rest k m le spelled)
+
+pub shorter_among : (rows : List Row) (bytes : List ℕ) (k m : ℕ) → k ≤ m → BeginsAmong rows (take m bytes) → BeginsAmong rows (take k bytes)
+shorter_among rows bytes k m le (e, is, rest, spelled) = (e, is, drop k (take m bytes) ++ rest, shorter (spelling e) bytes rest k m le spelled)
+
+pub shorter_entry : (bytes : List ℕ) (k m : ℕ) → k ≤ m → BeginsEntry (take m bytes) → BeginsEntry (take k bytes)
+shorter_entry bytes k m le (e, is, rest, spelled) = (e, is, drop k (take m bytes) ++ rest, shorter (spelling e) bytes rest k m le spelled)
+
+-- some entry begins as far as the furthest of the first rows has read, and none of theirs goes on
+pub record Furthest (rows : ℕ) (bytes : List ℕ) (place : ℕ) : Type 0 where
+  pub begins : BeginsEntry (take place bytes)
+  pub ends : ¬ BeginsAmong (take rows table) (take (place + 1) bytes)
+
+-- one row more
+ends_more : (rows : List Row) (i : ℕ) (d : Row) (bytes : List ℕ) → i < length rows → ¬ BeginsAmong (take i rows) bytes → ¬ BeginsEntryOf (get_or rows i d) bytes → ¬ BeginsAmong (take (i + 1) rows) bytes
+ends_more rows i d bytes lt before here (e, is, rest, spelled) =
+    let split : list_any (λ row. is_of row e) (take (i + 1) rows) ≡ (list_any (λ row. is_of row e) (take i rows) || list_any (λ row. is_of row e) (get_or rows i d ∷ [])) =
+    ap (list_any (λ row. is_of row e)) (take_more rows i d lt) ∙ list_any-append (λ row. is_of row e) (take i rows) (get_or rows i d ∷ []) in
+    ⊎_elim (λ p. before (e, p, rest, spelled))
+    (λ p. ⊎_elim (λ q. here (e, q, rest, spelled)) (λ q. cc) (or_cases (is_of (get_or rows i d) e) false p))
+    (or_cases (list_any (λ row. is_of row e) (take i rows)) _ (sym split ∙ is))
+
+pub of_table : (i : ℕ) (d : Row) (e : MapEntry) → i < 5 → is_of (get_or table i d) e ≡ true → IsEntry e
+of_table i d e lt is = record { in_table = or_at (list_any (λ row. is_of row e)) (λ row. is_of row e) refl (λ _ _. refl) table i d lt is }
+
+pub begins_of : (i : ℕ) (d : Row) (bytes : List ℕ) → i < 5 → BeginsEntryOf (get_or table i d) bytes → BeginsEntry bytes
+begins_of i d bytes lt (e, is, rest, spelled) = (e, of_table i d e lt is, rest, spelled)
+
+pub furthest_none : (bytes : List ℕ) → Furthest 0 bytes 0
+furthest_none bytes = record {
+  begins = (made Free false None 0, record { in_table = refl }, _, refl);
+  ends = λ (e, is, rest, spelled). cc;
+}
+
+pub furthest_same : (i : ℕ) (d : Row) (bytes : List ℕ) (k m : ℕ) → i < 5 → Furthest i bytes k → IsFirstBadOf (get_or table i d) bytes m → m ≤ k → Furthest (i + 1) bytes k
+furthest_same i d bytes k m lt so_far here le = record {
+  begins = so_far.begins;
+  ends = ends_more table i d (take (k + 1) bytes) lt so_far.ends (λ b. here.bad (shorter_of (get_or table i d) bytes (m + 1) (k + 1) (omega arith) b));
+}
+
+pub furthest_more : (i : ℕ) (d : Row) (bytes : List ℕ) (k m : ℕ) → i < 5 → Furthest i bytes k → IsFirstBadOf (get_or table i d) bytes m → k < m → Furthest (i + 1) bytes m
+furthest_more i d bytes k m lt so_far here more = record {
+  begins = begins_of i d (take m bytes) lt here.before;
+  ends = ends_more table i d (take (m + 1) bytes) lt (λ b. so_far.ends (shorter_among (take i table) bytes (k + 1) (m + 1) (omega arith) b)) here.bad;
+}
+
+-- all rows
+pub furthest_all : (i : ℕ) (bytes : List ℕ) (k : ℕ) → i ≡ 5 → Furthest i bytes k → IsFirstBad bytes k
+furthest_all i bytes k all some = let far = subst (λ n. Furthest n bytes k) all some in record { before = far.begins; bad = λ (e, is, rest, spelled). far.ends (e, is.in_table, rest, spelled) }
+
+-- ---- reading back
+
+record FitsBytes (e : MapEntry) : Type 0 where
+  number : place_number e.place < 2 ^ 16
+  owner : e.owner < 2 ^ 32
+
+owner_fits : (owned : Bool) (o : ℕ) → cond owned (nat_lt 0 o && nat_lt o (2 ^ 32)) (o == 0) ≡ true → o < 2 ^ 32
+owner_fits true o lets = (owned_within true o refl lets).1
+owner_fits false o lets = let none = unowned_zero false o refl lets in omega arith
+
+any_fits : (rows : List Row) (e : MapEntry) → list_all (λ row. nat_lt (place_number row.last) (2 ^ 16)) rows ≡ true → list_any (λ row. is_of row e) rows ≡ true → FitsBytes e
+any_fits [] e small is = cc
+any_fits (row ∷ rows) e small is =
+    ⊎_elim
+    (λ p. let last : nat_lt (place_number row.last) (2 ^ 16) ≡ true = and_left _ _ small in
+    let facts = of_row row e p in
+    let below : place_number row.last < 2 ^ 16 = grind (arith, nat_tests) in
+    record { number = omega arith; owner = owner_fits row.owned e.owner facts.owner })
+    (λ p. any_fits rows e (and_right (nat_lt (place_number row.last) (2 ^ 16)) _ small) p)
+    (or_cases (is_of row e) _ is)
+
+fits : (e : MapEntry) → IsEntry e → FitsBytes e
+fits e is = any_fits table e refl is.in_table
+
+state_back : (s : BlockState) (c : Bool) → state_of (first_byte s c % 128) ≡ s
+state_back Free true = refl
+state_back Free false = refl
+state_back Allocated true = refl
+state_back Allocated false = refl
+state_back IntendAllocate true = refl
+state_back IntendAllocate false = refl
+state_back IntendDeallocate true = refl
+state_back IntendDeallocate false = refl
+
+bit_back : (s : BlockState) (c : Bool) → not (nat_lt (first_byte s c) 128) ≡ c
+bit_back Free true = refl
+bit_back Free false = refl
+bit_back Allocated true = refl
+bit_back Allocated false = refl
+bit_back IntendAllocate true = refl
+bit_back IntendAllocate false = refl
+bit_back IntendDeallocate true = refl
+bit_back IntendDeallocate false = refl
+
+place_back : (p : Option Place) → place_of (place_code p) (place_number p) ≡ p
+place_back None = refl
+place_back (Some Root) = refl
+place_back (Some ShadowRoot) = refl
+place_back (Some (Node n)) = refl
+place_back (Some (Leaf n)) = refl
+
+same_parts : (s s' : BlockState) (c c' : Bool) (p p' : Option Place) (o o' : ℕ) → s ≡ s' → c ≡ c' → p ≡ p' → o ≡ o' → made s c p o ≡ made s' c' p' o'
+same_parts s s' c c' p p' o o' state committed place owner = cc
+
+said_by-spelling : (e : MapEntry) → IsEntry e → said_by (spelling e) ≡ e
+unfolding spelling
+said_by-spelling e is =
+    let small = fits e is in
+    same_parts _ e.state _ e.committed _ e.place _ e.owner
+    (state_back e.state e.committed)
+    (bit_back e.state e.committed)
+    (ap (place_of (place_code e.place)) (from_be_bytes-to_be_bytes_2 (place_number e.place) small.number) ∙ place_back e.place)
+    (from_be_bytes-to_be_bytes_4 e.owner small.owner)
+
+chosen : (b : Bool) (e : MapEntry) → b ≡ true → cond b (Some e) None ≡ Some e
+chosen true e is = refl
+chosen false e is = cc
+
+chosen_back : (b : Bool) (e f : MapEntry) → cond b (Some e) None ≡ Some f → (b ≡ true) × (e ≡ f)
+chosen_back true e f is = (refl, cc)
+chosen_back false e f is = cc
+
+-- what is spelled so is read
+pub entry_of-spelling : (e : MapEntry) → IsEntry e → entry_of (spelling e) ≡ Some e
+unfolding entry_of
+entry_of-spelling e is =
+    let back = said_by-spelling e is in
+    let test : (is_entry (said_by (spelling e)) && bytes_eq (spelling (said_by (spelling e))) (spelling e)) ≡ true =
+    ap (λ f. is_entry f && bytes_eq (spelling f) (spelling e)) back ∙ and_true (is_entry e) _ is.in_table ((bytes_eq-Decides (spelling e) (spelling e)).1 refl) in
+    chosen _ (said_by (spelling e)) test ∙ ap Some back
+
+-- what is read is spelled so
+pub entry_of_spelled : (bytes : List ℕ) (e : MapEntry) → entry_of bytes ≡ Some e → IsEntry e × (bytes ≡ spelling e)
+unfolding entry_of
+entry_of_spelled bytes e is =
+    let found = chosen_back (is_entry (said_by bytes) && bytes_eq (spelling (said_by bytes)) bytes) (said_by bytes) e is in
+    let entry = and_left (is_entry (said_by bytes)) _ found.0 in
+    let spelled = (bytes_eq-Decides (spelling (said_by bytes)) bytes).0 (and_right (is_entry (said_by bytes)) _ found.0) in
+    (record { in_table = ap is_entry (sym found.1) ∙ entry }, sym spelled ∙ ap spelling found.1)
+
+-- each entry has one spelling, and no two have the same
+pub spelling_one : (e f : MapEntry) → IsEntry e → IsEntry f → spelling e ≡ spelling f → e ≡ f
+spelling_one e f one other same =
+    let found : Some e ≡ Some f = sym (entry_of-spelling e one) ∙ ap entry_of same ∙ entry_of-spelling f other in cc
+
+-- ---- refusals
+
+pub begins_spelled : (bytes : List ℕ) (e : MapEntry) (k : ℕ) → IsEntry e → bytes ≡ spelling e → BeginsEntry (take k bytes)
+begins_spelled bytes e k is spelled = (e, is, drop k bytes, sym spelled ∙ sym (take-append-drop k bytes))
+
+-- an entry's bytes have no bad place
+pub none_bad : (bytes : List ℕ) (e : MapEntry) (k : ℕ) → IsEntry e → bytes ≡ spelling e → ¬ IsFirstBad bytes k
+none_bad bytes e k is spelled first = first.bad (begins_spelled bytes e (k + 1) is spelled)
+
+-- there is one least bad place
+pub first_bad_one : (bytes : List ℕ) (k m : ℕ) → IsFirstBad bytes k → IsFirstBad bytes m → k ≡ m
+first_bad_one bytes k m one other =
+    by_order (λ lt. absurd (one.bad (shorter_entry bytes (k + 1) m (omega arith) other.before))) (λ lt. absurd (other.bad (shorter_entry bytes (m + 1) k (omega arith) one.before)))
+  where
+    by_order : (k < m → k ≡ m) → (m < k → k ≡ m) → k ≡ m
+    by_order below above = grind (arith)
+
+-- no reading of bytes that have a bad place
+pub entry_of_bad : (bytes : List ℕ) (k : ℕ) → IsFirstBad bytes k → entry_of bytes ≡ None
+entry_of_bad bytes k first = at (entry_of bytes) refl
+  where
+    at : (o : Option MapEntry) → entry_of bytes ≡ o → o ≡ None
+    at None is = refl
+    at (Some e) is = absurd (none_bad bytes e k (entry_of_spelled bytes e is).0 (entry_of_spelled bytes e is).1 first)
+
+abbrev pub refused_as : BadEntry → Result MapEntry BadEntry
+refused_as bad = Err bad
+
+-- a refusal that names the least bad place names no other
+pub refused_exactly : (bytes : List ℕ) (bad : BadEntry) (place : ℕ) → IsFirstBad bytes bad.byte → (refused_as bad ≡ refused_as (record { byte = place })) ↔ IsFirstBad bytes place
+refused_exactly bytes bad place first = (
+  λ same. let at : bad.byte ≡ place = cc in subst (IsFirstBad bytes) at first,
+  λ other. let at : bad.byte ≡ place = first_bad_one bytes bad.byte place first other in same_refusal bad.byte place at,
+)
+  where
+    same_refusal : (k m : ℕ) → k ≡ m → refused_as (record { byte = k }) ≡ refused_as (record { byte = m })
+    same_refusal k m at = cc

@@ -1,0 +1,5 @@
+pub mod Entries
+pub mod FreeEntries
+pub mod Maps
+pub mod RowReads
+pub mod Rows

@@ -1,0 +1,177 @@
+-- How far a row of the table reads eight bytes.
+use Rattle.std.proofs.Common.{◌≡◌, ◌≢◌, ℕ, zero, suc, ◌+◌, ◌*◌, ◌/◌, ◌%◌, ◌^◌, ◌<◌, ◌≤◌, Bool, true, false, List, [], ◌∷◌, length, drop, get_or, Option, refl, arith}
+use Rattle.cfs_base.specs.declared.kind.Place.{Place}
+use Rattle.cyl_map.specs.declared.state.BlockState.{BlockState}
+use Rattle.cyl_map.specs.declared.entry.MapEntry.{MapEntry}
+use Rattle.cyl_map.specs.declared.row.Row.{Row}
+use Rattle.cyl_map.specs.Entry.{state_code, place_code, place_number, first_byte, lets_state, lets_owner, is_of, spelling}
+use Rattle.cyl_map.specs.Row.{IsFirstBadOf, IsFirstOfOwner}
+use Rattle.cyl_map.proofs.Rows.{of_row, made, least_owner, lets_least, lets_least_state, lets_owned, lets_none, owned_within, unowned_zero, is_of_made, with_number, place_code-with_number, place_number-with_number, number_in, Reads, ReadsPlace}
+
+-- a list of eight is eight cells
+pub on_eight : (P : List ℕ → Type 0) (bytes : List ℕ) → length bytes ≡ 8 → P (get_or bytes 0 0 ∷ get_or bytes 1 0 ∷ get_or bytes 2 0 ∷ get_or bytes 3 0 ∷ get_or bytes 4 0 ∷ get_or bytes 5 0 ∷ get_or bytes 6 0 ∷ get_or bytes 7 0 ∷ []) → P bytes
+on_eight P (a ∷ b ∷ c ∷ d ∷ e ∷ f ∷ g ∷ h ∷ []) is p = p
+on_eight P (a ∷ b ∷ c ∷ d ∷ e ∷ f ∷ g ∷ h ∷ i ∷ xs) is p = absurd (omega arith)
+on_eight P [] is p = absurd (omega arith)
+on_eight P (a ∷ []) is p = absurd (omega arith)
+on_eight P (a ∷ b ∷ []) is p = absurd (omega arith)
+on_eight P (a ∷ b ∷ c ∷ []) is p = absurd (omega arith)
+on_eight P (a ∷ b ∷ c ∷ d ∷ []) is p = absurd (omega arith)
+on_eight P (a ∷ b ∷ c ∷ d ∷ e ∷ []) is p = absurd (omega arith)
+on_eight P (a ∷ b ∷ c ∷ d ∷ e ∷ f ∷ []) is p = absurd (omega arith)
+on_eight P (a ∷ b ∷ c ∷ d ∷ e ∷ f ∷ g ∷ []) is p = absurd (omega arith)
+
+-- one of the places 4 to 7
+four : (P : ℕ → Type 0) → P 4 → P 5 → P 6 → P 7 → (n : ℕ) → 4 ≤ n → n < 8 → P n
+four P a b c d zero low high = absurd (omega arith)
+four P a b c d (suc zero) low high = absurd (omega arith)
+four P a b c d (suc (suc zero)) low high = absurd (omega arith)
+four P a b c d (suc (suc (suc zero))) low high = absurd (omega arith)
+four P a b c d (suc (suc (suc (suc zero)))) low high = a
+four P a b c d (suc (suc (suc (suc (suc zero))))) low high = b
+four P a b c d (suc (suc (suc (suc (suc (suc zero)))))) low high = c
+four P a b c d (suc (suc (suc (suc (suc (suc (suc zero))))))) low high = d
+four P a b c d (suc (suc (suc (suc (suc (suc (suc (suc n)))))))) low high = absurd (omega arith)
+
+-- ---- each place at which a row may refuse
+
+pub first_refused : (row : Row) (bytes : List ℕ) → length bytes ≡ 8 → state_code row.from ≤ state_code row.to → ((s : BlockState) (c : Bool) → lets_state row s c ≡ true → first_byte s c ≢ get_or bytes 0 0) → IsFirstBadOf row bytes 0
+unfolding spelling
+first_refused row bytes eight range none = on_eight (λ bs. IsFirstBadOf row bs 0) bytes eight (record {
+  before = (
+    made row.from false row.last (least_owner row),
+    is_of_made row row.from false row.last (least_owner row) (lets_least_state row range) refl (omega arith) (lets_least row.owned),
+    spelling (made row.from false row.last (least_owner row)),
+    refl,
+  );
+  bad = λ (e, is, rest, spelled). none e.state e.committed (of_row row e is).state (cc);
+})
+
+pub kind_refused : (row : Row) (bytes : List ℕ) (s : BlockState) (c : Bool) → Reads row bytes s c → place_code row.last ≢ get_or bytes 1 0 → IsFirstBadOf row bytes 1
+unfolding spelling
+kind_refused row bytes s c reads other = on_eight (λ bs. IsFirstBadOf row bs 1) bytes reads.eight (record {
+  before = (
+    made s c row.last (least_owner row),
+    is_of_made row s c row.last (least_owner row) reads.state refl (omega arith) (lets_least row.owned),
+    drop 1 (spelling (made s c row.last (least_owner row))),
+    (let first = reads.first in cc),
+  );
+  bad = λ (e, is, rest, spelled). other (let kind = (of_row row e is).kind in cc);
+})
+
+pub high_refused : (row : Row) (bytes : List ℕ) (s : BlockState) (c : Bool) → Reads row bytes s c → place_code row.last ≡ get_or bytes 1 0 → place_number row.last / 256 < get_or bytes 2 0 → place_number row.last < 2 ^ 16 → IsFirstBadOf row bytes 2
+unfolding spelling
+high_refused row bytes s c reads kind past fits = on_eight (λ bs. IsFirstBadOf row bs 2) bytes reads.eight (record {
+  before = (
+    made s c row.last (least_owner row),
+    is_of_made row s c row.last (least_owner row) reads.state refl (omega arith) (lets_least row.owned),
+    drop 2 (spelling (made s c row.last (least_owner row))),
+    (let first = reads.first in cc),
+  );
+  bad = λ (e, is, rest, spelled).
+      let number = (of_row row e is).number in
+      let cell : place_number e.place / 256 % 256 ≡ get_or bytes 2 0 = cc in
+      omega arith;
+})
+
+pub low_refused : (row : Row) (bytes : List ℕ) (s : BlockState) (c : Bool) → Reads row bytes s c → place_code row.last ≡ get_or bytes 1 0 → get_or bytes 2 0 ≤ place_number row.last / 256 → place_number row.last < number_in bytes → place_number row.last < 2 ^ 16 → IsFirstBadOf row bytes 3
+unfolding spelling
+low_refused row bytes s c reads kind high past fits =
+    let n : ℕ = get_or bytes 2 0 * 256 in
+    let p : Option Place = with_number row.last n in
+    let numbered : place_number p ≡ n = place_number-with_number row.last n (omega arith) in
+    let kept : place_code p ≡ place_code row.last = place_code-with_number row.last n in
+    let small : get_or bytes 2 0 < 256 = reads.small 2 in
+    let cell : place_number p / 256 % 256 ≡ get_or bytes 2 0 = omega arith in
+    on_eight (λ bs. IsFirstBadOf row bs 3) bytes reads.eight (record {
+      before = (
+        made s c p (least_owner row),
+        is_of_made row s c p (least_owner row) reads.state kept (omega arith) (lets_least row.owned),
+        drop 3 (spelling (made s c p (least_owner row))),
+        (let first = reads.first in cc),
+      );
+      bad = λ (e, is, rest, spelled).
+          let number = (of_row row e is).number in
+          let high : place_number e.place / 256 % 256 ≡ get_or bytes 2 0 = cc in
+          let low : place_number e.place % 256 ≡ get_or bytes 3 0 = cc in
+          omega arith;
+    })
+
+pub zero_refused : (row : Row) (bytes : List ℕ) (s : BlockState) (c : Bool) (p : Option Place) → Reads row bytes s c → ReadsPlace row bytes p → row.owned ≡ true → get_or bytes 4 0 ≡ 0 → get_or bytes 5 0 ≡ 0 → get_or bytes 6 0 ≡ 0 → get_or bytes 7 0 ≡ 0 → IsFirstBadOf row bytes 7
+unfolding spelling
+zero_refused row bytes s c p reads place owned z4 z5 z6 z7 =
+    let small2 : get_or bytes 2 0 < 256 = reads.small 2 in
+    let small3 : get_or bytes 3 0 < 256 = reads.small 3 in
+    let high : place_number p / 256 % 256 ≡ get_or bytes 2 0 = omega (arith, place.number) in
+    let low : place_number p % 256 ≡ get_or bytes 3 0 = omega (arith, place.number) in
+    on_eight (λ bs. IsFirstBadOf row bs 7) bytes reads.eight (record {
+      before = (
+        made s c p 1,
+        is_of_made row s c p 1 reads.state place.like place.within (lets_owned row.owned 1 owned (omega arith) (omega arith)),
+        1 ∷ [],
+        (let first = reads.first in let kind = place.kind in cc),
+      );
+      bad = λ (e, is, rest, spelled).
+          let within = owned_within row.owned e.owner owned (of_row row e is).owner in
+          let c4 : e.owner / 2 ^ 24 % 256 ≡ get_or bytes 4 0 = cc in
+          let c5 : e.owner / 2 ^ 16 % 256 ≡ get_or bytes 5 0 = cc in
+          let c6 : e.owner / 2 ^ 8 % 256 ≡ get_or bytes 6 0 = cc in
+          let c7 : e.owner % 256 ≡ get_or bytes 7 0 = cc in
+          omega arith;
+    })
+
+pub owner_refused : (row : Row) (bytes : List ℕ) (s : BlockState) (c : Bool) (p : Option Place) → Reads row bytes s c → ReadsPlace row bytes p → row.owned ≡ false → (place : ℕ) → IsFirstOfOwner bytes place → IsFirstBadOf row bytes place
+unfolding spelling
+owner_refused row bytes s c p reads place owned at found =
+    let small2 : get_or bytes 2 0 < 256 = reads.small 2 in
+    let small3 : get_or bytes 3 0 < 256 = reads.small 3 in
+    let high : place_number p / 256 % 256 ≡ get_or bytes 2 0 = omega (arith, place.number) in
+    let low : place_number p % 256 ≡ get_or bytes 3 0 = omega (arith, place.number) in
+    let first = reads.first in
+    let kind = place.kind in
+    let one_of = is_of_made row s c p 0 reads.state place.like place.within (lets_none row.owned 0 owned refl) in
+    let none : (e : MapEntry) → is_of row e ≡ true → e.owner ≡ 0 = λ e is. unowned_zero row.owned e.owner owned (of_row row e is).owner in
+    four (λ n. IsFirstOfOwner bytes n → IsFirstBadOf row bytes n)
+    (λ h. on_eight (λ bs. IsFirstBadOf row bs 4) bytes reads.eight (record {
+      before = (made s c p 0, one_of, 0 ∷ 0 ∷ 0 ∷ 0 ∷ [], cc);
+      bad = λ (e, is, rest, spelled). h.set (let no_owner = none e is in let cell : e.owner / 2 ^ 24 % 256 ≡ get_or bytes 4 0 = cc in omega arith);
+    }))
+    (λ h. let z4 = h.clear 4 (omega arith) (omega arith) in on_eight (λ bs. IsFirstBadOf row bs 5) bytes reads.eight (record {
+      before = (made s c p 0, one_of, 0 ∷ 0 ∷ 0 ∷ [], cc);
+      bad = λ (e, is, rest, spelled). h.set (let no_owner = none e is in let cell : e.owner / 2 ^ 16 % 256 ≡ get_or bytes 5 0 = cc in omega arith);
+    }))
+    (λ h. let z4 = h.clear 4 (omega arith) (omega arith) in let z5 = h.clear 5 (omega arith) (omega arith) in on_eight (λ bs. IsFirstBadOf row bs 6) bytes reads.eight (record {
+      before = (made s c p 0, one_of, 0 ∷ 0 ∷ [], cc);
+      bad = λ (e, is, rest, spelled). h.set (let no_owner = none e is in let cell : e.owner / 2 ^ 8 % 256 ≡ get_or bytes 6 0 = cc in omega arith);
+    }))
+    (λ h. let z4 = h.clear 4 (omega arith) (omega arith) in let z5 = h.clear 5 (omega arith) (omega arith) in let z6 = h.clear 6 (omega arith) (omega arith) in on_eight (λ bs. IsFirstBadOf row bs 7) bytes reads.eight (record {
+      before = (made s c p 0, one_of, 0 ∷ [], cc);
+      bad = λ (e, is, rest, spelled). h.set (let no_owner = none e is in let cell : e.owner % 256 ≡ get_or bytes 7 0 = cc in omega arith);
+    }))
+    at found.after found.within found
+
+-- ---- what a row reads
+
+abbrev pub owner_in : List ℕ → ℕ
+owner_in bytes = get_or bytes 4 0 * 2 ^ 24 + get_or bytes 5 0 * 2 ^ 16 + get_or bytes 6 0 * 2 ^ 8 + get_or bytes 7 0
+
+pub read_spelled : (row : Row) (bytes : List ℕ) (s : BlockState) (c : Bool) (p : Option Place) (o : ℕ) → Reads row bytes s c → ReadsPlace row bytes p → o ≡ owner_in bytes → lets_owner row o ≡ true → (is_of row (made s c p o) ≡ true) × (bytes ≡ spelling (made s c p o))
+unfolding spelling
+read_spelled row bytes s c p o reads place owner lets =
+    let small2 : get_or bytes 2 0 < 256 = reads.small 2 in
+    let small3 : get_or bytes 3 0 < 256 = reads.small 3 in
+    let small4 : get_or bytes 4 0 < 256 = reads.small 4 in
+    let small5 : get_or bytes 5 0 < 256 = reads.small 5 in
+    let small6 : get_or bytes 6 0 < 256 = reads.small 6 in
+    let small7 : get_or bytes 7 0 < 256 = reads.small 7 in
+    let high : place_number p / 256 % 256 ≡ get_or bytes 2 0 = omega (arith, place.number) in
+    let low : place_number p % 256 ≡ get_or bytes 3 0 = omega (arith, place.number) in
+    let c4 : o / 2 ^ 24 % 256 ≡ get_or bytes 4 0 = omega arith in
+    let c5 : o / 2 ^ 16 % 256 ≡ get_or bytes 5 0 = omega arith in
+    let c6 : o / 2 ^ 8 % 256 ≡ get_or bytes 6 0 = omega arith in
+    let c7 : o % 256 ≡ get_or bytes 7 0 = omega arith in
+    let first = reads.first in
+    let kind = place.kind in (
+      is_of_made row s c p o reads.state place.like place.within lets,
+      on_eight (λ bs. bs ≡ spelling (made s c p o)) bytes reads.eight (cc),
+    )

@@ -1,0 +1,44 @@
+-- The 512 bytes of a map: 64 entries, one after the other.
+use Rattle.std.specs.Prelude.{◌≡◌, ℕ, ◌*◌, ◌<◌, Bool, true, false, List, take, drop, length, All, count_by, Option, IsSome}
+use Rattle.std.specs.List.{flat_map}
+use Rattle.cyl_map.specs.declared.state.BlockState.{BlockState}
+use Rattle.cyl_map.specs.declared.state.BlockState.TheVariants.{Free, Allocated, IntendAllocate, IntendDeallocate}
+use Rattle.cyl_map.specs.declared.entry.MapEntry.{MapEntry}
+use Rattle.cyl_map.specs.Entry.{IsEntry, spelling}
+use Rattle.cyl_map.specs.Reading.{IsFirstBad, entry_of}
+
+-- what a map's entries are
+pub record IsMap (entries : List MapEntry) : Type 0 where
+  pub long : length entries ≡ 64
+  pub each : All IsEntry entries
+
+-- the bytes of a map
+abbrev pub map_spelling : List MapEntry → List ℕ
+map_spelling entries = flat_map spelling entries
+
+-- the eight bytes of one entry
+abbrev pub bytes_at : List ℕ → ℕ → List ℕ
+bytes_at block entry = take 8 (drop (8 * entry) block)
+
+-- the entry that they are, if they are one
+abbrev pub entry_at : List ℕ → ℕ → Option MapEntry
+entry_at block entry = entry_of (bytes_at block entry)
+
+-- the first entry that is none, and the least bad place of its bytes
+pub record IsFirstBadEntry (block : List ℕ) (entry byte : ℕ) : Type 0 where
+  pub within : entry < 64
+  pub before : (k : ℕ) → k < entry → IsSome (entry_at block k)
+  pub bad : IsFirstBad (bytes_at block entry) byte
+
+abbrev pub is_free_state : BlockState → Bool
+is_free_state Free = true
+is_free_state Allocated = false
+is_free_state IntendAllocate = false
+is_free_state IntendDeallocate = false
+
+abbrev pub is_free : MapEntry → Bool
+is_free e = is_free_state e.state
+
+-- how many blocks of the cylinder are Free
+abbrev pub free_entries : List MapEntry → ℕ
+free_entries entries = count_by is_free entries

@@ -1,0 +1,84 @@
+//! One entry of a map, and its eight bytes.
+ghost use Rattle.std.specs.Prelude.{◌≡◌, ◌↔◌, ℕ, IfOk, MatchResult};
+ghost use Rattle.cyl_map.specs.Entry.{IsEntry, spelling};
+ghost use Rattle.cyl_map.specs.Map.{is_free};
+ghost use Rattle.cyl_map.specs.Reading.{IsFirstBad, entry_of};
+
+use crate::row::{TABLE, place_code, place_number};
+use crate::state::BlockState;
+use cfs_base::Place;
+
+/// What a map says of one block.
+#[derive(Clone, Copy, Debug, PartialEq, Eq)]
+pub struct MapEntry {
+    pub state: BlockState,
+    /// The commit bit of a root.
+    pub committed: bool,
+    /// What the block is to its owner; None where it has none.
+    pub place: Option<Place>,
+    /// The root block of the object that owns the block, or 0.
+    pub owner: u32,
+}
+
+/// Eight bytes are no entry: `byte` is the least place such that no entry begins with the bytes up to and with it.
+#[derive(Clone, Copy, Debug, PartialEq, Eq)]
+pub struct BadEntry {
+    pub byte: u8,
+}
+
+impl MapEntry {
+    /// The entry of a Free block.
+    pub(crate) const FREE: MapEntry = MapEntry {
+        state: BlockState::Free,
+        committed: false,
+        place: None,
+        owner: 0,
+    };
+
+    /// Whether the block is Free.
+    pub(crate) fn is_free(&self) -> bool
+        ensures { result ≡ is_free self.now }
+    {
+        self.state == BlockState::Free
+    }
+
+    /// The entry that these bytes spell.
+    pub fn decode(bytes: &[u8; 8]) -> Result<MapEntry, BadEntry>
+        // What is read is an entry of the table, and spelled so.
+        ensures read { IfOk result (λ entry. IsEntry entry × (bytes.now ≡ spelling entry)) }
+        // What is spelled so is read.
+        ensures only { (entry : MapEntry) → IsEntry entry → bytes.now ≡ spelling entry → result ≡ Ok entry }
+        ensures refused { (place : ℕ) → (result ≡ Err (record { byte = place })) ↔ IsFirstBad bytes.now place }
+
+        // It is what reading gives.
+        ensures value { MatchResult result
+            (λ entry. entry_of bytes.now ≡ Some entry) (λ bad. entry_of bytes.now ≡ None) }
+    {
+        let mut bad = BadEntry { byte: 0 };
+        for row in &TABLE {
+            match row.read(bytes) {
+                Ok(entry) => return Ok(entry),
+                Err(other) => {
+                    if bad.byte < other.byte {
+                        bad = other;
+                    }
+                }
+            }
+        }
+        Err(bad)
+    }
+
+    /// The one spelling of the entry.
+    #[tactic(auto, unfolding(crate::specs::Entry::spelling))]
+    pub fn encode(&self) -> [u8; 8]
+        requires { IsEntry self.now }
+        ensures spelled { result ≡ spelling self.now }
+        // No other entry is spelled so.
+        ensures alone { (other : MapEntry) → IsEntry other → spelling other ≡ spelling self.now → other ≡ self.now }
+    {
+        let first = self.state.code() + if self.committed { 0x80 } else { 0 };
+        let [high, low] = place_number(self.place).to_be_bytes();
+        let [a, b, c, d] = self.owner.to_be_bytes();
+        [first, place_code(self.place), high, low, a, b, c, d]
+    }
+}

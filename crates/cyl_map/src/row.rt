@@ -1,0 +1,165 @@
+//! The table of entries: a row for each kind of place.
+ghost use Rattle.std.specs.Prelude.{◌≡◌, ◌≢◌, ◌<◌, ◌≤◌, ℕ, Bool, true, slice_index, IfOk, IfErr, IfSome, IfNone};
+ghost use Rattle.cyl_map.specs.Entry as spec;
+ghost use Rattle.cyl_map.specs.Row.{IsFirstBadOf, IsFirstOfOwner};
+
+use crate::entry::{BadEntry, MapEntry};
+use crate::state::BlockState;
+use cfs_base::Place;
+
+/// The states from one to another go with the places of one kind that are numbered up to the last.
+pub(crate) struct Row {
+    pub from: BlockState,
+    pub to: BlockState,
+    pub last: Option<Place>,
+    /// Whether the block has an owner.
+    pub owned: bool,
+    /// Whether the commit bit may stand.
+    pub may_commit: bool,
+}
+
+const NO_OWNER: u32 = 0;
+
+/// All entries that there are.
+pub(crate) static TABLE: [Row; 5] = [
+    Row {
+        from: BlockState::Free,
+        to: BlockState::Allocated,
+        last: None,
+        owned: false,
+        may_commit: false,
+    },
+    Row {
+        from: BlockState::Allocated,
+        to: BlockState::IntendAllocate,
+        last: Some(Place::Root),
+        owned: true,
+        may_commit: true,
+    },
+    Row {
+        from: BlockState::Allocated,
+        to: BlockState::IntendAllocate,
+        last: Some(Place::ShadowRoot),
+        owned: true,
+        may_commit: false,
+    },
+    Row {
+        from: BlockState::Allocated,
+        to: BlockState::IntendDeallocate,
+        last: Some(Place::Node(119)),
+        owned: true,
+        may_commit: false,
+    },
+    Row {
+        from: BlockState::Allocated,
+        to: BlockState::IntendDeallocate,
+        last: Some(Place::Leaf(15_359)),
+        owned: true,
+        may_commit: false,
+    },
+];
+
+/// The number of the kind of place in an entry's second byte.
+pub(crate) fn place_code(place: Option<Place>) -> u8
+    ensures { result ≡ spec.place_code place }
+{
+    match place {
+        None => 0,
+        Some(Place::Root) => 1,
+        Some(Place::ShadowRoot) => 2,
+        Some(Place::Node(_)) => 3,
+        Some(Place::Leaf(_)) => 4,
+    }
+}
+
+/// Which of its kind the place is.
+pub(crate) fn place_number(place: Option<Place>) -> u16
+    ensures { result ≡ spec.place_number place }
+{
+    match place {
+        Some(Place::Node(number)) | Some(Place::Leaf(number)) => number,
+        _ => 0,
+    }
+}
+
+/// The place of the same kind with this number.
+fn numbered(place: Option<Place>, number: u16) -> Option<Place>
+    requires { number ≤ spec.place_number place }
+    ensures kind { spec.place_code result ≡ spec.place_code place }
+    ensures number { spec.place_number result ≡ number }
+{
+    match place {
+        Some(Place::Node(_)) => Some(Place::Node(number)),
+        Some(Place::Leaf(_)) => Some(Place::Leaf(number)),
+        other => other,
+    }
+}
+
+/// The place of the first byte of the owner that isn't 0.
+fn first_of_owner(bytes: &[u8; 8]) -> Option<u8>
+    ensures found { IfSome result (IsFirstOfOwner bytes.now) }
+    ensures none { IfNone result ((k : ℕ) → 4 ≤ k → k < 8 → slice_index bytes.now k ≡ 0) }
+{
+    for byte in 4..8u8 {
+        if bytes[byte as usize] != 0 {
+            return Some(byte);
+        }
+    }
+    None
+}
+
+impl Row {
+    /// The state and the commit bit that the first byte tells, where the row lets them stand.
+    fn state_in(&self, first: u8) -> Option<(BlockState, bool)>
+        ensures found { IfSome result (λ found.
+            (spec.lets_state self.now found.0 found.1 ≡ true) × (spec.first_byte found.0 found.1 ≡ first)) }
+        ensures none { IfNone result ((state : BlockState) (committed : Bool) →
+            spec.lets_state self.now state committed ≡ true → spec.first_byte state committed ≢ first) }
+    {
+        let committed = first >= 0x80;
+        let state = BlockState::of(first % 0x80)?;
+        let code = state.code();
+        if code < self.from.code() || self.to.code() < code || (committed && !self.may_commit) {
+            return None;
+        }
+        Some((state, committed))
+    }
+
+    /// The entry of this row that the bytes spell; else the least place such that no entry of the row begins with the
+    /// bytes up to and with it.
+    pub fn read(&self, bytes: &[u8; 8]) -> Result<MapEntry, BadEntry>
+        requires { spec.state_code self.now.from ≤ spec.state_code self.now.to }
+        ensures read { IfOk result (λ entry. (spec.is_of self.now entry ≡ true) × (bytes.now ≡ spec.spelling entry)) }
+        ensures refused { IfErr result (λ bad. IsFirstBadOf self.now bytes.now bad.byte) }
+    {
+        let Some((state, committed)) = self.state_in(bytes[0]) else {
+            return Err(BadEntry { byte: 0 });
+        };
+        if bytes[1] != place_code(self.last) {
+            return Err(BadEntry { byte: 1 });
+        }
+        let last = place_number(self.last);
+        if last / 256 < bytes[2] as u16 {
+            return Err(BadEntry { byte: 2 });
+        }
+        let number = u16::from_be_bytes([bytes[2], bytes[3]]);
+        if last < number {
+            return Err(BadEntry { byte: 3 });
+        }
+        let owner = u32::from_be_bytes([bytes[4], bytes[5], bytes[6], bytes[7]]);
+        if self.owned {
+            if owner == NO_OWNER {
+                return Err(BadEntry { byte: 7 });
+            }
+        } else if let Some(byte) = first_of_owner(bytes) {
+            return Err(BadEntry { byte });
+        }
+        let place = numbered(self.last, number);
+        Ok(MapEntry {
+            state,
+            committed,
+            place,
+            owner,
+        })
+    }
+}

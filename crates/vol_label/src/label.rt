@@ -1,0 +1,90 @@
+//! The label, and its block.
+ghost use Rattle.std.specs.Prelude.{◌≡◌, ◌↔◌, ◌<◌, ◌≤◌, ℕ, Ok, Err, IfOk, IsTrue};
+ghost use Rattle.vol_label.specs.Label as spec;
+
+use cfs_base::{Block, Puid};
+use thiserror::Error;
+
+/// What the label of a volume says.
+#[derive(Clone, Copy, Debug, PartialEq, Eq)]
+pub struct Label {
+    /// How many cylinders of 64 blocks there are.
+    pub cylinders: u32,
+    /// The root index, whose root block is block 2.
+    pub root: Puid,
+}
+
+/// Why a block is no label that is read here.
+#[derive(Clone, Copy, Debug, PartialEq, Eq, Error)]
+pub enum LabelFault {
+    #[error("not a volume")]
+    NotVolume,
+    /// A label of another version than 1.
+    #[error("a volume of version {found}")]
+    Version { found: u32 },
+}
+
+/// What each volume begins with.
+const MAGIC: [u8; 4] = *b"CFS1";
+/// The version that is read and written.
+const VERSION: u32 = 1;
+/// A volume has at least one cylinder, and at most so many.
+const MOST_CYLINDERS: u32 = 65_536;
+/// The root block of the root index.
+const ROOT_BLOCK: u32 = 2;
+
+impl Label {
+    /// The label that this block spells.
+    pub fn decode(block: &Block) -> Result<Label, LabelFault>
+        // What is read is a label, and spelled so.
+        ensures read { IfOk result (λ label. spec.IsLabel label × (block.now ≡ spec.spelling label)) }
+        // What is spelled so is read.
+        ensures only { (label : Label) → spec.IsLabel label → block.now ≡ spec.spelling label → result ≡ Ok label }
+        ensures version { (found : ℕ) →
+            (result ≡ Err (LabelFault.Version found)) ↔ spec.IsOtherVersion block.now found }
+        ensures not_volume { (result ≡ Err LabelFault.NotVolume) ↔ spec.IsNoVolume block.now }
+    {
+        if !block.bytes().starts_with(&MAGIC) {
+            return Err(LabelFault::NotVolume);
+        }
+        let found = block.u32_at(4);
+        if found != VERSION {
+            return Err(LabelFault::Version { found });
+        }
+        let label = Label {
+            cylinders: block.u32_at(8),
+            root: Puid {
+                block: block.u32_at(12),
+                word: block.u32_at(16),
+            },
+        };
+        if !label.is_one() {
+            return Err(LabelFault::NotVolume);
+        }
+        if label.encode() != *block {
+            return Err(LabelFault::NotVolume);
+        }
+        Ok(label)
+    }
+
+    /// The one spelling of the label.
+    pub fn encode(&self) -> Block
+        requires { spec.IsLabel self.now }
+        ensures { result ≡ spec.spelling self.now }
+    {
+        let mut block = Block::zero();
+        block.put_u32(0, u32::from_be_bytes(MAGIC));
+        block.put_u32(4, VERSION);
+        block.put_u32(8, self.cylinders);
+        block.put_u32(12, self.root.block);
+        block.put_u32(16, self.root.word);
+        block
+    }
+
+    /// Whether a volume may have this label.
+    fn is_one(self) -> bool
+        ensures { IsTrue result ↔ spec.IsLabel self }
+    {
+        1 <= self.cylinders && self.cylinders <= MOST_CYLINDERS && self.root.block == ROOT_BLOCK
+    }
+}

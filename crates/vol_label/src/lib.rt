@@ -1,0 +1,10 @@
+//! The label of a volume: how many cylinders it has, and which object is the root index.
+//! The layer above uses that `decode` reads exactly the blocks that `encode` writes, tells another version by its
+//! number, and all else as no volume.
+#![tactic(auto)]
+
+mod label;
+#[cfg(test)]
+mod tests;
+
+pub use label::{Label, LabelFault};
