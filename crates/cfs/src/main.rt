@@ -2,11 +2,13 @@
 //! memory, writes a reply for each to OUT, and a report to standard output. `-` is a standard stream.
 #![tactic(auto)]
 
+mod no_disk;
 mod opening;
 
-use cfs_fakes::{MemoryDisk, OpenGate};
+use cfs_fakes::OpenGate;
 use cfs_host::FileSink;
 use cfs_serve::{Bay, top};
+use no_disk::NoDisk;
 use opening::{AnySink, AnySource, open, tell_starved};
 use std::alloc::Global;
 use std::env;
@@ -30,7 +32,7 @@ fn run(rt: &HostRuntime, alloc: Global) -> Result<u8, u8> {
     let Ok(report) = FileSink::named(rt, "-", rt.stdout()) else {
         unreachable!();
     };
-    let bay: Bay<MemoryDisk, AnySource, AnySink> = Bay {
+    let bay: Bay<NoDisk, AnySource, AnySink> = Bay {
         disk: None,
         sources: opened.sources,
         sinks: opened.sinks,

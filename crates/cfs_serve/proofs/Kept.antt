@@ -1,16 +1,14 @@
 -- What is kept over the turns of a session.
-use Rattle.std.proofs.Common.{◌≡◌, ℕ, ◌+◌, ◌<◌, ◌≤◌, List, [], ◌∷◌, ◌++◌, length, refl, sym, ap, ◌∙◌, arith, true, false, Bool, Some, length-append, append_assoc}
+use Rattle.std.proofs.Common.{◌≡◌, ℕ, ◌+◌, ◌<◌, ◌≤◌, List, [], ◌∷◌, ◌++◌, length, refl, sym, ap, ◌∙◌, arith, true, false, Bool, length-append, append_assoc}
 use Rattle.std.specs.Prelude.{◌||◌, option_and_then}
 use Rattle.std.specs.List.{list_any, list_all}
 use Rattle.std.proofs.lemmas.List.Folds.{list_all-append}
 use Rattle.std.proofs.lemmas.List.{append-nil}
-use Rattle.cfs_streams.specs.Writing.{Wrote, WroteSome}
 use Rattle.cfs_streams.proofs.WriteLaws.{nothing, then, then_some}
 use Rattle.ufs_model.specs.declared.asked.Event.{Event}
 use Rattle.ufs_model.specs.Graph.{fresh_graph}
 use Rattle.ufs_model.specs.State.{opening}
 use Rattle.ufs_model.specs.Next.{next}
-use Rattle.ufs_model.specs.Run.{replay_from}
 use Rattle.ufs_model.specs.Script.{request_lines}
 use Rattle.ufs_model.specs.Names.{Names, no_names}
 use Rattle.ufs_model.specs.Spoken.{Form, reading_of}
@@ -19,7 +17,7 @@ use Rattle.ufs_model.specs.Printed.{printed, printed_replies}
 use Rattle.ufs_model.proofs.Legal.{replay_from-push}
 use Rattle.cfs_base.specs.Outside.{Intake}
 use Rattle.cfs_serve.specs.Words.{root_of}
-use Rattle.cfs_serve.specs.Session.{Session, Terms, terms, TakesLine, Replied, IsRun, IsServing, IsServedSo, is_calm, wants_memory}
+use Rattle.cfs_serve.specs.Session.{Session, Terms, terms, TakesLine, IsRun, IsServing, IsServedSo, is_calm, wants_memory}
 
 -- ---- lists with one event more
 

@@ -1,6 +1,6 @@
 -- A session that was served, once it has left.
-use Rattle.std.proofs.Common.{◌≡◌, ℕ, ◌+◌, List, [], ◌∷◌, ◌++◌, length, refl, sym, ap, ◌∙◌, arith, true, false, Bool, cond, Some, None, length-append}
-use Rattle.std.specs.Prelude.{◌||◌, ◌&&◌, option_and_then, filter}
+use Rattle.std.proofs.Common.{◌≡◌, ℕ, ◌+◌, List, [], ◌∷◌, ◌++◌, length, refl, sym, ap, ◌∙◌, true, false, Bool, cond, None, length-append}
+use Rattle.std.specs.Prelude.{◌||◌, ◌&&◌, option_and_then}
 use Rattle.std.specs.List.{list_any, list_all}
 use Rattle.std.proofs.lemmas.List.{append-nil}
 use Rattle.std.proofs.lemmas.List.Folds.{list_all-append, list_any-append}
@@ -15,12 +15,12 @@ use Rattle.ufs_model.specs.Printed.{printed_replies}
 use Rattle.ufs_model.proofs.Legal.{replay_from-push}
 use Rattle.cfs_base.specs.Outside.{Intake}
 use Rattle.cfs_serve.specs.Words.{root_of}
-use Rattle.cfs_serve.specs.Session.{Session, IsServedSo, terms, Replied, is_calm, wants_memory}
+use Rattle.cfs_serve.specs.Session.{Session, IsServedSo, terms, is_calm, wants_memory}
 use Rattle.cfs_serve.specs.Played.{IsPlayed}
 use Rattle.cfs_serve.proofs.Kept.{printed_replies-push}
 
 -- events of the session alone are all of its turns
-only_turns : (trail : List Event) → list_all (is_turn_of 0) trail ≡ true → turns_in 0 trail ≡ trail
+pub only_turns : (trail : List Event) → list_all (is_turn_of 0) trail ≡ true → turns_in 0 trail ≡ trail
 only_turns [] all = refl
 only_turns (e ∷ trail) all =
     elim (is_turn_of 0 e) as (λ b. (b && list_all (is_turn_of 0) trail) ≡ true → cond b (e ∷ turns_in 0 trail) (turns_in 0 trail) ≡ e ∷ trail) [
@@ -28,7 +28,7 @@ only_turns (e ∷ trail) all =
       | false ↦ λ wrong. cc
     ] all
 
-turns_in-leave : (trail : List Event) → turns_in 0 (trail ++ events.Leave 0 None ∷ []) ≡ turns_in 0 trail
+pub turns_in-leave : (trail : List Event) → turns_in 0 (trail ++ events.Leave 0 None ∷ []) ≡ turns_in 0 trail
 turns_in-leave [] = refl
 turns_in-leave (e ∷ trail) = ap (λ es. cond (is_turn_of 0 e) (e ∷ es) es) (turns_in-leave trail)
 

@@ -7,3 +7,4 @@ pub mod Session
 pub mod Shown
 pub mod Played
 pub mod Whole
+pub mod Top

@@ -1,5 +1,5 @@
--- A whole run: what it comes to, for the words, the sources, the sinks, the sink of the report, the status and the trail.
-use Rattle.std.specs.Prelude.{◌≡◌, ℕ, Bool, true, false, List, [], ◌∷◌, length, Option, Some, None}
+-- A whole run, step by step: the words, the sources and the sinks, the report and the status. The clauses of `top` follow from it.
+use Rattle.std.specs.Prelude.{◌≡◌, ℕ, Bool, true, false, List, [], ◌∷◌, Option, Some, None}
 use Rattle.cfs_base.specs.Outside.{Intake, Supply}
 use Rattle.ufs_model.specs.declared.asked.Event.{Event}
 use Rattle.ufs_model.specs.Spoken.{Form}
@@ -52,9 +52,8 @@ ended false (causes.Source i) = 6
 ended false (causes.Long i) = 9
 ended false causes.LongTotal = 9
 
-pub record IsWhole (forms : List Form) (asked : Option Play) (old new : Places) (report report_after : Intake) (status : ℕ) (trail : List Event) : Type 0 where
-  -- what is told, as the run went
-  pub told : Report
+-- the report of the run is this one, and so it was written
+pub record IsWhole (forms : List Form) (asked : Option Play) (old new : Places) (report report_after : Intake) (told : Report) (status : ℕ) (trail : List Event) : Type 0 where
   pub run : Asks forms asked old new told trail
   -- the sink of the report has taken all of it, or some of its beginning
   pub written : Bool

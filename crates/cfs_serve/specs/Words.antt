@@ -1,5 +1,5 @@
 -- What the words of a command ask for.
-use Rattle.std.specs.Prelude.{ℕ, ◌^◌, Bool, not, ◌&&◌, ◌==◌, nat_lt, nat_le, if◌then◌else◌, List, [], ◌∷◌, length, Option, Some, None, option_and_then, codes}
+use Rattle.std.specs.Prelude.{ℕ, ◌^◌, Bool, ◌&&◌, ◌==◌, nat_lt, nat_le, if◌then◌else◌, List, [], ◌∷◌, length, map, String, string_bytes, Option, Some, None, codes}
 use Rattle.std.specs.Str.{bytes_eq, all_ascii_digits}
 use Rattle.std.specs.Str.Parse.{digits_value}
 use Rattle.cfs_base.specs.declared.identifier.Puid.{Puid}
@@ -39,6 +39,10 @@ abbrev pub play_in : List (List ℕ) → Option Play
 play_in (verb ∷ cylinders ∷ seed ∷ collections ∷ input ∷ output ∷ []) =
     if bytes_eq verb (codes "play") then numbered (number_of cylinders) (number_of seed) (number_of collections) input output else None
 play_in words = None
+
+-- what the words of a command ask for
+abbrev pub asked_by : {Z : Type 0} → List (String Z) → Option Play
+asked_by words = play_in (map string_bytes words)
 
 -- the identifier of the root index of a new volume
 abbrev pub root_of : ℕ → Puid

@@ -8,6 +8,7 @@ mod limits;
 mod paths;
 mod play;
 mod report;
+mod running;
 mod session;
 mod trail;
 mod whole;
@@ -16,8 +17,9 @@ mod words;
 pub use limits::{MOST_CYLINDERS, MOST_LINES, MOST_SCRIPT};
 pub use paths::{Names, Path, Paths, WordsFault};
 pub use report::{Cause, Counts, Report};
+pub use running::{Bay, Ended};
 pub use trail::Trail;
-pub use whole::{Bay, Ended, top};
+pub use whole::top;
 pub use words::names;
 
 #[cfg(test)]

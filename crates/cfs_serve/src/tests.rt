@@ -1,11 +1,12 @@
 //! Whole runs on sources and sinks in memory.
 
-use crate::{Bay, Ended, WordsFault, names, top};
+use crate::{Bay, Cause, Ended, WordsFault, names, top};
 use cfs_base::{Failed, Sink};
 use cfs_fakes::{MemoryDisk, MemorySink, MemorySource, OpenGate};
 use std::alloc::{AllocError, Global};
 use std::process::Abort;
 use std::test::Fail;
+use ufs_model::Event;
 
 const STORED: &[u8] =
     b"create-index a 4 root 0\nretrieve b root 0\nslots a\nretrieve c root 63\nretrieve c root 64\n";
@@ -149,6 +150,8 @@ fn a_sink_that_fails_ends_its_session(rt: HostRuntime) -> Result<(), Fail> {
     assert_eq!(rt; first.report.bytes(), report.as_slice());
     assert_eq!(rt; first.status, 5);
     assert_eq!(rt; first.trail.len(), 2);
+    assert!(rt; matches!(first.trail.event(0), Event::Ask { .. }));
+    assert!(rt; matches!(first.trail.event(1), Event::Leave { .. }));
 
     let second = run(&rt, rt.alloc(), STORED, &[], &[1], &[])?;
     assert_eq!(rt; taken(&second), b"ok 00000003903df1a0\n".as_slice());
@@ -163,6 +166,20 @@ fn a_report_that_fails_is_told_by_the_status(rt: HostRuntime) -> Result<(), Fail
     assert_eq!(rt; taken(&ended), STORED_REPLIES);
     assert_eq!(rt; ended.report.bytes(), b"".as_slice());
     assert_eq!(rt; ended.status, 5);
+    Ok(())
+}
+
+#[test]
+fn a_report_that_fails_hides_no_worse_status(rt: HostRuntime) -> Result<(), Fail> {
+    let ended = run(&rt, rt.alloc(), STORED, &[0], &[], &[0])?;
+    assert_eq!(rt; ended.report.bytes(), b"".as_slice());
+    assert_eq!(rt; ended.status, 6);
+    assert_eq!(rt; ended.told.cause, Cause::Source(0));
+
+    let cut = run(&rt, rt.alloc(), STORED, &[], &[0], &[2])?;
+    assert_eq!(rt; cut.report.bytes(), b"sessions ".as_slice());
+    assert_eq!(rt; cut.status, 5);
+    assert_eq!(rt; cut.told.cause, Cause::Sink);
     Ok(())
 }
 

@@ -1,4 +1,4 @@
-use Rattle.std.proofs.Common.{rules, ◌≡◌, ◌≤◌, ◌<◌, ◌+◌, ◌-◌, ◌∷◌, [], ◌++◌, length, refl, sym, ap, ◌∙◌, arith, true, false, length-append, inl, None}
+use Rattle.std.proofs.Common.{◌-◌, ◌∷◌, [], length, refl, ap, ◌∙◌, arith, length-append, inl, None}
 use Rattle.cfs_script.specs.Language.{built_forms}
 use Rattle.ufs_model.specs.declared.asked.Event.TheVariants as events
 use Rattle.cfs_serve.specs.Session.{terms}

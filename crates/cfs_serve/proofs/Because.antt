@@ -1,0 +1,147 @@
+-- What each cause that is told shows, and what each status says by it.
+use Rattle.std.proofs.Common.{◌≡◌, ◌⊎◌, inl, inr, ℕ, Bool, true, false, List, length, Option, Some, None, IsSome, IsNone, is_some, refl, ap, arith}
+use Rattle.std.specs.List.{list_any}
+use Rattle.cfs_streams.specs.Writing.{Wrote}
+use Rattle.ufs_model.specs.declared.asked.Event.{Event}
+use Rattle.ufs_model.specs.Script.{request_lines}
+use Rattle.ufs_model.specs.Turns.{turns_in}
+use Rattle.ufs_model.specs.Printed.{printed_replies}
+use Rattle.cfs_serve.specs.declared.report.Counts.{Counts}
+use Rattle.cfs_serve.specs.declared.report.Cause.{Cause}
+use Rattle.cfs_serve.specs.declared.report.Cause.TheVariants as causes
+use Rattle.cfs_serve.specs.declared.report.Report.{Report}
+use Rattle.cfs_serve.specs.Report.{report_text}
+use Rattle.cfs_serve.specs.Session.{Replied, wants_memory}
+use Rattle.cfs_serve.specs.Words.{Play}
+use Rattle.cfs_serve.specs.Whole.{ended}
+use Rattle.cfs_serve.specs.Top.{Outside, EachSource, EachSink, HadLeft, AreWithin, SomeRose, source_faults, sink_faults, IsQuiet, WritesReport, IsStatus, EndedWell, SinkFailed, SourceFailed, MemoryWanting, IsOver, LimitPassed}
+
+-- a service whose sinks took all
+pub record Served (trail : List Event) (old new : Outside) (counts : Option Counts) : Type 0 where
+  pub served : IsSome counts
+  pub within : (scripts : List (List ℕ)) → HadLeft old scripts → AreWithin scripts
+  pub answered : EachSource (λ session source _. (left : List ℕ) → source.left ≡ Some left → length (turns_in session trail) ≡ length (request_lines left)) old new
+  pub replied : EachSink (λ session sink after. Wrote sink after (printed_replies session trail)) old new
+  pub memory : list_any wants_memory trail ≡ false
+
+module _ (asked : Option Play) (old new : Outside) (counts : Option Counts) (trail : List Event) where
+  abbrev pub told : Cause → Report
+  told cause = record { counts = counts; cause = cause }
+
+  -- a limit was passed
+  abbrev Over : Cause → Type 0
+  Over cause = IsNone counts × IsOver cause old × ((scripts : List (List ℕ)) → HadLeft old scripts → ¬ (AreWithin scripts))
+
+  -- what a cause shows
+  abbrev pub Because : Cause → Type 0
+  Because causes.Nothing = Served trail old new counts
+  Because causes.Words = IsNone counts × (asked ≡ None) × ((scripts : List (List ℕ)) → HadLeft old scripts → AreWithin scripts)
+  Because causes.Sink = IsSome counts × ((scripts : List (List ℕ)) → HadLeft old scripts → AreWithin scripts) × SomeRose (sink_faults old) (sink_faults new)
+  Because (causes.Source n) = SourceFailed (told (causes.Source n)) old new × SomeRose (source_faults old) (source_faults new)
+  Because causes.Memory = Unit {0}
+  Because (causes.Long n) = Over (causes.Long n)
+  Because causes.LongTotal = Over causes.LongTotal
+
+  -- the report's sink has taken the report, all or some of its beginning
+  abbrev pub Told : Cause → Bool → Type 0
+  Told cause written = Replied old.report new.report (report_text (told cause)) written
+
+  pub reported : (cause : Cause) (written : Bool) → Told cause written → WritesReport (told cause) old new
+  reported cause true wrote = inl wrote
+  reported cause false wrote = inr wrote
+
+  pub status : (cause : Cause) (written : Bool) → Told cause written → IsStatus (ended written cause) cause old new
+  status cause true wrote = inl refl
+  status causes.Nothing false wrote = inr (refl, (refl, wrote.failed))
+  status causes.Memory false wrote = inr (refl, (refl, wrote.failed))
+  status causes.Words false wrote = inl refl
+  status causes.Sink false wrote = inl refl
+  status (causes.Source n) false wrote = inl refl
+  status (causes.Long n) false wrote = inl refl
+  status causes.LongTotal false wrote = inl refl
+
+  pub status_0 : (cause : Cause) (written : Bool) → Because cause → Told cause written → ended written cause ≡ 0
+      → EndedWell (told cause) trail old new
+  status_0 causes.Nothing true because wrote is = record {
+    served = because.served;
+    nothing = refl;
+    answered = because.answered;
+    replied = because.replied;
+    memory = because.memory;
+    reported = wrote;
+  }
+  status_0 causes.Nothing false because wrote is = absurd (omega (arith, is))
+  status_0 causes.Words true because wrote is = absurd (omega (arith, is))
+  status_0 causes.Words false because wrote is = absurd (omega (arith, is))
+  status_0 causes.Sink true because wrote is = absurd (omega (arith, is))
+  status_0 causes.Sink false because wrote is = absurd (omega (arith, is))
+  status_0 (causes.Source n) true because wrote is = absurd (omega (arith, is))
+  status_0 (causes.Source n) false because wrote is = absurd (omega (arith, is))
+  status_0 causes.Memory true because wrote is = absurd (omega (arith, is))
+  status_0 causes.Memory false because wrote is = absurd (omega (arith, is))
+  status_0 (causes.Long n) true because wrote is = absurd (omega (arith, is))
+  status_0 (causes.Long n) false because wrote is = absurd (omega (arith, is))
+  status_0 causes.LongTotal true because wrote is = absurd (omega (arith, is))
+  status_0 causes.LongTotal false because wrote is = absurd (omega (arith, is))
+
+  pub status_2 : (cause : Cause) (written : Bool) → Because cause → ended written cause ≡ 2 → IsNone counts × (asked ≡ None)
+  status_2 causes.Words written because is = (because.0, because.1)
+  status_2 cause true because is = absurd (omega (arith, is))
+  status_2 cause false because is = absurd (omega (arith, is))
+
+  pub status_5 : (cause : Cause) (written : Bool) → Because cause → Told cause written → ended written cause ≡ 5
+      → SinkFailed (told cause) old new
+  status_5 causes.Sink written because wrote is = inl (because.0, refl, because.2)
+  status_5 causes.Nothing false because wrote is = inr (refl, wrote.failed)
+  status_5 causes.Memory false because wrote is = inr (refl, wrote.failed)
+  status_5 cause true because wrote is = absurd (omega (arith, is))
+  status_5 cause false because wrote is = absurd (omega (arith, is))
+
+  pub status_6 : (cause : Cause) (written : Bool) → Because cause → ended written cause ≡ 6 → SourceFailed (told cause) old new
+  status_6 (causes.Source n) written because is = because.0
+  status_6 cause true because is = absurd (omega (arith, is))
+  status_6 cause false because is = absurd (omega (arith, is))
+
+  pub status_7 : (cause : Cause) (written : Bool) → Told cause written → ended written cause ≡ 7 → MemoryWanting (told cause) old new
+  status_7 causes.Memory true wrote is = (refl, wrote)
+  status_7 causes.Memory false wrote is = absurd (omega (arith, is))
+  status_7 cause true wrote is = absurd (omega (arith, is))
+  status_7 cause false wrote is = absurd (omega (arith, is))
+
+  pub status_9 : (cause : Cause) (written : Bool) → Because cause → ended written cause ≡ 9 → LimitPassed (told cause) old
+  status_9 (causes.Long n) written because is = (because.0, because.1)
+  status_9 causes.LongTotal written because is = (because.0, because.1)
+  status_9 cause true because is = absurd (omega (arith, is))
+  status_9 cause false because is = absurd (omega (arith, is))
+
+  pub over : (cause : Cause) (written : Bool) → Because cause → (scripts : List (List ℕ)) → HadLeft old scripts → ¬ (AreWithin scripts)
+      → (ended written cause ≡ 9) ⊎ (cause ≡ causes.Memory) ⊎ (ended written cause ≡ 6)
+  over causes.Nothing written because scripts had past = absurd (past (because.within scripts had))
+  over causes.Words written because scripts had past = absurd (past (because.2 scripts had))
+  over causes.Sink written because scripts had past = absurd (past (because.1 scripts had))
+  over causes.Memory written because scripts had past = inr (inl refl)
+  over (causes.Source n) true because scripts had past = inr (inr refl)
+  over (causes.Source n) false because scripts had past = inr (inr refl)
+  over (causes.Long n) true because scripts had past = inl refl
+  over (causes.Long n) false because scripts had past = inl refl
+  over causes.LongTotal true because scripts had past = inl refl
+  over causes.LongTotal false because scripts had past = inl refl
+
+  pub complete : (cause : Cause) (written : Bool) → Because cause → Told cause written → IsSome asked → (scripts : List (List ℕ)) → HadLeft old scripts → AreWithin scripts
+      → IsQuiet old new → (ended written cause ≡ 0) ⊎ (ended written cause ≡ 7)
+  complete causes.Nothing true because wrote is scripts had within quiet = inl refl
+  complete causes.Memory true because wrote is scripts had within quiet = inr refl
+  complete causes.Nothing false because wrote is scripts had within quiet = absurd (quiet.report wrote.failed)
+  complete causes.Memory false because wrote is scripts had within quiet = absurd (quiet.report wrote.failed)
+  complete causes.Words written because wrote is scripts had within quiet = absurd (none_asked (ap is_some because.1) is)
+    where
+      none_asked : {b : Bool} → b ≡ false → b ≡ true → ⊥
+      none_asked here there = cc
+  complete causes.Sink written because wrote is scripts had within quiet = absurd (quiet.sinks because.2)
+  complete (causes.Source n) written because wrote is scripts had within quiet = absurd (quiet.sources because.1)
+  complete (causes.Long n) written because wrote is scripts had within quiet = absurd (because.2 scripts had within)
+  complete causes.LongTotal written because wrote is scripts had within quiet = absurd (because.2 scripts had within)
+
+pub is_2 : (written : Bool) → ended written causes.Words ≡ 2
+is_2 true = refl
+is_2 false = refl

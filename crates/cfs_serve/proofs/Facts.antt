@@ -1,0 +1,286 @@
+-- What `top` says of a run, from what the run came to.
+use Rattle.std.proofs.Common.{◌≡◌, ◌↔◌, inl, inr, ℕ, ◌+◌, ◌<◌, ◌≤◌, Bool, true, false, ◌&&◌, List, [], ◌∷◌, ◌++◌, length, map, filter, Option, Some, None, IsNone, IfSome, is_some, refl, sym, ap, ◌∙◌, arith, length-append}
+use Rattle.std.specs.List.{list_any, list_all}
+use Rattle.cfs_base.specs.Outside.{Intake, Supply}
+use Rattle.cfs_script.specs.Language.{built_forms}
+use Rattle.cfs_streams.proofs.WriteLaws.{nothing}
+use Rattle.ufs_model.specs.declared.asked.Event.{Event}
+use Rattle.ufs_model.specs.declared.asked.Event.TheVariants as events
+use Rattle.ufs_model.specs.State.{State}
+use Rattle.ufs_model.specs.Run.{IsLegalRun, replay}
+use Rattle.ufs_model.specs.Script.{request_lines}
+use Rattle.ufs_model.specs.Turns.{is_turn_of, turns_in}
+use Rattle.ufs_model.specs.Printed.{printed_replies}
+use Rattle.cfs_serve.specs.declared.limits.TheConstants.{MOST_SCRIPT, MOST_LINES}
+use Rattle.cfs_serve.specs.declared.report.Counts.{Counts}
+use Rattle.cfs_serve.specs.declared.report.Cause.{Cause}
+use Rattle.cfs_serve.specs.declared.report.Cause.TheVariants as causes
+use Rattle.cfs_serve.specs.declared.report.Report.{Report}
+use Rattle.cfs_serve.specs.Session.{Replied, is_calm, wants_memory}
+use Rattle.cfs_serve.specs.Words.{Play}
+use Rattle.cfs_serve.specs.Played.{IsPlayed, IsScript, IsCause, IsRunOf, spoiled_by}
+use Rattle.cfs_serve.specs.Whole.{HasPlaces, Asks}
+use Rattle.cfs_serve.specs.Top.{Outside, EachSource, EachSink, AreWithin, opened, IsServedFrom, is_reply, is_finish, counts_of, WasServed, took_all}
+use Rattle.cfs_serve.proofs.Because.{Because}
+use Rattle.cfs_serve.proofs.Playing.{only_turns, turns_in-leave}
+
+pub record Facts (asked : Option Play) (old new : Outside) (told : Report) (trail : List Event) : Type 0 where
+  pub places : HasPlaces asked (length new.sources) (length new.sinks)
+  pub unserved : IsNone told.counts → (trail ≡ []) × (new.sinks ≡ old.sinks)
+  pub legal : IfSome asked (λ play. IsLegalRun play.seed (opened play.seed) trail)
+  pub calm : list_all is_calm trail ≡ true
+  pub leaves : WasServed told → trail ≡ turns_in 0 trail ++ events.Leave 0 None ∷ []
+  pub turns : IfSome asked (λ play. WasServed told → EachSource (λ session source _. IsServedFrom play.seed trail (took_all told.cause) session source) old new)
+  pub replied : EachSink (λ session sink after. Replied sink after (printed_replies session trail) (took_all told.cause)) old new
+  pub counted : IfSome asked (λ play. IfSome told.counts (λ counts. (last : State) → replay play.seed (opened play.seed) trail ≡ Some last → counts ≡ counts_of (length old.sources) trail last.graph))
+  pub cause : IsNone told.counts → ¬ (told.cause ≡ causes.Nothing)
+  pub memory : WasServed told → took_all told.cause ≡ true → ((told.cause ≡ causes.Memory) ↔ (list_any wants_memory trail ≡ true))
+  pub words : (told.cause ≡ causes.Words) ↔ (asked ≡ None)
+  pub because : Because asked old new told.counts trail told.cause
+
+abbrev pub places : List Supply → List Intake → Intake → Outside
+places sources sinks report = record { sources = sources; sinks = sinks; report = report }
+
+-- ---- scripts of one source
+
+abbrev Had : List Supply → List (List ℕ) → Type 0
+Had sources scripts = map (λ s. s.left) sources ≡ map Some scripts
+
+pub clash : true ≡ false → ⊥
+clash e = cc
+
+pub clash-sym : false ≡ true → ⊥
+clash-sym e = cc
+
+-- where one source tells what it had left, that is the one script
+one_script : (source : Supply) (scripts : List (List ℕ)) → Had (source ∷ []) scripts → (left : List ℕ) × (source.left ≡ Some left) × (scripts ≡ left ∷ [])
+one_script source [] had = absurd (none had)
+  where
+    none : {x : Option (List ℕ)} → x ∷ [] ≡ [] → ⊥
+    none e = cc
+one_script source (left ∷ []) had = (left, first had, refl)
+  where
+    first : {x y : Option (List ℕ)} → x ∷ [] ≡ y ∷ [] → x ≡ y
+    first e = cc
+one_script source (left ∷ more ∷ rest) had = absurd (two had)
+  where
+    two : {x y z : Option (List ℕ)} {zs : List (Option (List ℕ))} → x ∷ [] ≡ y ∷ z ∷ zs → ⊥
+    two e = cc
+
+no_scripts : (scripts : List (List ℕ)) → Had [] scripts → AreWithin scripts
+no_scripts [] had = ((λ k d below. absurd (omega (arith, below))), omega arith)
+no_scripts (left ∷ rest) had = absurd (some had)
+  where
+    some : {x : Option (List ℕ)} {xs : List (Option (List ℕ))} → [] ≡ x ∷ xs → ⊥
+    some e = cc
+
+within_one : (left : List ℕ) → length left ≤ MOST_SCRIPT → length (request_lines left) ≤ MOST_LINES → AreWithin (left ∷ [])
+within_one left short few = ((λ k d below. let at : k ≡ 0 = omega (arith, below) in rw at short), omega (arith, few))
+
+-- a source whose script is within the limits
+within : (source : Supply) (script : List ℕ) → IsScript source script → length script ≤ MOST_SCRIPT → length (request_lines script) ≤ MOST_LINES
+    → (scripts : List (List ℕ)) → Had (source ∷ []) scripts → AreWithin scripts
+within source script whole short few scripts had =
+    let one = one_script source scripts had in
+    let same : script ≡ one.0 = whole one.0 one.1 in
+    rw one.2 (within_one one.0 (rw (← same) short) (rw (← same) few))
+
+-- ---- no words that ask for a run
+
+pub of_nothing : (report report_after : Intake) → Facts None (places [] [] report) (places [] [] report_after) (record { counts = None; cause = causes.Words }) []
+of_nothing report report_after = record {
+  places = (refl, refl);
+  unserved = λ none. (refl, refl);
+  legal = tt;
+  calm = refl;
+  leaves = λ served. absurd (clash-sym served);
+  turns = tt;
+  replied = tt;
+  counted = tt;
+  cause = λ none e. cc;
+  memory = λ served. absurd (clash-sym served);
+  words = ((λ is. refl), (λ is. refl));
+  because = (refl, refl, no_scripts);
+}
+
+-- ---- nothing was served
+
+module _ (play : Play) (source source_after : Supply) (sink report report_after : Intake) where
+  abbrev Unserved : Cause → Type 0
+  Unserved cause = Facts (Some play) (places (source ∷ []) (sink ∷ []) report) (places (source_after ∷ []) (sink ∷ []) report_after) (record { counts = None; cause = cause }) []
+
+  unserved : (cause : Cause) → took_all cause ≡ true → ¬ (cause ≡ causes.Words) → ¬ (cause ≡ causes.Nothing)
+      → Because (Some play) (places (source ∷ []) (sink ∷ []) report) (places (source_after ∷ []) (sink ∷ []) report_after) None [] cause → Unserved cause
+  unserved cause took other told because = record {
+    places = (refl, refl);
+    unserved = λ none. (refl, refl);
+    legal = refl;
+    calm = refl;
+    leaves = λ served. absurd (clash-sym served);
+    turns = λ served. absurd (clash-sym served);
+    replied = (rw took (nothing sink), tt);
+    counted = tt;
+    cause = λ none. told;
+    memory = λ served. absurd (clash-sym served);
+    words = ((λ is. absurd (other is)), (λ is. cc));
+    because = because;
+  }
+
+  pub of_none : (cause : Cause) → IsCause source source_after cause → Unserved cause
+  of_none (causes.Source n) is = unserved (causes.Source n) refl (λ e. cc) (λ e. cc)
+      ((n, refl, omega (arith, is.0), rw is.0 is.1), inl is.1)
+  of_none (causes.Long n) is = unserved (causes.Long n) refl (λ e. cc) (λ e. cc) (
+    refl,
+    ((omega (arith, is.0)), (λ scripts had. let one = one_script source scripts had in rw (one.2, is.0) (is.1 one.0 one.1))),
+    (λ scripts had short. let one = one_script source scripts had in
+        let long : MOST_SCRIPT < length one.0 = is.1 one.0 one.1 in
+        let least : length one.0 ≤ MOST_SCRIPT = (rw one.2 at short).0 0 [] (omega arith) in
+        omega (arith, long, least)),
+  )
+  of_none causes.LongTotal is = unserved causes.LongTotal refl (λ e. cc) (λ e. cc) (
+    refl,
+    (λ scripts had. let one = one_script source scripts had in
+        let over = is one.0 one.1 in
+        rw one.2 ((λ k d below. let at : k ≡ 0 = omega (arith, below) in rw at over.0), omega (arith, over.1))),
+    (λ scripts had few. let one = one_script source scripts had in
+        let over = is one.0 one.1 in
+        omega (arith, over.1, (rw one.2 at few).1)),
+  )
+  of_none causes.Memory is = unserved causes.Memory refl (λ e. cc) (λ e. cc) tt
+  of_none causes.Nothing is = absurd is
+  of_none causes.Words is = absurd is
+  of_none causes.Sink is = absurd is
+
+-- ---- a session was served
+
+and_right : (a b : Bool) → (a && b) ≡ true → b ≡ true
+and_right true b all = all
+and_right false b all = absurd (clash-sym all)
+
+-- each turn is a reply, and none is the end of a collection
+pub replies_are : (turns : List Event) → list_all (is_turn_of 0) turns ≡ true → filter is_reply (turns ++ events.Leave 0 None ∷ []) ≡ turns
+replies_are [] all = refl
+replies_are (events.Unread who why ∷ turns) all = ap (λ es. events.Unread who why ∷ es) (replies_are turns (and_right _ _ all))
+replies_are (events.Ask who request reply ∷ turns) all = ap (λ es. events.Ask who request reply ∷ es) (replies_are turns (and_right _ _ all))
+replies_are (e ∷ turns) all = absurd (clash-sym all)
+
+pub finishes_none : (turns : List Event) → list_all (is_turn_of 0) turns ≡ true → filter is_finish (turns ++ events.Leave 0 None ∷ []) ≡ []
+finishes_none [] all = refl
+finishes_none (events.Unread who why ∷ turns) all = finishes_none turns (and_right _ _ all)
+finishes_none (events.Ask who request reply ∷ turns) all = finishes_none turns (and_right _ _ all)
+finishes_none (e ∷ turns) all = absurd (clash-sym all)
+
+module _ (play : Play) (source source_after : Supply) (sink sink_after report report_after : Intake) (script : List ℕ) (whole : IsScript source script)
+    (short : length script ≤ MOST_SCRIPT) (few : length (request_lines script) ≤ MOST_LINES)
+    (trail : List Event) (objects replies : ℕ) (counts_all : length trail ≡ replies + 1) where
+  abbrev Played : Bool → Bool → Type 0
+  Played starved all = IsPlayed built_forms play.seed script sink sink_after trail objects starved all
+
+  abbrev counts : Counts
+  counts = record { sessions = 1; replies = replies; collections = 0; objects = objects }
+
+  abbrev Session : Bool → Bool → Type 0
+  Session starved all = Facts (Some play) (places (source ∷ []) (sink ∷ []) report) (places (source_after ∷ []) (sink_after ∷ []) report_after)
+      (record { counts = Some counts; cause = spoiled_by starved all }) trail
+
+  turns_are : (starved all : Bool) (played : Played starved all) → turns_in 0 trail ≡ played.turns
+  turns_are starved all played = ap (turns_in 0) played.leaves ∙ turns_in-leave played.turns ∙ only_turns played.turns played.alone
+
+  leaves : (starved all : Bool) → Played starved all → trail ≡ turns_in 0 trail ++ events.Leave 0 None ∷ []
+  leaves starved all played = played.leaves ∙ ap (λ es. es ++ events.Leave 0 None ∷ []) (sym (turns_are starved all played))
+
+  -- the trail has the leave beside the turns
+  one_more : (starved all : Bool) → Played starved all → length trail ≡ length (turns_in 0 trail) + 1
+  one_more starved all played = ap length (leaves starved all played) ∙ length-append (turns_in 0 trail) (events.Leave 0 None ∷ [])
+
+  answered : (starved all : Bool) → Played starved all → all ≡ true → length (turns_in 0 trail) ≡ length (request_lines script)
+  answered starved all played is = omega (arith, one_more starved all played, played.answered is)
+
+  from : (starved all : Bool) → Played starved all → IsServedFrom play.seed trail all 0 source
+  from starved all played = record {
+    script = script;
+    whole = whole;
+    short = short;
+    few = few;
+    turns = played.of_script;
+    answered = answered starved all played;
+  }
+
+  counted : (starved all : Bool) → Played starved all → (last : State) → replay play.seed (opened play.seed) trail ≡ Some last → counts ≡ counts_of 1 trail last.graph
+  counted starved all played last ran =
+      let same : played.last ≡ last = some (sym played.legal ∙ ran) in
+      let few : length (filter is_reply trail) ≡ replies =
+      ap (λ es. length (filter is_reply es)) played.leaves ∙ ap length (replies_are played.turns played.alone) ∙ ap length (sym (turns_are starved all played))
+      ∙ omega (arith, one_more starved all played, counts_all) in
+      let none : length (filter is_finish trail) ≡ 0 = ap (λ es. length (filter is_finish es)) played.leaves ∙ ap length (finishes_none played.turns played.alone) in
+      let left : length last.graph.objects ≡ objects = ap (λ s. length s.graph.objects) (sym same) ∙ played.objects_left in
+      rw (few, none, left) refl
+    where
+      some : {x y : State} → Some x ≡ Some y → x ≡ y
+      some e = cc
+
+  session : (starved all : Bool) (played : Played starved all) → took_all (spoiled_by starved all) ≡ all → ¬ (spoiled_by starved all ≡ causes.Words)
+      → (all ≡ true → ((spoiled_by starved all ≡ causes.Memory) ↔ (list_any wants_memory trail ≡ true)))
+      → Because (Some play) (places (source ∷ []) (sink ∷ []) report) (places (source_after ∷ []) (sink_after ∷ []) report_after) (Some counts) trail (spoiled_by starved all)
+      → Session starved all
+  session starved all played took other memory because = record {
+    places = (refl, refl);
+    unserved = λ none. absurd (clash none);
+    legal = ap is_some played.legal;
+    calm = played.calm;
+    leaves = λ served. leaves starved all played;
+    turns = λ served. (rw took (from starved all played), tt);
+    replied = (rw took played.replied, tt);
+    counted = counted starved all played;
+    cause = λ none. absurd (clash none);
+    memory = λ served is. memory (sym took ∙ is);
+    words = ((λ is. absurd (other is)), (λ is. cc));
+    because = because;
+  }
+
+  pub of_session : (starved all : Bool) → Played starved all → Session starved all
+  of_session starved false played = session starved false played refl (λ e. cc) (λ is. absurd (clash-sym is))
+      (refl, within source script whole short few, inl played.replied.failed)
+  of_session true true played = session true true played refl (λ e. cc) (λ is. ((λ m. sym played.wanting), (λ m. refl))) tt
+  of_session false true played = session false true played refl (λ e. cc) (λ is. ((λ m. absurd (clash-memory m)), (λ m. absurd (clash-sym (played.wanting ∙ m))))) (record {
+    served = refl;
+    within = within source script whole short few;
+    answered = ((λ left is. answered false true played refl ∙ ap (λ s. length (request_lines s)) (whole left is)), tt);
+    replied = (played.replied, tt);
+    memory = sym played.wanting;
+  })
+    where
+      clash-memory : causes.Nothing ≡ causes.Memory → ⊥
+      clash-memory e = cc
+
+-- ---- every run
+
+pub no_items : {P : Type 0} (xs : List P) → length xs ≡ 0 → xs ≡ []
+no_items [] none = refl
+no_items (x ∷ xs) none = absurd (omega (arith, none))
+
+of_run : (play : Play) (source source_after : Supply) (sink sink_after report report_after : Intake) (told : Report) (trail : List Event)
+    → IsRunOf built_forms play.seed source source_after sink sink_after told trail
+    → Facts (Some play) (places (source ∷ []) (sink ∷ []) report) (places (source_after ∷ []) (sink_after ∷ []) report_after) told trail
+of_run play source source_after sink sink_after report report_after told trail (inl s) =
+    rw s.served.told (of_session play source source_after sink sink_after report report_after s.script s.whole s.short s.few
+    trail s.served.objects s.served.replies s.served.counted s.served.starved s.served.all s.served.played)
+of_run play source source_after sink sink_after report report_after told trail (inr n) =
+    rw (n.nothing.told, n.nothing.no_event, n.nothing.untouched) (of_none play source source_after sink report report_after n.cause n.is)
+
+pub facts : (asked : Option Play) (sources sources_after : List Supply) (sinks sinks_after : List Intake) (report report_after : Intake) (told : Report) (trail : List Event)
+    → HasPlaces asked (length sources) (length sinks)
+    → Asks built_forms asked (record { sources = sources; sinks = sinks }) (record { sources = sources_after; sinks = sinks_after }) told trail
+    → Facts asked (places sources sinks report) (places sources_after sinks_after report_after) told trail
+facts None sources sources_after sinks sinks_after report report_after told trail places asks =
+    rw (
+      asks.told,
+      asks.no_event,
+      ap (λ p. p.sources) asks.untouched,
+      ap (λ p. p.sinks) asks.untouched,
+      no_items sources places.0,
+      no_items sinks places.1,
+    ) (of_nothing report report_after)
+facts (Some play) sources sources_after sinks sinks_after report report_after told trail places asks =
+    rw (asks.sources.0, asks.sources.1, asks.sinks.0, asks.sinks.1)
+    (of_run play asks.source asks.source_after asks.sink asks.sink_after report report_after told trail asks.run)

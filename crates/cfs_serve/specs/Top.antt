@@ -1,0 +1,207 @@
+-- What a whole run comes to, for whoever started it: the trail, the sinks, what is told, and what the status says.
+use Rattle.std.specs.Prelude.{◌≡◌, ℕ, ◌+◌, ◌<◌, ◌≤◌, ◌⊎◌, Bool, true, false, List, [], ◌∷◌, map, length, get_or, All, filter, sum_by, slice_index_or, Some, None, IsSome, IsNone}
+use Rattle.std.specs.List.{list_any}
+use Rattle.cfs_base.specs.Outside.{Intake, Supply, Rose}
+use Rattle.cfs_script.specs.Language.{built_forms}
+use Rattle.cfs_streams.specs.Writing.{Wrote, WroteSome}
+use Rattle.ufs_model.specs.declared.asked.Event.{Event}
+use Rattle.ufs_model.specs.declared.asked.Event.TheVariants as events
+use Rattle.ufs_model.specs.Graph.{Graph, fresh_graph}
+use Rattle.ufs_model.specs.Script.{request_lines}
+use Rattle.ufs_model.specs.Turns.{AreTurns, turns_in}
+use Rattle.ufs_model.specs.Printed.{printed_replies}
+use Rattle.cfs_serve.specs.declared.limits.TheConstants.{MOST_SCRIPT, MOST_LINES}
+use Rattle.cfs_serve.specs.declared.running.Bay.{Bay}
+use Rattle.cfs_serve.specs.declared.running.Ended.{Ended}
+use Rattle.cfs_serve.specs.declared.report.Counts.{Counts}
+use Rattle.cfs_serve.specs.declared.report.Cause.{Cause}
+use Rattle.cfs_serve.specs.declared.report.Cause.TheVariants as causes
+use Rattle.cfs_serve.specs.declared.report.Report.{Report}
+use Rattle.cfs_serve.specs.Report.{report_text, status_of}
+use Rattle.cfs_serve.specs.Session.{wants_memory}
+use Rattle.cfs_serve.specs.Words.{root_of}
+
+-- ---- what is outside
+
+-- what is known of the sources, of the sinks, and of the sink of the report
+pub record Outside : Type 0 where
+  pub sources : List Supply
+  pub sinks : List Intake
+  pub report : Intake
+
+-- as a run begins, and as it has ended
+abbrev pub before : {D S K : Type 0} → (S → Supply) → (K → Intake) → Bay D S K → Outside
+before supply intake bay = record { sources = map supply bay.sources.items; sinks = map intake bay.sinks.items; report = intake bay.report }
+
+abbrev pub after : {D S K : Type 0} → (S → Supply) → (K → Intake) → Ended D S K → Outside
+after supply intake ended = record { sources = map supply ended.sources.items; sinks = map intake ended.sinks.items; report = intake ended.report }
+
+-- this holds of each session, counted from n, and of its source or its sink before and after
+abbrev pub EachFrom : {P : Type 0} → (ℕ → P → P → Type 0) → ℕ → List P → List P → Type 0
+EachFrom holds n [] [] = Unit {0}
+EachFrom holds n (old ∷ olds) (new ∷ news) = holds n old new × EachFrom holds (n + 1) olds news
+EachFrom holds n olds news = ⊥
+
+abbrev pub EachSource : (ℕ → Supply → Supply → Type 0) → Outside → Outside → Type 0
+EachSource holds old new = EachFrom holds 0 old.sources new.sources
+
+abbrev pub EachSink : (ℕ → Intake → Intake → Type 0) → Outside → Outside → Type 0
+EachSink holds old new = EachFrom holds 0 old.sinks new.sinks
+
+-- ---- counts of faults
+
+-- one of the counts rose
+abbrev pub SomeRose : List ℕ → List ℕ → Type 0
+SomeRose (before ∷ befores) (now ∷ nows) = Rose before now ⊎ SomeRose befores nows
+SomeRose befores nows = ⊥
+
+abbrev pub source_faults : Outside → List ℕ
+source_faults o = map (λ s. s.faults) o.sources
+
+abbrev pub sink_faults : Outside → List ℕ
+sink_faults o = map (λ s. s.faults) o.sinks
+
+-- no count rose
+pub record IsQuiet (old new : Outside) : Type 0 where
+  pub sources : ¬ (SomeRose (source_faults old) (source_faults new))
+  pub sinks : ¬ (SomeRose (sink_faults old) (sink_faults new))
+  pub report : ¬ (Rose old.report.faults new.report.faults)
+
+-- ---- scripts, and their limits
+
+-- all that each source had left, where each tells it
+abbrev pub HadLeft : Outside → List (List ℕ) → Type 0
+HadLeft o scripts = map (λ s. s.left) o.sources ≡ map Some scripts
+
+abbrev pub AreShort : List (List ℕ) → Type 0
+AreShort scripts = All (λ script. length script ≤ MOST_SCRIPT) scripts
+
+abbrev pub lines_in : List (List ℕ) → ℕ
+lines_in scripts = sum_by (λ script. length (request_lines script)) scripts
+
+abbrev pub AreWithin : List (List ℕ) → Type 0
+AreWithin scripts = AreShort scripts × (lines_in scripts ≤ MOST_LINES)
+
+-- ---- the trail
+
+-- the graph of a new volume: a root index of empty slots
+abbrev pub opened : ℕ → Graph
+opened seed = fresh_graph (root_of seed)
+
+-- A session was served from a script: all that its source had left, where it tells that.
+pub record IsServedFrom (seed : ℕ) (trail : List Event) (all : Bool) (session : ℕ) (source : Supply) : Type 0 where
+  pub script : List ℕ
+  pub whole : (left : List ℕ) → source.left ≡ Some left → script ≡ left
+  pub short : length script ≤ MOST_SCRIPT
+  pub few : length (request_lines script) ≤ MOST_LINES
+  -- its events are the turns of the script: one for each request line, if the sinks took all
+  pub turns : AreTurns built_forms session (root_of seed) script trail
+  pub answered : all ≡ true → length (turns_in session trail) ≡ length (request_lines script)
+
+-- ---- what is counted
+
+abbrev pub is_reply : Event → Bool
+is_reply (events.Unread who why) = true
+is_reply (events.Ask who request reply) = true
+is_reply (events.Leave who stopped) = false
+is_reply events.Began = false
+is_reply (events.Vanish ids) = false
+is_reply events.Finished = false
+is_reply (events.Halted moment) = false
+
+abbrev pub is_finish : Event → Bool
+is_finish (events.Unread who why) = false
+is_finish (events.Ask who request reply) = false
+is_finish (events.Leave who stopped) = false
+is_finish events.Began = false
+is_finish (events.Vanish ids) = false
+is_finish events.Finished = true
+is_finish (events.Halted moment) = false
+
+-- the counts of a service of so many sessions, by its trail and its last graph
+abbrev pub counts_of : ℕ → List Event → Graph → Counts
+counts_of sessions trail graph = record {
+  sessions = sessions;
+  replies = length (filter is_reply trail);
+  collections = length (filter is_finish trail);
+  objects = length graph.objects;
+}
+
+-- ---- what is told
+
+-- it was served
+abbrev pub WasServed : Report → Type 0
+WasServed told = IsSome told.counts
+
+-- the sessions' sinks took all replies, by what is told
+abbrev pub took_all : Cause → Bool
+took_all causes.Nothing = true
+took_all causes.Words = true
+took_all causes.Sink = false
+took_all (causes.Source n) = true
+took_all causes.Memory = true
+took_all (causes.Long n) = true
+took_all causes.LongTotal = true
+
+-- nothing is told that is worse than want of memory
+abbrev pub is_mild : Cause → Bool
+is_mild causes.Nothing = true
+is_mild causes.Words = false
+is_mild causes.Sink = false
+is_mild (causes.Source n) = false
+is_mild causes.Memory = true
+is_mild (causes.Long n) = false
+is_mild causes.LongTotal = false
+
+-- the report was written whole, or its sink failed and has some of its beginning
+abbrev pub WritesReport : Report → Outside → Outside → Type 0
+WritesReport told old new = Wrote old.report new.report (report_text told) ⊎ WroteSome old.report new.report (report_text told)
+
+-- the sink of the report failed, and nothing worse is told
+abbrev pub SpoilsReport : Cause → Outside → Outside → Type 0
+SpoilsReport cause old new = (is_mild cause ≡ true) × Rose old.report.faults new.report.faults
+
+-- ---- what a status says
+
+-- it is that of the cause that is told, but for a report that failed
+abbrev pub IsStatus : ℕ → Cause → Outside → Outside → Type 0
+IsStatus status cause old new = (status ≡ status_of cause) ⊎ ((status ≡ 5) × SpoilsReport cause old new)
+
+-- 0: a run that ended well
+pub record EndedWell (told : Report) (trail : List Event) (old new : Outside) : Type 0 where
+  pub served : WasServed told
+  pub nothing : told.cause ≡ causes.Nothing
+  -- each script was read to its end, and each of its request lines has one reply
+  pub answered : EachSource (λ session source _. (left : List ℕ) → source.left ≡ Some left → length (turns_in session trail) ≡ length (request_lines left)) old new
+  -- each sink holds all replies of its session, and none of them tells want of memory
+  pub replied : EachSink (λ session sink after. Wrote sink after (printed_replies session trail)) old new
+  pub memory : list_any wants_memory trail ≡ false
+  pub reported : Wrote old.report new.report (report_text told)
+
+-- 5: a session's sink failed, and so it is told; or that of the report
+abbrev pub SinkFailed : Report → Outside → Outside → Type 0
+SinkFailed told old new = (WasServed told × (told.cause ≡ causes.Sink) × SomeRose (sink_faults old) (sink_faults new)) ⊎ SpoilsReport told.cause old new
+
+-- 6: nothing was served, and the source failed whose number is told
+abbrev pub SourceFailed : Report → Outside → Outside → Type 0
+SourceFailed told old new =
+    (n : ℕ) × (told ≡ record { counts = None; cause = causes.Source n }) × (n < length old.sources)
+    × Rose (get_or (source_faults old) n 0) (get_or (source_faults new) n 0)
+
+-- 7: want of memory is told, in a report that is whole
+abbrev pub MemoryWanting : Report → Outside → Outside → Type 0
+MemoryWanting told old new = (told.cause ≡ causes.Memory) × Wrote old.report new.report (report_text told)
+
+-- the source of that number had more than its limit; or all of them together, and none alone
+abbrev pub IsOver : Cause → Outside → Type 0
+IsOver (causes.Long n) o = (n < length o.sources) × ((scripts : List (List ℕ)) → HadLeft o scripts → MOST_SCRIPT < length (slice_index_or scripts n []))
+IsOver causes.LongTotal o = (scripts : List (List ℕ)) → HadLeft o scripts → AreShort scripts × (MOST_LINES < lines_in scripts)
+IsOver causes.Nothing o = ⊥
+IsOver causes.Words o = ⊥
+IsOver causes.Sink o = ⊥
+IsOver (causes.Source n) o = ⊥
+IsOver causes.Memory o = ⊥
+
+-- 9: nothing was served, and it is told which limit was passed
+abbrev pub LimitPassed : Report → Outside → Type 0
+LimitPassed told old = IsNone told.counts × IsOver told.cause old
