@@ -3,7 +3,8 @@ ghost use Rattle.std.specs.Prelude.{◌≡◌, ◌≢◌, ℕ, ◌/◌, ◌<◌,
 ghost use Rattle.cfs_base.specs.Disk.{block_at};
 ghost use Rattle.cfs_base.specs.Run.{Tells};
 ghost use Rattle.block_tree.specs.Pointers.{pointers_of, leaf_pointers};
-ghost use Rattle.block_tree.specs.Reads.{OnlyReads, IsFault, IsPast};
+ghost use Rattle.cfs_base.specs.Calls.{OnlyReads};
+ghost use Rattle.block_tree.specs.Reads.{IsFault, IsPast};
 ghost use Rattle.block_tree.specs.Root.{root_spelling};
 ghost use Rattle.block_tree.specs.Tree.{end_of, leaf_block, leaf_bytes, PastAbove, PastOn};
 

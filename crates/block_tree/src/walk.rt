@@ -2,7 +2,8 @@
 ghost use Rattle.std.specs.Prelude.{◌≡◌, ◌≢◌, ℕ, ◌+◌, ◌/◌, ◌<◌, ◌≤◌, [], ◌∷◌, IfOk, IfErr, OnOk, IfSome, slice_index};
 ghost use Rattle.cfs_base.specs.Run.{Tells};
 ghost use Rattle.block_tree.specs.Pointers.{leaf_pointers};
-ghost use Rattle.block_tree.specs.Reads.{OnlyReads, IsFault, IsPast};
+ghost use Rattle.cfs_base.specs.Calls.{OnlyReads};
+ghost use Rattle.block_tree.specs.Reads.{IsFault, IsPast};
 ghost use Rattle.block_tree.specs.Root.{root_spelling};
 ghost use Rattle.block_tree.specs.Tree.{end_of, HasNoDeadEnd};
 ghost use Rattle.block_tree.specs.Walk.{IsFound, IsFirstPast, IsLaterIn, IsFirstOf};

@@ -1,3 +1,4 @@
 pub mod Disk
 pub mod Outside
 pub mod Run
+pub mod Calls

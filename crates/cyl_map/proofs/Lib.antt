@@ -3,3 +3,4 @@ pub mod FreeEntries
 pub mod Maps
 pub mod RowReads
 pub mod Rows
+pub mod Volumes

@@ -11,7 +11,8 @@ use Rattle.block_tree.specs.Root.{root_spelling}
 use Rattle.block_tree.specs.Tree.{end_of, pointer}
 use Rattle.block_tree.specs.Walk.{IsFirstPast, IsFirstOf, IsLaterIn}
 use Rattle.block_tree.proofs.Trees.{node_is}
-use Rattle.block_tree.proofs.Faults.{tells_on, reads_then, reads_within, fault_after}
+use Rattle.cfs_base.proofs.Calls.{tells_on, reads_then, reads_within}
+use Rattle.block_tree.proofs.Faults.{fault_after}
 use Rattle.block_tree.proofs.Walks.{count_is, quiet_join, quiet_part, found_here, past_here, leads_on}
 use Rattle.block_tree.proofs.walk.walk_held.Goals as goal
 

@@ -1,6 +1,6 @@
 use Rattle.std.proofs.Common.{◌≡◌, ◌+◌, ◌-◌, ◌/◌, ◌%◌, ◌<◌, ◌≤◌, min}
 use Rattle.cfs_base.specs.Run.{Tells}
-use Rattle.block_tree.specs.Reads.{OnlyReads}
+use Rattle.cfs_base.specs.Calls.{OnlyReads}
 use Rattle.block_tree.specs.Root.{root_spelling}
 use Rattle.block_tree.specs.Tree.{AreQuiet, HasNoDeadEnd}
 use Rattle.block_tree.proofs.walk.walk_held.Given as goal

@@ -1,0 +1,39 @@
+-- Calls of a store on a disk: those that only read, and those that a device call stopped.
+use Rattle.std.specs.Prelude.{◌≡◌, ℕ, ◌+◌, ◌≤◌, Bool, true, false, IsTrue}
+use Rattle.cfs_base.specs.Disk.{Nothing, IsSameDisk, KeepsLeft}
+use Rattle.cfs_base.specs.Outside.{Rose}
+use Rattle.cfs_base.specs.Run.{Leaves}
+use Rattle.cfs_base.specs.declared.disk.Disk.{Ghosts}
+
+-- Nothing but reads were made, at most so many: content, images and tries are as they were.
+pub record OnlyReads {D : Type 0} (g : Ghosts D) (most : ℕ) (old new : D) : Type 0 where
+  pub content : g.content new ≡ g.content old
+  pub told : (n : ℕ) → IsTrue (g.told old n) → IsTrue (g.told new n)
+  pub images : Leaves g old new Nothing
+  pub keeps : KeepsLeft g.moment g.left_since old new
+  pub same : IsSameDisk g.blocks g.honest g.tells_images old new
+  pub tries : g.tries new ≡ g.tries old
+  pub faults : g.faults old ≤ g.faults new
+  pub calls : g.calls new ≤ g.calls old + most
+
+-- a device call failed: the count of faults rose, and the clock
+pub record HasFailed {D : Type 0} (g : Ghosts D) (old new : D) : Type 0 where
+  pub cause : Rose (g.faults old) (g.faults new)
+  pub clock : Rose (g.moment old) (g.moment new)
+
+-- A device call failed and stopped a call of the store. Where a write or barrier had been tried in it the tries rose, and else all is as it was.
+pub record HasStopped {D : Type 0} (g : Ghosts D) (tried : Bool) (old new : D) : Type 0 where
+  pub failed : HasFailed g old new
+  pub tries : tried ≡ true → Rose (g.tries old) (g.tries new)
+  pub no_try : tried ≡ false → g.tries new ≡ g.tries old
+  pub untouched : tried ≡ false → g.content new ≡ g.content old
+
+-- at most so many device calls were made, so many of them writes and barriers; what a disk is doesn't change, and nothing
+-- that a crash might have left is taken back
+pub record MakesAtMost {D : Type 0} (g : Ghosts D) (most most_tries : ℕ) (old new : D) : Type 0 where
+  pub later : g.moment old ≤ g.moment new
+  pub keeps : KeepsLeft g.moment g.left_since old new
+  pub same : IsSameDisk g.blocks g.honest g.tells_images old new
+  pub faults : g.faults old ≤ g.faults new
+  pub calls : g.calls new ≤ g.calls old + most
+  pub tries : g.tries new ≤ g.tries old + most_tries

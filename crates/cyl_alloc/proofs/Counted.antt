@@ -1,0 +1,90 @@
+-- Counts, and the Free blocks of the image that they count.
+use Rattle.std.proofs.Common.{◌≡◌, ◌≢◌, inl, inr, ℕ, ◌+◌, ◌*◌, ◌/◌, ◌%◌, ◌<◌, ◌≤◌, false, List, length, get_or, set, Some, position, refl, sym, ◌∙◌, ap, subst, arith, length-set}
+use Rattle.std.specs.Prelude.{sum}
+use Rattle.std.proofs.Math.Seq.{take-length}
+use Rattle.std.proofs.lemmas.Bool.{cases_lt, cases_eq}
+use Rattle.std.proofs.lemmas.List.{get_or-set_same, get_or-set_other}
+use Rattle.std.proofs.lemmas.List.Quantifiers.{position-Some}
+use Rattle.std.proofs.lemmas.List.Sums.{count_by-le-length}
+use Rattle.std.proofs.lemmas.List.FromFn.{length-range_with_len}
+use Rattle.std.specs.List.{range_with_len}
+use Rattle.cfs_base.specs.Disk.{Image}
+use Rattle.cyl_map.specs.declared.entry.MapEntry.{MapEntry}
+use Rattle.cyl_map.specs.Map.{is_free, free_entries}
+use Rattle.cyl_map.specs.Volume.{is_free_in, free_from}
+use Rattle.cyl_alloc.specs.Counts.{IsFirstAbove}
+use Rattle.cyl_alloc.specs.Maps.{IsMapOf}
+use Rattle.cyl_alloc.specs.Space.{Kept, AreCounts, IsLeastFree, IsFreeElsewhere, free_in_cylinder, with_count, free_entry}
+use Rattle.cyl_alloc.proofs.Ranges.{sum_of, none_in, same_count}
+use Rattle.cyl_alloc.proofs.Entries.{free_is, free_count}
+
+pub sum_is : (image : Image) (kept : Kept) → AreCounts image kept → sum kept.free ≡ free_from image 0 (length image)
+unfolding free_in_cylinder
+sum_is image kept counts =
+    ap sum (sym (take-length kept.free))
+    ∙ sum_of (is_free_in image) 64 kept.free (length kept.free) (omega arith) counts.each
+    ∙ ap (free_from image 0) (sym counts.size)
+
+pub cylinder-most : (image : Image) (j : ℕ) → free_in_cylinder image j ≤ 64
+unfolding free_in_cylinder
+cylinder-most image j = omega (arith, count_by-le-length (is_free_in image) (range_with_len (64 * j) 64), length-range_with_len (64 * j) 64)
+
+-- in a cylinder with no Free block none is
+pub none_free : (image : Image) (j m : ℕ) → free_in_cylinder image j ≡ 0 → m / 64 ≡ j → is_free_in image m ≡ false
+unfolding free_in_cylinder
+none_free image j m none at = none_in (is_free_in image) (64 * j) 64 m none (omega arith) (omega arith)
+
+-- the cylinders whose map block doesn't change have as many Free blocks
+same_free : (image other : Image) (n j : ℕ) → IsFreeElsewhere image n other → j ≢ n / 64 → free_in_cylinder other j ≡ free_in_cylinder image j
+unfolding free_in_cylinder
+same_free image other n j elsewhere apart =
+    same_count (is_free_in other) (is_free_in image) (64 * j) 64 (λ m le lt. elsewhere.same m (λ same. apart (omega (arith, same))))
+
+-- the counts after a change in one cylinder
+pub counts-set : (image other : Image) (kept : Kept) (n count : ℕ) → AreCounts image kept → IsFreeElsewhere image n other → n < 64 * length kept.free → count ≡ free_in_cylinder other (n / 64) → AreCounts other (with_count kept n count)
+counts-set image other kept n count counts elsewhere lt is = record {
+  size = elsewhere.size ∙ counts.size ∙ ap (λ (l : ℕ). 64 * l) (sym (length-set kept.free (n / 64) count));
+  each = λ j less. elim (cases_eq j (n / 64)) [
+    | inl same ↦
+        ap (λ (k : ℕ). get_or (set kept.free (n / 64) count) k 0) same
+        ∙ get_or-set_same kept.free (n / 64) count 0 (omega arith)
+        ∙ is
+        ∙ ap (free_in_cylinder other) (sym same)
+    | inr apart ↦
+        get_or-set_other kept.free (n / 64) j count 0 apart
+        ∙ counts.each j (omega (arith, length-set kept.free (n / 64) count))
+        ∙ sym (same_free image other n j elsewhere apart)
+  ];
+}
+
+-- the same of the lists that are kept
+pub counts_put : (image other : Image) (kept : Kept) (free new : List ℕ) (n count : ℕ) → AreCounts image kept → IsFreeElsewhere image n other → n < 64 * length kept.free → count ≡ free_in_cylinder other (n / 64)
+    → free ≡ kept.free → new ≡ set free (n / 64) count → AreCounts other (record { free = new })
+counts_put image other kept free new n count counts elsewhere lt is same put =
+    subst (λ (l : List ℕ). AreCounts other (record { free = l })) (sym (put ∙ ap (λ (l : List ℕ). set l (n / 64) count) same)) (counts-set image other kept n count counts elsewhere lt is)
+
+-- ---- the least-numbered Free block
+
+-- cylinder j is the first that counts a Free block, and its map has the first Free entry at k
+pub is_least : (image : Image) (kept : Kept) (j k : ℕ) (map : List MapEntry) → AreCounts image kept → IsFirstAbove kept.free (Some j) → IsMapOf image (64 * j) map → position is_free map ≡ Some k → IsLeastFree image (64 * j + k)
+is_least image kept j k map counts first is at =
+    let found = position-Some is_free map k free_entry at in
+    let place : (64 * j + k) % 64 ≡ k = omega (arith, found.0, is.is_map.long) in
+    record {
+      free =
+          free_is image (64 * j) map is (64 * j + k) free_entry (omega (arith, found.0, is.is_map.long))
+          ∙ ap (λ (i : ℕ). is_free (get_or map i free_entry)) place
+          ∙ found.1;
+      least = λ m before. elim (cases_lt (m / 64) j) [
+        | inl earlier ↦ none_free image (m / 64) m (sym (counts.each (m / 64) (omega (arith, first.0))) ∙ first.2 (m / 64) earlier) refl
+        | inr here ↦
+            free_is image (64 * j) map is m free_entry (omega (arith, found.0, is.is_map.long))
+            ∙ found.2 (m % 64) (omega (arith, found.0, is.is_map.long))
+      ];
+    }
+
+-- where the map has no Free entry, the counts aren't the image's
+pub no_counts : (image : Image) (kept : Kept) (j : ℕ) (map : List MapEntry) → IsFirstAbove kept.free (Some j) → IsMapOf image (64 * j) map → free_entries map ≡ 0 → ¬ AreCounts image kept
+no_counts image kept j map first is none counts =
+    let at : 64 * j / 64 ≡ j = omega arith in
+    omega (arith, first.1, counts.each j first.0, free_count image (64 * j) map is, ap (free_in_cylinder image) at)

@@ -1,0 +1,5 @@
+pub mod Sums
+pub mod Ranges
+pub mod Entries
+pub mod Counted
+pub mod Finds

@@ -1,0 +1,4 @@
+pub mod Space
+pub mod Counts
+pub mod Maps
+pub mod Refusals

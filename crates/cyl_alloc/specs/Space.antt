@@ -1,0 +1,72 @@
+-- How many blocks of each cylinder are Free, and what the maps of a volume say of it.
+use Rattle.std.specs.Prelude.{◌≡◌, ◌≢◌, ℕ, ◌+◌, ◌-◌, ◌*◌, ◌/◌, ◌<◌, min, true, false, List, length, get_or, set, Some, None, IsSome}
+use Rattle.cfs_base.specs.Disk.{Image, Written}
+use Rattle.cfs_base.specs.declared.kind.Place.{Place}
+use Rattle.cyl_map.specs.declared.state.BlockState.TheVariants.{Free, Allocated}
+use Rattle.cyl_map.specs.declared.entry.MapEntry.{MapEntry}
+use Rattle.cyl_map.specs.Volume.{entry_in, is_free_in, free_from, map_of, map_with}
+
+-- what a space keeps: how many blocks of each cylinder are Free
+pub record Kept : Type 0 where
+  pub free : List ℕ
+
+-- ---- one count changed
+
+-- the count of a block's cylinder
+abbrev pub count_at : Kept → ℕ → ℕ
+count_at kept n = get_or kept.free (n / 64) 0
+
+-- another count for a block's cylinder
+abbrev pub with_count : Kept → ℕ → ℕ → Kept
+with_count kept n count = record { free = set kept.free (n / 64) count }
+
+-- one block less
+abbrev pub after_taking : Kept → ℕ → Kept
+after_taking kept n = with_count kept n (count_at kept n - 1)
+
+-- so many blocks more, as far as a cylinder has them
+abbrev pub after_giving : Kept → ℕ → ℕ → Kept
+after_giving kept n count = with_count kept n (min 64 (count_at kept n + count))
+
+-- ---- the maps of an image
+
+-- how many blocks of a cylinder are Free
+unfoldable pub free_in_cylinder : Image → ℕ → ℕ
+free_in_cylinder image j = free_from image (64 * j) 64
+
+-- the counts are those of the image's maps
+pub record AreCounts (image : Image) (kept : Kept) : Type 0 where
+  pub size : length image ≡ 64 * length kept.free
+  pub each : (j : ℕ) → j < length kept.free → get_or kept.free j 0 ≡ free_in_cylinder image j
+
+-- as many blocks, and in all cylinders but that of block n the same are Free
+pub record IsFreeElsewhere (image : Image) (n : ℕ) (other : Image) : Type 0 where
+  pub size : length other ≡ length image
+  pub same : (m : ℕ) → map_of m ≢ map_of n → is_free_in other m ≡ is_free_in image m
+
+-- the least-numbered Free block
+pub record IsLeastFree (image : Image) (n : ℕ) : Type 0 where
+  pub free : is_free_in image n ≡ true
+  pub least : (m : ℕ) → m < n → is_free_in image m ≡ false
+
+-- the map block of a block is no map: some entry of it is none
+abbrev pub IsBadMap : Image → ℕ → Type 0
+IsBadMap image n = (k : ℕ) × (k < 64) × (entry_in image (map_of n + k) ≡ None)
+
+-- each of its 64 entries is one
+abbrev pub IsGoodMap : Image → ℕ → Type 0
+IsGoodMap image n = (k : ℕ) → k < 64 → IsSome (entry_in image (map_of n + k))
+
+-- ---- the entries that are written
+
+-- a block that an object holds
+abbrev pub allocated : Place → ℕ → MapEntry
+allocated place owner = record { state = Allocated; committed = false; place = Some place; owner = owner }
+
+-- a block that nobody holds
+abbrev pub free_entry : MapEntry
+free_entry = record { state = Free; committed = false; place = None; owner = 0 }
+
+-- one of these images, with this entry written for the image's least-numbered Free block
+abbrev pub ClaimWritten : (Image → Type 0) → Image → MapEntry → Image → Type 0
+ClaimWritten images image entry c = (n : ℕ) × IsLeastFree image n × Written images (map_of n) (map_with image n entry) c

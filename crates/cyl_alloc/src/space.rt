@@ -1,0 +1,292 @@
+//! The Free blocks of a volume.
+ghost use Rattle.std.specs.Prelude.{◌≡◌, ℕ, ◌+◌, ◌*◌, ◌/◌, ◌<◌, ◌≤◌, ◌↔◌, true, false, length, sum, IsTrue, IsErr, Err, IfOk, IfErr, OnOk};
+ghost use Rattle.cfs_base.specs.Calls.{OnlyReads, MakesAtMost};
+ghost use Rattle.cfs_base.specs.Disk.{Image, Written};
+ghost use Rattle.cfs_base.specs.Run.{Tells, Leaves, left_now};
+ghost use Rattle.cfs_base.specs.declared.refusal.Refused.TheVariants.{Full};
+ghost use Rattle.cyl_map.specs.Entry.{IsEntry};
+ghost use Rattle.cyl_map.specs.Volume.{map_of, map_with, with_entry, is_free_in, free_from};
+ghost use Rattle.cyl_alloc.specs.Counts.{IsKept};
+ghost use Rattle.cyl_alloc.specs.Maps.{IsMapOf};
+ghost use Rattle.cyl_alloc.specs.Refusals as refusals;
+ghost use Rattle.cyl_alloc.specs.Space as spec;
+
+use crate::counts::Counts;
+use crate::maps::{NO_MAP, read_map, write_entry};
+use cfs_base::{BlockNo, Damage, Disk, Need, Place, Refused, Trouble};
+use cyl_map::{BlockState, Map, MapEntry};
+use std::alloc::Global;
+use std::marker::Model;
+
+/// The code of a map that has another number of Free entries than was counted.
+const OTHER_COUNT: u8 = 12;
+
+/// How many blocks of each cylinder of a volume are Free. It is counted on, and handed in with, one disk of 64 blocks a
+/// cylinder.
+#[derive(Debug, Drop)]
+pub struct Space {
+    counts: Counts,
+}
+
+impl Model for Space {
+    ghost use Rattle.cyl_alloc.specs.Counts.{IsKept};
+    ghost use Rattle.cyl_alloc.specs.Space.{Kept};
+
+    ghost Value = { Kept };
+
+    ghost view = { λ a. record { free = a.counts } };
+
+    ghost invariant = { λ a. IsKept a.counts };
+}
+
+/// The least-numbered Free block, and the map that has its entry.
+#[derive(Clone, Copy)]
+struct Found {
+    block: u32,
+    map: Map,
+}
+
+/// The same refusal of a call that may take blocks or memory.
+fn refused(trouble: Trouble) -> Refused
+    ensures { result ≡ refusals.refused_by trouble }
+{
+    match trouble {
+        Trouble::Disk { tried } => Refused::Disk { tried },
+        Trouble::Damaged(damage) => Refused::Damaged(damage),
+    }
+}
+
+impl Space {
+    /// Counts the Free blocks of a disk, with one read a cylinder. `Damaged` names the first map block that is no map,
+    /// with code 2. Nothing was written where it is refused.
+    pub fn counted<D: Disk>(alloc: Global, disk: &mut D, cylinders: u32) -> Result<Space, Refused>
+        requires some { 1 ≤ cylinders }
+        requires most { cylinders ≤ 65536 }
+        requires size { D.blocks disk.old ≡ 64 * cylinders }
+        ensures counts { Tells D.Disk disk.old → IfOk result (spec.AreCounts (D.content disk.old)) }
+        ensures size { IfOk result (λ space. length space.free ≡ cylinders) }
+        ensures whole { Tells D.Disk disk.old → OnOk result ((j : ℕ) → j < cylinders →
+            spec.IsGoodMap (D.content disk.old) (64 * j)) }
+        ensures refused { IfErr result (refusals.IsCountRefusal D.Disk disk.old disk.new) }
+        ensures untried { IfErr result (λ error. refusals.had_tried error ≡ false) }
+        ensures reads { OnlyReads D.Disk cylinders disk.old disk.new }
+    {
+        let Ok(mut counts) = Counts::zeros(alloc, cylinders) else {
+            return Err(Refused::Memory);
+        };
+        for cylinder in 0..cylinders {
+            match Space::count_free(disk, cylinder) {
+                Ok(count) => counts.put(cylinder, count),
+                Err(trouble) => return Err(refused(trouble)),
+            }
+        }
+        Ok(Space { counts })
+    }
+
+    /// How many blocks of a cylinder are Free, in 0 to 64, with one read. `Damaged` names its map block, with code 2, which
+    /// is no map.
+    pub fn count_free<D: Disk>(disk: &mut D, cylinder: u32) -> Result<u32, Trouble>
+        requires on_disk { 64 * cylinder + 64 ≤ D.blocks disk.old }
+        ensures counted { Tells D.Disk disk.old → IfOk result (λ n.
+            n ≡ spec.free_in_cylinder (D.content disk.old) cylinder) }
+        ensures most { IfOk result (λ n. n ≤ 64) }
+        ensures whole { Tells D.Disk disk.old → OnOk result
+            (spec.IsGoodMap (D.content disk.old) (64 * cylinder)) }
+        ensures refused { IfErr result (refusals.IsMapTrouble D.Disk disk.old disk.new (64 * cylinder)) }
+        ensures untried { IfErr result (λ trouble. refusals.trouble_had_tried trouble ≡ false) }
+        ensures reads { OnlyReads D.Disk 1 disk.old disk.new }
+    {
+        let blocks = disk.blocks();
+        prove!(cylinder < blocks / 64);
+        let map = read_map(disk, 64 * cylinder)?;
+        Ok(map.free_count())
+    }
+
+    /// How many blocks are Free.
+    pub fn free(&self) -> u32
+        ensures sum { result ≡ sum self.now.free }
+        ensures counted { (image : Image) → spec.AreCounts image self.now →
+            result ≡ free_from image 0 (length image) }
+        ensures kept { IsKept self.now.free }
+    {
+        self.counts.total()
+    }
+
+    /// The least-numbered Free block. `Full` where no block is Free. `Damaged` names the first map with a Free block
+    /// by the counts: with code 2 where it is no map, else with code 12 where it has no Free block.
+    pub fn find<D: Disk>(&self, disk: &mut D) -> Result<BlockNo, Refused>
+        requires size { D.blocks disk.old ≡ 64 * length self.now.free }
+        ensures found { Tells D.Disk disk.old → spec.AreCounts (D.content disk.old) self.now →
+            IfOk result (λ block. spec.IsLeastFree (D.content disk.old) block.0) }
+        ensures on_disk { IfOk result (λ block. block.0 < D.blocks disk.old) }
+        ensures whole { Tells D.Disk disk.old →
+            IfOk result (λ block. spec.IsGoodMap (D.content disk.old) block.0) }
+        ensures full { (result ≡ Err (Full (record { free = 0; need = 1 }))) ↔ (sum self.now.free ≡ 0) }
+        ensures refused { IfErr result (refusals.IsFindRefusal D.Disk disk.old disk.new self.now) }
+        ensures untried { IfErr result (λ error. refusals.had_tried error ≡ false) }
+        ensures reads { OnlyReads D.Disk 1 disk.old disk.new }
+    {
+        match self.least(disk) {
+            Ok(found) => Ok(BlockNo(found.block)),
+            Err(error) => Err(error),
+        }
+    }
+
+    /// Makes the least-numbered Free block Allocated, for an owner's place. Refused as `find`, and where the write of
+    /// the map fails. The counts are then as they were, and so is the disk, where no write was tried.
+    pub fn claim<D: Disk>(
+        &mut self,
+        disk: &mut D,
+        place: Place,
+        owner: u32,
+    ) -> Result<BlockNo, Refused>
+        requires size { D.blocks disk.old ≡ 64 * length self.old.free }
+        requires entry { IsEntry (spec.allocated place owner) }
+        ensures claimed { Tells D.Disk disk.old → spec.AreCounts (D.content disk.old) self.old →
+            IfOk result (λ block. spec.IsLeastFree (D.content disk.old) block.0
+            × (D.content disk.new ≡ with_entry (D.content disk.old) block.0 (spec.allocated place owner))) }
+        ensures on_disk { IfOk result (λ block. block.0 < D.blocks disk.old) }
+        ensures whole { Tells D.Disk disk.old →
+            IfOk result (λ block. spec.IsGoodMap (D.content disk.old) block.0) }
+        ensures told { OnOk result ((n : ℕ) → IsTrue (D.told disk.old n) → IsTrue (D.told disk.new n)) }
+        ensures counts { Tells D.Disk disk.old → spec.AreCounts (D.content disk.old) self.old →
+            OnOk result (spec.AreCounts (D.content disk.new) self.new) }
+        ensures taken { IfOk result (λ block. self.new ≡ spec.after_taking self.old block.0) }
+        ensures kept { IsErr result → self.new ≡ self.old }
+        ensures cylinders { length self.new.free ≡ length self.old.free }
+        ensures full { (result ≡ Err (Full (record { free = 0; need = 1 }))) ↔ (sum self.old.free ≡ 0) }
+        ensures refused { IfErr result (refusals.IsFindRefusal D.Disk disk.old disk.new self.old) }
+        ensures unless_tried { IfErr result (λ error.
+            refusals.had_tried error ≡ false → OnlyReads D.Disk 1 disk.old disk.new) }
+        ensures images { Tells D.Disk disk.old → spec.AreCounts (D.content disk.old) self.old →
+            Leaves D.Disk disk.old disk.new (spec.ClaimWritten (left_now D.Disk disk.old)
+            (D.content disk.old) (spec.allocated place owner)) }
+        ensures calls { MakesAtMost D.Disk 2 1 disk.old disk.new }
+    {
+        let found = match self.least(disk) {
+            Ok(found) => found,
+            Err(error) => return Err(error),
+        };
+        let entry = MapEntry {
+            state: BlockState::Allocated,
+            committed: false,
+            place: Some(place),
+            owner,
+        };
+        match write_entry(disk, found.block, found.map, entry) {
+            Ok(()) => {
+                self.took(BlockNo(found.block));
+                Ok(BlockNo(found.block))
+            }
+            Err(_) => Err(Refused::Disk { tried: true }),
+        }
+    }
+
+    /// Makes a block Free, which isn't. `Damaged` names its map block, with code 2, which is no map. Where it is refused
+    /// the counts are as they were, and so is the disk, where no write was tried.
+    pub fn release<D: Disk>(&mut self, disk: &mut D, block: BlockNo) -> Result<(), Trouble>
+        requires size { D.blocks disk.old ≡ 64 * length self.old.free }
+        requires on_disk { block.0 < D.blocks disk.old }
+        requires held { Tells D.Disk disk.old → is_free_in (D.content disk.old) block.0 ≡ false }
+        ensures freed { Tells D.Disk disk.old → OnOk result
+            (D.content disk.new ≡ with_entry (D.content disk.old) block.0 spec.free_entry) }
+        ensures whole { Tells D.Disk disk.old → OnOk result
+            (spec.IsGoodMap (D.content disk.old) block.0) }
+        ensures told { OnOk result ((n : ℕ) → IsTrue (D.told disk.old n) → IsTrue (D.told disk.new n)) }
+        ensures counts { Tells D.Disk disk.old → spec.AreCounts (D.content disk.old) self.old →
+            OnOk result (spec.AreCounts (D.content disk.new) self.new) }
+        ensures given { OnOk result (self.new ≡ spec.after_giving self.old block.0 1) }
+        ensures kept { IsErr result → self.new ≡ self.old }
+        ensures cylinders { length self.new.free ≡ length self.old.free }
+        ensures refused { IfErr result (refusals.IsMapTrouble D.Disk disk.old disk.new block.0) }
+        ensures unless_tried { IfErr result (λ trouble.
+            refusals.trouble_had_tried trouble ≡ false → OnlyReads D.Disk 1 disk.old disk.new) }
+        ensures images { Tells D.Disk disk.old → Leaves D.Disk disk.old disk.new
+            (Written (left_now D.Disk disk.old) (map_of block.0)
+            (map_with (D.content disk.old) block.0 spec.free_entry)) }
+        ensures calls { MakesAtMost D.Disk 2 1 disk.old disk.new }
+    {
+        let map = match read_map(disk, block.0) {
+            Ok(map) => map,
+            Err(trouble) => return Err(trouble),
+        };
+        let entry = MapEntry {
+            state: BlockState::Free,
+            committed: false,
+            place: None,
+            owner: 0,
+        };
+        match write_entry(disk, block.0, map, entry) {
+            Ok(()) => {
+                self.gave(block, 1);
+                Ok(())
+            }
+            Err(_) => Err(Trouble::Disk { tried: true }),
+        }
+    }
+
+    /// One block of this block's cylinder is Free no more, by a write that the caller made. A count of 0 stays.
+    pub fn took(&mut self, block: BlockNo)
+        requires on_disk { block.0 < 64 * length self.old.free }
+        ensures taken { self.new ≡ spec.after_taking self.old block.0 }
+        ensures counts { (image other : Image) → spec.AreCounts image self.old →
+            spec.IsFreeElsewhere image block.0 other →
+            spec.free_in_cylinder other (block.0 / 64) + 1 ≡ spec.free_in_cylinder image (block.0 / 64) →
+            spec.AreCounts other self.new }
+    {
+        let cylinder = block.0 / 64;
+        let count = self.counts.at(cylinder);
+        self.counts.put(cylinder, count.saturating_sub(1));
+    }
+
+    /// So many blocks of this block's cylinder are Free again, by writes that the caller made. A count stops at 64.
+    pub fn gave(&mut self, block: BlockNo, count: u32)
+        requires on_disk { block.0 < 64 * length self.old.free }
+        ensures given { self.new ≡ spec.after_giving self.old block.0 count }
+        ensures counts { (image other : Image) → spec.AreCounts image self.old →
+            spec.IsFreeElsewhere image block.0 other →
+            spec.free_in_cylinder other (block.0 / 64) ≡ spec.free_in_cylinder image (block.0 / 64) + count →
+            spec.AreCounts other self.new }
+    {
+        let cylinder = block.0 / 64;
+        let before = self.counts.at(cylinder);
+        let after = before.saturating_add(count).min(64);
+        self.counts.put(cylinder, after);
+    }
+
+    /// The least-numbered Free block, with the map that has its entry.
+    fn least<D: Disk>(&self, disk: &mut D) -> Result<Found, Refused>
+        requires size { D.blocks disk.old ≡ 64 * length self.now.free }
+        ensures found { Tells D.Disk disk.old → spec.AreCounts (D.content disk.old) self.now →
+            IfOk result (λ found. spec.IsLeastFree (D.content disk.old) found.block) }
+        ensures map { Tells D.Disk disk.old →
+            IfOk result (λ found. IsMapOf (D.content disk.old) found.block found.map) }
+        ensures whole { Tells D.Disk disk.old →
+            IfOk result (λ found. spec.IsGoodMap (D.content disk.old) found.block) }
+        ensures on_disk { IfOk result (λ found. found.block < D.blocks disk.old) }
+        ensures full { IsErr result → sum self.now.free ≡ 0 →
+            result ≡ Err (Full (record { free = 0; need = 1 })) }
+        ensures some { OnOk result (0 < sum self.now.free) }
+        ensures refused { IfErr result (refusals.IsFindRefusal D.Disk disk.old disk.new self.now) }
+        ensures untried { IfErr result (λ error. refusals.had_tried error ≡ false) }
+        ensures reads { OnlyReads D.Disk 1 disk.old disk.new }
+    {
+        let Some(cylinder) = self.counts.first() else {
+            return Err(Refused::Full(Need { free: 0, need: 1 }));
+        };
+        let map = match read_map(disk, 64 * cylinder) {
+            Ok(map) => map,
+            Err(error) => return Err(refused(error)),
+        };
+        match map.first_free() {
+            Some(entry) => Ok(Found {
+                block: 64 * cylinder + entry as u32,
+                map,
+            }),
+            None => Err(Refused::Damaged(Damage {
+                block: 64 * cylinder,
+                code: OTHER_COUNT,
+            })),
+        }
+    }
+}

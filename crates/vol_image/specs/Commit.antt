@@ -1,0 +1,44 @@
+-- A draft that is written beside its object, and its commit.
+use Rattle.std.specs.Prelude.{◌≡◌, ℕ, true, List, [], ◌∷◌, length, filter, Some}
+use Rattle.cfs_base.specs.Disk.{Image, block_at}
+use Rattle.cfs_base.specs.declared.identifier.Puid.{Puid}
+use Rattle.cfs_base.specs.declared.kind.Place.TheVariants.{Root}
+use Rattle.block_tree.specs.declared.root.Root as roots
+use Rattle.block_tree.specs.Root.{IsRootBlock}
+use Rattle.cyl_map.specs.declared.entry.MapEntry.{MapEntry}
+use Rattle.cyl_map.specs.Volume.{entry_in}
+use Rattle.ufs_model.specs.declared.object.Object.{Object}
+use Rattle.ufs_model.specs.Graph.{Graph, without}
+use Rattle.ufs_model.specs.Numbers.{numbers}
+use Rattle.vol_image.specs.Part.{BelongsTo, SameAt, part_at, stands_for}
+use Rattle.vol_image.specs.Seen.{Held, tree_in}
+use Rattle.vol_image.specs.Reading.{IsTree}
+use Rattle.vol_image.specs.Sight.{source}
+use Rattle.vol_image.specs.Frame.{Frames}
+
+-- the one shadow root that stands for r is s, of the kind and word of r's root, and its tree is that of this object
+pub record IsDraft (image : Image) (r s : ℕ) (o : Object) : Type 0 where
+  pub alone : filter (λ n. stands_for r (entry_in image n)) (numbers 0 (length image)) ≡ s ∷ []
+  pub stands : stands_for r (entry_in image s) ≡ true
+  pub shadow : roots.Root
+  pub same : (root : roots.Root) → IsRootBlock (block_at image r) root → (shadow.kind ≡ root.kind) × (shadow.word ≡ root.word)
+  pub tree : IsTree (length image) r (tree_in image (block_at image s)) shadow o
+
+-- an entry with its commit bit
+abbrev pub committed : MapEntry → MapEntry
+committed e = record e { committed = true }
+
+-- the image with the content by which an object is read written to its root
+abbrev pub root_from_source : Image → ℕ → List ℕ
+root_from_source image r = block_at image (source image r)
+
+-- Once the root has the content of the shadow root s, an image may differ from this one in the object's commit bit, in
+-- the entry of s, and in the states of the object's blocks.
+pub record Settles (c : Image) (g : Graph) (id : Puid) (s : ℕ) (b : Image) : Type 0 where
+  pub frames : Frames c (without g (id ∷ [])) b
+  pub part : BelongsTo id.block Root (part_at b id.block)
+  pub root : block_at b id.block ≡ block_at c id.block
+  pub shadow : block_at b s ≡ block_at c id.block
+  -- no other shadow root stands
+  pub alone : (n : ℕ) → stands_for id.block (entry_in b n) ≡ true → n ≡ s
+  pub inner : (path : List ℕ) (h : Held) → (tree_in c (block_at c id.block)).below path ≡ Some h → SameAt c b h.block

@@ -1,0 +1,13 @@
+pub mod Part
+pub mod Seen
+pub mod Reading
+pub mod Sight
+pub mod Count
+pub mod Sound
+pub mod Fault
+pub mod Survives
+pub mod Frame
+pub mod Commit
+pub mod Run
+pub mod Worked
+pub mod Damaged

@@ -1,0 +1,13 @@
+-- Runs of calls on a disk that stay within a frame.
+use Rattle.cfs_base.specs.Disk.{Image}
+use Rattle.cfs_base.specs.Run.{Tells, Leaves, left_now}
+use Rattle.cfs_base.specs.declared.disk.Disk.{Ghosts}
+use Rattle.ufs_model.specs.Graph.{Graph}
+use Rattle.vol_image.specs.Frame.{Frames}
+
+-- a run from `start` has come to `now` with no failure within the frame of image a: its content, what a crash leaves now, and what one on the way left
+pub record Within {D : Type 0} (g : Ghosts D) (a : Image) (graph : Graph) (start now : D) : Type 0 where
+  pub tells : Tells g now
+  pub content : Frames a graph (g.content now)
+  pub here : (c : Image) → left_now g now c → Frames a graph c
+  pub leaves : Leaves g start now (Frames a graph)

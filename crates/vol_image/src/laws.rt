@@ -1,0 +1,115 @@
+//! What is proved of images, as contracts. None of these calls does anything.
+ghost use Rattle.std.specs.Prelude.{◌≡◌, ◌≢◌, ℕ, ◌<◌, ◌%◌, List, [], ◌∷◌, length, set, true, false, Some};
+ghost use Rattle.cfs_base.specs.Disk.{Image, block_at};
+ghost use Rattle.cfs_base.specs.declared.identifier.Puid.{Puid};
+ghost use Rattle.block_tree.specs.Tree.{levels_of};
+ghost use Rattle.block_tree.specs.declared.root.Root as roots;
+ghost use Rattle.cyl_map.specs.Entry.{IsEntry};
+ghost use Rattle.cyl_map.specs.Volume.{map_of, entry_in, with_entry};
+ghost use Rattle.cyl_map.specs.declared.entry.MapEntry.{MapEntry};
+ghost use Rattle.cyl_map.specs.declared.state.BlockState.{BlockState};
+ghost use Rattle.cyl_map.specs.declared.state.BlockState.TheVariants.{Free};
+ghost use Rattle.ufs_model.specs.Graph.{Graph, object_at, with_object, without};
+ghost use Rattle.ufs_model.specs.Object.{blocks_of, held_levels};
+ghost use Rattle.ufs_model.specs.declared.object.Object.{Object};
+ghost use Rattle.vol_image.specs.Commit.{IsDraft, Settles, committed, root_from_source};
+ghost use Rattle.vol_image.specs.Count.{blocks_held, levels_held};
+ghost use Rattle.vol_image.specs.Fault.{Fault};
+ghost use Rattle.vol_image.specs.Frame.{Frames, IsHeldBy, IsLoose, StandsForNone};
+ghost use Rattle.vol_image.specs.Part.{IsTaken, OwnsItself, is_fixed, stands_for};
+ghost use Rattle.vol_image.specs.Reading.{IsTree};
+ghost use Rattle.vol_image.specs.Seen.{Held, tree_in};
+ghost use Rattle.vol_image.specs.Sight.{sight, source};
+ghost use Rattle.vol_image.specs.Sound.{Holds, IsClosedGraph, IsSoundAs, LeavesFour, ReadsAs, rooted_part};
+
+/// One entry written changes that entry and no other, and no block but its map.
+pub fn entry_written()
+    ensures here { (image : Image) (n : ℕ) (e old : MapEntry) → entry_in image n ≡ Some old → IsEntry e
+        → entry_in (with_entry image n e) n ≡ Some e }
+    ensures others { (image : Image) (n m : ℕ) (e old : MapEntry) → entry_in image n ≡ Some old → m ≢ n
+        → entry_in (with_entry image n e) m ≡ entry_in image m }
+    ensures blocks { (image : Image) (n m : ℕ) (e : MapEntry) → m ≢ map_of n → block_at (with_entry image n e) m ≡ block_at image m }
+    ensures content { (image : Image) (n m : ℕ) (block : List ℕ) → n % 64 ≢ 0 → entry_in (set image n block) m ≡ entry_in image m }
+{}
+
+/// The law of frames: an image within the frame of a sound one is sound, and reads as the same graph.
+pub fn law_of_frames()
+    ensures sound { (a b : Image) (g : Graph) → IsSoundAs a g → Frames a g b → IsSoundAs b g }
+    // The same of all objects that an image holds, reached from the root or not.
+    ensures holds { (a b : Image) (g : Graph) → Holds a g → Frames a g b → Holds b g }
+{}
+
+/// Frames compose, and a block that is written within a frame may be written into each image of it.
+pub fn frames_compose()
+    ensures begin { (a : Image) (g : Graph) → Holds a g → Frames a g a }
+    ensures then { (a b c : Image) (g : Graph) → Frames a g b → Frames b g c → Frames a g c }
+    ensures write { (a : Image) (g : Graph) (c content : Image) (n : ℕ) (block : List ℕ) → n < length content → Frames a g c
+        → Frames a g (set content n block) → Frames a g (set c n block) }
+{}
+
+/// A block that no object holds may be claimed, written, given back, or made to wait for any of these.
+pub fn loose_blocks_change()
+    ensures free { (a : Image) (g : Graph) (n : ℕ) (e : MapEntry) → Holds a g → entry_in a n ≡ Some e → e.state ≡ Free → IsLoose a g n }
+    ensures content { (a : Image) (g : Graph) (c : Image) (n : ℕ) (block : List ℕ) → Frames a g c → IsLoose a g n → Frames a g (set c n block) }
+    ensures entry { (a : Image) (g : Graph) (c : Image) (n : ℕ) (e old : MapEntry) → Holds a g → Frames a g c → IsLoose a g n
+        → entry_in c n ≡ Some old → IsEntry e → OwnsItself n e → StandsForNone a g e → StandsForNone a g old → Frames a g (with_entry c n e) }
+    ensures none { (a : Image) (g : Graph) (e : MapEntry) → e.state ≡ Free → StandsForNone a g e }
+    // Of any block that isn't Free, held or not, the state may change to another than Free.
+    ensures state { (a : Image) (g : Graph) (c : Image) (n : ℕ) (old : MapEntry) (s : BlockState) → Holds a g → Frames a g c
+        → is_fixed n ≡ false → entry_in c n ≡ Some old → old.state ≢ Free → s ≢ Free → IsEntry (record old { state = s })
+        → StandsForNone a g (record old { state = s }) → StandsForNone a g old → Frames a g (with_entry c n (record old { state = s })) }
+{}
+
+/// One object may change while all others stay: its blocks are loose for the others, and an image within their frame has
+/// it as it is then seen.
+pub fn one_object_changes()
+    ensures loose { (a : Image) (g : Graph) (id : Puid) (was : Object) (n : ℕ) → Holds a g → object_at g id ≡ Some was
+        → IsTaken a n id.block → IsLoose a (without g (id ∷ [])) n }
+    ensures put { (a b : Image) (g : Graph) (id : Puid) (o : Object) → Holds a g → Frames a (without g (id ∷ [])) b
+        → ReadsAs (length a) id (sight b id.block) o → Holds b (with_object g id o) }
+{}
+
+/// Once the commit bit is set the object is its draft; once the draft's root is copied it still is.
+pub fn commit_sets_the_bit()
+    ensures bit { (a : Image) (g : Graph) (id : Puid) (was o : Object) (e : MapEntry) (s : ℕ) → Holds a g → object_at g id ≡ Some was
+        → entry_in a id.block ≡ Some e → IsEntry (committed e) → IsDraft a id.block s o
+        → Holds (with_entry a id.block (committed e)) (with_object g id o) }
+    ensures copy { (c : Image) (g : Graph) (id : Puid) (o : Object) → Holds c g → object_at g id ≡ Some o
+        → Holds (set c id.block (root_from_source c id.block)) (with_object g id o) }
+{}
+
+/// After the copy the states of the object's blocks, the shadow root's entry and the bit may change in any order.
+pub fn settling_keeps()
+    ensures holds { (c : Image) (g : Graph) (id : Puid) (o : Object) (s : ℕ) (b : Image) → Holds c g → object_at g id ≡ Some o
+        → block_at c (source c id.block) ≡ block_at c id.block → Settles c g id s b → Holds b (with_object g id o) }
+    ensures begin { (c : Image) (g : Graph) (id : Puid) (o : Object) (s : ℕ) → Holds c g → object_at g id ≡ Some o
+        → block_at c s ≡ block_at c id.block → ((n : ℕ) → stands_for id.block (entry_in c n) ≡ true → n ≡ s) → Settles c g id s c }
+    ensures write { (c : Image) (g : Graph) (id : Puid) (s : ℕ) (b content : Image) (n : ℕ) (block : List ℕ) → n < length content
+        → Settles c g id s b → Settles c g id s (set content n block) → Settles c g id s (set b n block) }
+{}
+
+/// An image reads as one graph at most.
+pub fn one_reading()
+    ensures { (a : Image) (g h : Graph) → IsSoundAs a g → IsSoundAs a h → g ≡ h }
+{}
+
+/// An image that holds a graph, with objects that are cut off, reads as what is reached from its root.
+pub fn rooted_part_is_read()
+    ensures { (image : Image) (g : Graph) → Holds image g → IsClosedGraph g → LeavesFour (length image) (rooted_part g)
+        → IsSoundAs image (rooted_part g) }
+{}
+
+/// A sound image has none of the faults.
+pub fn sound_without_fault()
+    ensures { (image : Image) (g : Graph) (code block : ℕ) → IsSoundAs image g → ¬ Fault image code block }
+{}
+
+/// The blocks of an object by the model are those that its tree holds, level by level, and each stands at one path.
+pub fn blocks_are_those_held()
+    ensures levels { (image : Image) (size owner : ℕ) (content : List ℕ) (root : roots.Root) (o : Object) → IsTree size owner (tree_in image content) root o
+        → levels_held (tree_in image content) (length (levels_of content)) ≡ held_levels o }
+    ensures blocks { (image : Image) (size owner : ℕ) (content : List ℕ) (root : roots.Root) (o : Object) → IsTree size owner (tree_in image content) root o
+        → blocks_held (tree_in image content) ≡ blocks_of o }
+    ensures one_path { (image : Image) (size owner : ℕ) (content : List ℕ) (root : roots.Root) (o : Object) → IsTree size owner (tree_in image content) root o
+        → (p q : List ℕ) (g h : Held) → (tree_in image content).below p ≡ Some g → (tree_in image content).below q ≡ Some h → g.block ≡ h.block → p ≡ q }
+{}

@@ -1,0 +1,13 @@
+//! Images of a volume: when one is sound, the graph as which it reads, and what may change while both stay.
+//! The layers above use the law of frames: an image within the frame of a sound one is sound, and reads the same.
+#![tactic(auto)]
+
+mod calls;
+mod laws;
+
+pub use calls::{flush_within, write_loose, write_within};
+pub use laws::{
+    blocks_are_those_held, commit_sets_the_bit, entry_written, frames_compose, law_of_frames,
+    loose_blocks_change, one_object_changes, one_reading, rooted_part_is_read, settling_keeps,
+    sound_without_fault,
+};
