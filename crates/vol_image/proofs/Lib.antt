@@ -26,3 +26,4 @@ pub mod Zeros
 pub mod FullTree
 pub mod Full
 pub mod WorkedBytes
+pub mod WorkedRun

@@ -18,9 +18,9 @@ use Rattle.vol_image.specs.Reading.{IsTree}
 use Rattle.vol_image.specs.Sight.{shadows, source, sight}
 use Rattle.vol_image.specs.Sound.{ReadsAs, Holds}
 use Rattle.vol_image.specs.Frame.{IsHeldBy, StandsForNone}
-use Rattle.vol_image.specs.Commit.{Settles}
+use Rattle.vol_image.specs.Commit.{Settles, MaySettle}
 use Rattle.vol_image.proofs.Views.{same_tree}
-use Rattle.vol_image.proofs.Parts.{source_is}
+use Rattle.vol_image.proofs.Parts.{source_is, root_placed, taken_apart, tree_placed}
 use Rattle.vol_image.proofs.Steps.{not_map, block_mixed, entry_mixed, frames_begin, frames_entry, frames_mix}
 use Rattle.vol_image.proofs.Changes.{others, hold_others, object_put}
 
@@ -85,7 +85,7 @@ settles_begins c g id o s holds at copied alone = record {
 }
 
 -- an entry: the root's, the shadow root's, or of another block that no other object holds
-pub settles_entry : (c : Image) (g : Graph) (id : Puid) (o : Object) (s : ℕ) (b : Image) (n : ℕ) (e old : MapEntry) → Holds c g → object_at g id ≡ Some o → Settles c g id s b → is_fixed n ≡ false → is_fixed s ≡ false → is_fixed id.block ≡ false
+settles_entry : (c : Image) (g : Graph) (id : Puid) (o : Object) (s : ℕ) (b : Image) (n : ℕ) (e old : MapEntry) → Holds c g → object_at g id ≡ Some o → Settles c g id s b → is_fixed n ≡ false → is_fixed s ≡ false → is_fixed id.block ≡ false
     → ((path : List ℕ) (h : Held) → (tree_in c (block_at c id.block)).below path ≡ Some h → is_fixed h.block ≡ false)
     → ¬ IsHeldBy c (others g id) n → entry_in b n ≡ Some old → IsEntry e → OwnsItself n e
     → (n ≡ id.block → BelongsTo id.block Root (part_of (Some e)))
@@ -117,6 +117,18 @@ settles_entry c g id o s b n e old holds at settles apart apart_s apart_r apart_
         content = content h.block (apart_in path h v) ∙ (settles.inner path h v).content;
       };
     }
+
+-- one entry more
+pub settles_on : (c : Image) (g : Graph) (id : Puid) (o : Object) (s : ℕ) (b : Image) (n : ℕ) (old e : MapEntry) → Holds c g → object_at g id ≡ Some o → block_at c (source c id.block) ≡ block_at c id.block → is_fixed s ≡ false
+    → Settles c g id s b → entry_in b n ≡ Some old → MaySettle c g id s n old e → Settles c g id s (with_entry b n e)
+unfolding sight
+settles_on c g id o s b n old e holds at copied apart_s settles was may =
+    let seen : ReadsAs (length c) id (sight c id.block) o = holds.objects id o at in
+    let tree : IsTree (length c) id.block (tree_in c (block_at c id.block)) seen.source o = subst (λ (x : List ℕ). IsTree (length c) id.block (tree_in c x) seen.source o) copied seen.tree in
+    settles_entry c g id o s b n e old holds at settles may.apart apart_s
+    (taken_apart c g holds id.block id.block (root_placed c (length c) id o seen).taken)
+    (λ path h v. taken_apart c g holds h.block id.block (tree_placed c (length c) id.block (block_at c id.block) seen.source o tree path h v).taken)
+    may.unheld was may.entry may.itself may.root may.inner may.shadow may.of_others may.of_others_before
 
 -- ---- a block of one such image, written into another
 

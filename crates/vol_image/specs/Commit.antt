@@ -1,20 +1,21 @@
 -- A draft that is written beside its object, and its commit.
-use Rattle.std.specs.Prelude.{◌≡◌, ℕ, true, List, [], ◌∷◌, length, filter, Some}
+use Rattle.std.specs.Prelude.{◌≡◌, ℕ, true, false, List, [], ◌∷◌, length, filter, Some}
 use Rattle.cfs_base.specs.Disk.{Image, block_at}
 use Rattle.cfs_base.specs.declared.identifier.Puid.{Puid}
 use Rattle.cfs_base.specs.declared.kind.Place.TheVariants.{Root}
 use Rattle.block_tree.specs.declared.root.Root as roots
 use Rattle.block_tree.specs.Root.{IsRootBlock}
 use Rattle.cyl_map.specs.declared.entry.MapEntry.{MapEntry}
+use Rattle.cyl_map.specs.Entry.{IsEntry}
 use Rattle.cyl_map.specs.Volume.{entry_in}
 use Rattle.ufs_model.specs.declared.object.Object.{Object}
 use Rattle.ufs_model.specs.Graph.{Graph, without}
 use Rattle.ufs_model.specs.Numbers.{numbers}
-use Rattle.vol_image.specs.Part.{BelongsTo, SameAt, part_at, stands_for}
+use Rattle.vol_image.specs.Part.{BelongsTo, OwnsItself, SameAt, part_at, part_of, is_fixed, stands_for}
 use Rattle.vol_image.specs.Seen.{Held, tree_in}
 use Rattle.vol_image.specs.Reading.{IsTree}
 use Rattle.vol_image.specs.Sight.{source}
-use Rattle.vol_image.specs.Frame.{Frames}
+use Rattle.vol_image.specs.Frame.{Frames, IsHeldBy, StandsForNone}
 
 -- the one shadow root that stands for r is s, of the kind and word of r's root, and its tree is that of this object
 pub record IsDraft (image : Image) (r s : ℕ) (o : Object) : Type 0 where
@@ -42,3 +43,18 @@ pub record Settles (c : Image) (g : Graph) (id : Puid) (s : ℕ) (b : Image) : T
   -- no other shadow root stands
   pub alone : (n : ℕ) → stands_for id.block (entry_in b n) ≡ true → n ≡ s
   pub inner : (path : List ℕ) (h : Held) → (tree_in c (block_at c id.block)).below path ≡ Some h → SameAt c b h.block
+
+-- this entry may come in place of that one while an object settles: of its root, of the shadow root s, or of a block that no other object holds
+pub record MaySettle (c : Image) (g : Graph) (id : Puid) (s n : ℕ) (old e : MapEntry) : Type 0 where
+  pub apart : is_fixed n ≡ false
+  pub unheld : ¬ IsHeldBy c (without g (id ∷ [])) n
+  pub entry : IsEntry e
+  pub itself : OwnsItself n e
+  -- a root stays one, with the bit or without
+  pub root : n ≡ id.block → BelongsTo id.block Root (part_of (Some e))
+  -- of a block that the object holds the state may change alone
+  pub inner : (path : List ℕ) (h : Held) → (tree_in c (block_at c id.block)).below path ≡ Some h → h.block ≡ n → part_of (Some e) ≡ part_of (Some old)
+  -- no other shadow root is made, of this object or of another
+  pub shadow : stands_for id.block (Some e) ≡ true → n ≡ s
+  pub of_others : StandsForNone c (without g (id ∷ [])) e
+  pub of_others_before : StandsForNone c (without g (id ∷ [])) old

@@ -12,7 +12,7 @@ ghost use Rattle.cyl_map.specs.declared.state.BlockState.TheVariants.{Free};
 ghost use Rattle.ufs_model.specs.Graph.{Graph, object_at, with_object, without};
 ghost use Rattle.ufs_model.specs.Object.{blocks_of, held_levels};
 ghost use Rattle.ufs_model.specs.declared.object.Object.{Object};
-ghost use Rattle.vol_image.specs.Commit.{IsDraft, Settles, committed, root_from_source};
+ghost use Rattle.vol_image.specs.Commit.{IsDraft, MaySettle, Settles, committed, root_from_source};
 ghost use Rattle.vol_image.specs.Count.{blocks_held, levels_held};
 ghost use Rattle.vol_image.specs.Fault.{Fault};
 ghost use Rattle.vol_image.specs.Frame.{Frames, IsHeldBy, IsLoose, StandsForNone};
@@ -84,6 +84,9 @@ pub fn settling_keeps()
         → block_at c (source c id.block) ≡ block_at c id.block → Settles c g id s b → Holds b (with_object g id o) }
     ensures begin { (c : Image) (g : Graph) (id : Puid) (o : Object) (s : ℕ) → Holds c g → object_at g id ≡ Some o
         → block_at c s ≡ block_at c id.block → ((n : ℕ) → stands_for id.block (entry_in c n) ≡ true → n ≡ s) → Settles c g id s c }
+    ensures entry { (c : Image) (g : Graph) (id : Puid) (o : Object) (s : ℕ) (b : Image) (n : ℕ) (old e : MapEntry) → Holds c g → object_at g id ≡ Some o
+        → block_at c (source c id.block) ≡ block_at c id.block → is_fixed s ≡ false → Settles c g id s b → entry_in b n ≡ Some old
+        → MaySettle c g id s n old e → Settles c g id s (with_entry b n e) }
     ensures write { (c : Image) (g : Graph) (id : Puid) (s : ℕ) (b content : Image) (n : ℕ) (block : List ℕ) → n < length content
         → Settles c g id s b → Settles c g id s (set content n block) → Settles c g id s (set b n block) }
 {}
