@@ -51,16 +51,6 @@ impl Disk for LastCylinderFree {
 
     ghost blocks = { λ d. 64 * d.cylinders };
 
-    ghost honest = { λ d. false };
-
-    ghost content = { λ d. [] };
-
-    ghost told = { λ d n. false };
-
-    ghost tells_images = { λ d. false };
-
-    ghost left_since = { λ d t c. ⊥ };
-
     ghost moment = { λ d. d.calls };
 
     ghost calls = { λ d. d.calls };
@@ -72,6 +62,8 @@ impl Disk for LastCylinderFree {
     ghost only_honest = { λ d n h. h };
 
     ghost sized = { λ d h. Prim.cc };
+
+    ghost of_blocks = { λ d h. Prim.cc };
 
     fn blocks(&self) -> u32 {
         64 * self.cylinders

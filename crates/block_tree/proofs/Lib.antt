@@ -6,3 +6,4 @@ pub mod Trees
 pub mod Faults
 pub mod Walks
 mod Rows
+pub mod Steps

@@ -5,3 +5,4 @@ pub mod Root
 pub mod Reads
 pub mod Tree
 pub mod Walk
+pub mod Step

@@ -1,5 +1,5 @@
 -- Why following pointers ends.
-use Rattle.std.specs.Prelude.{◌≡◌, ◌≢◌, ℕ, ◌≤◌}
+use Rattle.std.specs.Prelude.{◌≢◌, ℕ, ◌≤◌}
 use Rattle.cfs_base.specs.Calls.{HasFailed}
 use Rattle.cfs_base.specs.Run.{Tells}
 use Rattle.cfs_base.specs.declared.disk.Disk.{Ghosts}

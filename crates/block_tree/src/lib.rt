@@ -10,6 +10,7 @@ mod leaf;
 mod node;
 mod pointers;
 mod root;
+mod step;
 #[cfg(test)]
 mod tests;
 mod walk;
@@ -19,4 +20,5 @@ pub use laws::{node_again, node_block_again, one_spelling, root_again, root_bloc
 pub use leaf::{LEAF_LIMIT, leaf_at, leaf_of, node_of, read_leaf};
 pub use node::Node;
 pub use root::{BadRoot, Root, SIZE_LIMIT};
+pub use step::{HeldStep, step_held};
 pub use walk::{HeldLeaf, walk_held};

@@ -1,28 +1,9 @@
 //! The numbers in a block, and its pointers: numbers of 4 bytes, one after another. All are big-endian.
 ghost use Rattle.std.specs.Prelude.{◌≡◌, ◌+◌, ◌*◌, ◌<◌, ◌≤◌, ◌^◌, ◌++◌, length, take, drop};
 ghost use Rattle.std.specs.List.{All};
-ghost use Rattle.std.specs.Int.{to_be_bytes, w32, w64};
 ghost use Rattle.block_tree.specs.Pointers.{numbers_from, numbers_spelling};
 
 use cfs_base::Block;
-
-/// The number with these 4 bytes.
-pub fn u32_of(bytes: &[u8]) -> u32
-    requires { length bytes.now ≡ 4 }
-    ensures { to_be_bytes w32 result ≡ bytes.now }
-{
-    u32::from_be_bytes([bytes[0], bytes[1], bytes[2], bytes[3]])
-}
-
-/// The number with these 8 bytes.
-pub fn u64_of(bytes: &[u8]) -> u64
-    requires { length bytes.now ≡ 8 }
-    ensures { to_be_bytes w64 result ≡ bytes.now }
-{
-    u64::from_be_bytes([
-        bytes[0], bytes[1], bytes[2], bytes[3], bytes[4], bytes[5], bytes[6], bytes[7],
-    ])
-}
 
 /// Reads as many pointers as there is room for, from the beginning of the bytes.
 pub fn read_pointers(bytes: &[u8], into: &mut [u32])

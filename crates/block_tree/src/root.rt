@@ -4,7 +4,7 @@ ghost use Rattle.block_tree.specs.Pointers.{pointers_of, node_pointers};
 ghost use Rattle.block_tree.specs.Root.{IsRoot, IsRootBlock, IsFirstBadByte, root_spelling};
 
 use crate::head::{first_nonzero, head_block, is_fill, kind_of, size_of};
-use crate::pointers::{put_pointers, read_pointers, u32_of, u64_of};
+use crate::pointers::{put_pointers, read_pointers};
 use cfs_base::{Block, Kind};
 
 /// The node pointers of a root.
@@ -68,8 +68,8 @@ fn read_root(block: &Block) -> Result<Root, BadRoot>
     if let Some(i) = first_nonzero(&bytes[2..4]) {
         return Err(BadRoot { byte: 2 + i as u16 });
     }
-    let word = u32_of(&bytes[4..8]);
-    let size = match size_of(kind, u64_of(&bytes[8..16])) {
+    let word = block.u32_at(4);
+    let size = match size_of(kind, block.u64_at(8)) {
         Ok(size) => size,
         Err(i) => return Err(BadRoot { byte: 8 + i }),
     };

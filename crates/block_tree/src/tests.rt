@@ -2,8 +2,9 @@
 ghost use Rattle.std.specs.Prelude.{[], false};
 
 use crate::{
-    BadRoot, HeldLeaf, Node, Root, TreeFault, leaf_at, leaf_of, node_again, node_block_again,
-    node_of, one_spelling, read_leaf, root_again, root_block_again, walk_held,
+    BadRoot, HeldLeaf, HeldStep, Node, Root, TreeFault, leaf_at, leaf_of, node_again,
+    node_block_again, node_of, one_spelling, read_leaf, root_again, root_block_again, step_held,
+    walk_held,
 };
 use cfs_base::{Block, BlockNo, Disk, Failed, Kind};
 use std::process::Abort;
@@ -22,16 +23,6 @@ struct SixBlocks {
 impl Disk for SixBlocks {
     ghost blocks = { λ d. 6 };
 
-    ghost honest = { λ d. false };
-
-    ghost content = { λ d. [] };
-
-    ghost told = { λ d n. false };
-
-    ghost tells_images = { λ d. false };
-
-    ghost left_since = { λ d t c. ⊥ };
-
     ghost moment = { λ d. d.calls };
 
     ghost calls = { λ d. d.calls };
@@ -43,6 +34,8 @@ impl Disk for SixBlocks {
     ghost only_honest = { λ d n h. h };
 
     ghost sized = { λ d h. Prim.cc };
+
+    ghost of_blocks = { λ d h. Prim.cc };
 
     fn blocks(&self) -> u32 {
         6
@@ -241,6 +234,37 @@ fn the_first_held_leaf_is_found(rt: HostRuntime) {
     assert_eq!(rt; walk_held(&mut disk, &root, 0), Ok(Some(held)));
     assert_eq!(rt; walk_held(&mut disk, &root, 1), Ok(None));
     assert_eq!(rt; disk.calls(), 2);
+}
+
+#[test]
+fn a_step_tells_whether_another_held_leaf_follows(rt: HostRuntime) {
+    let mut disk = volume();
+    let mut root = root_index();
+    let step = |leaf: u32, block: u32, follows: bool| HeldStep {
+        held: HeldLeaf { leaf, block },
+        follows,
+    };
+    assert_eq!(rt; step_held(&mut disk, &root, 0), Ok(Some(step(0, 4, false))));
+    assert_eq!(rt; step_held(&mut disk, &root, 1), Ok(None));
+    let mut leaves = [0; 128];
+    leaves[127] = 4;
+    leaves[3] = 5;
+    disk.blocks[3] = Node { leaves }.encode();
+    root.nodes[119] = 3;
+    assert_eq!(rt; step_held(&mut disk, &root, 0), Ok(Some(step(0, 4, true))));
+    disk.calls = 0;
+    assert_eq!(rt;
+        step_held(&mut disk, &root, 1),
+        Ok(Some(step(15_235, 5, true)))
+    );
+    assert_eq!(rt; disk.calls(), 2);
+    assert_eq!(rt;
+        step_held(&mut disk, &root, 15_236),
+        Ok(Some(step(15_359, 4, false)))
+    );
+    assert_eq!(rt; disk.calls(), 3);
+    assert_eq!(rt; step_held(&mut disk, &root, 15_360), Ok(None));
+    assert_eq!(rt; disk.calls(), 3);
 }
 
 #[test]

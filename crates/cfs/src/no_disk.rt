@@ -17,16 +17,6 @@ pub(crate) struct NoDisk {
 impl Disk for NoDisk {
     ghost blocks = { λ d. d.blocks };
 
-    ghost honest = { λ d. false };
-
-    ghost content = { λ d. [] };
-
-    ghost told = { λ d n. false };
-
-    ghost tells_images = { λ d. false };
-
-    ghost left_since = { λ d t c. ⊥ };
-
     ghost moment = { λ d. d.calls };
 
     ghost calls = { λ d. d.calls };
@@ -38,6 +28,8 @@ impl Disk for NoDisk {
     ghost only_honest = { λ d n h. h };
 
     ghost sized = { λ d h. Prim.cc };
+
+    ghost of_blocks = { λ d h. Prim.cc };
 
     fn blocks(&self) -> u32 {
         self.blocks

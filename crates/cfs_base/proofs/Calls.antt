@@ -1,7 +1,7 @@
 -- Calls that only read, one after the other.
-use Rattle.std.proofs.Common.{ℕ, ◌+◌, ◌≤◌, IsTrue, sym, ◌∙◌, subst, arith}
+use Rattle.std.proofs.Common.{ℕ, ◌+◌, ◌≤◌, Bool, true, false, IsTrue, refl, sym, ◌∙◌, subst, arith}
 use Rattle.cfs_base.specs.Disk.{Nothing}
-use Rattle.cfs_base.specs.Calls.{OnlyReads, HasFailed}
+use Rattle.cfs_base.specs.Calls.{OnlyReads, HasFailed, HasStopped, HasTried, MakesAtMost}
 use Rattle.cfs_base.specs.Run.{Tells}
 use Rattle.cfs_base.specs.declared.disk.Disk.{Ghosts}
 use Rattle.cfs_base.proofs.Runs.{on}
@@ -37,3 +37,56 @@ reads_within g old new n m le reads = record {
   faults = reads.faults;
   calls = omega (arith, reads.calls, le);
 }
+
+-- ---- calls that may write
+
+pub reads_make : {D : Type 0} (g : Ghosts D) (old new : D) (n : ℕ) → OnlyReads g n old new → MakesAtMost g n 0 old new
+reads_make g old new n reads = record {
+  later = reads.images.later;
+  keeps = reads.keeps;
+  same = reads.same;
+  faults = reads.faults;
+  calls = reads.calls;
+  tries = omega (arith, reads.tries);
+  no_fewer = omega (arith, reads.tries);
+}
+
+module _ {D : Type 0} (g : Ghosts D) (old mid new : D) where
+  pub makes_then : (n m k t s r : ℕ) → MakesAtMost g n t old mid → MakesAtMost g m s mid new → n + m ≤ k → t + s ≤ r → MakesAtMost g k r old new
+  makes_then n m k t s r first then calls tries = record {
+    later = omega (arith, first.later, then.later);
+    keeps = λ at c before was. then.keeps at c (omega (arith, before, first.later)) (first.keeps at c before was);
+    same = record { size = then.same.size ∙ first.same.size; honesty = then.same.honesty ∙ first.same.honesty; telling = then.same.telling ∙ first.same.telling };
+    faults = omega (arith, first.faults, then.faults);
+    calls = omega (arith, first.calls, then.calls, calls);
+    tries = omega (arith, first.tries, then.tries, tries);
+    no_fewer = omega (arith, first.no_fewer, then.no_fewer);
+  }
+
+  -- something was tried before, or after
+  pub tried_then : (n t : ℕ) → HasTried g old mid → MakesAtMost g n t mid new → HasTried g old new
+  tried_then n t tried then = omega (arith, tried, then.no_fewer)
+
+  pub then_tried : (n t : ℕ) → MakesAtMost g n t old mid → HasTried g mid new → HasTried g old new
+  then_tried n t first tried = omega (arith, first.no_fewer, tried)
+
+  -- a call that is stopped after some that only read
+  pub stopped_after_reads : (n : ℕ) (tried : Bool) → OnlyReads g n old mid → HasStopped g tried mid new → HasStopped g tried old new
+  stopped_after_reads n tried reads stop = record {
+    failed = failed_after g old mid new n reads stop.failed;
+    tries = λ yes. omega (arith, reads.tries, stop.tries yes);
+    no_try = λ none. stop.no_try none ∙ reads.tries;
+    untouched = λ none. stop.untouched none ∙ reads.content;
+  }
+
+  -- or after some that tried a write or a barrier
+  pub stopped_after_try : (n t : ℕ) (tried : Bool) → MakesAtMost g n t old mid → HasTried g old mid → HasStopped g tried mid new → HasStopped g true old new
+  stopped_after_try n t tried first was stop = record {
+    failed = record { cause = omega (arith, first.faults, stop.failed.cause); clock = omega (arith, first.later, stop.failed.clock) };
+    tries = λ yes. elim tried as (λ b. HasStopped g b mid new → HasTried g old new) [
+      | true ↦ λ is. omega (arith, first.no_fewer, is.tries refl)
+      | false ↦ λ is. omega (arith, was, is.no_try refl)
+    ] stop;
+    no_try = λ e. cc;
+    untouched = λ e. cc;
+  }

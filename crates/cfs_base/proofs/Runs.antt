@@ -83,7 +83,8 @@ module _ {D : Type 0} (g : Ghosts D) where
   pub ends_settled : {start now : D} {image : Image} {P : Image → Type 0} → Comes g start now image (λ c. c ≡ image) P → IsSettled g now
   ends_settled run = record { tells = run.tells; only = λ c h. run.crashes.here c h ∙ sym run.content }
 
-  still_tells : {old new : D} → Tells g old → ((n : ℕ) → IsTrue (g.told old n) → IsTrue (g.told new n)) → IsSameDisk g.blocks g.honest g.tells_images old new → Tells g new
+  -- what is told stays so
+  pub still_tells : {old new : D} → Tells g old → ((n : ℕ) → IsTrue (g.told old n) → IsTrue (g.told new n)) → IsSameDisk g.blocks g.honest g.tells_images old new → Tells g new
   still_tells tells told disk = record { honest = subst IsTrue (sym disk.honesty) tells.honest; told = λ n. told n (tells.told n) }
 
   -- a read, done or failed, and a barrier that failed

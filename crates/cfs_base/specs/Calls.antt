@@ -1,5 +1,5 @@
 -- Calls of a store on a disk: those that only read, and those that a device call stopped.
-use Rattle.std.specs.Prelude.{◌≡◌, ℕ, ◌+◌, ◌≤◌, Bool, true, false, IsTrue}
+use Rattle.std.specs.Prelude.{◌≡◌, ℕ, ◌+◌, ◌-◌, ◌^◌, ◌≤◌, min, Bool, true, false, IsTrue}
 use Rattle.cfs_base.specs.Disk.{Nothing, IsSameDisk, KeepsLeft}
 use Rattle.cfs_base.specs.Outside.{Rose}
 use Rattle.cfs_base.specs.Run.{Leaves}
@@ -21,10 +21,14 @@ pub record HasFailed {D : Type 0} (g : Ghosts D) (old new : D) : Type 0 where
   pub cause : Rose (g.faults old) (g.faults new)
   pub clock : Rose (g.moment old) (g.moment new)
 
+-- a write or a barrier was tried
+abbrev pub HasTried : {D : Type 0} → Ghosts D → D → D → Type 0
+HasTried g old new = Rose (g.tries old) (g.tries new)
+
 -- A device call failed and stopped a call of the store. Where a write or barrier had been tried in it the tries rose, and else all is as it was.
 pub record HasStopped {D : Type 0} (g : Ghosts D) (tried : Bool) (old new : D) : Type 0 where
   pub failed : HasFailed g old new
-  pub tries : tried ≡ true → Rose (g.tries old) (g.tries new)
+  pub tries : tried ≡ true → HasTried g old new
   pub no_try : tried ≡ false → g.tries new ≡ g.tries old
   pub untouched : tried ≡ false → g.content new ≡ g.content old
 
@@ -37,3 +41,5 @@ pub record MakesAtMost {D : Type 0} (g : Ghosts D) (most most_tries : ℕ) (old 
   pub faults : g.faults old ≤ g.faults new
   pub calls : g.calls new ≤ g.calls old + most
   pub tries : g.tries new ≤ g.tries old + most_tries
+  -- up to the last number of a u64 the tries don't fall
+  pub no_fewer : min (g.tries old) (2 ^ 64 - 1) ≤ g.tries new

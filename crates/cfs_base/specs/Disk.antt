@@ -1,5 +1,5 @@
 -- What a call does to a disk: its content, its counts, and what a crash may leave of it.
-use Rattle.std.specs.Prelude.{◌≡◌, ◌⊎◌, ℕ, ◌-◌, ◌^◌, ◌≤◌, Bool, IsTrue, List, [], get_or, set}
+use Rattle.std.specs.Prelude.{◌≡◌, ◌⊎◌, ℕ, ◌-◌, ◌^◌, ◌<◌, ◌≤◌, Bool, IsTrue, List, [], length, get_or, set}
 use Rattle.cfs_base.specs.Outside.{count_after, Rose}
 
 -- the blocks of a disk in their order, each the list of its bytes
@@ -9,6 +9,15 @@ Image = List (List ℕ)
 -- the bytes of a block, none past the last
 abbrev pub block_at : Image → ℕ → List ℕ
 block_at image n = get_or image n []
+
+-- a block has 512 bytes, each below 256
+pub record IsBlock (block : List ℕ) : Type 0 where
+  pub long : length block ≡ 512
+  pub bytes : (k : ℕ) → get_or block k 0 < 256
+
+-- so are all blocks of an image
+abbrev pub AreBlocks : Image → Type 0
+AreBlocks image = (n : ℕ) → n < length image → IsBlock (block_at image n)
 
 -- no image
 abbrev pub Nothing : Image → Type 0

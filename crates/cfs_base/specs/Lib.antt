@@ -2,3 +2,5 @@ pub mod Disk
 pub mod Outside
 pub mod Run
 pub mod Calls
+pub mod Refusals
+pub mod Codes

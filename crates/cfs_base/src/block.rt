@@ -1,5 +1,6 @@
 //! A block, and the numbers in it.
 ghost use Rattle.std.specs.Prelude.{◌≡◌, ◌+◌, ◌≤◌, ◌++◌, ◌^◌, length, replicate, take, drop, slice_range};
+ghost use Rattle.cfs_base.specs.Disk.{IsBlock};
 ghost use Rattle.std.specs.Int.{from_be_bytes, to_be_bytes, w16, w32, w64};
 
 use std::marker::Model;
@@ -18,13 +19,22 @@ impl Model for Block {
 
     ghost coded = { coded_list coded_ℕ };
 
-    ghost use Rattle.std.specs.Prelude.{◌≡◌, length};
+    ghost use Rattle.cfs_base.specs.Disk.{IsBlock};
 
     ghost view = { λ a. a.bytes };
 
-    ghost invariant = { λ a. length a.bytes ≡ 512 };
+    ghost invariant = { λ a. IsBlock a.bytes };
 
     ghost inverse = { λ d. record { bytes = d } };
+}
+
+// puts a piece into the bytes from this place on
+fn put(bytes: &mut [u8; 512], at: usize, piece: &[u8])
+    requires { at + length piece.now ≤ 512 }
+    ensures put { bytes.new ≡ take at bytes.old ++ piece.now ++ drop (at + length piece.now) bytes.old }
+    ensures block { IsBlock bytes.new }
+{
+    bytes[at..at + piece.len()].copy_from_slice(piece);
 }
 
 impl Block {
@@ -32,7 +42,7 @@ impl Block {
     pub fn zero() -> Block
         ensures { result ≡ replicate 512 0 }
     {
-        Block { bytes: [0; 512] }
+        Block::of([0; 512])
     }
 
     /// The block with these bytes.
@@ -53,6 +63,7 @@ impl Block {
     pub fn u16_at(&self, at: usize) -> u16
         requires { at + 2 ≤ 512 }
         ensures value { result ≡ from_be_bytes w16 (slice_range self.now at (at + 2)) }
+        ensures spelled { to_be_bytes w16 result ≡ slice_range self.now at (at + 2) }
         ensures long { length self.now ≡ 512 }
     {
         let b = &self.bytes;
@@ -63,6 +74,7 @@ impl Block {
     pub fn u32_at(&self, at: usize) -> u32
         requires { at + 4 ≤ 512 }
         ensures value { result ≡ from_be_bytes w32 (slice_range self.now at (at + 4)) }
+        ensures spelled { to_be_bytes w32 result ≡ slice_range self.now at (at + 4) }
         ensures long { length self.now ≡ 512 }
     {
         let b = &self.bytes;
@@ -73,6 +85,7 @@ impl Block {
     pub fn u64_at(&self, at: usize) -> u64
         requires { at + 8 ≤ 512 }
         ensures value { result ≡ from_be_bytes w64 (slice_range self.now at (at + 8)) }
+        ensures spelled { to_be_bytes w64 result ≡ slice_range self.now at (at + 8) }
         ensures long { length self.now ≡ 512 }
     {
         let b = &self.bytes;
@@ -94,7 +107,7 @@ impl Block {
         ensures put { self.new ≡ take at self.old ++ to_be_bytes w16 value ++ drop (at + 2) self.old }
         ensures long { length self.old ≡ 512 }
     {
-        self.bytes[at..at + 2].copy_from_slice(&value.to_be_bytes());
+        put(&mut self.bytes, at, &value.to_be_bytes());
     }
 
     /// Puts the number into the 4 bytes from this place on, and changes no other.
@@ -103,7 +116,7 @@ impl Block {
         ensures put { self.new ≡ take at self.old ++ to_be_bytes w32 value ++ drop (at + 4) self.old }
         ensures long { length self.old ≡ 512 }
     {
-        self.bytes[at..at + 4].copy_from_slice(&value.to_be_bytes());
+        put(&mut self.bytes, at, &value.to_be_bytes());
     }
 
     /// Puts the number into the 8 bytes from this place on, and changes no other.
@@ -112,7 +125,7 @@ impl Block {
         ensures put { self.new ≡ take at self.old ++ to_be_bytes w64 value ++ drop (at + 8) self.old }
         ensures long { length self.old ≡ 512 }
     {
-        self.bytes[at..at + 8].copy_from_slice(&value.to_be_bytes());
+        put(&mut self.bytes, at, &value.to_be_bytes());
     }
 }
 

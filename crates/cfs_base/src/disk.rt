@@ -1,6 +1,6 @@
 //! A disk of blocks, as the server calls it: what it holds, and what a crash may leave of it.
-ghost use Rattle.std.specs.Prelude.{◌≡◌, ◌≢◌, ◌⊎◌, ◌<◌, ℕ, Bool, IsTrue, List, length, set, OnOk, OnErr, IsErr};
-ghost use Rattle.cfs_base.specs.Disk.{block_at, Nothing, Written, Only, IsSameDisk, LeavesOnly, KeepsLeft, CountsRead, CountsTry};
+ghost use Rattle.std.specs.Prelude.{◌≡◌, ◌≢◌, ◌⊎◌, ◌<◌, ℕ, Bool, false, IsTrue, List, [], length, set, OnOk, OnErr, IsErr};
+ghost use Rattle.cfs_base.specs.Disk.{AreBlocks, block_at, Nothing, Written, Only, IsSameDisk, LeavesOnly, KeepsLeft, CountsRead, CountsTry};
 
 use crate::{Block, BlockNo, Failed};
 
@@ -8,25 +8,26 @@ use crate::{Block, BlockNo, Failed};
 /// whatever it leaves of the others, what it held at the last barrier that was done, or what some write since has put
 /// there, be it a write that failed.
 ///
-/// A disk may tell nothing: then it counts, and promises nothing of its content and its images.
+/// A disk may tell nothing: then it counts, and promises nothing of its content and its images. That is what it does where
+/// it doesn't say what `honest`, `content`, `told`, `tells_images` and `left_since` are.
 pub trait Disk {
     /// How many blocks it has.
     ghost blocks: { Self → ℕ };
 
     /// Whether it tells its content.
-    ghost honest: { Self → Bool };
+    ghost honest: { Self → Bool } = { λ _. false };
 
     /// What each block holds or, where this isn't told, will hold after the next barrier that is done.
-    ghost content: { Self → List (List ℕ) };
+    ghost content: { Self → List (List ℕ) } = { λ _. [] };
 
     /// Whether a read of this block gives its content. After a write that failed it need not, until a barrier is done.
-    ghost told: { Self → ℕ → Bool };
+    ghost told: { Self → ℕ → Bool } = { λ _ _. false };
 
     /// Whether it tells its crash images.
-    ghost tells_images: { Self → Bool };
+    ghost tells_images: { Self → Bool } = { λ _. false };
 
     /// What a crash at some moment since this one may have left. Nothing where the disk doesn't tell.
-    ghost left_since: { Self → ℕ → List (List ℕ) → Type 0 };
+    ghost left_since: { Self → ℕ → List (List ℕ) → Type 0 } = { λ _ _ _. ⊥ };
 
     /// A clock, which never falls. Writes, barriers and calls that fail raise it up to the last number of a u64.
     ghost moment: { Self → ℕ };
@@ -93,4 +94,7 @@ pub trait Disk {
 
     /// The content of an honest disk is as long as the disk.
     ghost sized: { (d : Self) → IsTrue (honest d) → length (content d) ≡ blocks d };
+
+    /// Each block of its content has 512 bytes.
+    ghost of_blocks: { (d : Self) → IsTrue (honest d) → AreBlocks (content d) };
 }

@@ -21,4 +21,4 @@ pub use identifier::{BlockNo, Puid, Session, Tuid};
 pub use kind::{FileKind, Kind, Mode, Place};
 pub use lists::{Bytes, Ids};
 pub use outside::{Sink, Source};
-pub use refusal::{Damage, Failed, Need, NoMemory, Refused, Trouble};
+pub use refusal::{Damage, Failed, Need, NoMemory, Refused, Trouble, code};

@@ -46,16 +46,6 @@ struct SilentDisk {
 impl Disk for SilentDisk {
     ghost blocks = { λ d. 2 };
 
-    ghost honest = { λ d. false };
-
-    ghost content = { λ d. [] };
-
-    ghost told = { λ d n. false };
-
-    ghost tells_images = { λ d. false };
-
-    ghost left_since = { λ d t c. ⊥ };
-
     ghost moment = { λ d. d.moment };
 
     ghost calls = { λ d. d.moment };
@@ -67,6 +57,8 @@ impl Disk for SilentDisk {
     ghost only_honest = { λ d n h. h };
 
     ghost sized = { λ d h. Prim.cc };
+
+    ghost of_blocks = { λ d h. Prim.cc };
 
     fn blocks(&self) -> u32 {
         2

@@ -1,9 +1,12 @@
 -- A list cut into chunks of one size.
-use Rattle.std.proofs.Common.{◌≡◌, ℕ, zero, suc, ◌+◌, ◌*◌, ◌<◌, List, [], ◌∷◌, ◌++◌, length, take, drop, set, get_or, replicate, refl, sym, ◌∙◌, ap, append_assoc, zero-add, arith}
-use Rattle.std.proofs.Math.Nat.{suc-mul, zero-mul}
+use Rattle.std.proofs.Common.{◌≡◌, ℕ, zero, suc, ◌+◌, ◌*◌, ◌<◌, List, [], ◌∷◌, ◌++◌, length, take, drop, set, get_or, replicate, refl, sym, ◌∙◌, ap, subst, inl, inr, ◌≤◌, append_assoc, zero-add, arith}
+use Rattle.std.proofs.Math.Nat.{suc-mul, zero-mul, mul-le-mul_right}
+use Rattle.std.proofs.lemmas.Bool.{cases_lt}
 use Rattle.std.proofs.Math.Seq.{take-add}
-use Rattle.std.proofs.lemmas.List.{drop-drop, take_at, drop_at, length-drop, length-take, take-replicate, drop-replicate}
+use Rattle.std.proofs.lemmas.List.{drop-drop, take_at, drop_at, length-drop, length-take, length-take-le, get_or-take, get_or-drop, get_or_past, take-replicate, drop-replicate}
 use Rattle.std.specs.Simd.{first_chunks}
+use Rattle.cfs_base.specs.Disk.{AreBlocks, IsBlock}
+use Rattle.cfs_fakes.specs.Store.{AreBytes}
 
 pub length_chunks : {X : Type 0} (s k : ℕ) (xs : List X) → length (first_chunks s k xs) ≡ k
 length_chunks s zero xs = refl
@@ -43,3 +46,18 @@ chunks_replicate {X = X} s (suc k) x =
     let head : take s (replicate (suc k * s) x) ≡ replicate s x = take-replicate s (suc k * s) x (omega (arith, size)) in
     let rest : drop s (replicate (suc k * s) x) ≡ replicate (k * s) x = drop-replicate s (suc k * s) x ∙ ap (λ (j : ℕ). replicate j x) (omega (arith, size)) in
     ap (λ (c : List X). c ∷ first_chunks s k (drop s (replicate (suc k * s) x))) head ∙ ap (λ (r : List X). replicate s x ∷ first_chunks s k r) rest ∙ ap (λ (r : List (List X)). replicate s x ∷ r) (chunks_replicate s k x)
+
+-- blocks of bytes
+pub chunks_are_blocks : (count : ℕ) (bytes : List ℕ) → AreBytes count bytes → AreBlocks (first_chunks 512 count bytes)
+chunks_are_blocks count bytes are = λ n le.
+    let below : n < count = omega (arith, le, length_chunks 512 count bytes) in
+    let past : (n + 1) * 512 ≤ count * 512 = mul-le-mul_right 512 (omega (arith, below)) in
+    let room : 512 ≤ length (drop (n * 512) bytes) = omega (arith, length-drop (n * 512) bytes, are.size, past) in
+    let P : List ℕ → Type 0 = IsBlock in
+    subst P (sym (chunk_at 512 count n bytes below)) (record {
+      long = length-take-le 512 (drop (n * 512) bytes) room;
+      bytes = λ k. elim (cases_lt k 512) [
+        | inl within ↦ rw (get_or-take 512 (drop (n * 512) bytes) k 0 within, get_or-drop (n * 512) bytes k 0) (are.each (n * 512 + k))
+        | inr past_it ↦ rw (get_or_past (take 512 (drop (n * 512) bytes)) k 0 (omega (arith, past_it, length-take-le 512 (drop (n * 512) bytes) room))) (omega arith)
+      ];
+    })

@@ -5,3 +5,4 @@ pub mod Replay
 pub mod Rerun
 pub mod Sink
 pub mod Source
+pub mod Store

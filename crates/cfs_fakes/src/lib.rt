@@ -14,9 +14,11 @@ mod rerun;
 mod store;
 #[cfg(test)]
 mod tests;
+mod untold;
 
 pub use gate::OpenGate;
 pub use kept::Pick;
 pub use memory_disk::MemoryDisk;
 pub use memory_sink::MemorySink;
 pub use memory_source::MemorySource;
+pub use untold::Untold;

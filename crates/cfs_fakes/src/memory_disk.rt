@@ -2,7 +2,7 @@
 ghost use Rattle.std.specs.Prelude.{◌≡◌, ◌≢◌, ◌⊎◌, ◌-◌, ◌/◌, ◌%◌, ◌≤◌, ◌<◌, ◌^◌, ◌↔◌, ℕ, IsTrue, true, false, refl, [], length, replicate, set, IfOk, OnOk, OnErr, IsErr};
 ghost use Rattle.std.specs.Bool.{OnFalse};
 ghost use Rattle.std.specs.Simd.{first_chunks};
-ghost use Rattle.cfs_base.specs.Disk.{block_at, Nothing, Written, Only, LeavesOnly, KeepsLeft, CountsRead, CountsTry};
+ghost use Rattle.cfs_base.specs.Disk.{AreBlocks, block_at, Nothing, Written, Only, LeavesOnly, KeepsLeft, CountsRead, CountsTry};
 ghost use Rattle.cfs_fakes.specs.Picks.{choice_of};
 ghost use Rattle.cfs_fakes.specs.Replay.{after, IsChoice};
 ghost use Rattle.cfs_fakes.specs.Recorder.{clock, state_now, left_of as left_of_recorder};
@@ -27,6 +27,7 @@ pub struct MemoryDisk {
     faults: u64,
     starved: u64,
     ghost size: { recorder.blocks ≡ length store },
+    ghost blocks: { AreBlocks store },
     ghost mirrored: { IsTrue recorder.keeps → (state_now recorder).content ≡ store },
 }
 
@@ -56,6 +57,8 @@ impl Disk for MemoryDisk {
     ghost only_honest = { λ d n h. h };
 
     ghost sized = { λ d h. refl };
+
+    ghost of_blocks = { λ d h. d.blocks };
 
     fn blocks(&self) -> u32 {
         self.store.count()

@@ -1,7 +1,7 @@
 //! Blocks in memory.
-ghost use Rattle.std.specs.Prelude.{◌≡◌, ◌+◌, ◌/◌, ◌%◌, ◌≤◌, ◌<◌, ◌^◌, ◌++◌, length, replicate, take, drop, set, IfOk};
+ghost use Rattle.std.specs.Prelude.{◌≡◌, ◌+◌, ◌/◌, ◌%◌, ◌≤◌, ◌<◌, ◌^◌, ◌++◌, ℕ, get_or, length, replicate, take, drop, set, IfOk};
 ghost use Rattle.std.specs.Simd.{first_chunks};
-ghost use Rattle.cfs_base.specs.Disk.{block_at};
+ghost use Rattle.cfs_base.specs.Disk.{AreBlocks, block_at};
 
 use cfs_base::Block;
 use std::alloc::{AllocError, Global};
@@ -15,14 +15,15 @@ pub struct Store {
 }
 
 impl Model for Store {
-    ghost use Rattle.std.specs.Prelude.{◌≡◌, ◌*◌, List, ℕ, length};
+    ghost use Rattle.std.specs.Prelude.{List, ℕ};
     ghost use Rattle.std.specs.Simd.{first_chunks};
+    ghost use Rattle.cfs_fakes.specs.Store.{AreBytes};
 
     ghost Value = { List (List ℕ) };
 
     ghost view = { λ s. first_chunks 512 s.count s.bytes.items };
 
-    ghost invariant = { λ s. length s.bytes.items ≡ s.count * 512 };
+    ghost invariant = { λ s. AreBytes s.count s.bytes.items };
 }
 
 // the block that begins at this byte
@@ -40,11 +41,12 @@ fn put_block(bytes: &mut Vec<u8>, at: usize, block: &[u8; 512])
     requires long { length block.now ≡ 512 }
     ensures put { bytes.new.items ≡ take at bytes.old.items ++ block.now ++ drop (at + 512) bytes.old.items }
     ensures size { length bytes.new.items ≡ length bytes.old.items }
+    ensures each { (k : ℕ) → get_or bytes.new.items k 0 < 256 }
 {
     bytes[at..at + 512].copy_from_slice(block);
 }
 
-#[tactic(auto, using(crate::proofs::Chunks::length_chunks, crate::proofs::Chunks::chunk_at, crate::proofs::Chunks::chunk_set))]
+#[tactic(auto, using(crate::proofs::Chunks::length_chunks, crate::proofs::Chunks::chunk_at, crate::proofs::Chunks::chunk_set, crate::proofs::Chunks::chunks_are_blocks))]
 impl Store {
     /// Blocks of zeros.
     pub fn zeros(alloc: Global, count: u32) -> Result<Store, AllocError>
@@ -65,7 +67,8 @@ impl Store {
     }
 
     pub fn count(&self) -> u32
-        ensures { result ≡ length self.now }
+        ensures count { result ≡ length self.now }
+        ensures blocks { AreBlocks self.now }
     {
         self.count
     }
@@ -79,7 +82,8 @@ impl Store {
 
     pub fn write(&mut self, n: u32, from: &Block)
         requires { n < length self.old }
-        ensures { self.new ≡ set self.old n from.now }
+        ensures written { self.new ≡ set self.old n from.now }
+        ensures blocks { AreBlocks self.new }
     {
         put_block(&mut self.bytes, n as usize * 512, from.bytes());
     }

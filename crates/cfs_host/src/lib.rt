@@ -2,11 +2,13 @@
 //! a `Source` and a `Sink`: they tell what the reader or writer inside tells, and of the system's files that is nothing.
 #![tactic(auto)]
 
+mod disk;
 mod faults;
 mod sink;
 mod source;
 mod stream;
 
+pub use disk::FileDisk;
 pub use sink::FileSink;
 pub use source::FileSource;
 pub use stream::Stream;

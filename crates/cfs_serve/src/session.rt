@@ -7,7 +7,6 @@ ghost use Rattle.ufs_model.specs.Script.{request_lines};
 ghost use Rattle.ufs_model.specs.declared.asked.Event.TheVariants as events;
 ghost use Rattle.ufs_model.specs.declared.asked.Request.{Request};
 ghost use Rattle.ufs_model.specs.declared.asked.Reply.{Reply};
-ghost use Rattle.ufs_model.specs.Plain.{IsServed};
 ghost use Rattle.cfs_serve.specs.Heard.{HasRoom};
 ghost use Rattle.cfs_serve.specs.Session.{Answers, IsServedSo, IsServing, Tells, TakesLine, Terms, terms, wants_memory};
 
@@ -174,7 +173,6 @@ impl Session {
     ) -> bool
         requires room { 0 < self.old.trail.room }
         requires words { self.old.server.state.drawn < 4294967295 }
-        requires served { IsServed request }
         requires name { HasRoom name self.old.names.room }
         ensures { (reply : Reply) × Answers (beside self.old (K.intake sink.old)) (beside self.new (K.intake sink.new)) request name reply result }
     {

@@ -1,22 +1,24 @@
 -- Counts, and the Free blocks of the image that they count.
-use Rattle.std.proofs.Common.{◌≡◌, ◌≢◌, inl, inr, ℕ, ◌+◌, ◌*◌, ◌/◌, ◌%◌, ◌<◌, ◌≤◌, false, List, length, get_or, set, Some, position, refl, sym, ◌∙◌, ap, subst, arith, length-set}
+use Rattle.std.proofs.Common.{◌≡◌, ◌≢◌, inl, inr, ℕ, ◌+◌, ◌-◌, ◌*◌, min, true, ◌/◌, ◌%◌, ◌<◌, ◌≤◌, false, List, length, get_or, set, Some, position, refl, sym, ◌∙◌, ap, subst, arith, length-set}
 use Rattle.std.specs.Prelude.{sum}
 use Rattle.std.proofs.Math.Seq.{take-length}
 use Rattle.std.proofs.lemmas.Bool.{cases_lt, cases_eq}
-use Rattle.std.proofs.lemmas.List.{get_or-set_same, get_or-set_other}
+use Rattle.std.proofs.lemmas.List.{same_lists, get_or_default, get_or-set_same, get_or-set_other}
 use Rattle.std.proofs.lemmas.List.Quantifiers.{position-Some}
-use Rattle.std.proofs.lemmas.List.Sums.{count_by-le-length}
+use Rattle.std.proofs.lemmas.List.Sums.{count_by-le-length, sum_by-set}
 use Rattle.std.proofs.lemmas.List.FromFn.{length-range_with_len}
 use Rattle.std.specs.List.{range_with_len}
 use Rattle.cfs_base.specs.Disk.{Image}
 use Rattle.cyl_map.specs.declared.entry.MapEntry.{MapEntry}
 use Rattle.cyl_map.specs.Map.{is_free, free_entries}
-use Rattle.cyl_map.specs.Volume.{is_free_in, free_from}
+use Rattle.cyl_map.specs.Entry.{IsEntry}
+use Rattle.cyl_map.specs.Volume.{entry_in, with_entry, is_free_entry, is_free_in, free_from}
+use Rattle.cyl_map.proofs.Volumes.{map_in_image, length-with_entry}
 use Rattle.cyl_alloc.specs.Counts.{IsFirstAbove}
 use Rattle.cyl_alloc.specs.Maps.{IsMapOf}
-use Rattle.cyl_alloc.specs.Space.{Kept, AreCounts, IsLeastFree, IsFreeElsewhere, free_in_cylinder, with_count, free_entry}
+use Rattle.cyl_alloc.specs.Space.{Kept, AreCounts, IsLeastFree, IsFreeElsewhere, free_in_cylinder, count_at, with_count, after_taking, after_giving, free_entry}
 use Rattle.cyl_alloc.proofs.Ranges.{sum_of, none_in, same_count}
-use Rattle.cyl_alloc.proofs.Entries.{free_is, free_count}
+use Rattle.cyl_alloc.proofs.Entries.{free_is, free_count, elsewhere, alike, one_free_less, one_free_more}
 
 pub sum_is : (image : Image) (kept : Kept) → AreCounts image kept → sum kept.free ≡ free_from image 0 (length image)
 unfolding free_in_cylinder
@@ -62,6 +64,51 @@ pub counts_put : (image other : Image) (kept : Kept) (free new : List ℕ) (n co
     → free ≡ kept.free → new ≡ set free (n / 64) count → AreCounts other (record { free = new })
 counts_put image other kept free new n count counts elsewhere lt is same put =
     subst (λ (l : List ℕ). AreCounts other (record { free = l })) (sym (put ∙ ap (λ (l : List ℕ). set l (n / 64) count) same)) (counts-set image other kept n count counts elsewhere lt is)
+
+-- ---- one entry changed
+
+module _ (image : Image) (kept : Kept) (n : ℕ) (old e : MapEntry) (counts : AreCounts image kept) (was : entry_in image n ≡ Some old) (is : IsEntry e) where
+  within : n < 64 * length kept.free
+  within = omega (arith, map_in_image image n old was, counts.size)
+
+  counted : count_at kept n ≡ free_in_cylinder image (n / 64)
+  counted = counts.each (n / 64) (omega (arith, within))
+
+  -- a Free block is taken
+  pub counts_taken : is_free old ≡ true → is_free e ≡ false → AreCounts (with_entry image n e) (after_taking kept n) × (sum (after_taking kept n).free + 1 ≡ sum kept.free)
+  counts_taken free taken =
+      let less = one_free_less image n old e was is (ap is_free_entry was ∙ free) taken in (
+        counts-set image (with_entry image n e) kept n (count_at kept n - 1) counts (elsewhere image n old e was is) within (omega (arith, less, counted)),
+        omega (arith, sum_by-set (λ (x : ℕ). x) kept.free (n / 64) (count_at kept n - 1) 0 (omega (arith, within)), less, counted),
+      )
+
+  -- a block is Free again
+  pub counts_given : is_free old ≡ false → is_free e ≡ true → AreCounts (with_entry image n e) (after_giving kept n 1) × (sum (after_giving kept n 1).free ≡ sum kept.free + 1)
+  counts_given held free =
+      let more = one_free_more image n old e was is (ap is_free_entry was ∙ held) free in
+      let most = cylinder-most (with_entry image n e) (n / 64) in
+      let one : min 64 (count_at kept n + 1) ≡ count_at kept n + 1 = omega (arith, more, most, counted) in (
+        counts-set image (with_entry image n e) kept n (min 64 (count_at kept n + 1)) counts (elsewhere image n old e was is) within (omega (arith, one, more, counted)),
+        omega (arith, sum_by-set (λ (x : ℕ). x) kept.free (n / 64) (min 64 (count_at kept n + 1)) 0 (omega (arith, within)), one),
+      )
+
+  -- Free or not, the block stays so
+  pub counts_same : is_free e ≡ is_free old → AreCounts (with_entry image n e) kept
+  unfolding free_in_cylinder
+  counts_same same = record {
+    size = length-with_entry image n e ∙ counts.size;
+    each = λ j less. counts.each j less ∙ sym (same_count (is_free_in (with_entry image n e)) (is_free_in image) (64 * j) 64 (λ m _ _. alike image n old e was is same m));
+  }
+
+-- the same of what is equal to both
+pub counts_along : (image other : Image) (kept new : Kept) → AreCounts image kept → other ≡ image → new ≡ kept → AreCounts other new
+counts_along image other kept new counts is same = subst (AreCounts other) (sym same) (subst (λ (i : Image). AreCounts i kept) (sym is) counts)
+
+pub counts_one : (image : Image) (kept other : Kept) → AreCounts image kept → AreCounts image other → kept ≡ other
+counts_one image kept other one two =
+    let long : length kept.free ≡ length other.free = omega (arith, one.size, two.size) in
+    ap (λ (l : List ℕ). let k : Kept = record { free = l } in k)
+    (same_lists kept.free other.free long (λ j d less. get_or_default kept.free j d 0 less ∙ one.each j less ∙ sym (two.each j (omega (arith, long))) ∙ get_or_default other.free j 0 d (omega (arith, long))))
 
 -- ---- the least-numbered Free block
 

@@ -1,13 +1,14 @@
 -- The entries of a volume whose maps a disk holds.
-use Rattle.std.proofs.Common.{◌≡◌, ◌≢◌, ℕ, ◌+◌, ◌*◌, ◌/◌, ◌%◌, true, false, List, get_or, set, Option, Some, None, refl, sym, ◌∙◌, ap, subst, arith}
+use Rattle.std.proofs.Common.{◌≡◌, ◌≢◌, inl, inr, ℕ, ◌+◌, ◌*◌, ◌/◌, ◌%◌, true, false, List, get_or, set, Option, Some, None, refl, sym, ◌∙◌, ap, subst, arith}
 use Rattle.std.specs.Prelude.{IsSome}
+use Rattle.std.proofs.lemmas.Bool.{cases_eq}
 use Rattle.cfs_base.specs.Disk.{Image, block_at}
 use Rattle.cyl_map.specs.declared.entry.MapEntry.{MapEntry}
 use Rattle.cyl_map.specs.Entry.{IsEntry, spelling}
 use Rattle.cyl_map.specs.Map.{IsFirstBadEntry, map_spelling, entry_at, is_free, free_entries}
 use Rattle.cyl_map.specs.Volume.{map_of, map_with, with_bytes, with_entry, entry_in, is_free_in, is_free_entry}
 use Rattle.cyl_map.proofs.Entries.{entry_of_bad}
-use Rattle.cyl_map.proofs.Maps.{entries_of_spelled}
+use Rattle.cyl_map.proofs.Maps.{entry_at-map_spelling}
 use Rattle.cyl_map.proofs.Volumes.{map_spelling-set, entry_in-with_entry_same, entry_in-with_entry_other, length-with_entry}
 use Rattle.cyl_alloc.specs.Maps.{IsMapOf}
 use Rattle.cyl_alloc.specs.Space.{IsBadMap, IsGoodMap, IsFreeElsewhere, free_in_cylinder, free_entry}
@@ -20,7 +21,7 @@ module _ (image : Image) (n : ℕ) (map : List MapEntry) (is : IsMapOf image n m
   unfolding entry_in
   entry_is m d same =
       ap (λ (at : ℕ). entry_at (block_at image at) (m % 64)) same
-      ∙ (entries_of_spelled (block_at image (map_of n)) map is.is_map is.spelled).each (m % 64) d (omega arith)
+      ∙ entry_at-map_spelling (block_at image (map_of n)) map is.is_map is.spelled (m % 64) d (omega arith)
 
   pub free_is : (m : ℕ) (d : MapEntry) → map_of m ≡ map_of n → is_free_in image m ≡ is_free (get_or map (m % 64) d)
   free_is m d same = ap is_free_entry (entry_is m d same)
@@ -67,6 +68,12 @@ module _ (image : Image) (n : ℕ) (old e : MapEntry) (was : entry_in image n �
 
   others : (m : ℕ) → m ≢ n → is_free_in (with_entry image n e) m ≡ is_free_in image m
   others m apart = ap is_free_entry (entry_in-with_entry_other image n e old m was apart)
+
+  pub alike : is_free e ≡ is_free old → (m : ℕ) → is_free_in (with_entry image n e) m ≡ is_free_in image m
+  alike same m = elim (cases_eq m n) [
+    | inl here ↦ rw here (now ∙ same ∙ sym (ap is_free_entry was))
+    | inr apart ↦ others m apart
+  ]
 
   pub one_free_less : is_free_in image n ≡ true → is_free e ≡ false → free_in_cylinder (with_entry image n e) (n / 64) + 1 ≡ free_in_cylinder image (n / 64)
   unfolding free_in_cylinder

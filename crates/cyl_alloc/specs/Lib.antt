@@ -2,3 +2,4 @@ pub mod Space
 pub mod Counts
 pub mod Maps
 pub mod Refusals
+pub mod Enters

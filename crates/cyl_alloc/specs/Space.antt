@@ -1,10 +1,11 @@
 -- How many blocks of each cylinder are Free, and what the maps of a volume say of it.
 use Rattle.std.specs.Prelude.{◌≡◌, ◌≢◌, ℕ, ◌+◌, ◌-◌, ◌*◌, ◌/◌, ◌<◌, min, true, false, List, length, get_or, set, Some, None, IsSome}
-use Rattle.cfs_base.specs.Disk.{Image, Written}
+use Rattle.cfs_base.specs.Disk.{Image}
 use Rattle.cfs_base.specs.declared.kind.Place.{Place}
-use Rattle.cyl_map.specs.declared.state.BlockState.TheVariants.{Free, Allocated}
+use Rattle.cyl_map.specs.declared.state.BlockState.{BlockState}
+use Rattle.cyl_map.specs.declared.state.BlockState.TheVariants.{Free, Allocated, IntendAllocate}
 use Rattle.cyl_map.specs.declared.entry.MapEntry.{MapEntry}
-use Rattle.cyl_map.specs.Volume.{entry_in, is_free_in, free_from, map_of, map_with}
+use Rattle.cyl_map.specs.Volume.{entry_in, is_free_in, free_from, map_of}
 
 -- what a space keeps: how many blocks of each cylinder are Free
 pub record Kept : Type 0 where
@@ -59,14 +60,18 @@ IsGoodMap image n = (k : ℕ) → k < 64 → IsSome (entry_in image (map_of n + 
 
 -- ---- the entries that are written
 
+-- a block that is something to an object
+abbrev pub entered : BlockState → Place → ℕ → MapEntry
+entered state place owner = record { state = state; committed = false; place = Some place; owner = owner }
+
 -- a block that an object holds
 abbrev pub allocated : Place → ℕ → MapEntry
-allocated place owner = record { state = Allocated; committed = false; place = Some place; owner = owner }
+allocated place owner = entered Allocated place owner
+
+-- a block that an object will hold once its draft is committed
+abbrev pub intended : Place → ℕ → MapEntry
+intended place owner = entered IntendAllocate place owner
 
 -- a block that nobody holds
 abbrev pub free_entry : MapEntry
 free_entry = record { state = Free; committed = false; place = None; owner = 0 }
-
--- one of these images, with this entry written for the image's least-numbered Free block
-abbrev pub ClaimWritten : (Image → Type 0) → Image → MapEntry → Image → Type 0
-ClaimWritten images image entry c = (n : ℕ) × IsLeastFree image n × Written images (map_of n) (map_with image n entry) c

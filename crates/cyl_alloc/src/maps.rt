@@ -1,6 +1,6 @@
 //! The maps of a volume on a disk: one read, and one entry written.
 ghost use Rattle.std.specs.Prelude.{◌≡◌, ℕ, ◌<◌, true, false, IsTrue, IfOk, IfErr, OnOk, OnErr};
-ghost use Rattle.cfs_base.specs.Calls.{OnlyReads, HasStopped, MakesAtMost};
+ghost use Rattle.cfs_base.specs.Calls.{OnlyReads, HasStopped, HasTried, MakesAtMost};
 ghost use Rattle.cfs_base.specs.Disk.{Written};
 ghost use Rattle.cfs_base.specs.Run.{Tells, Leaves, left_now};
 ghost use Rattle.cyl_map.specs.Entry.{IsEntry};
@@ -15,8 +15,8 @@ use cyl_map::{Map, MapEntry};
 /// The code of a map block that is no map.
 pub(crate) const NO_MAP: u8 = 2;
 
-/// Reads the map that has a block's entry.
-pub(crate) fn read_map<D: Disk>(disk: &mut D, block: u32) -> Result<Map, Trouble>
+/// Reads the map that has a block's entry. `Damaged` names its map block, with code 2, which is no map.
+pub fn read_map<D: Disk>(disk: &mut D, block: u32) -> Result<Map, Trouble>
     requires { map_of block < D.blocks disk.old }
     ensures map { Tells D.Disk disk.old → IfOk result (IsMapOf (D.content disk.old) block) }
     ensures whole { Tells D.Disk disk.old → OnOk result (IsGoodMap (D.content disk.old) block) }
@@ -38,8 +38,9 @@ pub(crate) fn read_map<D: Disk>(disk: &mut D, block: u32) -> Result<Map, Trouble
     }
 }
 
-/// Puts an entry in place of a block's into the map that was read, and writes that map.
-pub(crate) fn write_entry<D: Disk>(
+/// Puts an entry in place of a block's into the map that was read, and writes that map. After a write that fails the map
+/// block has either content.
+pub fn write_entry<D: Disk>(
     disk: &mut D,
     block: u32,
     mut map: Map,
@@ -50,6 +51,7 @@ pub(crate) fn write_entry<D: Disk>(
     ensures written { IsMapOf (D.content disk.old) block map →
         OnOk result (D.content disk.new ≡ with_entry (D.content disk.old) block entry) }
     ensures told { OnOk result ((n : ℕ) → IsTrue (D.told disk.old n) → IsTrue (D.told disk.new n)) }
+    ensures made { HasTried D.Disk disk.old disk.new }
     ensures failed { OnErr result (HasStopped D.Disk true disk.old disk.new) }
     ensures images { IsMapOf (D.content disk.old) block map → Leaves D.Disk disk.old disk.new
         (Written (left_now D.Disk disk.old) (map_of block) (map_with (D.content disk.old) block entry)) }

@@ -5,8 +5,10 @@ ghost use Rattle.cfs_base.specs.Disk.{Image, Written};
 ghost use Rattle.cfs_base.specs.Run.{Tells, Leaves, left_now};
 ghost use Rattle.cfs_base.specs.declared.refusal.Refused.TheVariants.{Full};
 ghost use Rattle.cyl_map.specs.Entry.{IsEntry};
+ghost use Rattle.cyl_map.specs.Map.{is_free_state};
 ghost use Rattle.cyl_map.specs.Volume.{map_of, map_with, with_entry, is_free_in, free_from};
 ghost use Rattle.cyl_alloc.specs.Counts.{IsKept};
+ghost use Rattle.cyl_alloc.specs.Enters.{Enters};
 ghost use Rattle.cyl_alloc.specs.Maps.{IsMapOf};
 ghost use Rattle.cyl_alloc.specs.Refusals as refusals;
 ghost use Rattle.cyl_alloc.specs.Space as spec;
@@ -142,33 +144,45 @@ impl Space {
     ) -> Result<BlockNo, Refused>
         requires size { D.blocks disk.old ≡ 64 * length self.old.free }
         requires entry { IsEntry (spec.allocated place owner) }
-        ensures claimed { Tells D.Disk disk.old → spec.AreCounts (D.content disk.old) self.old →
-            IfOk result (λ block. spec.IsLeastFree (D.content disk.old) block.0
-            × (D.content disk.new ≡ with_entry (D.content disk.old) block.0 (spec.allocated place owner))) }
-        ensures on_disk { IfOk result (λ block. block.0 < D.blocks disk.old) }
-        ensures whole { Tells D.Disk disk.old →
-            IfOk result (λ block. spec.IsGoodMap (D.content disk.old) block.0) }
-        ensures told { OnOk result ((n : ℕ) → IsTrue (D.told disk.old n) → IsTrue (D.told disk.new n)) }
-        ensures counts { Tells D.Disk disk.old → spec.AreCounts (D.content disk.old) self.old →
-            OnOk result (spec.AreCounts (D.content disk.new) self.new) }
-        ensures taken { IfOk result (λ block. self.new ≡ spec.after_taking self.old block.0) }
-        ensures kept { IsErr result → self.new ≡ self.old }
-        ensures cylinders { length self.new.free ≡ length self.old.free }
-        ensures full { (result ≡ Err (Full (record { free = 0; need = 1 }))) ↔ (sum self.old.free ≡ 0) }
-        ensures refused { IfErr result (refusals.IsFindRefusal D.Disk disk.old disk.new self.old) }
-        ensures unless_tried { IfErr result (λ error.
-            refusals.had_tried error ≡ false → OnlyReads D.Disk 1 disk.old disk.new) }
-        ensures images { Tells D.Disk disk.old → spec.AreCounts (D.content disk.old) self.old →
-            Leaves D.Disk disk.old disk.new (spec.ClaimWritten (left_now D.Disk disk.old)
-            (D.content disk.old) (spec.allocated place owner)) }
-        ensures calls { MakesAtMost D.Disk 2 1 disk.old disk.new }
+        ensures enters { Enters D.Disk (spec.allocated place owner) disk.old disk.new self.old self.new result }
+    {
+        self.enter(disk, BlockState::Allocated, place, owner)
+    }
+
+    /// Makes the least-numbered Free block IntendAllocate, for the place that it will have in an owner's draft. Refused as
+    /// `claim`.
+    pub fn intend<D: Disk>(
+        &mut self,
+        disk: &mut D,
+        place: Place,
+        owner: u32,
+    ) -> Result<BlockNo, Refused>
+        requires size { D.blocks disk.old ≡ 64 * length self.old.free }
+        requires entry { IsEntry (spec.intended place owner) }
+        ensures enters { Enters D.Disk (spec.intended place owner) disk.old disk.new self.old self.new result }
+    {
+        self.enter(disk, BlockState::IntendAllocate, place, owner)
+    }
+
+    /// Enters the least-numbered Free block in this state, which isn't Free, for an owner's place.
+    fn enter<D: Disk>(
+        &mut self,
+        disk: &mut D,
+        state: BlockState,
+        place: Place,
+        owner: u32,
+    ) -> Result<BlockNo, Refused>
+        requires size { D.blocks disk.old ≡ 64 * length self.old.free }
+        requires entry { IsEntry (spec.entered state place owner) }
+        requires taken { is_free_state state ≡ false }
+        ensures enters { Enters D.Disk (spec.entered state place owner) disk.old disk.new self.old self.new result }
     {
         let found = match self.least(disk) {
             Ok(found) => found,
             Err(error) => return Err(error),
         };
         let entry = MapEntry {
-            state: BlockState::Allocated,
+            state,
             committed: false,
             place: Some(place),
             owner,
@@ -182,19 +196,19 @@ impl Space {
         }
     }
 
-    /// Makes a block Free, which isn't. `Damaged` names its map block, with code 2, which is no map. Where it is refused
-    /// the counts are as they were, and so is the disk, where no write was tried.
+    /// Makes a block Free that wasn't, and counts it; one that was Free is counted all the same. `Damaged` names its map
+    /// block, with code 2, which is no map. Where it is refused the counts are as they were, and so is the disk, where no
+    /// write was tried.
     pub fn release<D: Disk>(&mut self, disk: &mut D, block: BlockNo) -> Result<(), Trouble>
         requires size { D.blocks disk.old ≡ 64 * length self.old.free }
         requires on_disk { block.0 < D.blocks disk.old }
-        requires held { Tells D.Disk disk.old → is_free_in (D.content disk.old) block.0 ≡ false }
         ensures freed { Tells D.Disk disk.old → OnOk result
             (D.content disk.new ≡ with_entry (D.content disk.old) block.0 spec.free_entry) }
         ensures whole { Tells D.Disk disk.old → OnOk result
             (spec.IsGoodMap (D.content disk.old) block.0) }
         ensures told { OnOk result ((n : ℕ) → IsTrue (D.told disk.old n) → IsTrue (D.told disk.new n)) }
         ensures counts { Tells D.Disk disk.old → spec.AreCounts (D.content disk.old) self.old →
-            OnOk result (spec.AreCounts (D.content disk.new) self.new) }
+            is_free_in (D.content disk.old) block.0 ≡ false → OnOk result (spec.AreCounts (D.content disk.new) self.new) }
         ensures given { OnOk result (self.new ≡ spec.after_giving self.old block.0 1) }
         ensures kept { IsErr result → self.new ≡ self.old }
         ensures cylinders { length self.new.free ≡ length self.old.free }

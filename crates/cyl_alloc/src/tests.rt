@@ -3,6 +3,7 @@ ghost use Rattle.std.specs.Prelude.{◌≡◌, ◌*◌, ◌≤◌, length, IfOk}
 ghost use Rattle.cfs_fakes.specs.Memory.{contents};
 
 use crate::Space;
+use crate::maps::read_map;
 use cfs_base::{Block, BlockNo, Damage, Disk, Failed, Need, Place, Refused, Trouble};
 use cfs_fakes::MemoryDisk;
 use cyl_map::{BlockState, Map, MapEntry};
@@ -22,16 +23,6 @@ impl Disk for Untold {
 
     ghost blocks = { λ d. length (contents d.memory) };
 
-    ghost honest = { λ d. false };
-
-    ghost content = { λ d. [] };
-
-    ghost told = { λ d n. false };
-
-    ghost tells_images = { λ d. false };
-
-    ghost left_since = { λ d t c. ⊥ };
-
     ghost moment = { λ d. moment_of d.memory };
 
     ghost calls = { λ d. moment_of d.memory };
@@ -43,6 +34,8 @@ impl Disk for Untold {
     ghost only_honest = { λ d n h. h };
 
     ghost sized = { λ d h. Prim.cc };
+
+    ghost of_blocks = { λ d h. Prim.cc };
 
     fn blocks(&self) -> u32 {
         self.memory.blocks()
@@ -144,6 +137,22 @@ impl Volume {
         }
     }
 
+    fn intend(&mut self) -> Result<u32, Refused> {
+        match self.space.intend(&mut self.disk, Place::Leaf(7), 2) {
+            Ok(block) => Ok(block.0),
+            Err(error) => Err(error),
+        }
+    }
+
+    /// The entry of a block that the volume has.
+    fn entry(&mut self, block: u32) -> Result<Option<MapEntry>, Trouble> {
+        if block >= self.disk.blocks() {
+            return Ok(None);
+        }
+        let map = read_map(&mut self.disk, block)?;
+        Ok(Some(map.get((block % 64) as u8)))
+    }
+
     fn release(&mut self, block: u32) -> Result<(), Trouble> {
         if block >= self.disk.blocks() {
             return Ok(());
@@ -189,6 +198,31 @@ fn claims_name_the_least_free_block_until_full(rt: HostRuntime) -> Result<(), Fa
         let again = [9, 64 * cylinders - 7, 64 * cylinders - 1];
         expect_claims(&rt, &mut volume, &again);
     }
+    Ok(())
+}
+
+/// The entry of the root index's leaf 7 in this state.
+fn leaf(state: BlockState) -> MapEntry {
+    MapEntry {
+        state,
+        committed: false,
+        place: Some(Place::Leaf(7)),
+        owner: 2,
+    }
+}
+
+#[test]
+fn an_intention_takes_the_least_free_block(rt: HostRuntime) -> Result<(), Fail> {
+    let alloc = rt.alloc();
+    let mut volume = Volume::open(alloc, 1, Vec::new(alloc))?;
+    assert_eq!(rt; volume.claim(), Ok(3));
+    assert_eq!(rt; volume.intend(), Ok(4));
+    assert_eq!(rt; volume.space.free(), 59);
+    assert_eq!(rt; volume.entry(3)?, Some(leaf(BlockState::Allocated)));
+    assert_eq!(rt; volume.entry(4)?, Some(leaf(BlockState::IntendAllocate)));
+    volume.release(3)?;
+    assert_eq!(rt; volume.intend(), Ok(3));
+    assert_eq!(rt; volume.entry(3)?, Some(leaf(BlockState::IntendAllocate)));
     Ok(())
 }
 

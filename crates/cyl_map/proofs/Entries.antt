@@ -1,7 +1,7 @@
 -- The entries of the whole table, from those of its rows.
 use Rattle.std.proofs.Common.{◌≡◌, ◌⊎◌, ⊎_elim, inl, inr, ℕ, ◌+◌, ◌%◌, ◌^◌, ◌<◌, ◌≤◌, Bool, true, false, cond, not, ◌&&◌, ◌||◌, ◌==◌, List, [], ◌∷◌, ◌++◌, length, take, drop, get_or, Option, Some, None, Result, Err, ◌↔◌, refl, sym, ◌∙◌, ap, subst, append_assoc, arith}
 use Rattle.std.specs.List.{list_any, list_all}
-use Rattle.std.specs.Prelude.{nat_lt}
+use Rattle.std.specs.Prelude.{nat_lt, IsSome}
 use Rattle.std.specs.Str.{bytes_eq}
 use Rattle.std.proofs.lemmas.Bool.Decides.{nat_tests}
 use Rattle.std.proofs.lemmas.List.{take_more, take-take, take-append-drop}
@@ -18,12 +18,23 @@ use Rattle.cyl_map.specs.declared.entry.MapEntry.{MapEntry}
 use Rattle.cyl_map.specs.declared.row.Row.{Row}
 use Rattle.cyl_map.specs.Entry.{IsEntry, is_entry, is_of, spelling, table, first_byte, place_code, place_number}
 use Rattle.cyl_map.specs.Reading.{BeginsEntry, IsFirstBad, entry_of, said_by, state_of, place_of}
-use Rattle.cyl_map.specs.Row.{BeginsEntryOf, IsFirstBadOf}
+use Rattle.cyl_map.specs.Row.{IsSpelledBy, BeginsEntryOf, IsFirstBadOf}
 use Rattle.cyl_map.proofs.Rows.{and_true, and_left, and_right, made, of_row, owned_within, unowned_zero}
 
 or_cases : (x y : Bool) → (x || y) ≡ true → (x ≡ true) ⊎ (y ≡ true)
 or_cases true y is = inl refl
 or_cases false y is = inr is
+
+or_left : (x y : Bool) → x ≡ true → (x || y) ≡ true
+or_left true y is = refl
+or_left false y is = cc
+
+or_right : (x y : Bool) → y ≡ true → (x || y) ≡ true
+or_right true y is = refl
+or_right false y is = is
+
+any_more : (rows : List Row) (i : ℕ) (d : Row) (e : MapEntry) → i < length rows → list_any (λ row. is_of row e) (take (i + 1) rows) ≡ (list_any (λ row. is_of row e) (take i rows) || (is_of (get_or rows i d) e || false))
+any_more rows i d e lt = ap (list_any (λ row. is_of row e)) (take_more rows i d lt) ∙ list_any-append (λ row. is_of row e) (take i rows) (get_or rows i d ∷ [])
 
 -- ---- beginnings
 
@@ -55,11 +66,9 @@ pub record Furthest (rows : ℕ) (bytes : List ℕ) (place : ℕ) : Type 0 where
 -- one row more
 ends_more : (rows : List Row) (i : ℕ) (d : Row) (bytes : List ℕ) → i < length rows → ¬ BeginsAmong (take i rows) bytes → ¬ BeginsEntryOf (get_or rows i d) bytes → ¬ BeginsAmong (take (i + 1) rows) bytes
 ends_more rows i d bytes lt before here (e, is, rest, spelled) =
-    let split : list_any (λ row. is_of row e) (take (i + 1) rows) ≡ (list_any (λ row. is_of row e) (take i rows) || list_any (λ row. is_of row e) (get_or rows i d ∷ [])) =
-    ap (list_any (λ row. is_of row e)) (take_more rows i d lt) ∙ list_any-append (λ row. is_of row e) (take i rows) (get_or rows i d ∷ []) in
     ⊎_elim (λ p. before (e, p, rest, spelled))
     (λ p. ⊎_elim (λ q. here (e, q, rest, spelled)) (λ q. cc) (or_cases (is_of (get_or rows i d) e) false p))
-    (or_cases (list_any (λ row. is_of row e) (take i rows)) _ (sym split ∙ is))
+    (or_cases (list_any (λ row. is_of row e) (take i rows)) _ (sym (any_more rows i d e lt) ∙ is))
 
 pub of_table : (i : ℕ) (d : Row) (e : MapEntry) → i < 5 → is_of (get_or table i d) e ≡ true → IsEntry e
 of_table i d e lt is = record { in_table = or_at (list_any (λ row. is_of row e)) (λ row. is_of row e) refl (λ _ _. refl) table i d lt is }
@@ -143,7 +152,7 @@ place_back (Some (Leaf n)) = refl
 same_parts : (s s' : BlockState) (c c' : Bool) (p p' : Option Place) (o o' : ℕ) → s ≡ s' → c ≡ c' → p ≡ p' → o ≡ o' → made s c p o ≡ made s' c' p' o'
 same_parts s s' c c' p p' o o' state committed place owner = cc
 
-said_by-spelling : (e : MapEntry) → IsEntry e → said_by (spelling e) ≡ e
+pub said_by-spelling : (e : MapEntry) → IsEntry e → said_by (spelling e) ≡ e
 unfolding spelling
 said_by-spelling e is =
     let small = fits e is in
@@ -178,6 +187,42 @@ entry_of_spelled bytes e is =
     let entry = and_left (is_entry (said_by bytes)) _ found.0 in
     let spelled = (bytes_eq-Decides (spelling (said_by bytes)) bytes).0 (and_right (is_entry (said_by bytes)) _ found.0) in
     (record { in_table = ap is_entry (sym found.1) ∙ entry }, sym spelled ∙ ap spelling found.1)
+
+tested : (b : Bool) (e : MapEntry) → IsSome (cond b (Some e) None) → b ≡ true
+tested true e some = refl
+tested false e some = cc
+
+-- bytes that are an entry spell what they say
+pub entry_of_said : (bytes : List ℕ) → IsSome (entry_of bytes) → IsEntry (said_by bytes) × (bytes ≡ spelling (said_by bytes))
+unfolding entry_of
+entry_of_said bytes some =
+    let test = tested (is_entry (said_by bytes) && bytes_eq (spelling (said_by bytes)) bytes) (said_by bytes) some in
+    (record { in_table = and_left (is_entry (said_by bytes)) _ test }, sym ((bytes_eq-Decides (spelling (said_by bytes)) bytes).0 (and_right (is_entry (said_by bytes)) _ test)))
+
+-- some entry of these rows is spelled so
+abbrev pub SpelledAmong : List Row → List ℕ → Type 0
+SpelledAmong rows bytes = (e : MapEntry) × (list_any (λ row. is_of row e) rows ≡ true) × (bytes ≡ spelling e)
+
+-- one row more
+pub spelled_more : (i : ℕ) (d : Row) (bytes : List ℕ) (any here : Bool) → i < 5 → (any ≡ true) ↔ SpelledAmong (take i table) bytes → (here ≡ true) ↔ IsSpelledBy (get_or table i d) bytes
+    → ((any || here) ≡ true) ↔ SpelledAmong (take (i + 1) table) bytes
+spelled_more i d bytes any here lt before this = (
+  λ is. ⊎_elim (λ p. let (e, among, spelled) = before.0 p in (e, any_more table i d e lt ∙ or_left _ _ among, spelled))
+      (λ p. let (e, of, spelled) = this.0 p in (e, any_more table i d e lt ∙ or_right (list_any (λ row. is_of row e) (take i table)) _ (or_left _ false of), spelled))
+      (or_cases any here is),
+  λ (e, is, spelled).
+      ⊎_elim (λ p. or_left any here (before.1 (e, p, spelled)))
+      (λ p. ⊎_elim (λ q. or_right any here (this.1 (e, q, spelled))) (λ q. cc) (or_cases (is_of (get_or table i d) e) false p))
+      (or_cases (list_any (λ row. is_of row e) (take i table)) _ (sym (any_more table i d e lt) ∙ is)),
+)
+
+-- all rows
+pub spelled_all : (i : ℕ) (bytes : List ℕ) (any : Bool) → i ≡ 5 → (any ≡ true) ↔ SpelledAmong (take i table) bytes → (any ≡ true) ↔ IsSome (entry_of bytes)
+spelled_all i bytes any all is =
+    let rows = subst (λ (n : ℕ). (any ≡ true) ↔ SpelledAmong (take n table) bytes) all is in (
+      λ p. let (e, among, spelled) = rows.0 p in subst IsSome (sym (ap entry_of spelled ∙ entry_of-spelling e (record { in_table = among }))) refl,
+      λ some. let said = entry_of_said bytes some in rows.1 (said_by bytes, said.0.in_table, said.1),
+    )
 
 -- each entry has one spelling, and no two have the same
 pub spelling_one : (e f : MapEntry) → IsEntry e → IsEntry f → spelling e ≡ spelling f → e ≡ f

@@ -1,22 +1,37 @@
 -- Counting and finding what passes a test.
-use Rattle.std.proofs.Common.{◌≡◌, ℕ, suc, ◌<◌, Bool, true, false, cond, List, [], ◌∷◌, length, get_or, Some, None, position, count_by, refl, arith}
-use Rattle.std.specs.List.{position_or_len}
-use Rattle.std.specs.Prelude.{nat_lt}
+use Rattle.std.proofs.Common.{◌≡◌, ℕ, suc, ◌+◌, ◌≤◌, Bool, true, false, cond, not, List, [], ◌∷◌, ◌↔◌, length, map, Some, None, position, count_by, refl, ◌∙◌, ap, arith}
+use Rattle.std.specs.List.{prefix_len}
+use Rattle.std.specs.Prelude.{nat_lt, IsNone}
 use Rattle.std.proofs.lemmas.Bool.Decides.{nat_tests}
-use Rattle.std.proofs.lemmas.List.Sums.{position_or_len_is}
+use Rattle.std.proofs.lemmas.List.{length-map}
+use Rattle.std.proofs.lemmas.List.Sums.{sum_by-cons, prefix_len-le-length}
 
-pub position_found : {X : Type 0} (p : X → Bool) (xs : List X) (i : ℕ) (d : X) → i < length xs → ((k : ℕ) → k < i → p (get_or xs k d) ≡ false) → p (get_or xs i d) ≡ true → position p xs ≡ Some i
-position_found p xs i d lt before here = found (position_or_len p xs) (position_or_len_is p xs i d (omega arith) before (λ _. here))
-  where
-    found : (n : ℕ) → n ≡ i → cond (nat_lt n (length xs)) (Some n) None ≡ Some i
-    found n is = let test : nat_lt n (length xs) ≡ true = grind (arith, nat_tests) in rw (test, is) refl
+module _ {X Y : Type 0} (p : Y → Bool) (f : X → Y) where
+  prefix_len-map : (xs : List X) → prefix_len (λ y. not (p y)) (map f xs) ≡ prefix_len (λ x. not (p (f x))) xs
+  prefix_len-map [] = refl
+  prefix_len-map (x ∷ xs) = ap (λ n. cond (not (p (f x))) (1 + n) 0) (prefix_len-map xs)
 
-pub position_nowhere : {X : Type 0} (p : X → Bool) (xs : List X) (d : X) → ((k : ℕ) → k < length xs → p (get_or xs k d) ≡ false) → position p xs ≡ None
-position_nowhere p xs d none = nowhere (position_or_len p xs) (position_or_len_is p xs (length xs) d (omega arith) none (λ lt. absurd (omega arith)))
-  where
-    nowhere : (n : ℕ) → n ≡ length xs → cond (nat_lt n (length xs)) (Some n) None ≡ None
-    nowhere n is = let test : nat_lt n (length xs) ≡ false = grind (arith, nat_tests) in rw test refl
+  pub position-map : (xs : List X) → position p (map f xs) ≡ position (λ x. p (f x)) xs
+  position-map xs =
+      ap (λ n. cond (nat_lt n (length (map f xs))) (Some n) None) (prefix_len-map xs)
+      ∙ ap (λ m. cond (nat_lt (prefix_len (λ x. not (p (f x))) xs) m) (Some (prefix_len (λ x. not (p (f x))) xs)) None) (length-map xs f)
 
-pub count_none : {X : Type 0} (p : X → Bool) (xs : List X) (d : X) → ((k : ℕ) → k < length xs → p (get_or xs k d) ≡ false) → count_by p xs ≡ 0
-count_none p [] d none = refl
-count_none p (x ∷ xs) d none = let head : p x ≡ false = none 0 (omega arith) in let rest = count_none p xs d (λ k lt. none (suc k) (omega arith)) in rw head (omega arith)
+module _ {X : Type 0} (p : X → Bool) where
+  all_before : (xs : List X) → (prefix_len (λ x. not (p x)) xs ≡ length xs) ↔ (count_by p xs ≡ 0)
+  all_before [] = (λ _. refl, λ _. refl)
+  all_before (x ∷ xs) = at (p x) (prefix_len (λ x. not (p x)) xs) (count_by p xs) (length xs) (count_by p (x ∷ xs)) (sum_by-cons (λ x. cond (p x) 1 0) x xs) (all_before xs)
+    where
+      at : (b : Bool) (before count long all : ℕ) → all ≡ cond b 1 0 + count → (before ≡ long) ↔ (count ≡ 0) → (cond (not b) (1 + before) 0 ≡ suc long) ↔ (all ≡ 0)
+      at true before count long all is same = (λ e. absurd (omega arith), λ e. absurd (omega arith))
+      at false before count long all is same = (λ e. let none = same.0 (omega arith) in omega arith, λ e. let whole = same.1 (omega arith) in omega arith)
+
+  -- none is found just where none is counted
+  pub none_counted : (xs : List X) → IsNone (position p xs) ↔ (count_by p xs ≡ 0)
+  none_counted xs = at (prefix_len (λ x. not (p x)) xs) (prefix_len-le-length (λ x. not (p x)) xs) (all_before xs)
+    where
+      at : (n : ℕ) → n ≤ length xs → (n ≡ length xs) ↔ (count_by p xs ≡ 0) → IsNone (cond (nat_lt n (length xs)) (Some n) None) ↔ (count_by p xs ≡ 0)
+      at n most same = by (nat_lt n (length xs)) refl
+        where
+          by : (less : Bool) → nat_lt n (length xs) ≡ less → IsNone (cond less (Some n) None) ↔ (count_by p xs ≡ 0)
+          by true is = (λ none. cc, λ none. let all = same.1 none in grind (arith, nat_tests))
+          by false is = (λ _. same.0 (grind (arith, nat_tests)), λ _. refl)

@@ -1,12 +1,16 @@
 -- How far a row of the table reads eight bytes.
-use Rattle.std.proofs.Common.{◌≡◌, ◌≢◌, ℕ, zero, suc, ◌+◌, ◌*◌, ◌/◌, ◌%◌, ◌^◌, ◌<◌, ◌≤◌, Bool, true, false, List, [], ◌∷◌, length, drop, get_or, Option, refl, arith}
+use Rattle.std.proofs.Common.{◌≡◌, ◌≢◌, ℕ, zero, suc, ◌+◌, ◌*◌, ◌/◌, ◌%◌, ◌^◌, ◌<◌, ◌≤◌, Bool, true, false, not, cond, ◌&&◌, ◌||◌, ◌==◌, List, [], ◌∷◌, length, drop, get_or, Option, refl, sym, ◌∙◌, ap, subst, arith}
+use Rattle.std.specs.Prelude.{nat_lt, nat_le}
+use Rattle.std.proofs.lemmas.Bool.Decides.{nat_tests}
 use Rattle.cfs_base.specs.declared.kind.Place.{Place}
 use Rattle.cyl_map.specs.declared.state.BlockState.{BlockState}
+use Rattle.cyl_map.specs.declared.state.BlockState.TheVariants.{Free, Allocated, IntendAllocate, IntendDeallocate}
 use Rattle.cyl_map.specs.declared.entry.MapEntry.{MapEntry}
 use Rattle.cyl_map.specs.declared.row.Row.{Row}
 use Rattle.cyl_map.specs.Entry.{state_code, place_code, place_number, first_byte, lets_state, lets_owner, is_of, spelling}
-use Rattle.cyl_map.specs.Row.{IsFirstBadOf, IsFirstOfOwner}
-use Rattle.cyl_map.proofs.Rows.{of_row, made, least_owner, lets_least, lets_least_state, lets_owned, lets_none, owned_within, unowned_zero, is_of_made, with_number, place_code-with_number, place_number-with_number, number_in, Reads, ReadsPlace}
+use Rattle.cyl_map.specs.Reading.{state_of}
+use Rattle.cyl_map.specs.Row.{IsSpelledBy, IsFirstBadOf, IsFirstOfOwner}
+use Rattle.cyl_map.proofs.Rows.{and_true, and_left, and_right, either, reads_place, of_row, made, least_owner, lets_least, lets_least_state, lets_owned, lets_none, owned_within, unowned_zero, is_of_made, with_number, place_code-with_number, place_number-with_number, number_in, Reads, ReadsPlace}
 
 -- a list of eight is eight cells
 pub on_eight : (P : List ℕ → Type 0) (bytes : List ℕ) → length bytes ≡ 8 → P (get_or bytes 0 0 ∷ get_or bytes 1 0 ∷ get_or bytes 2 0 ∷ get_or bytes 3 0 ∷ get_or bytes 4 0 ∷ get_or bytes 5 0 ∷ get_or bytes 6 0 ∷ get_or bytes 7 0 ∷ []) → P bytes
@@ -175,3 +179,94 @@ read_spelled row bytes s c p o reads place owner lets =
       is_of_made row s c p o reads.state place.like place.within lets,
       on_eight (λ bs. bs ≡ spelling (made s c p o)) bytes reads.eight (cc),
     )
+
+-- ---- the test of a row
+
+state_back : (n : ℕ) → n < 4 → state_code (state_of n) ≡ n
+state_back zero lt = refl
+state_back (suc zero) lt = refl
+state_back (suc (suc zero)) lt = refl
+state_back (suc (suc (suc zero))) lt = refl
+state_back (suc (suc (suc (suc n)))) lt = absurd (omega arith)
+
+state_small : (s : BlockState) → state_code s < 4
+state_small Free = omega arith
+state_small Allocated = omega arith
+state_small IntendAllocate = omega arith
+state_small IntendDeallocate = omega arith
+
+-- the state and the commit bit that a first byte says
+lets_said : (row : Row) (b : ℕ) → b < 256 → state_code row.from ≤ b % 128 → b % 128 ≤ state_code row.to → (nat_lt b 128 || row.may_commit) ≡ true
+    → (lets_state row (state_of (b % 128)) (not (nat_lt b 128)) ≡ true) × (first_byte (state_of (b % 128)) (not (nat_lt b 128)) ≡ b)
+lets_said row b small low high bit = at (nat_lt b 128) refl bit
+  where
+    s : BlockState
+    s = state_of (b % 128)
+
+    is : state_code s ≡ b % 128
+    is = state_back (b % 128) (omega (arith, state_small row.to))
+
+    range : (nat_le (state_code row.from) (state_code s) && nat_le (state_code s) (state_code row.to)) ≡ true
+    range = and_true (nat_le (state_code row.from) (state_code s)) _ (grind (arith, nat_tests)) (grind (arith, nat_tests))
+
+    turned : (may : Bool) → may ≡ true → (may || false) ≡ true
+    turned true h = refl
+    turned false h = h
+
+    at : (less : Bool) → nat_lt b 128 ≡ less → (less || row.may_commit) ≡ true → (lets_state row s (not less) ≡ true) × (first_byte s (not less) ≡ b)
+    at true below may = (and_true _ (row.may_commit || true) range (either row.may_commit), (let less : b < 128 = grind (arith, nat_tests) in omega (arith, is)))
+    at false past may = (and_true _ (row.may_commit || false) range (turned row.may_commit may), (let more : 128 ≤ b = grind (arith, nat_tests) in omega (arith, is)))
+
+owner_lets : (owned : Bool) (o : ℕ) → o < 2 ^ 32 → not (o == 0) ≡ owned → cond owned (nat_lt 0 o && nat_lt o (2 ^ 32)) (o == 0) ≡ true
+owner_lets true o fits is = lets_owned true o refl (grind (arith, nat_tests)) fits
+owner_lets false o fits is = lets_none false o refl (grind (arith, nat_tests))
+
+-- bytes of which a row lets each part stand
+pub record Passes (row : Row) (bytes : List ℕ) (owner : ℕ) : Type 0 where
+  pub low : state_code row.from ≤ get_or bytes 0 0 % 128
+  pub high : get_or bytes 0 0 % 128 ≤ state_code row.to
+  pub bit : (nat_lt (get_or bytes 0 0) 128 || row.may_commit) ≡ true
+  pub kind : get_or bytes 1 0 ≡ place_code row.last
+  pub within : number_in bytes ≤ place_number row.last
+  pub owned : not (owner == 0) ≡ row.owned
+
+pub passes_spelled : (row : Row) (bytes : List ℕ) (owner : ℕ) → length bytes ≡ 8 → ((i : ℕ) → get_or bytes i 0 < 256) → owner ≡ owner_in bytes → owner < 2 ^ 32 → Passes row bytes owner → IsSpelledBy row bytes
+passes_spelled row bytes owner eight small is fits passes =
+    let b = get_or bytes 0 0 in
+    let said = lets_said row b (small 0) passes.low passes.high passes.bit in
+    let read = read_spelled row bytes (state_of (b % 128)) (not (nat_lt b 128)) (with_number row.last (number_in bytes)) owner (record { eight = eight; small = small; state = said.0; first = said.1 })
+    (reads_place row bytes (sym passes.kind) passes.within) is (owner_lets row.owned owner fits passes.owned) in
+    (made (state_of (b % 128)) (not (nat_lt b 128)) (with_number row.last (number_in bytes)) owner, read.0, read.1)
+
+-- what a first byte says of its state and commit bit
+first_says : (s : BlockState) (c : Bool) → (first_byte s c % 128 ≡ state_code s) × (nat_lt (first_byte s c) 128 ≡ not c)
+first_says s true = let small = state_small s in (omega arith, grind (arith, nat_tests))
+first_says s false = let small = state_small s in (omega arith, grind (arith, nat_tests))
+
+owner_told : (owned : Bool) (o : ℕ) → cond owned (nat_lt 0 o && nat_lt o (2 ^ 32)) (o == 0) ≡ true → (o < 2 ^ 32) × (not (o == 0) ≡ owned)
+owner_told true o lets = let within = owned_within true o refl lets in (within.1, grind (arith, nat_tests))
+owner_told false o lets = let none = unowned_zero false o refl lets in (omega arith, grind (arith, nat_tests))
+
+pub spelled_passes : (row : Row) (bytes : List ℕ) → place_number row.last < 2 ^ 16 → IsSpelledBy row bytes → Passes row bytes (owner_in bytes)
+unfolding spelling
+spelled_passes row bytes fits (e, is, spelled) =
+    let facts = of_row row e is in
+    let said = first_says e.state e.committed in
+    let range : (nat_le (state_code row.from) (state_code e.state) && nat_le (state_code e.state) (state_code row.to)) ≡ true = and_left _ (row.may_commit || not e.committed) facts.state in
+    let from = and_left (nat_le (state_code row.from) (state_code e.state)) _ range in
+    let to = and_right (nat_le (state_code row.from) (state_code e.state)) _ range in
+    let owned = owner_told row.owned e.owner facts.owner in
+    let owner : owner_in (spelling e) ≡ e.owner = omega (arith, owned.0) in
+    subst (λ bs. Passes row bs (owner_in bs)) (sym spelled) (record {
+      low = (let low : state_code row.from ≤ state_code e.state = grind (arith, nat_tests) in omega (arith, said.0));
+      high = (let high : state_code e.state ≤ state_code row.to = grind (arith, nat_tests) in omega (arith, said.0));
+      bit = turned (nat_lt (first_byte e.state e.committed) 128) row.may_commit (not e.committed) said.1 (and_right _ (row.may_commit || not e.committed) facts.state);
+      kind = facts.kind;
+      within = omega (arith, facts.number);
+      owned = ap (λ (o : ℕ). not (o == 0)) owner ∙ owned.1;
+    })
+  where
+    turned : (x y z : Bool) → x ≡ z → (y || z) ≡ true → (x || y) ≡ true
+    turned true y z is may = refl
+    turned false true z is may = refl
+    turned false false z is may = is ∙ may

@@ -4,6 +4,10 @@ use Rattle.cyl_map.specs.declared.entry.MapEntry.{MapEntry}
 use Rattle.cyl_map.specs.declared.row.Row.{Row}
 use Rattle.cyl_map.specs.Entry.{is_of, spelling}
 
+-- some entry of the row is spelled so
+abbrev pub IsSpelledBy : Row → List ℕ → Type 0
+IsSpelledBy row bytes = (e : MapEntry) × (is_of row e ≡ true) × (bytes ≡ spelling e)
+
 -- some entry of the row begins with these bytes
 abbrev pub BeginsEntryOf : Row → List ℕ → Type 0
 BeginsEntryOf row bytes = (e : MapEntry) × (is_of row e ≡ true) × (rest : List ℕ) × (spelling e ≡ bytes ++ rest)

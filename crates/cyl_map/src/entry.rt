@@ -1,10 +1,10 @@
 //! One entry of a map, and its eight bytes.
-ghost use Rattle.std.specs.Prelude.{◌≡◌, ◌↔◌, ℕ, IfOk, MatchResult};
+ghost use Rattle.std.specs.Prelude.{◌≡◌, ◌↔◌, ℕ, IfOk, IsSome, IsTrue, MatchResult};
 ghost use Rattle.cyl_map.specs.Entry.{IsEntry, spelling};
 ghost use Rattle.cyl_map.specs.Map.{is_free};
-ghost use Rattle.cyl_map.specs.Reading.{IsFirstBad, entry_of};
+ghost use Rattle.cyl_map.specs.Reading.{IsFirstBad, entry_of, said_by};
 
-use crate::row::{TABLE, place_code, place_number};
+use crate::row::{TABLE, place_code, place_number, place_of};
 use crate::state::BlockState;
 use cfs_base::Place;
 
@@ -27,19 +27,39 @@ pub struct BadEntry {
 }
 
 impl MapEntry {
-    /// The entry of a Free block.
-    pub(crate) const FREE: MapEntry = MapEntry {
-        state: BlockState::Free,
-        committed: false,
-        place: None,
-        owner: 0,
-    };
-
-    /// Whether the block is Free.
-    pub(crate) fn is_free(&self) -> bool
-        ensures { result ≡ is_free self.now }
+    /// Whether these bytes spell an entry, told without a branch on them.
+    pub(crate) fn is_spelled(bytes: &[u8; 8]) -> bool
+        ensures { IsTrue result ↔ IsSome (entry_of bytes.now) }
     {
-        self.state == BlockState::Free
+        let mut any = false;
+        for row in &TABLE {
+            any = any | row.spells(bytes);
+        }
+        any
+    }
+
+    /// What the bytes of an entry say.
+    pub(crate) fn said_by(bytes: &[u8; 8]) -> MapEntry
+        ensures { result ≡ said_by bytes.now }
+    {
+        MapEntry {
+            state: match bytes[0] % 0x80 {
+                0 => BlockState::Free,
+                1 => BlockState::Allocated,
+                2 => BlockState::IntendAllocate,
+                _ => BlockState::IntendDeallocate,
+            },
+            committed: bytes[0] >= 0x80,
+            place: place_of(bytes[1], u16::from_be_bytes([bytes[2], bytes[3]])),
+            owner: u32::from_be_bytes([bytes[4], bytes[5], bytes[6], bytes[7]]),
+        }
+    }
+
+    /// Whether the bytes of an entry say that the block is Free.
+    pub(crate) fn says_free(bytes: &[u8; 8]) -> bool
+        ensures { result ≡ is_free (said_by bytes.now) }
+    {
+        bytes[0] % 0x80 == 0
     }
 
     /// The entry that these bytes spell.

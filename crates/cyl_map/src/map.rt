@@ -1,17 +1,18 @@
 //! The map of a cylinder.
-ghost use Rattle.std.specs.Prelude.{◌≡◌, ◌↔◌, ◌<◌, ◌≤◌, ℕ, List, Some, IfOk, IfSome, IsNone, position, slice_get, slice_set};
+ghost use Rattle.std.specs.Prelude.{◌≡◌, ◌↔◌, ◌<◌, ℕ, List, Some, IfOk, IfSome, IsTrue, IsNone, length, position, slice_get, slice_set};
 ghost use Rattle.cyl_map.specs.Entry.{IsEntry};
 ghost use Rattle.cyl_map.specs.Map as spec;
+ghost use Rattle.cyl_map.specs.Reading.{said_by};
+ghost use Rattle.cyl_map.specs.Volume.{with_bytes};
 
 use crate::entry::MapEntry;
-use crate::state::BlockState;
 use cfs_base::Block;
 use std::marker::Model;
 
-/// What the 64 blocks of a cylinder are. Clauses see the list of the entries.
+/// What the 64 blocks of a cylinder are, as its map block spells it. Clauses see the list of the entries.
 #[derive(Clone, Copy, Debug, PartialEq, Eq)]
 pub struct Map {
-    entries: [MapEntry; 64],
+    bytes: [u8; 512],
 }
 
 /// A block is no map: its first bad entry, and the place in that entry that `MapEntry::decode` names.
@@ -24,25 +25,70 @@ pub struct BadMap {
 impl Model for Map {
     ghost use Rattle.std.specs.Prelude.{List};
     ghost use Rattle.cyl_map.specs.declared.entry.MapEntry.{MapEntry};
-    ghost use Rattle.cyl_map.specs.Map.{IsMap};
+    ghost use Rattle.cyl_map.specs.Map.{SpellsMap, entries_of, map_spelling};
 
     ghost Value = { List MapEntry };
 
-    ghost view = { λ a. a.entries };
+    ghost view = { λ a. entries_of a.bytes };
 
-    ghost invariant = { λ a. IsMap a.entries };
+    ghost invariant = { λ a. SpellsMap a.bytes };
 
-    ghost inverse = { λ d. record { entries = d } };
+    ghost inverse = { λ d. record { bytes = map_spelling d } };
+
+    ghost use Rattle.std.proofs.Common.{ap, sym};
+
+    ghost inverse_ok = { λ a h. ap (λ b. record { bytes = b }) (sym h.spelled) };
 }
 
-/// The eight bytes of one entry.
-fn bytes_at(block: &[u8; 512], entry: usize) -> [u8; 8]
-    requires { entry < 64 }
-    ensures { result ≡ spec.bytes_at block.now entry }
+/// The eight bytes of each entry.
+fn eights(block: &[u8; 512]) -> &[[u8; 8]]
+    ensures each { result.now ≡ spec.eights block.now }
+    ensures count { length result.now ≡ 64 }
 {
-    let mut bytes = [0; 8];
-    bytes.copy_from_slice(&block[8 * entry..8 * entry + 8]);
-    bytes
+    block.as_chunks::<8>().0
+}
+
+/// Puts eight bytes in place of an entry's.
+#[tactic(auto, unfolding(crate::specs::Volume::with_bytes))]
+fn put_at(block: &mut [u8; 512], entry: usize, bytes: &[u8; 8])
+    requires { entry < 64 }
+    ensures { block.new ≡ with_bytes block.old entry bytes.now }
+{
+    block[8 * entry..8 * entry + 8].copy_from_slice(bytes);
+}
+
+/// Whether each eight bytes spell an entry, told without a branch on them.
+fn is_spelled(block: &[u8; 512]) -> bool
+    ensures { IsTrue result ↔ spec.AreEntries block.now }
+{
+    let mut good = true;
+    for bytes in eights(block) {
+        good = good & MapEntry::is_spelled(bytes);
+    }
+    good
+}
+
+/// The first entry that is none, and its least bad place.
+fn first_bad(block: &[u8; 512]) -> BadMap
+    requires { ¬ spec.AreEntries block.now }
+    ensures { spec.IsFirstBadEntry block.now result.entry result.byte }
+{
+    for (entry, bytes) in eights(block).iter().enumerate() {
+        if let Err(bad) = MapEntry::decode(bytes) {
+            return BadMap {
+                entry: entry as u8,
+                byte: bad.byte,
+            };
+        }
+    }
+    unreachable!()
+}
+
+/// The first of some entries that says that its block is Free.
+fn first_free(entries: &[[u8; 8]]) -> Option<usize>
+    ensures { result ≡ position (λ bytes. spec.is_free (said_by bytes)) entries.now }
+{
+    entries.iter().position(|bytes| MapEntry::says_free(bytes))
 }
 
 impl Map {
@@ -59,19 +105,10 @@ impl Map {
         ensures entries { IfOk result (λ map. (k : ℕ) → k < 64 → spec.entry_at block.now k ≡ slice_get map k) }
     {
         let bytes = block.bytes();
-        let mut entries = [MapEntry::FREE; 64];
-        for entry in 0..64u8 {
-            match MapEntry::decode(&bytes_at(bytes, entry as usize)) {
-                Ok(found) => entries[entry as usize] = found,
-                Err(bad) => {
-                    return Err(BadMap {
-                        entry,
-                        byte: bad.byte,
-                    });
-                }
-            }
+        if !is_spelled(bytes) {
+            return Err(first_bad(bytes));
         }
-        Ok(Map { entries })
+        Ok(Map { bytes: *bytes })
     }
 
     /// The one spelling of the map.
@@ -79,11 +116,7 @@ impl Map {
         ensures spelled { result ≡ spec.map_spelling self.now }
         ensures entries { (k : ℕ) → k < 64 → spec.entry_at result k ≡ slice_get self.now k }
     {
-        let mut bytes = [0; 512];
-        for (i, entry) in self.entries.iter().enumerate() {
-            bytes[8 * i..8 * i + 8].copy_from_slice(&entry.encode());
-        }
-        Block::of(bytes)
+        Block::of(self.bytes)
     }
 
     pub fn get(&self, entry: u8) -> MapEntry
@@ -91,7 +124,8 @@ impl Map {
         ensures got { slice_get self.now entry ≡ Some result }
         ensures map { spec.IsMap self.now }
     {
-        self.entries[entry as usize]
+        let entries = eights(&self.bytes);
+        MapEntry::said_by(&entries[entry as usize])
     }
 
     /// Puts the entry in place of another, and changes no other.
@@ -101,7 +135,7 @@ impl Map {
         ensures set { self.new ≡ slice_set self.old entry value }
         ensures map { spec.IsMap self.new }
     {
-        self.entries[entry as usize] = value;
+        put_at(&mut self.bytes, entry as usize, &value.encode());
     }
 
     /// How many blocks are Free.
@@ -109,7 +143,10 @@ impl Map {
         ensures count { result ≡ spec.free_entries self.now }
         ensures map { spec.IsMap self.now }
     {
-        self.entries.iter().filter(|entry| entry.is_free()).count() as u32
+        let free = eights(&self.bytes)
+            .iter()
+            .filter(|bytes| MapEntry::says_free(bytes));
+        free.count() as u32
     }
 
     /// The first block that is Free.
@@ -118,11 +155,7 @@ impl Map {
         ensures none { IsNone result ↔ (spec.free_entries self.now ≡ 0) }
         ensures within { IfSome result (λ entry. entry < 64) }
     {
-        for entry in 0..64u8 {
-            if self.entries[entry as usize].is_free() {
-                return Some(entry);
-            }
-        }
-        None
+        let place = first_free(eights(&self.bytes))?;
+        Some(place as u8)
     }
 }

@@ -1,7 +1,8 @@
 //! The table of entries: a row for each kind of place.
-ghost use Rattle.std.specs.Prelude.{◌≡◌, ◌≢◌, ◌<◌, ◌≤◌, ℕ, Bool, true, slice_index, IfOk, IfErr, IfSome, IfNone};
+ghost use Rattle.std.specs.Prelude.{◌≡◌, ◌≢◌, ◌↔◌, ◌<◌, ◌≤◌, ℕ, Bool, true, slice_index, IsTrue, IfOk, IfErr, IfSome, IfNone};
 ghost use Rattle.cyl_map.specs.Entry as spec;
-ghost use Rattle.cyl_map.specs.Row.{IsFirstBadOf, IsFirstOfOwner};
+ghost use Rattle.cyl_map.specs.Reading.{place_of as said_place};
+ghost use Rattle.cyl_map.specs.Row.{IsFirstBadOf, IsFirstOfOwner, IsSpelledBy};
 
 use crate::entry::{BadEntry, MapEntry};
 use crate::state::BlockState;
@@ -82,6 +83,19 @@ pub(crate) fn place_number(place: Option<Place>) -> u16
     }
 }
 
+/// The place that a kind's number and a number say, where they are an entry's.
+pub(crate) fn place_of(kind: u8, number: u16) -> Option<Place>
+    ensures { result ≡ said_place kind number }
+{
+    match kind {
+        1 => Some(Place::Root),
+        2 => Some(Place::ShadowRoot),
+        3 => Some(Place::Node(number)),
+        4 => Some(Place::Leaf(number)),
+        _ => None,
+    }
+}
+
 /// The place of the same kind with this number.
 fn numbered(place: Option<Place>, number: u16) -> Option<Place>
     requires { number ≤ spec.place_number place }
@@ -123,6 +137,21 @@ impl Row {
             return None;
         }
         Some((state, committed))
+    }
+
+    /// Whether the bytes spell an entry of this row, told without a branch on them.
+    pub fn spells(&self, bytes: &[u8; 8]) -> bool
+        ensures { IsTrue result ↔ IsSpelledBy self.now bytes.now }
+    {
+        let state = bytes[0] % 0x80;
+        let number = u16::from_be_bytes([bytes[2], bytes[3]]);
+        let owner = u32::from_be_bytes([bytes[4], bytes[5], bytes[6], bytes[7]]);
+        (self.from.code() <= state)
+            & (state <= self.to.code())
+            & ((bytes[0] < 0x80) | self.may_commit)
+            & (bytes[1] == place_code(self.last))
+            & (number <= place_number(self.last))
+            & ((owner != NO_OWNER) == self.owned)
     }
 
     /// The entry of this row that the bytes spell; else the least place such that no entry of the row begins with the

@@ -1,10 +1,9 @@
 -- The entries of a graph, where an object that is there is replaced.
-use Rattle.std.proofs.Common.{◌≡◌, ◌≢◌, List, [], ◌∷◌, refl, ap, arith, Some, None, false, cond}
+use Rattle.std.proofs.Common.{◌≡◌, ◌≢◌, List, [], ◌∷◌, refl, sym, ap, arith, Some, None, true, false, cond}
 use Rattle.std.proofs.lemmas.Bool.Decides.{nat_tests}
 use Rattle.std.specs.List.{AllByRecursion}
 use Rattle.std.specs.List.Sorted.{IsStrictlySortedBy}
 use Rattle.std.specs.Ordering.{is_eq, match_ordering}
-use Rattle.std.specs.declared.cmp.Ordering.{Ordering}
 use Rattle.std.specs.declared.cmp.Ordering.TheVariants.{Less, Equal, Greater}
 use Rattle.std.specs.BTreeMap.{insert_entry, is_at}
 use Rattle.std.specs.Map.{lookup, keys_of, set_value}
@@ -32,6 +31,15 @@ module _ {X : Type 0} (k : Puid) where
         | Equal ↦ λ is. rw is refl
         | Greater ↦ λ is. rw is (ap (λ rest. e ∷ rest) (insert_entry-there es old new sorted.1 (rw is at found)))
       ] refl
+
+-- what is put where it was found leaves all as it was
+pub put_back : {X : Type 0} (k : Puid) (es : List (Puid × X)) (v : X) → lookup (is_at (puid_cmp k)) es ≡ Some v → set_value (is_at (puid_cmp k)) es v ≡ es
+put_back k [] v found = refl
+put_back k (e ∷ es) v found =
+    elim (is_eq (puid_cmp k e.0)) as (λ t. cond t (Some e.1) (lookup (is_at (puid_cmp k)) es) ≡ Some v → cond t ((e.0, v) ∷ es) (e ∷ set_value (is_at (puid_cmp k)) es v) ≡ e ∷ es) [
+      | true ↦ λ here. let same : e.1 ≡ v = cc in ap (λ w. (e.0, w) ∷ es) (sym same)
+      | false ↦ λ later. ap (λ rest. e ∷ rest) (put_back k es v later)
+    ] found
 
 -- what is put at one identifier leaves the others
 pub lookup-insert_entry : {X : Type 0} (q k : Puid) (es : List (Puid × X)) (v : X) → is_eq (puid_cmp q k) ≡ false → lookup (is_at (puid_cmp q)) (insert_entry puid_cmp es k v) ≡ lookup (is_at (puid_cmp q)) es

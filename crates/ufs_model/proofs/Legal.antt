@@ -19,7 +19,7 @@ use Rattle.ufs_model.specs.Refusal.{first_of, conditions, refusal_of, finds_empt
 use Rattle.ufs_model.specs.Outcome.{outcome_of, slot_reply, creates, block_named}
 use Rattle.ufs_model.specs.Next.{parts_of, same_reply, answered, allowed_if, is_outcome, next}
 use Rattle.ufs_model.specs.Run.{replay_from}
-use Rattle.ufs_model.specs.Plain.{IsAnswer, refused_or, is_id}
+use Rattle.ufs_model.specs.Plain.{IsAnswer, IsPlainReply, refused_or, is_id}
 
 -- the replies that refuse, and those of what is done
 abbrev refuses : Reply → Bool
@@ -59,10 +59,33 @@ first_none : (b : Bool) (x : Reply) (o : Option Reply) → cond b (Some x) o ≡
 first_none true x o h = cc
 first_none false x o h = (refl, h)
 
-none_holds : (cs : List (Bool × Reply)) (i : ℕ) (c : Bool × Reply) → first_of cs ≡ None → slice_get cs i ≡ Some c → c.0 ≡ false
+pub none_holds : (cs : List (Bool × Reply)) (i : ℕ) (c : Bool × Reply) → first_of cs ≡ None → slice_get cs i ≡ Some c → c.0 ≡ false
 none_holds [] i c h at = cc
 none_holds (d ∷ cs) zero c h at = let same : d ≡ c = cc in rw (← same) (first_none d.0 d.1 (first_of cs) h).0
 none_holds (d ∷ cs) (suc i) c h at = none_holds cs i c (first_none d.0 d.1 (first_of cs) h).1 at
+
+-- what is refused is answered by a reply without a disk, a stop or a content
+plain_refusal : (r : Reply) → refuses r ≡ true → IsPlainReply r
+plain_refusal (replies.Content bytes) h = cc
+plain_refusal (replies.Full n) h = cc
+plain_refusal (replies.Stopped moment) h = cc
+plain_refusal (replies.Disk doubt) h = cc
+plain_refusal (replies.Damaged damage moment) h = cc
+plain_refusal r h = tt
+
+pub refused_plain : (s : State) (who : ℕ) (request : Request) (r : Reply) → refusal_of s who request ≡ Some r → IsPlainReply r
+refused_plain s who request r h = plain_refusal r (first_refuses (conditions s who request) r refl h)
+
+not_an_id : (r : Reply) → refuses r ≡ true → is_id r ≡ true → ⊥
+not_an_id (replies.Id id) h is = wrong h
+not_an_id r h is = wrong is
+
+-- a refusal is the answer
+pub refused_answer : (seed : ℕ) (s : State) (who : ℕ) (request : Request) (r : Reply) → refusal_of s who request ≡ Some r → IsAnswer seed s who request r s
+refused_answer seed s who request r h = record {
+  is = rw h refl;
+  least = λ makes is. absurd (not_an_id r (first_refuses (conditions s who request) r refl h) is);
+}
 
 refused_legal : (seed : ℕ) (s : State) (who : ℕ) (request : Request) (r : Reply) → is_running s ≡ true → refusal_of s who request ≡ Some r → refuses r ≡ true → answered seed s who request r ≡ Some s
 refused_legal seed s who request replies.NoGrant run h k = rw (run, h) refl
@@ -107,7 +130,7 @@ creates_id seed s who (asks.CreateFile kind fill index slot) b h = refl
 creates_id seed s who (asks.CreateIndex slots index slot) b h = refl
 creates_id seed s who request b h = wrong h
 
-least_is_free : (g : Graph) (b : ℕ) → IsLeastFreeRoot g.objects b → is_free_root g b ≡ true
+pub least_is_free : (g : Graph) (b : ℕ) → IsLeastFreeRoot g.objects b → is_free_root g b ≡ true
 least_is_free g b least = grind (arith, nat_tests, least.from_three, least.free)
 
 free_where_made : (seed : ℕ) (s : State) (who : ℕ) (request : Request) (r : Reply) (after : State) → outcome_of seed s who request (block_named r) ≡ (r, after)
@@ -123,6 +146,27 @@ outcome_test : (seed : ℕ) (s : State) (who : ℕ) (request : Request) (r : Rep
 outcome_test seed s who request r after run none e free = rw (run, none, free, e) (same_reply-itself r)
 
 -- ---- the laws
+
+-- the outcome's reply names the block that it was made for
+same_outcome : (seed : ℕ) (s : State) (who : ℕ) (request : Request) (b : ℕ) → outcome_of seed s who request (block_named (outcome_of seed s who request b).0) ≡ outcome_of seed s who request b
+same_outcome seed s who (asks.CreateFile kind fill index slot) b = refl
+same_outcome seed s who (asks.CreateIndex slots index slot) b = refl
+same_outcome seed s who request b = refl
+
+block_free : (seed : ℕ) (s : State) (who : ℕ) (request : Request) (b : ℕ) → (creates request ≡ true → is_free_root s.graph b ≡ true)
+    → (not (creates request) || is_free_root s.graph (block_named (outcome_of seed s who request b).0)) ≡ true
+block_free seed s who (asks.CreateFile kind fill index slot) b free = free refl
+block_free seed s who (asks.CreateIndex slots index slot) b free = free refl
+block_free seed s who request b free = refl
+
+-- what is not refused may be answered by its outcome, whichever free root block a new object takes
+pub outcome_legal : (seed : ℕ) (s : State) (who : ℕ) (request : Request) (b : ℕ) → is_running s ≡ true → refusal_of s who request ≡ None → (creates request ≡ true → is_free_root s.graph b ≡ true)
+    → next seed s (events.Ask who request (outcome_of seed s who request b).0) ≡ Some (outcome_of seed s who request b).1
+outcome_legal seed s who request b run none free =
+    let r = (outcome_of seed s who request b).0 in
+    let after = (outcome_of seed s who request b).1 in
+    let e : outcome_of seed s who request (block_named r) ≡ (r, after) = same_outcome seed s who request b in
+    done_legal seed s who request r after e (outcome_test seed s who request r after run none e (block_free seed s who request b free)) (outcome_is_done seed s who request b none)
 
 -- an answer may be given, and leaves the state that it says
 pub answer_legal : (seed : ℕ) (s : State) (who : ℕ) (request : Request) (r : Reply) (after : State) → is_running s ≡ true → IsAnswer seed s who request r after

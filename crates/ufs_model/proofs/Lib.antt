@@ -7,6 +7,18 @@ mod Scripts
 pub mod NumberLists
 pub mod RootBlocks
 pub mod Entries
-pub mod Answered
+pub mod Outcomes
 pub mod Legal
-pub mod ServedForms
+pub mod Tests
+pub mod Reached
+pub mod Graphs
+pub mod Rising
+pub mod Objects
+pub mod WellGraphs
+pub mod Grants
+pub mod WellStates
+pub mod Vanishing
+pub mod KeepsStates
+pub mod Drawn
+mod Places
+mod ServerChanges

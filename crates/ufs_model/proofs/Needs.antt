@@ -1,13 +1,10 @@
 -- How many blocks requests may take.
-use Rattle.std.proofs.Common.{◌≡◌, ℕ, ◌+◌, refl, List, [], ◌∷◌, Some, None, true, false}
-use Rattle.std.specs.Prelude.{replicate, Option}
-use Rattle.std.specs.Map.{lookup}
+use Rattle.std.proofs.Common.{◌≡◌, ℕ, refl, List, [], ◌∷◌, Some}
+use Rattle.std.specs.Prelude.{replicate}
 use Rattle.cfs_base.specs.declared.identifier.Puid.{Puid}
-use Rattle.cfs_base.specs.declared.identifier.Tuid.{Tuid}
 use Rattle.cfs_base.specs.declared.kind.FileKind.{FileKind}
 use Rattle.cfs_base.specs.declared.kind.FileKind.TheVariants as kinds
 use Rattle.cfs_base.specs.declared.kind.Mode.TheVariants as modes
-use Rattle.ufs_model.specs.declared.asked.Ref.{Ref}
 use Rattle.ufs_model.specs.declared.asked.Ref.TheVariants.{Direct, Through}
 use Rattle.ufs_model.specs.declared.asked.Request.{Request}
 use Rattle.ufs_model.specs.declared.asked.Request.TheVariants as asks
@@ -16,8 +13,8 @@ use Rattle.ufs_model.specs.declared.object.Index.{Index}
 use Rattle.ufs_model.specs.declared.object.Object.TheVariants as objects
 use Rattle.ufs_model.specs.declared.object.Draft.{Draft}
 use Rattle.ufs_model.specs.declared.object.Grant.{Grant}
-use Rattle.ufs_model.specs.Object.{Change, Overwrite, SetSize, new_file, resized}
-use Rattle.ufs_model.specs.Graph.{Graph, object_at, fresh_graph, with_object}
+use Rattle.ufs_model.specs.Object.{Overwrite, SetSize}
+use Rattle.ufs_model.specs.Graph.{object_at, fresh_graph, with_object}
 use Rattle.ufs_model.specs.State.{State, opening, changed_draft}
 use Rattle.ufs_model.specs.Need.{need_of}
 use Rattle.ufs_model.proofs.Worked.{root, a, second}

@@ -1,10 +1,16 @@
 -- A number at its place in a list.
-use Rattle.std.proofs.Common.{◌≡◌, ℕ, zero, suc, ◌+◌, ◌<◌, ◌≤◌, List, [], ◌∷◌, ◌++◌, refl, sym, ap, ◌∙◌, true, false, length, arith, take, drop, get_or}
-use Rattle.std.specs.Prelude.{nat_lt, ◌==◌, insert}
+use Rattle.std.proofs.Common.{◌≡◌, ℕ, zero, suc, ◌<◌, ◌≤◌, List, [], ◌∷◌, ◌++◌, refl, sym, ap, ◌∙◌, inl, inr, true, length, arith, take, drop, get_or}
+use Rattle.std.specs.Prelude.{nat_lt, insert, Result, Ok, Err, MatchResult}
+use Rattle.std.specs.List.{list_all}
+use Rattle.std.specs.List.Sorted.{IsBinarySearchResult}
+use Rattle.std.specs.Ordering.{nat_cmp}
+use Rattle.std.proofs.lemmas.Bool.{and_parts, ltb-true, cases_lt}
+use Rattle.std.proofs.lemmas.List.Recursion.{and_at}
+use Rattle.std.proofs.lemmas.List.Sorted.{searched}
 use Rattle.std.proofs.lemmas.Bool.Decides.{nat_tests}
 use Rattle.std.proofs.Math.Seq.{drop-cons}
 use Rattle.std.proofs.lemmas.List.{take-append-drop, drop_all}
-use Rattle.ufs_model.specs.Numbers.{with_number}
+use Rattle.ufs_model.specs.Numbers.{numbers_rise, with_number}
 
 past : (n m : ℕ) (ms : List ℕ) → m < n → with_number n (m ∷ ms) ≡ m ∷ with_number n ms
 past n m ms less = grind (arith, nat_tests)
@@ -23,7 +29,7 @@ skipped n (m ∷ ms) (suc i) le below =
     past n m ms (below 0 (omega arith)) ∙ ap (λ xs. m ∷ xs) (skipped n ms i (omega arith) (λ k h. below (suc k) (omega arith)))
 
 module _ (n : ℕ) (ns : List ℕ) (i : ℕ) (below : (k : ℕ) → k < i → get_or ns k 0 < n) where
-  pub there : i < length ns → get_or ns i 0 ≡ n → with_number n ns ≡ ns
+  there : i < length ns → get_or ns i 0 ≡ n → with_number n ns ≡ ns
   there lt is =
       let cut : drop i ns ≡ n ∷ drop (suc i) ns = drop-cons ns i 0 lt ∙ ap (λ m. m ∷ drop (suc i) ns) is in
       skipped n ns i (omega arith) below
@@ -31,13 +37,13 @@ module _ (n : ℕ) (ns : List ℕ) (i : ℕ) (below : (k : ℕ) → k < i → ge
       ∙ ap (λ xs. take i ns ++ xs) (same n (drop (suc i) ns) ∙ sym cut)
       ∙ take-append-drop i ns
 
-  pub goes_before : i < length ns → n < get_or ns i 0 → with_number n ns ≡ insert ns i n
+  goes_before : i < length ns → n < get_or ns i 0 → with_number n ns ≡ insert ns i n
   goes_before lt less =
       skipped n ns i (omega arith) below
       ∙ ap (λ xs. take i ns ++ with_number n xs) (drop-cons ns i 0 lt)
       ∙ ap (λ xs. take i ns ++ xs) (before n (get_or ns i 0) (drop (suc i) ns) less ∙ ap (λ xs. n ∷ xs) (sym (drop-cons ns i 0 lt)))
 
-  pub goes_last : i ≡ length ns → with_number n ns ≡ insert ns i n
+  goes_last : i ≡ length ns → with_number n ns ≡ insert ns i n
   goes_last is =
       skipped n ns i (omega arith) below
       ∙ ap (λ xs. take i ns ++ with_number n xs) none
@@ -45,3 +51,24 @@ module _ (n : ℕ) (ns : List ℕ) (i : ℕ) (below : (k : ℕ) → k < i → ge
     where
       none : drop i ns ≡ []
       none = drop_all i ns (omega arith)
+
+-- ---- what a search among numbers that rise answers
+
+rise_at : (ns : List ℕ) (i j : ℕ) → numbers_rise ns ≡ true → i < j → j < length ns → get_or ns i 0 < get_or ns j 0
+rise_at [] i j up less within = absurd (omega arith)
+rise_at (n ∷ ns) i zero up less within = absurd (omega arith)
+rise_at (n ∷ ns) zero (suc j) up less within =
+    ltb-true n (get_or ns j 0) (and_at (list_all (nat_lt n)) (nat_lt n) refl (λ _ _. refl) ns j 0 (omega arith) (and_parts (list_all (nat_lt n) ns) (numbers_rise ns) up).0)
+rise_at (n ∷ ns) (suc i) (suc j) up less within = rise_at ns i j (and_parts (list_all (nat_lt n) ns) (numbers_rise ns) up).1 (omega arith) (omega arith)
+
+pub place_found : (n : ℕ) (ns : List ℕ) (r : Result ℕ ℕ) → numbers_rise ns ≡ true → IsBinarySearchResult (λ y. nat_cmp y n) ns r
+    → MatchResult r (λ _. with_number n ns ≡ ns) (λ i. with_number n ns ≡ insert ns i n)
+place_found n ns r up found = each r (searched ns n r found (λ i j le within. elim (cases_lt i j) [ inl less ↦ let past = rise_at ns i j up less within in omega arith | inr same ↦ let is : i ≡ j = omega arith in rw is (omega arith) ]))
+  where
+    each : (r : Result ℕ ℕ) → MatchResult r (λ i. (i < length ns) × (get_or ns i 0 ≡ n)) (λ i. (i ≤ length ns) × ((k : ℕ) → k < i → get_or ns k 0 < n) × ((k : ℕ) → i ≤ k → k < length ns → n < get_or ns k 0))
+        → MatchResult r (λ _. with_number n ns ≡ ns) (λ i. with_number n ns ≡ insert ns i n)
+    each (Ok i) h = there n ns i (λ k less. let past = rise_at ns k i up less h.0 in omega arith) h.0 h.1
+    each (Err i) h = elim (cases_lt i (length ns)) [
+      | inl inner ↦ goes_before n ns i h.1 inner (h.2 i (omega arith) inner)
+      | inr last ↦ goes_last n ns i h.1 (omega arith)
+    ]

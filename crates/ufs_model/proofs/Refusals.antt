@@ -1,5 +1,5 @@
 -- Each refusal, and where two conditions hold the earlier one.
-use Rattle.std.proofs.Common.{◌≡◌, ℕ, ◌+◌, refl, List, [], ◌∷◌, Some, None, true, false}
+use Rattle.std.proofs.Common.{◌≡◌, refl, List, [], ◌∷◌, Some, None}
 use Rattle.std.specs.Prelude.{replicate, Option}
 use Rattle.cfs_base.specs.declared.identifier.Puid.{Puid}
 use Rattle.cfs_base.specs.declared.identifier.Tuid.{Tuid}
@@ -13,10 +13,10 @@ use Rattle.ufs_model.specs.declared.asked.Reply.TheVariants as replies
 use Rattle.ufs_model.specs.declared.object.Object.TheVariants as objects
 use Rattle.ufs_model.specs.declared.object.Grant.{Grant}
 use Rattle.ufs_model.specs.Object.{new_file, new_index, resized}
-use Rattle.ufs_model.specs.Graph.{Graph, fresh_graph, with_object}
+use Rattle.ufs_model.specs.Graph.{fresh_graph, with_object}
 use Rattle.ufs_model.specs.State.{State, opening}
 use Rattle.ufs_model.specs.Refusal.{refusal_of}
-use Rattle.ufs_model.proofs.Worked.{root, a}
+use Rattle.ufs_model.proofs.Worked.{root}
 
 -- a file of 4 bytes, and an index of 4 slots that session 0 has open for reading, as it has the file
 abbrev file : Puid

@@ -1,12 +1,11 @@
 -- Worked runs: which are legal, and what they leave.
 use Rattle.std.proofs.Common.{◌≡◌, ℕ, refl, List, [], ◌∷◌, ◌++◌, Some, None, true, false}
-use Rattle.std.specs.Prelude.{option_map, length, map, replicate, Option, IsTrue}
+use Rattle.std.specs.Prelude.{option_map, length, map, Option}
 use Rattle.rand_core.specs.Steps.{u32_at}
 use Rattle.rand_chacha.specs.Block.{quarter_round, column_round, diagonal_round, double_rounds, block_word}
 use Rattle.cfs_base.specs.declared.identifier.Puid.{Puid}
 use Rattle.cfs_base.specs.declared.kind.FileKind.TheVariants as kinds
 use Rattle.cfs_base.specs.declared.kind.Mode.TheVariants as modes
-use Rattle.cfs_base.specs.declared.refusal.Need.{Need}
 use Rattle.ufs_model.specs.declared.asked.Ref.TheVariants.{Direct, Through}
 use Rattle.ufs_model.specs.declared.asked.Request.TheVariants as asks
 use Rattle.ufs_model.specs.declared.asked.Reply.TheVariants as replies

@@ -1,6 +1,6 @@
 -- Worked collections: what may vanish, and what must.
-use Rattle.std.proofs.Common.{◌≡◌, refl, List, [], ◌∷◌, Some, None, true, false}
-use Rattle.std.specs.Prelude.{option_map, map}
+use Rattle.std.proofs.Common.{◌≡◌, refl, List, [], ◌∷◌, Some, true, false}
+use Rattle.std.specs.Prelude.{option_map}
 use Rattle.rand_core.specs.Steps.{u32_at}
 use Rattle.rand_chacha.specs.Block.{quarter_round, column_round, diagonal_round, double_rounds, block_word}
 use Rattle.cfs_base.specs.declared.identifier.Puid.{Puid}

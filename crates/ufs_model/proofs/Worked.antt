@@ -1,6 +1,6 @@
 -- What the worked runs speak of: seed 0, its root index, and the identifiers that it gives.
-use Rattle.std.proofs.Common.{◌≡◌, ℕ, refl, List, [], ◌∷◌, Some, None}
-use Rattle.std.specs.Prelude.{Option, Bool, option_map, is_some}
+use Rattle.std.proofs.Common.{◌≡◌, refl, List, [], ◌∷◌}
+use Rattle.std.specs.Prelude.{Option, Bool, is_some}
 use Rattle.rand_core.specs.Steps.{u32_at}
 use Rattle.rand_chacha.specs.Block.{quarter_round, column_round, diagonal_round, double_rounds, block_word}
 use Rattle.cfs_base.specs.declared.identifier.Puid.{Puid}

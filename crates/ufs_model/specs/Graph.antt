@@ -4,8 +4,9 @@ use Rattle.std.specs.List.{list_any, list_all, flat_map, filter_map}
 use Rattle.std.specs.BTreeMap.{insert_entry, is_at}
 use Rattle.std.specs.Map.{lookup, keys_of}
 use Rattle.cfs_base.specs.declared.identifier.Puid.{Puid}
-use Rattle.ufs_model.specs.declared.limits.TheConstants.{ROOT_SLOTS}
+use Rattle.ufs_model.specs.Limits.{root_slots}
 use Rattle.ufs_model.specs.declared.object.Object.{Object}
+use Rattle.ufs_model.specs.declared.object.Index.{Index}
 use Rattle.ufs_model.specs.declared.object.Object.TheVariants as objects
 use Rattle.ufs_model.specs.Identifier.{puid_cmp, same_puid, is_among, rises}
 use Rattle.ufs_model.specs.Object.{is_object, new_index}
@@ -63,12 +64,12 @@ pub record IsLeastFreeRoot (objects : List (Puid × Object)) (b : ℕ) : Type 0 
 
 -- ---- well-formed graphs
 
-abbrev blocks_differ : List Puid → Bool
+abbrev pub blocks_differ : List Puid → Bool
 blocks_differ [] = true
 blocks_differ (id ∷ ids) = not (id.block == 0) && list_all (λ other. not (other.block == id.block)) ids && blocks_differ ids
 
-abbrev is_root_index : Option Object → Bool
-is_root_index (Some (objects.Index i)) = length i.slots == ROOT_SLOTS
+abbrev pub is_root_index : Option Object → Bool
+is_root_index (Some (objects.Index i)) = length i.slots == root_slots
 is_root_index (Some (objects.File f)) = false
 is_root_index None = false
 
@@ -84,6 +85,13 @@ is_graph g =
 abbrev pub IsGraph : Graph → Type 0
 IsGraph g = IsTrue (is_graph g)
 
+-- a root index of 64 slots, with all to which it leads
+pub record IsClosedGraph (g : Graph) : Type 0 where
+  pub ordered : rises (ids_of g) ≡ true
+  pub root : (i : Index) × (object_at g g.root ≡ Some (objects.Index i)) × (length i.slots ≡ root_slots)
+  -- each identifier in a slot names an object
+  pub closed : (i x : Puid) → has_pair (graph_pairs g) i x ≡ true → is_there g x ≡ true
+
 -- one root index of empty slots
 abbrev pub fresh_graph : Puid → Graph
-fresh_graph root = record { root = root; objects = (root, objects.Index (new_index ROOT_SLOTS)) ∷ [] }
+fresh_graph root = record { root = root; objects = (root, objects.Index (new_index root_slots)) ∷ [] }

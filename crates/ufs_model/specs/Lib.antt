@@ -1,3 +1,4 @@
+pub mod Limits
 pub mod Identifier
 pub mod Numbers
 pub mod Object
@@ -11,6 +12,7 @@ pub mod Reach
 pub mod Vanish
 pub mod Next
 pub mod Run
+pub mod WellFormed
 pub mod Script
 pub mod Names
 pub mod Spoken

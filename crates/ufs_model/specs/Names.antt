@@ -7,7 +7,7 @@ use Rattle.std.specs.Char.{is_ascii_digit}
 use Rattle.hex.specs.Hex.{is_hex_digit}
 use Rattle.cfs_base.specs.declared.identifier.Puid.{Puid}
 use Rattle.ufs_model.specs.declared.asked.Bound.{Bound}
-use Rattle.ufs_model.specs.declared.limits.TheConstants.{MOST_NAME}
+use Rattle.ufs_model.specs.Limits.{most_name}
 
 -- the root's identifier, and what each name stands for
 pub record Names : Type 0 where
@@ -39,5 +39,5 @@ is_id_digits w = (length w == 16) && list_all is_hex_digit w
 -- 1 to 32 letters, digits and dashes that begin with a letter, and neither `root` nor 16 hexadecimal digits
 abbrev pub is_name : List ℕ → Bool
 is_name w =
-    begins_with_letter w && nat_le (length w) MOST_NAME && list_all is_name_byte w
+    begins_with_letter w && nat_le (length w) most_name && list_all is_name_byte w
     && not (bytes_eq w (codes "root")) && not (is_id_digits w)

@@ -3,7 +3,7 @@ use Rattle.std.specs.Prelude.{ℕ, ◌+◌, Bool, true, false, not, ◌&&◌, �
 use Rattle.std.specs.Option.{option_map_or}
 use Rattle.std.specs.Str.{bytes_eq}
 use Rattle.cfs_base.specs.declared.refusal.Need.{Need}
-use Rattle.ufs_model.specs.declared.limits.TheConstants.{RESERVE}
+use Rattle.ufs_model.specs.Limits.{reserve}
 use Rattle.ufs_model.specs.declared.asked.Request.{Request}
 use Rattle.ufs_model.specs.declared.asked.Request.TheVariants as asks
 use Rattle.ufs_model.specs.declared.asked.Reply.{Reply}
@@ -60,7 +60,7 @@ abbrev pub is_refusal : State → ℕ → Request → Reply → Bool
 is_refusal s who request reply = is_running s && option_map_or (same_reply reply) (refusal_of s who request) false
 
 -- a request that is not refused
-abbrev goes_through : State → ℕ → Request → Bool
+abbrev pub goes_through : State → ℕ → Request → Bool
 goes_through s who request = is_running s && is_none (refusal_of s who request)
 
 -- the outcome's reply, for the root block that the reply names
@@ -78,7 +78,7 @@ is_delete request = false
 abbrev pub is_full : State → ℕ → Request → Need → Bool
 is_full s who request n =
     goes_through s who request && not (is_delete request)
-    && (n.need == need_of s who request) && nat_lt n.free (n.need + RESERVE)
+    && (n.need == need_of s who request) && nat_lt n.free (n.need + reserve)
 
 -- the state after an answer that is the outcome's
 abbrev pub by_outcome : ℕ → State → ℕ → Request → Reply → Option State

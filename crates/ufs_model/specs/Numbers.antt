@@ -1,12 +1,11 @@
 -- Lists of numbers in increasing order, and lists of such lists, level by level.
 use Rattle.std.specs.Prelude.{ℕ, zero, suc, ◌+◌, ◌/◌, Bool, true, not, ◌&&◌, ◌==◌, nat_lt, if◌then◌else◌, List, [], ◌∷◌, length, map, filter}
-use Rattle.std.specs.List.{list_any, list_all}
-use Rattle.ufs_model.specs.declared.limits.TheConstants.{FAN_OUT}
+use Rattle.std.specs.List.{list_any, list_all, range_with_len}
+use Rattle.ufs_model.specs.Limits.{fan_out}
 
 -- n numbers from a on
 abbrev pub numbers : ℕ → ℕ → List ℕ
-numbers a zero = []
-numbers a (suc n) = a ∷ numbers (a + 1) n
+numbers = range_with_len
 
 abbrev pub has_number : ℕ → List ℕ → Bool
 has_number n ns = list_any (λ m. m == n) ns
@@ -34,7 +33,7 @@ shared ns ms = filter (λ n. has_number n ms) ns
 
 -- the inner blocks that lead to these blocks
 abbrev pub parents : List ℕ → List ℕ
-parents ns = with_numbers (map (λ n. n / FAN_OUT) ns) []
+parents ns = with_numbers (map (λ n. n / fan_out) ns) []
 
 -- these leaves, and n levels of inner blocks above them
 abbrev pub branches : ℕ → List ℕ → List (List ℕ)

@@ -1,15 +1,16 @@
 -- Files and indices: what they hold, and how they are made and changed.
-use Rattle.std.specs.Prelude.{ℕ, zero, suc, ◌+◌, ◌-◌, ◌*◌, ◌/◌, ◌%◌, Bool, true, false, not, ◌&&◌, ◌||◌, ◌==◌, nat_lt, nat_le, is_none, is_some, if◌then◌else◌, List, [], ◌∷◌, ◌++◌, length, filter, take, drop, replicate, slice_get, slice_set, Option, None, Some, unwrap_or, IsTrue}
+use Rattle.std.specs.Prelude.{ℕ, zero, suc, ◌+◌, ◌-◌, ◌*◌, ◌/◌, ◌%◌, ◌<◌, ◌≤◌, Bool, true, not, ◌&&◌, ◌||◌, ◌==◌, nat_lt, nat_le, is_none, is_some, if◌then◌else◌, List, [], ◌∷◌, ◌++◌, length, filter, take, drop, replicate, slice_get, slice_set, Option, None, unwrap_or, IsTrue}
 use Rattle.std.specs.List.{list_all, sum_by}
 use Rattle.cfs_base.specs.declared.identifier.Puid.{Puid}
 use Rattle.cfs_base.specs.declared.kind.FileKind.{FileKind}
-use Rattle.cfs_base.specs.declared.kind.FileKind.TheVariants as kinds
-use Rattle.ufs_model.specs.declared.limits.TheConstants.{LEAF_BYTES, LEAF_SLOTS, MOST_BYTES, MOST_SLOTS}
+use Rattle.ufs_model.specs.Limits.{leaf_bytes, leaf_slots, most_bytes, most_slots}
+pub use Rattle.ufs_model.specs.declared.change.Change.{Change}
+pub use Rattle.ufs_model.specs.declared.change.Change.TheVariants.{Fill, Overwrite, SetSize}
 use Rattle.ufs_model.specs.declared.object.Object.{Object}
 use Rattle.ufs_model.specs.declared.object.File.{File}
 use Rattle.ufs_model.specs.declared.object.Index.{Index}
 use Rattle.ufs_model.specs.declared.object.Object.TheVariants as objects
-use Rattle.ufs_model.specs.Numbers.{numbers, numbers_rise, has_number, with_number, with_numbers, parents, branches, lacking, shared, merged, missing, within, first_level, next_levels}
+use Rattle.ufs_model.specs.Numbers.{numbers, numbers_rise, has_number, with_number, with_numbers, parents, branches, lacking, shared, merged, within, first_level, next_levels}
 
 -- ---- what an object holds: a root block, leaves, and inner blocks that lead to them
 
@@ -34,37 +35,37 @@ blocks_of o = 1 + sum_by length (held_levels o)
 
 -- how many leaves so many bytes take
 abbrev pub leaves_in : ℕ → ℕ
-leaves_in size = (size + LEAF_BYTES - 1) / LEAF_BYTES
+leaves_in size = (size + leaf_bytes - 1) / leaf_bytes
 
 -- the leaves with the bytes from offset to offset + count - 1
 abbrev pub touched : ℕ → ℕ → List ℕ
-touched offset count = numbers (offset / LEAF_BYTES) (leaves_in (offset + count) - offset / LEAF_BYTES)
+touched offset count = numbers (offset / leaf_bytes) (leaves_in (offset + count) - offset / leaf_bytes)
 
 abbrev pub leaf_of_slot : ℕ → ℕ
-leaf_of_slot slot = slot / LEAF_SLOTS
+leaf_of_slot slot = slot / leaf_slots
 
 -- ---- well-formed objects
 
-abbrev byte_may_stand : File → ℕ → ℕ → Bool
-byte_may_stand f at byte = nat_lt byte 256 && ((byte == f.fill) || has_number (at / LEAF_BYTES) f.held)
+abbrev pub byte_may_stand : File → ℕ → ℕ → Bool
+byte_may_stand f at byte = nat_lt byte 256 && ((byte == f.fill) || has_number (at / leaf_bytes) f.held)
 
-abbrev slot_may_stand : Index → ℕ → Option Puid → Bool
+abbrev pub slot_may_stand : Index → ℕ → Option Puid → Bool
 slot_may_stand i at what = is_none what || has_number (leaf_of_slot at) i.held
 
 -- a test of each element with its place, from a place on
-abbrev each_from : {A : Type 0} → (ℕ → A → Bool) → ℕ → List A → Bool
+abbrev pub each_from : {A : Type 0} → (ℕ → A → Bool) → ℕ → List A → Bool
 each_from test at [] = true
 each_from test at (x ∷ xs) = test at x && each_from test (at + 1) xs
 
 -- within the limits, and a leaf that is not held has only fill bytes, or only empty slots
 abbrev pub is_object : Object → Bool
 is_object (objects.File f) =
-    nat_le (length f.bytes) MOST_BYTES && nat_lt f.fill 256
+    nat_le (length f.bytes) most_bytes && nat_lt f.fill 256
     && numbers_rise f.held && list_all (λ leaf. nat_lt leaf (leaves_in (length f.bytes))) f.held
     && each_from (byte_may_stand f) 0 f.bytes
 is_object (objects.Index i) =
-    not (length i.slots == 0) && nat_le (length i.slots) MOST_SLOTS
-    && numbers_rise i.held && list_all (λ leaf. nat_lt (leaf * LEAF_SLOTS) (length i.slots)) i.held
+    not (length i.slots == 0) && nat_le (length i.slots) most_slots
+    && numbers_rise i.held && list_all (λ leaf. nat_lt (leaf * leaf_slots) (length i.slots)) i.held
     && each_from (slot_may_stand i) 0 i.slots
 
 abbrev pub IsObject : Object → Type 0
@@ -104,11 +105,6 @@ slot_of i slot = unwrap_or (slice_get i.slots slot) None
 
 -- ---- a change of one object
 
-pub data Change : Type 0 where
-  Fill : (slot : ℕ) (what : Option Puid) → Change
-  Overwrite : (offset : ℕ) (bytes : List ℕ) → Change
-  SetSize : (size : ℕ) → Change
-
 abbrev pub changed_object : Change → Object → Object
 changed_object (Fill slot what) (objects.Index i) = objects.Index (filled i slot what)
 changed_object (Fill slot what) (objects.File f) = objects.File f
@@ -117,6 +113,15 @@ changed_object (Overwrite offset bytes) (objects.Index i) = objects.Index i
 changed_object (SetSize size) (objects.File f) = objects.File (resized f size)
 changed_object (SetSize size) (objects.Index i) = objects.Index i
 
+-- the place of a change lies within the object
+abbrev pub IsInside : Change → Object → Type 0
+IsInside (Fill slot what) (objects.Index i) = slot < length i.slots
+IsInside (Fill slot what) (objects.File f) = Unit {0}
+IsInside (Overwrite offset bytes) (objects.File f) = offset + length bytes ≤ length f.bytes
+IsInside (Overwrite offset bytes) (objects.Index i) = Unit {0}
+IsInside (SetSize size) (objects.File f) = size ≤ most_bytes
+IsInside (SetSize size) (objects.Index i) = Unit {0}
+
 abbrev pub size_of : Object → ℕ
 size_of (objects.File f) = length f.bytes
 size_of (objects.Index i) = 8 * length i.slots
@@ -124,28 +129,27 @@ size_of (objects.Index i) = 8 * length i.slots
 -- ---- the blocks that a change writes anew, where the old ones stay until it is committed
 
 -- the leaf that a resize cuts within, where it is held
-abbrev cut_leaf : ℕ → List ℕ → List ℕ
-cut_leaf size held = if size % LEAF_BYTES == 0 then [] else shared (size / LEAF_BYTES ∷ []) held
+abbrev pub cut_leaf : ℕ → List ℕ → List ℕ
+cut_leaf size held = if size % leaf_bytes == 0 then [] else shared (size / leaf_bytes ∷ []) held
 
 -- A resize to less keeps some blocks of a level and drops others, and writes some anew. Of the levels above, a block
 -- that is kept is written anew where it leads to one that is dropped, or to one that wasn't fresh and now is.
-abbrev recut : ℕ → (kept gone anew : List ℕ) → (fresh : List (List ℕ)) → List (List ℕ)
+abbrev pub recut : ℕ → (kept gone anew : List ℕ) → (fresh : List (List ℕ)) → List (List ℕ)
 recut zero kept gone anew fresh = anew ∷ []
 recut (suc n) kept gone anew fresh =
     anew ∷ recut n (parents kept) (lacking (parents gone) (parents kept))
     (shared (parents kept) (parents (with_numbers gone (lacking anew (first_level fresh)))))
     (next_levels fresh)
 
+-- the same of a resize to less, where these leaves are held
+abbrev pub resize_anew : (levels size : ℕ) → (held : List ℕ) → (fresh : List (List ℕ)) → List (List ℕ)
+resize_anew levels size held fresh =
+    recut levels (filter (λ leaf. nat_lt leaf (leaves_in size)) held) (filter (λ leaf. nat_le (leaves_in size) leaf) held) (cut_leaf size held) fresh
+
 abbrev pub written_anew : Change → Object → (fresh : List (List ℕ)) → List (List ℕ)
 written_anew (Fill slot what) o fresh = branches (inner_levels o) (leaf_of_slot slot ∷ [])
 written_anew (Overwrite offset bytes) o fresh = branches (inner_levels o) (touched offset (length bytes))
-written_anew (SetSize size) o fresh =
-    if nat_le (size_of o) size then [] else
-    recut (inner_levels o)
-    (filter (λ leaf. nat_lt leaf (leaves_in size)) (held_leaves o))
-    (filter (λ leaf. nat_le (leaves_in size) leaf) (held_leaves o))
-    (cut_leaf size (held_leaves o))
-    fresh
+written_anew (SetSize size) o fresh = if nat_le (size_of o) size then [] else resize_anew (inner_levels o) size (held_leaves o) fresh
 
 -- the fresh blocks after a change: those that it writes anew too, as far as the object still holds them
 abbrev pub fresh_after : Change → Object → List (List ℕ) → List (List ℕ)

@@ -1,5 +1,5 @@
 -- What a request does that is not refused.
-use Rattle.std.specs.Prelude.{ℕ, ◌+◌, Bool, true, false, not, if◌then◌else◌, List, [], ◌∷◌, ◌++◌, length, filter, slice_range, Option, Some, None}
+use Rattle.std.specs.Prelude.{ℕ, ◌+◌, Bool, true, false, not, if◌then◌else◌, [], ◌∷◌, ◌++◌, length, filter, slice_range, Option, Some, None}
 use Rattle.cfs_base.specs.declared.identifier.Puid.{Puid}
 use Rattle.cfs_base.specs.declared.identifier.Tuid.{Tuid}
 use Rattle.cfs_base.specs.declared.kind.Mode.{Mode}
@@ -42,34 +42,34 @@ abbrev pub changed : State → ℕ → Ref → Change → State
 changed s who ref c = put s who ref (changed_draft c (seen s who ref))
 
 -- the identifier put into the slot
-abbrev retained : State → ℕ → Ref → ℕ → Puid → State
+abbrev pub retained : State → ℕ → Ref → ℕ → Puid → State
 retained s who index slot id = record (changed s who index (Fill slot (Some id))) { collection = with_edge (named s who index) id s.collection }
 
 -- a new object at block b, its identifier put into the slot as the index was
-abbrev created : ℕ → State → ℕ → Ref → ℕ → Object → ℕ → Reply × State
+abbrev pub created : ℕ → State → ℕ → Ref → ℕ → Object → ℕ → Reply × State
 created seed s who index slot o b =
     let id : Puid = record { block = b; word = word seed (s.drawn + 1) } in
     let with_new = record s { graph = with_object s.graph id o; drawn = s.drawn + 1 } in
     let filled = put with_new who index (changed_draft (Fill slot (Some id)) (seen s who index)) in
     (replies.Id id, record filled { collection = with_edge (named s who index) id s.collection })
 
-abbrev first_draft : Mode → Option Object → Option Draft
+abbrev pub first_draft : Mode → Option Object → Option Draft
 first_draft mode None = None
 first_draft mode (Some o) = if takes_draft mode (Some o) then Some (record { object = o; fresh = [] }) else None
 
 -- a new grant, after the others
-abbrev granted : ℕ → State → ℕ → Puid → Mode → Reply × State
+abbrev pub granted : ℕ → State → ℕ → Puid → Mode → Reply × State
 granted seed s who id mode =
     let tuid : Tuid = record { draw = s.drawn + 1; word = word seed (s.drawn + 1) } in
     let grant : Grant = record { tuid = tuid; session = who; id = id; mode = mode; draft = first_draft mode (object_at s.graph id) } in
     (replies.Grant tuid, record s { grants = s.grants ++ grant ∷ []; drawn = s.drawn + 1; collection = with_start id s.collection })
 
 -- the grant's draft becomes the object
-abbrev committed : Option Grant → Graph → Graph
+abbrev pub committed : Option Grant → Graph → Graph
 committed None g = g
 committed (Some grant) g = elim grant.draft [ None ↦ g | Some d ↦ with_object g grant.id d.object ]
 
-abbrev closed : State → ℕ → Tuid → Bool → State
+abbrev pub closed : State → ℕ → Tuid → Bool → State
 closed s who t commit = record s {
   graph = if commit then committed (grant_of s who t) s.graph else s.graph;
   grants = filter (λ g. not (is_grant who t g)) s.grants;

@@ -1,12 +1,16 @@
 -- What the slow server is to its callers, and how it answers.
-use Rattle.std.specs.Prelude.{◌≡◌, ℕ, ◌≤◌, Bool, true, false, length, Option, Some, None}
-use Rattle.ufs_model.specs.declared.limits.TheConstants.{MOST_AT_ONCE}
+use Rattle.std.specs.Prelude.{◌≡◌, ℕ, ◌≤◌, Bool, true, false, length, slice_get, Option, Some, None}
+use Rattle.ufs_model.specs.Limits.{most_at_once}
+use Rattle.cfs_base.specs.declared.identifier.Tuid.{Tuid}
+use Rattle.ufs_model.specs.declared.asked.Ref.{Ref}
+use Rattle.ufs_model.specs.declared.asked.Ref.TheVariants.{Through}
 use Rattle.ufs_model.specs.declared.asked.Request.{Request}
-use Rattle.ufs_model.specs.declared.asked.Request.TheVariants as asks
 use Rattle.ufs_model.specs.declared.asked.Reply.{Reply}
 use Rattle.ufs_model.specs.declared.asked.Reply.TheVariants as replies
+use Rattle.ufs_model.specs.declared.object.Draft.{Draft}
+use Rattle.ufs_model.specs.declared.object.Grant.{Grant}
 use Rattle.ufs_model.specs.Graph.{IsLeastFreeRoot}
-use Rattle.ufs_model.specs.State.{State}
+use Rattle.ufs_model.specs.State.{State, grant_of}
 use Rattle.ufs_model.specs.Refusal.{refusal_of}
 use Rattle.ufs_model.specs.Outcome.{outcome_of, creates, block_named}
 
@@ -14,6 +18,16 @@ use Rattle.ufs_model.specs.Outcome.{outcome_of, creates, block_named}
 pub record Server : Type 0 where
   pub seed : ℕ
   pub state : State
+
+-- the place among the grants of the one whose draft the reference goes to
+pub record IsDraftPlace (s : State) (who : ℕ) (ref : Ref) (at : ℕ) : Type 0 where
+  pub t : Tuid
+  pub through : ref ≡ Through t
+  pub grant : Grant
+  pub found : grant_of s who t ≡ Some grant
+  pub stands : slice_get s.grants at ≡ Some grant
+  pub draft : Draft
+  pub has : grant.draft ≡ Some draft
 
 -- the refusal, which changes nothing, or else the outcome
 abbrev pub refused_or : Option Reply → State → Reply × State → Reply × State
@@ -35,18 +49,9 @@ pub record IsAnswer (seed : ℕ) (s : State) (who : ℕ) (request : Request) (re
 
 -- It has no disk, is never full and doesn't stop; and a content is no longer than one read
 abbrev pub IsPlainReply : Reply → Type 0
-IsPlainReply (replies.Content bytes) = length bytes ≤ MOST_AT_ONCE
+IsPlainReply (replies.Content bytes) = length bytes ≤ most_at_once
 IsPlainReply (replies.Full n) = ⊥
 IsPlainReply (replies.Stopped moment) = ⊥
 IsPlainReply (replies.Disk doubt) = ⊥
 IsPlainReply (replies.Damaged damage moment) = ⊥
 IsPlainReply reply = Unit {0}
-
--- the requests that are served so far: those on an index
-abbrev pub IsServed : Request → Type 0
-IsServed (asks.CreateIndex slots index slot) = Unit {0}
-IsServed (asks.Retain index slot id) = Unit {0}
-IsServed (asks.Retrieve index slot) = Unit {0}
-IsServed (asks.Delete index slot) = Unit {0}
-IsServed (asks.Slots index) = Unit {0}
-IsServed request = ⊥

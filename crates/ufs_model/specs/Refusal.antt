@@ -4,11 +4,13 @@ use Rattle.std.specs.List.{list_any}
 use Rattle.cfs_base.specs.declared.identifier.Puid.{Puid}
 use Rattle.cfs_base.specs.declared.kind.Mode.{Mode}
 use Rattle.cfs_base.specs.declared.kind.Mode.TheVariants as modes
-use Rattle.ufs_model.specs.declared.limits.TheConstants.{MOST_BYTES, MOST_SLOTS, MOST_AT_ONCE, MOST_GRANTS}
+use Rattle.ufs_model.specs.Limits.{most_bytes, most_slots, most_at_once, most_grants}
 use Rattle.ufs_model.specs.declared.asked.Ref.{Ref}
 use Rattle.ufs_model.specs.declared.asked.Ref.TheVariants.{Direct, Through}
 use Rattle.ufs_model.specs.declared.asked.Request.{Request}
 use Rattle.ufs_model.specs.declared.asked.Request.TheVariants as asks
+use Rattle.ufs_model.specs.declared.asked.Wanted.{Wanted}
+use Rattle.ufs_model.specs.declared.asked.Wanted.TheVariants.{AnIndex, AFile, Either}
 use Rattle.ufs_model.specs.declared.asked.Reply.{Reply}
 use Rattle.ufs_model.specs.declared.asked.Reply.TheVariants as replies
 use Rattle.ufs_model.specs.declared.object.Object.{Object}
@@ -35,11 +37,6 @@ target (asks.Read file offset count) = file
 target (asks.Write file offset bytes) = file
 target (asks.Size file) = file
 target (asks.Resize file size) = file
-
-pub data Wanted : Type 0 where
-  AnIndex : Wanted
-  AFile : Wanted
-  Either : Wanted
 
 -- what it wants to find there
 abbrev pub wanted : Request → Wanted
@@ -89,7 +86,7 @@ slot_named (asks.Resize file size) = None
 
 -- ---- the conditions, in their order
 
-abbrev has_no_such_grant : State → ℕ → Ref → Bool
+abbrev pub has_no_such_grant : State → ℕ → Ref → Bool
 has_no_such_grant s who (Direct id) = false
 has_no_such_grant s who (Through t) = is_none (grant_of s who t)
 
@@ -97,11 +94,11 @@ has_no_such_grant s who (Through t) = is_none (grant_of s who t)
 abbrev pub has_no_grant : State → ℕ → Request → Bool
 has_no_grant s who request = has_no_such_grant s who (target request)
 
-abbrev goes_nowhere : State → Ref → Bool
+abbrev pub goes_nowhere : State → Ref → Bool
 goes_nowhere s (Direct id) = not (is_there s.graph id)
 goes_nowhere s (Through t) = false
 
-abbrev retains_nothing : State → Request → Bool
+abbrev pub retains_nothing : State → Request → Bool
 retains_nothing s (asks.Retain index slot id) = not (is_there s.graph id)
 retains_nothing s request = false
 
@@ -131,15 +128,15 @@ names_file s who request = is_unwanted_file (wanted request) (object_of s who (t
 abbrev pub names_index : State → ℕ → Request → Bool
 names_index s who request = is_unwanted_index (wanted request) (object_of s who (target request))
 
-abbrev is_reading : Mode → Bool
+abbrev pub is_reading : Mode → Bool
 is_reading modes.Reading = true
 is_reading modes.Writing = false
 
-abbrev is_for_reading : Option Grant → Bool
+abbrev pub is_for_reading : Option Grant → Bool
 is_for_reading None = false
 is_for_reading (Some g) = is_reading g.mode
 
-abbrev goes_through_reading : State → ℕ → Ref → Bool
+abbrev pub goes_through_reading : State → ℕ → Ref → Bool
 goes_through_reading s who (Direct id) = false
 goes_through_reading s who (Through t) = is_for_reading (grant_of s who t)
 
@@ -158,7 +155,7 @@ abbrev pub opens_for_writing : Request → Bool
 opens_for_writing (asks.OpenFor id modes.Writing) = true
 opens_for_writing request = false
 
-abbrev meets_a_grant : State → Bool → Ref → Bool
+abbrev pub meets_a_grant : State → Bool → Ref → Bool
 meets_a_grant s true (Direct id) = is_open s id
 meets_a_grant s false (Direct id) = is_open_for_writing s id
 meets_a_grant s alone (Through t) = false
@@ -167,7 +164,7 @@ meets_a_grant s alone (Through t) = false
 abbrev pub is_locked : State → ℕ → Request → Bool
 is_locked s who request = meets_a_grant s (is_changing request || opens_for_writing request) (target request)
 
-abbrev is_beyond : ℕ → Option ℕ → Bool
+abbrev pub is_beyond : ℕ → Option ℕ → Bool
 is_beyond slots None = false
 is_beyond slots (Some slot) = nat_le slots slot
 
@@ -182,20 +179,20 @@ finds_empty s who (asks.Delete index slot) = is_none (slot_of (index_seen s who 
 finds_empty s who request = false
 
 -- 1 to 4,096 bytes within the size
-abbrev is_range : (size offset count : ℕ) → Bool
-is_range size offset count = nat_lt 0 count && nat_le count MOST_AT_ONCE && nat_le (offset + count) size
+abbrev pub is_range : (size offset count : ℕ) → Bool
+is_range size offset count = nat_lt 0 count && nat_le count most_at_once && nat_le (offset + count) size
 
 -- a size, a count or a place is out of its range
 abbrev pub is_out_of_range : State → ℕ → Request → Bool
-is_out_of_range s who (asks.CreateIndex slots index slot) = (slots == 0) || nat_lt MOST_SLOTS slots
+is_out_of_range s who (asks.CreateIndex slots index slot) = (slots == 0) || nat_lt most_slots slots
 is_out_of_range s who (asks.Read file offset count) = not (is_range (length (file_seen s who file).bytes) offset count)
 is_out_of_range s who (asks.Write file offset bytes) = not (is_range (length (file_seen s who file).bytes) offset (length bytes))
-is_out_of_range s who (asks.Resize file size) = nat_lt MOST_BYTES size
+is_out_of_range s who (asks.Resize file size) = nat_lt most_bytes size
 is_out_of_range s who request = false
 
 -- an opening while the session has all its grants
 abbrev pub has_all_grants : State → ℕ → Request → Bool
-has_all_grants s who (asks.OpenFor id mode) = nat_le MOST_GRANTS (length (filter (λ g. g.session == who) s.grants))
+has_all_grants s who (asks.OpenFor id mode) = nat_le most_grants (length (filter (λ g. g.session == who) s.grants))
 has_all_grants s who request = false
 
 -- ---- the refusal

@@ -2,7 +2,7 @@
 use Rattle.std.specs.Prelude.{ℕ, Bool, false, not, ◌&&◌, ◌||◌, ◌==◌, nat_lt, nat_le, if◌then◌else◌, List, [], ◌∷◌, length, map, filter}
 use Rattle.std.specs.List.{list_all, slice_split}
 use Rattle.std.specs.Str.{byte}
-use Rattle.ufs_model.specs.declared.limits.TheConstants.{MOST_LINE}
+use Rattle.ufs_model.specs.Limits.{most_line}
 
 -- the byte that ends a line, and the one that may stand before it
 abbrev pub LF : ℕ
@@ -39,7 +39,7 @@ request_lines script = filter is_request_line (map without_cr (slice_split (λ c
 
 -- at most 16,384 bytes, each a blank or one of a word
 abbrev pub is_readable : List ℕ → Bool
-is_readable line = nat_le (length line) MOST_LINE && list_all (λ c. is_blank c || is_graphic c) line
+is_readable line = nat_le (length line) most_line && list_all (λ c. is_blank c || is_graphic c) line
 
 -- the words of a line, which blanks stand between
 abbrev pub words_of : List ℕ → List (List ℕ)

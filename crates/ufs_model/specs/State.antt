@@ -1,5 +1,5 @@
 -- What the server remembers, and what a reference of a session goes to.
-use Rattle.std.specs.Prelude.{ℕ, Bool, not, ◌&&◌, ◌==◌, is_none, if◌then◌else◌, List, [], ◌∷◌, ◌++◌, map, filter, find, Option, Some, None, option_and_then, unwrap_or}
+use Rattle.std.specs.Prelude.{ℕ, Bool, not, ◌&&◌, ◌==◌, is_none, if◌then◌else◌, List, [], map, filter, find, Option, Some, None, option_and_then, unwrap_or}
 use Rattle.cfs_base.specs.declared.identifier.Puid.{Puid}
 use Rattle.cfs_base.specs.declared.identifier.Tuid.{Tuid}
 use Rattle.cfs_base.specs.declared.kind.FileKind.TheVariants as kinds
@@ -99,13 +99,17 @@ file_seen s who ref = the_file (seen s who ref).object
 abbrev pub changed_draft : Change → Draft → Draft
 changed_draft c d = record { object = changed_object c d.object; fresh = fresh_after c d.object d.fresh }
 
+-- the grants with this draft in the session's grant of that identifier
+abbrev pub with_draft : ℕ → Tuid → Draft → List Grant → List Grant
+with_draft who t d grants = map (λ g. if is_grant who t g then record g { draft = Some d } else g) grants
+
 abbrev put_object : State → Option Puid → Object → State
 put_object s None o = s
 put_object s (Some id) o = record s { graph = with_object s.graph id o }
 
 abbrev put_draft : State → ℕ → Ref → Draft → State
 put_draft s who (Direct id) d = s
-put_draft s who (Through t) d = record s { grants = map (λ g. if is_grant who t g then record g { draft = Some d } else g) s.grants }
+put_draft s who (Through t) d = record s { grants = with_draft who t d s.grants }
 
 -- the state with this to be seen through the reference: in the grant's draft where it has one, else in the graph
 abbrev pub put : State → ℕ → Ref → Draft → State

@@ -1,13 +1,13 @@
 -- What a collection may take, and what it must.
-use Rattle.std.specs.Prelude.{ℕ, Bool, true, false, not, ◌&&◌, ◌||◌, IsTrue, List, [], ◌∷◌, length}
+use Rattle.std.specs.Prelude.{◌≡◌, Bool, true, false, not, ◌&&◌, ◌||◌, List, [], length}
 use Rattle.std.specs.List.{list_all}
 use Rattle.cfs_base.specs.declared.identifier.Puid.{Puid}
 use Rattle.ufs_model.specs.declared.collection.Collection.{Collection}
 use Rattle.ufs_model.specs.declared.collection.Collection.TheVariants as collections
 use Rattle.ufs_model.specs.Identifier.{is_among, rises}
-use Rattle.ufs_model.specs.Graph.{Graph, ids_of, is_there, has_pair}
+use Rattle.ufs_model.specs.Graph.{ids_of, is_there, has_pair}
 use Rattle.ufs_model.specs.State.{State, pairs_of}
-use Rattle.ufs_model.specs.Reach.{reached, kept}
+use Rattle.ufs_model.specs.Reach.{reached, kept, IsReached, IsKept}
 
 -- ---- the collection's memory
 
@@ -38,8 +38,9 @@ reached_since c = reached (length (edges c)) (edges c) (starts c)
 abbrev pub is_cut_off : State → Puid → Bool
 is_cut_off s x = is_there s.graph x && not (is_among x (reached_since s.collection))
 
-abbrev pub IsCutOff : State → Puid → Type 0
-IsCutOff s x = IsTrue (is_cut_off s x)
+pub record IsCutOff (s : State) (x : Puid) : Type 0 where
+  pub there : is_there s.graph x ≡ true
+  pub cut_off : ¬ IsReached (edges s.collection) (starts s.collection) x
 
 -- ---- whether exactly these may vanish
 
@@ -60,5 +61,12 @@ abbrev pub may_vanish : State → List Puid → Bool
 may_vanish s ids =
     is_marking s.collection && are_there s ids && has_no_kept s ids && leaves_no_reference s ids && has_all_cut_off s ids
 
-abbrev pub MayVanish : State → List Puid → Type 0
-MayVanish s ids = IsTrue (may_vanish s ids)
+-- These may vanish at once: each is there, none is kept, no index that stays refers to one, and all are among them that
+-- were cut off throughout.
+pub record MayVanish (s : State) (ids : List Puid) : Type 0 where
+  pub marking : is_marking s.collection ≡ true
+  pub rising : rises ids ≡ true
+  pub there : (x : Puid) → is_among x ids ≡ true → is_there s.graph x ≡ true
+  pub none_kept : (x : Puid) → IsKept s x → is_among x ids ≡ false
+  pub none_referred : (i x : Puid) → has_pair (pairs_of s) i x ≡ true → is_among i ids ≡ false → is_among x ids ≡ false
+  pub all_cut_off : (x : Puid) → IsCutOff s x → is_among x ids ≡ true

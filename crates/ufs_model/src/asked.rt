@@ -75,6 +75,14 @@ pub enum Request {
     },
 }
 
+/// What a request wants to find.
+#[derive(Clone, Copy, Debug, PartialEq, Eq)]
+pub enum Wanted {
+    AnIndex,
+    AFile,
+    Either,
+}
+
 /// What is answered. After a refusal all is as it was, but where a stop is told.
 #[derive(Debug, Drop)]
 pub enum Reply {

@@ -5,19 +5,29 @@
 
 mod asked;
 mod blocks;
+mod change;
 mod collection;
+mod effect;
 mod index;
+pub mod laws;
 mod limits;
+mod numbers;
 mod object;
+mod outcome;
 mod plain;
+mod refusal;
+mod request;
+mod server;
 mod word;
 
-pub use asked::{Bound, Event, Ref, Reply, Request, Unread};
+pub use asked::{Bound, Event, Ref, Reply, Request, Unread, Wanted};
+pub use change::Change;
 pub use collection::{Collection, Pairs};
 pub use limits::{
     FAN_OUT, LEAF_BYTES, LEAF_SLOTS, MOST_AT_ONCE, MOST_BYTES, MOST_GRANTS, MOST_LINE, MOST_NAME,
     MOST_SLOTS, RESERVE, ROOT_SLOTS,
 };
-pub use object::{Draft, File, Grant, Index, Levels, Numbers, Object, Slots};
+pub use numbers::{Levels, Numbers};
+pub use object::{Content, Draft, File, Grant, Index, Object, Slots};
 pub use plain::Plain;
 pub use word::word_of;

@@ -1,97 +1,10 @@
 //! Files, indices, drafts and grants.
-ghost use Rattle.std.specs.Prelude.{◌≡◌, ◌<◌, ◌≤◌, IfOk, IfSome, IfNone, unwrap_or, insert, slice_set, length};
-ghost use Rattle.ufs_model.specs.Numbers.{with_number};
+ghost use Rattle.std.specs.Prelude.{◌≡◌, ◌+◌, ◌-◌, ◌<◌, ◌≤◌, [], ◌++◌, drop, length, replicate, slice_set, take, IfOk, OnErr, OnOk};
 
-use cfs_base::{Bytes, FileKind, Mode, Puid, Session, Tuid};
+use crate::numbers::{Levels, Numbers};
+use cfs_base::{FileKind, Mode, Puid, Session, Tuid};
 use std::alloc::{AllocError, Global};
 use std::marker::Model;
-
-/// The numbers of blocks of one level, in increasing order.
-#[derive(Debug, Drop)]
-pub struct Numbers {
-    numbers: Vec<u64>,
-}
-
-impl Model for Numbers {
-    ghost use Rattle.std.specs.Prelude.{List, ℕ};
-
-    ghost Value = { List ℕ };
-
-    ghost view = { λ a. a.numbers.items };
-}
-
-impl Numbers {
-    /// Takes no memory.
-    pub fn new(numbers: Vec<u64>) -> Numbers
-        ensures { result ≡ numbers.items }
-    {
-        Numbers { numbers }
-    }
-
-    pub fn as_slice(&self) -> &[u64]
-        ensures { result.now ≡ self.now }
-    {
-        self.numbers.as_slice()
-    }
-
-    /// The numbers with one more, at its place; nothing where it is there already.
-    pub fn with(&self, alloc: Global, number: u64) -> Result<Option<Numbers>, AllocError>
-        ensures { IfOk result (λ more. unwrap_or more self.now ≡ with_number number self.now) }
-    {
-        let Some(at) = self.place_for(number) else {
-            return Ok(None);
-        };
-        let mut numbers = self.numbers.as_slice().to_vec(alloc)?;
-        numbers.insert(at, number)?;
-        Ok(Some(Numbers { numbers }))
-    }
-
-    /// Where one more number goes; nothing where it is there already.
-    fn place_for(&self, number: u64) -> Option<usize>
-        ensures there { IfNone result (with_number number self.now ≡ self.now) }
-        ensures inside { IfSome result (λ at. at ≤ length self.now) }
-        ensures place { IfSome result (λ at. with_number number self.now ≡ insert self.now at number) }
-    {
-        for (i, n) in self.numbers.iter().enumerate() {
-            if *n == number {
-                return None;
-            }
-            if *n > number {
-                return Some(i);
-            }
-        }
-        Some(self.numbers.len())
-    }
-}
-
-/// The numbers of blocks, level by level from the leaves up.
-#[derive(Debug, Drop)]
-pub struct Levels {
-    levels: Vec<Numbers>,
-}
-
-impl Model for Levels {
-    ghost use Rattle.std.specs.Prelude.{List, ℕ};
-
-    ghost Value = { List (List ℕ) };
-
-    ghost view = { λ a. a.levels.items };
-}
-
-impl Levels {
-    /// Takes no memory.
-    pub fn new(levels: Vec<Numbers>) -> Levels
-        ensures { result ≡ levels.items }
-    {
-        Levels { levels }
-    }
-
-    pub fn as_slice(&self) -> &[Numbers]
-        ensures { result.now ≡ self.now }
-    {
-        self.levels.as_slice()
-    }
-}
 
 /// The slots of an index.
 #[derive(Debug, Drop)]
@@ -131,12 +44,69 @@ impl Slots {
     }
 }
 
+/// The bytes of a file.
+#[derive(Debug, Drop)]
+pub struct Content {
+    bytes: Vec<u8>,
+}
+
+impl Model for Content {
+    ghost use Rattle.std.specs.Prelude.{List, ℕ};
+
+    ghost Value = { List ℕ };
+
+    ghost view = { λ a. a.bytes.items };
+}
+
+impl Content {
+    /// No byte. Takes no memory.
+    pub fn empty(alloc: Global) -> Content
+        ensures { result ≡ [] }
+    {
+        Content {
+            bytes: Vec::new(alloc),
+        }
+    }
+
+    pub fn as_slice(&self) -> &[u8]
+        ensures { result.now ≡ self.now }
+    {
+        self.bytes.as_slice()
+    }
+
+    pub fn copy(&self, alloc: Global) -> Result<Content, AllocError>
+        ensures { IfOk result (λ copy. copy ≡ self.now) }
+    {
+        Ok(Content {
+            bytes: self.bytes.as_slice().to_vec(alloc)?,
+        })
+    }
+
+    /// Replaces the bytes from the offset on. Takes no memory.
+    pub fn overwrite(&mut self, offset: usize, new: &[u8])
+        requires { offset + length new.now ≤ length self.old }
+        ensures { self.new ≡ take offset self.old ++ new.now ++ drop (offset + length new.now) self.old }
+    {
+        for (i, byte) in new.iter().enumerate() {
+            self.bytes[offset + i] = *byte;
+        }
+    }
+
+    /// Drops bytes, or adds bytes that are the fill byte. On a failure all stays.
+    pub fn resize(&mut self, size: usize, fill: u8) -> Result<(), AllocError>
+        ensures ok { OnOk result (self.new ≡ take size self.old ++ replicate (size - length self.old) fill) }
+        ensures err { OnErr result (self.new ≡ self.old) }
+    {
+        self.bytes.resize(size, fill)
+    }
+}
+
 /// A file: its bytes, what bytes that were never written are, and the leaves that it holds.
 #[derive(Debug, Drop)]
 pub struct File {
     pub kind: FileKind,
     pub fill: u8,
-    pub bytes: Bytes,
+    pub bytes: Content,
     pub held: Numbers,
 }
 

@@ -1,5 +1,5 @@
 -- One object of an image is put in or changed, and all others stay.
-use Rattle.std.proofs.Common.{◌≡◌, ℕ, [], ◌∷◌, length, Bool, true, false, cond, not, ◌||◌, Some, None, refl, sym, ◌∙◌, ap, subst, arith}
+use Rattle.std.proofs.Common.{◌≡◌, ℕ, [], ◌∷◌, length, Bool, true, false, cond, not, ◌||◌, Some, None, refl, sym, ◌∙◌, ap, subst}
 use Rattle.std.proofs.lemmas.Option.{same_Some}
 use Rattle.cfs_base.specs.Disk.{Image, block_at}
 use Rattle.cfs_base.specs.declared.identifier.Puid.{Puid}
@@ -11,12 +11,12 @@ use Rattle.ufs_model.specs.Identifier.{same_puid}
 use Rattle.ufs_model.specs.Graph.{Graph, object_at, with_object, without}
 use Rattle.vol_image.specs.Part.{IsTaken}
 use Rattle.vol_image.specs.Sight.{sight}
-use Rattle.vol_image.specs.Sound.{ReadsAs, Holds}
+use Rattle.vol_image.specs.Sound.{IsLabelOf, ReadsAs, Holds}
 use Rattle.vol_image.specs.Frame.{IsLoose, Frames}
 use Rattle.vol_image.proofs.Reached.{same_puid_is, same_puid_itself}
 use Rattle.vol_image.proofs.Graphs.{object_at-with_object, object_at-without}
 use Rattle.vol_image.proofs.Unique.{one_root_block}
-use Rattle.vol_image.proofs.Law.{framed_sight}
+use Rattle.vol_image.proofs.Law.{frames_hold}
 use Rattle.vol_image.proofs.Parts.{object_taken, taken_apart}
 
 -- identifiers of one block are one
@@ -43,22 +43,41 @@ other_is g id x p h = at (same_puid x id) refl (sym (object_at-without g (id ∷
     at true same q = let no : cond (not (true || false)) (object_at g x) None ≡ Some p = ap (λ (b : Bool). cond (not (b || false)) (object_at g x) None) (sym same) ∙ q in cc
     at false apart q = (ap (λ (b : Bool). cond (not (b || false)) (object_at g x) None) (sym apart) ∙ q, apart)
 
-pub hold_others : (a : Image) (g : Graph) (id : Puid) → Holds a g → Holds a (others g id)
-hold_others a g id holds = record { label = holds.label; maps = holds.maps; own = holds.own; fixed = holds.fixed; objects = λ x p h. holds.objects x p (other_is g id x p h).0 }
+-- some of the objects that an image holds
+pub hold_fewer : (a : Image) (g h : Graph) → Holds a g → h.root ≡ g.root → ((x : Puid) (o : Object) → object_at h x ≡ Some o → object_at g x ≡ Some o) → Holds a h
+hold_fewer a g h holds root was = record {
+  label = subst (λ (r : Puid). IsLabelOf (length a) r (block_at a 1)) (sym root) holds.label;
+  maps = holds.maps;
+  own = holds.own;
+  fixed = holds.fixed;
+  objects = λ x o at. holds.objects x o (was x o at);
+}
 
--- What is within the frame of the others holds them, and this object too as it then reads.
-pub object_put : (a b : Image) (g : Graph) (id : Puid) (o : Object) → Holds a g → Frames a (others g id) b → ReadsAs (length a) id (sight b id.block) o → Holds b (with_object g id o)
-object_put a b g id o holds frames fits = record {
-  label = rw (frames.size, frames.label) holds.label;
-  maps = frames.maps;
-  own = frames.own;
-  fixed = λ n below is. frames.fixed n is ∙ holds.fixed n (omega (arith, below, frames.size)) is;
+pub hold_others : (a : Image) (g : Graph) (id : Puid) → Holds a g → Holds a (others g id)
+hold_others a g id holds = hold_fewer a g (others g id) holds refl (λ x p h. (other_is g id x p h).0)
+
+-- What holds the others holds this object too as it then reads.
+pub object_joins : (b : Image) (g : Graph) (id : Puid) (o : Object) → Holds b (others g id) → ReadsAs (length b) id (sight b id.block) o → Holds b (with_object g id o)
+object_joins b g id o holds fits = record {
+  label = holds.label;
+  maps = holds.maps;
+  own = holds.own;
+  fixed = holds.fixed;
   objects = λ x p found. each x p (same_puid x id) refl (sym (object_at-with_object g id o x) ∙ found);
 }
   where
     each : (x : Puid) (p : Object) (t : Bool) → same_puid x id ≡ t → cond t (Some o) (object_at g x) ≡ Some p → ReadsAs (length b) x (sight b x.block) p
-    each x p true same is = rw (frames.size, same_puid_is x id same, sym (same_Some _ _ is)) fits
-    each x p false apart is = rw (frames.size, framed_sight a b (others g id) x p (other_at g id x p is apart) frames) (holds.objects x p is)
+    each x p true same is = rw (same_puid_is x id same, sym (same_Some _ _ is)) fits
+    each x p false apart is = holds.objects x p (other_at g id x p is apart)
+
+-- within the frame of the others
+pub object_put : (a b : Image) (g : Graph) (id : Puid) (o : Object) → Holds a g → Frames a (others g id) b → ReadsAs (length a) id (sight b id.block) o → Holds b (with_object g id o)
+object_put a b g id o holds frames fits =
+    object_joins b g id o (frames_hold a b (others g id) (hold_others a g id holds) frames) (subst (λ (n : ℕ). ReadsAs n id (sight b id.block) o) (sym frames.size) fits)
+
+-- an object that is new to the graph
+pub object_made : (a b : Image) (g : Graph) (id : Puid) (o : Object) → Holds a g → Frames a g b → ReadsAs (length b) id (sight b id.block) o → Holds b (with_object g id o)
+object_made a b g id o holds frames fits = object_joins b g id o (hold_others b g id (frames_hold a b g holds frames)) fits
 
 -- A block that an object owns is loose for all others: its root, shadow root, nodes and leaves, and what its draft claimed.
 pub owned_is_loose : (a : Image) (g : Graph) (id : Puid) (was : Object) → Holds a g → object_at g id ≡ Some was → (n : ℕ) → IsTaken a n id.block → IsLoose a (others g id) n

@@ -1,5 +1,5 @@
 -- A commit: its bit is set, the draft's root is copied, and the blocks are settled.
-use Rattle.std.proofs.Common.{◌≡◌, ◌≢◌, inl, inr, ℕ, List, [], ◌∷◌, length, set, length-set, Bool, true, Some, refl, sym, ◌∙◌, ap, subst, arith}
+use Rattle.std.proofs.Common.{◌≡◌, ◌≢◌, inl, inr, ℕ, ◌+◌, ◌<◌, List, [], ◌∷◌, length, set, length-set, Bool, true, Some, refl, sym, ◌∙◌, ap, subst, arith}
 use Rattle.std.proofs.Math.Path.{fun_ext}
 use Rattle.std.proofs.lemmas.List.{get_or-set_same, get_or-set_other}
 use Rattle.std.proofs.lemmas.Option.{same_Some}
@@ -20,7 +20,8 @@ use Rattle.vol_image.specs.Seen.{Held, Tree, tree_in}
 use Rattle.vol_image.specs.Reading.{IsTree}
 use Rattle.vol_image.specs.Sight.{shadows, source, first_or, sight}
 use Rattle.vol_image.specs.Sound.{ReadsAs, Holds}
-use Rattle.vol_image.specs.Commit.{IsDraft, committed, root_from_source}
+use Rattle.vol_image.specs.Commit.{IsDraft, IsReadBy, committed, root_from_source}
+use Rattle.vol_image.proofs.Alone.{one_passes}
 use Rattle.vol_image.proofs.Views.{same_tree}
 use Rattle.vol_image.proofs.Law.{same_shadows}
 use Rattle.vol_image.proofs.Parts.{IsPlaced, taken_part, shadow_taken, tree_placed, below_apart, root_placed, taken_apart, in_image}
@@ -84,8 +85,13 @@ module _ (a : Image) (g : Graph) (id : Puid) (was : Object) (e : MapEntry) (hold
     now_shadows : shadows (with_entry a id.block (committed e)) id.block ≡ s ∷ []
     unfolding shadows
     now_shadows =
+        let shadow = shadow_taken a id.block s draft.stands in
+        let below : s < 0 + length a = omega (arith, in_image a g holds s shadow.taken.is shadow.taken.here) in
         rw (entry_now, taken_part e.state true e.place e.owner real, length-with_entry a id.block (committed e))
-        (ap (λ (P : ℕ → Bool). filter P (numbers 0 (length a))) (fun_ext stands_same) ∙ draft.alone)
+        (ap (λ (P : ℕ → Bool). filter P (numbers 0 (length a))) (fun_ext stands_same) ∙ one_passes (λ n. stands_for id.block (entry_in a n)) s draft.alone 0 (length a) draft.stands (omega arith) below)
+
+    pub read_by : IsReadBy a (with_entry a id.block (committed e)) id.block s
+    read_by = record { source_is = ap (first_or id.block) now_shadows; stands = stands_same; tree = draft_tree }
 
     -- the object is its draft
     now_object : ReadsAs (length a) id (sight (with_entry a id.block (committed e)) id.block) o

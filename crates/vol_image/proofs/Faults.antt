@@ -31,7 +31,7 @@ use Rattle.vol_image.proofs.Parts.{root_placed, taken_apart, in_image}
 
 -- ---- slots
 
-refers_at : (slots : List (Option Puid)) (s : ℕ) (x : Puid) → slice_get slots s ≡ Some (Some x) → is_among x (filter_map (λ slot. slot) slots) ≡ true
+pub refers_at : (slots : List (Option Puid)) (s : ℕ) (x : Puid) → slice_get slots s ≡ Some (Some x) → is_among x (filter_map (λ slot. slot) slots) ≡ true
 refers_at [] s x is = cc
 refers_at (None ∷ slots) zero x is = cc
 refers_at (Some y ∷ slots) zero x is =
@@ -48,7 +48,7 @@ some_none : {A : Type 0} (o : Option A) → IsTrue (is_some o) → o ≡ None �
 some_none None some is = cc
 some_none (Some x) some is = cc
 
-only_one : (ss : List ℕ) (s r : ℕ) → length ss ≤ 1 → has_number s ss ≡ true → first_or r ss ≡ s
+pub only_one : (ss : List ℕ) (s r : ℕ) → length ss ≤ 1 → has_number s ss ≡ true → first_or r ss ≡ s
 only_one [] s r few has = cc
 only_one (m ∷ []) s r few has = elim (or_cases (m == s) false has) [ inl same ↦ grind (arith, nat_tests) | inr none ↦ cc ]
 only_one (m ∷ k ∷ ss) s r few has = absurd (omega arith)

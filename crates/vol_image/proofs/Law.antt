@@ -1,5 +1,5 @@
 -- The law of frames.
-use Rattle.std.proofs.Common.{◌≡◌, inl, inr, ℕ, [], length, Bool, true, false, cond, Some, refl, ◌∙◌, ap, arith}
+use Rattle.std.proofs.Common.{◌≡◌, inl, inr, ℕ, [], length, Bool, true, false, cond, Some, refl, sym, ◌∙◌, ap, arith}
 use Rattle.std.proofs.Math.Path.{fun_ext}
 use Rattle.std.specs.Prelude.{filter}
 use Rattle.cfs_base.specs.Disk.{Image, block_at}
@@ -10,7 +10,7 @@ use Rattle.ufs_model.specs.Graph.{Graph, object_at}
 use Rattle.ufs_model.specs.Numbers.{numbers}
 use Rattle.vol_image.specs.Part.{SameAt, part_at, is_committed, stands_for}
 use Rattle.vol_image.specs.Seen.{tree_in}
-use Rattle.vol_image.specs.Sight.{shadows, source, first_or, sight}
+use Rattle.vol_image.specs.Sight.{Sight, shadows, source, first_or, sight}
 use Rattle.vol_image.specs.Sound.{Holds, IsSoundAs}
 use Rattle.vol_image.specs.Frame.{IsBlockOf, Frames}
 use Rattle.vol_image.proofs.Views.{same_tree}
@@ -32,6 +32,13 @@ same_sight a b r keeps standing =
     let from : block_at b (source b r) ≡ block_at a (source a r) = ap (λ ss. block_at b (first_or r ss)) standing ∙ (keeps (source a r) (inr (inl refl))).content in
     let tree : tree_in b (block_at b (source b r)) ≡ tree_in a (block_at a (source a r)) = ap (tree_in b) from ∙ same_tree a b (block_at a (source a r)) (λ p h v. keeps h.block (inr (inr (p, h, v, refl)))) in
     λ i. record { part = root.part i; root = root.content i; standing = standing i; tree = tree i }
+
+-- what is seen the same has the same blocks
+pub same_blocks : (a b : Image) (r n : ℕ) → sight b r ≡ sight a r → IsBlockOf a r n → IsBlockOf b r n
+unfolding sight
+same_blocks a b r n same (inl root) = inl root
+same_blocks a b r n same (inr (inl from)) = inr (inl (from ∙ ap (λ (s : Sight). first_or r s.standing) (sym same)))
+same_blocks a b r n same (inr (inr (p, h, v, is))) = inr (inr (p, h, ap (λ (s : Sight). s.tree.below p) same ∙ v, is))
 
 -- one object of a graph, from one image of a frame to another
 pub framed_sight : (a b : Image) (g : Graph) (id : Puid) (o : Object) → object_at g id ≡ Some o → Frames a g b → sight b id.block ≡ sight a id.block

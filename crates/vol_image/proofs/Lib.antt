@@ -1,5 +1,6 @@
 pub mod Views
 pub mod Law
+pub mod Alone
 pub mod Parts
 pub mod Steps
 pub mod Claims
@@ -7,6 +8,8 @@ pub mod Reached
 pub mod Graphs
 pub mod Rooted
 pub mod Unique
+pub mod AtRest
+pub mod AtRoot
 pub mod Changes
 pub mod Commits
 pub mod Settles
@@ -16,14 +19,4 @@ pub mod Rising
 pub mod Places
 pub mod Paths
 pub mod Counts
-pub mod Sights
-pub mod RootIndex
-pub mod WithA
-pub mod Worked
-pub mod Damages
-pub mod DamagedTrees
-pub mod Zeros
-pub mod FullTree
-pub mod Full
-pub mod WorkedBytes
-pub mod WorkedRun
+pub mod Carries

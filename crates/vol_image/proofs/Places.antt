@@ -1,5 +1,5 @@
 -- A place names one path, and below a root a block stands at one path.
-use Rattle.std.proofs.Common.{◌≡◌, ◌≢◌, ℕ, zero, suc, ◌+◌, ◌*◌, ◌%◌, ◌/◌, ◌<◌, ◌≤◌, List, [], ◌∷◌, length, inl, inr, Some, refl, sym, ◌∙◌, ap, arith}
+use Rattle.std.proofs.Common.{◌≡◌, ◌≢◌, ℕ, zero, suc, ◌+◌, ◌*◌, ◌%◌, ◌/◌, ◌<◌, ◌≤◌, List, [], ◌∷◌, length, inl, inr, Some, refl, sym, ◌∙◌, ap, subst, arith}
 use Rattle.std.proofs.lemmas.Nat.{div-mul-add, mod-mul-add}
 use Rattle.std.proofs.lemmas.Bool.{cases_lt}
 use Rattle.std.proofs.lemmas.List.{get_or_past}
@@ -120,16 +120,26 @@ place_path levels (k ∷ p) (j ∷ q) few one two f h same = place_step levels k
 below_somewhere : (image : Image) (levels : List Level) (content : List ℕ) (p : List ℕ) → below image levels content p ≢ 0 → p ≢ []
 below_somewhere image levels content p some none = some (ap (below image levels content) none)
 
--- below a root a block stands at one path
+-- a block that stands below two roots of one owner stands at one path
+pub same_path : (image : Image) (size owner : ℕ) (content other : List ℕ) (root r : roots.Root) (o p : Object) → levels_of content ≡ levels_of other → IsTree size owner (tree_in image content) root o → IsTree size owner (tree_in image other) r p
+    → (path q : List ℕ) (g h : Held) → (tree_in image content).below path ≡ Some g → (tree_in image other).below q ≡ Some h → g.block ≡ h.block → path ≡ q
+same_path image size owner content other root r o p levels fits too path q g h one two same =
+    let first = fits.owned path g one in
+    let second = too.owned q h two in
+    let at = (held_is image (tree_of image content path) g one).1 in
+    let there = (held_is image (tree_of image other q) h two).1 in
+    let parts : g.part ≡ h.part = held_part image (tree_of image content path) g one ∙ ap (part_at image) same ∙ sym (held_part image (tree_of image other q) h two) in
+    let is : first.is ≡ second.is = same_Some _ _ (sym first.here ∙ parts ∙ second.here) in
+    place_path (levels_of content) path q (few_levels content) (below_somewhere image (levels_of content) content path at) (below_somewhere image (levels_of other) other q there)
+    (below_is_path image (levels_of content) content path at) (subst (λ (ls : List Level). IsPath ls q) (sym levels) (below_is_path image (levels_of other) other q there))
+    (same_Some _ _ (sym first.place_is ∙ ap (λ (x : Part). x.place) is ∙ second.place_is) ∙ ap (λ (ls : List Level). place_at ls q) (sym levels))
+
+-- the same below one root
 pub one_path : (image : Image) (size owner : ℕ) (content : List ℕ) (root : roots.Root) (o : Object) → IsTree size owner (tree_in image content) root o → (p q : List ℕ) (g h : Held)
     → (tree_in image content).below p ≡ Some g → (tree_in image content).below q ≡ Some h → g.block ≡ h.block → p ≡ q
-one_path image size owner content root o fits p q g h one two same =
-    let first = fits.owned p g one in
-    let second = fits.owned q h two in
-    let at = (held_is image (tree_of image content p) g one).1 in
-    let there = (held_is image (tree_of image content q) h two).1 in
-    let parts : g.part ≡ h.part = held_part image (tree_of image content p) g one ∙ ap (part_at image) same ∙ sym (held_part image (tree_of image content q) h two) in
-    let is : first.is ≡ second.is = same_Some _ _ (sym first.here ∙ parts ∙ second.here) in
-    place_path (levels_of content) p q (few_levels content) (below_somewhere image (levels_of content) content p at) (below_somewhere image (levels_of content) content q there)
-    (below_is_path image (levels_of content) content p at) (below_is_path image (levels_of content) content q there)
-    (same_Some _ _ (sym first.place_is ∙ ap (λ (x : Part). x.place) is ∙ second.place_is))
+one_path image size owner content root o fits p q g h one two same = same_path image size owner content content root root o o refl fits fits p q g h one two same
+
+-- all roots have the same levels
+pub same_levels : (content other : List ℕ) → levels_of content ≡ levels_of other
+unfolding levels_of
+same_levels content other = refl

@@ -1,5 +1,5 @@
 -- After the root has its new content: the blocks' states, the shadow root's entry and the bit may be written, in any order.
-use Rattle.std.proofs.Common.{◌≡◌, ◌≢◌, inl, inr, ℕ, zero, suc, ◌+◌, ◌<◌, ◌≤◌, List, [], ◌∷◌, length, set, Bool, true, false, cond, Some, refl, sym, ◌∙◌, ap, subst, arith}
+use Rattle.std.proofs.Common.{◌≡◌, ◌≢◌, inl, inr, ℕ, ◌<◌, ◌≤◌, List, [], length, set, true, false, cond, Some, refl, sym, ◌∙◌, ap, subst, arith}
 use Rattle.std.proofs.lemmas.List.{get_or-set_same}
 use Rattle.std.specs.Prelude.{filter}
 use Rattle.cfs_base.specs.Disk.{Image, block_at}
@@ -19,6 +19,7 @@ use Rattle.vol_image.specs.Sight.{shadows, source, sight}
 use Rattle.vol_image.specs.Sound.{ReadsAs, Holds}
 use Rattle.vol_image.specs.Frame.{IsHeldBy, StandsForNone}
 use Rattle.vol_image.specs.Commit.{Settles, MaySettle}
+use Rattle.vol_image.proofs.Alone.{one_at_most}
 use Rattle.vol_image.proofs.Views.{same_tree}
 use Rattle.vol_image.proofs.Parts.{source_is, root_placed, taken_apart, tree_placed}
 use Rattle.vol_image.proofs.Steps.{not_map, block_mixed, entry_mixed, frames_begin, frames_entry, frames_mix}
@@ -26,24 +27,10 @@ use Rattle.vol_image.proofs.Changes.{others, hold_others, object_put}
 
 -- ---- one shadow root at most
 
-none_after : (P : ℕ → Bool) (s a n : ℕ) → ((m : ℕ) → P m ≡ true → m ≡ s) → s < a → filter P (numbers a n) ≡ []
-none_after P s a zero only past = refl
-none_after P s a (suc n) only past = elim (P a) as (λ b. P a ≡ b → cond b (a ∷ filter P (numbers (a + 1) n)) (filter P (numbers (a + 1) n)) ≡ []) [
-  | true ↦ λ is. let no = only a is in absurd (omega arith)
-  | false ↦ λ is. none_after P s (a + 1) n only (omega arith)
-] refl
-
-one_at_most : (P : ℕ → Bool) (s a n : ℕ) → ((m : ℕ) → P m ≡ true → m ≡ s) → length (filter P (numbers a n)) ≤ 1
-one_at_most P s a zero only = omega arith
-one_at_most P s a (suc n) only = elim (P a) as (λ b. P a ≡ b → length (cond b (a ∷ filter P (numbers (a + 1) n)) (filter P (numbers (a + 1) n))) ≤ 1) [
-  | true ↦ λ is. let here = only a is in let rest = none_after P s (a + 1) n only (omega arith) in omega (arith, ap length rest)
-  | false ↦ λ is. one_at_most P s (a + 1) n only
-] refl
-
 few_shadows : (b : Image) (r s : ℕ) → ((n : ℕ) → stands_for r (entry_in b n) ≡ true → n ≡ s) → length (shadows b r) ≤ 1
 unfolding shadows
 few_shadows b r s only = elim (is_committed (part_at b r)) as (λ t. length (cond t (filter (λ n. stands_for r (entry_in b n)) (numbers 0 (length b))) []) ≤ 1) [
-  | true ↦ one_at_most (λ n. stands_for r (entry_in b n)) s 0 (length b) only
+  | true ↦ one_at_most (λ n. stands_for r (entry_in b n)) s only 0 (length b)
   | false ↦ omega arith
 ]
 
@@ -87,18 +74,18 @@ settles_begins c g id o s holds at copied alone = record {
 -- an entry: the root's, the shadow root's, or of another block that no other object holds
 settles_entry : (c : Image) (g : Graph) (id : Puid) (o : Object) (s : ℕ) (b : Image) (n : ℕ) (e old : MapEntry) → Holds c g → object_at g id ≡ Some o → Settles c g id s b → is_fixed n ≡ false → is_fixed s ≡ false → is_fixed id.block ≡ false
     → ((path : List ℕ) (h : Held) → (tree_in c (block_at c id.block)).below path ≡ Some h → is_fixed h.block ≡ false)
-    → ¬ IsHeldBy c (others g id) n → entry_in b n ≡ Some old → IsEntry e → OwnsItself n e
+    → (IsHeldBy c (others g id) n → part_of (Some e) ≡ part_of (Some old)) → entry_in b n ≡ Some old → IsEntry e → OwnsItself n e
     → (n ≡ id.block → BelongsTo id.block Root (part_of (Some e)))
     → ((path : List ℕ) (h : Held) → (tree_in c (block_at c id.block)).below path ≡ Some h → h.block ≡ n → part_of (Some e) ≡ part_of (Some old))
     → (stands_for id.block (Some e) ≡ true → n ≡ s)
     → StandsForNone c (others g id) e → StandsForNone c (others g id) old
     → Settles c g id s (with_entry b n e)
-settles_entry c g id o s b n e old holds at settles apart apart_s apart_r apart_in unheld was is itself root_part inner_part shadow new_none old_none =
+settles_entry c g id o s b n e old holds at settles apart apart_s apart_r apart_in kept was is itself root_part inner_part shadow new_none old_none =
     let here : entry_in (with_entry b n e) n ≡ Some e = entry_in-with_entry_same b n e old was is in
     let other : (m : ℕ) → m ≢ n → entry_in (with_entry b n e) m ≡ entry_in b m = λ m differs. entry_in-with_entry_other b n e old m was differs in
     let content : (m : ℕ) → is_fixed m ≡ false → block_at (with_entry b n e) m ≡ block_at b m = λ m loose. block_at-with_entry b n e m (λ same. not_map m loose (omega (arith, same))) in
     record {
-      frames = frames_entry c (others g id) b n e old (hold_others c g id holds) settles.frames apart (λ held. absurd (unheld held)) was is itself (λ x p found bit. new_none x p found bit ∙ sym (old_none x p found bit));
+      frames = frames_entry c (others g id) b n e old (hold_others c g id holds) settles.frames apart kept was is itself (λ x p found bit. new_none x p found bit ∙ sym (old_none x p found bit));
       part = elim (same_or_not id.block n) [
         | inl same ↦ subst (λ p. BelongsTo id.block Root p) (sym (ap (λ (m : ℕ). part_at (with_entry b n e) m) same ∙ ap part_of here)) (root_part (sym same))
         | inr differs ↦ subst (λ p. BelongsTo id.block Root p) (sym (ap part_of (other id.block differs))) settles.part
@@ -128,7 +115,7 @@ settles_on c g id o s b n old e holds at copied apart_s settles was may =
     settles_entry c g id o s b n e old holds at settles may.apart apart_s
     (taken_apart c g holds id.block id.block (root_placed c (length c) id o seen).taken)
     (λ path h v. taken_apart c g holds h.block id.block (tree_placed c (length c) id.block (block_at c id.block) seen.source o tree path h v).taken)
-    may.unheld was may.entry may.itself may.root may.inner may.shadow may.of_others may.of_others_before
+    may.others was may.entry may.itself may.root may.inner may.shadow may.of_others may.of_others_before
 
 -- ---- a block of one such image, written into another
 

@@ -8,15 +8,15 @@ use Rattle.cfs_base.specs.declared.identifier.Puid.{Puid}
 use Rattle.cyl_map.specs.declared.entry.MapEntry.{MapEntry}
 use Rattle.cyl_map.specs.Entry.{IsEntry}
 use Rattle.cyl_map.specs.Map.{entry_at}
-use Rattle.cyl_map.specs.Volume.{map_of, entry_in, with_entry}
-use Rattle.cyl_map.proofs.Volumes.{lt_or_le, same_or_not, entry_in-with_entry_same, entry_in-with_entry_other, block_at-with_entry, length-with_entry, entry_in-set}
+use Rattle.cyl_map.specs.Volume.{map_of, entry_in, with_entry, AreMaps}
+use Rattle.std.proofs.lemmas.Bool.{cases_lt}
+use Rattle.cyl_map.proofs.Volumes.{same_or_not, entry_in-with_entry_same, entry_in-with_entry_other, block_at-with_entry, length-with_entry, entry_in-set}
 use Rattle.ufs_model.specs.declared.object.Object.{Object}
 use Rattle.ufs_model.specs.Graph.{Graph, object_at}
-use Rattle.vol_image.specs.Part.{OwnsItself, part_of, part_at, is_committed, is_fixed, stands_for}
-use Rattle.vol_image.specs.Sight.{Sight, first_or, sight}
+use Rattle.vol_image.specs.Part.{OwnsItself, RootsOwnThemselves, part_of, part_at, is_committed, is_fixed, stands_for}
 use Rattle.vol_image.specs.Sound.{Holds}
-use Rattle.vol_image.specs.Frame.{IsBlockOf, IsHeldBy, IsLoose, Frames}
-use Rattle.vol_image.proofs.Law.{framed_sight}
+use Rattle.vol_image.specs.Frame.{ChangesMaps, Frames, IsHeldBy, IsLoose, MayChange}
+use Rattle.vol_image.proofs.Law.{framed_sight, same_blocks}
 use Rattle.vol_image.proofs.Parts.{held_apart}
 
 pub frames_begin : (a : Image) (g : Graph) → Holds a g → Frames a g a
@@ -24,15 +24,12 @@ frames_begin a g holds = record { size = refl; maps = holds.maps; own = holds.ow
 
 -- ---- frames compose
 
--- a block of an object is one in each image of the frame
+-- a block of an object is one in each image of the frame, and the other way round
 still_held : (a b : Image) (g : Graph) → Frames a g b → (n : ℕ) → IsHeldBy a g n → IsHeldBy b g n
-unfolding sight
-still_held a b g frames n (id, o, at, is) = (id, o, at, moved is)
-  where
-    moved : IsBlockOf a id.block n → IsBlockOf b id.block n
-    moved (inl root) = inl root
-    moved (inr (inl from)) = inr (inl (from ∙ ap (λ (s : Sight). first_or id.block s.standing) (sym (framed_sight a b g id o at frames))))
-    moved (inr (inr (p, h, v, same))) = inr (inr (p, h, ap (λ (s : Sight). s.tree.below p) (framed_sight a b g id o at frames) ∙ v, same))
+still_held a b g frames n (id, o, at, is) = (id, o, at, same_blocks a b id.block n (framed_sight a b g id o at frames) is)
+
+pub was_held : (a b : Image) (g : Graph) → Frames a g b → (n : ℕ) → IsHeldBy b g n → IsHeldBy a g n
+was_held a b g frames n (id, o, at, is) = (id, o, at, same_blocks b a id.block n (sym (framed_sight a b g id o at frames)) is)
 
 pub frames_then : (a b c : Image) (g : Graph) → Frames a g b → Frames b g c → Frames a g c
 frames_then a b c g one two = record {
@@ -48,12 +45,35 @@ frames_then a b c g one two = record {
   standing = λ id o at bit n. two.standing id o at (ap is_committed (one.held id.block (id, o, at, inl refl)).part ∙ bit) n ∙ one.standing id o at bit n;
 }
 
+-- some of the objects
+pub frames_fewer : (a b : Image) (g h : Graph) → Frames a g b → ((x : Puid) (o : Object) → object_at h x ≡ Some o → object_at g x ≡ Some o) → Frames a h b
+frames_fewer a b g h frames was = record {
+  size = frames.size;
+  maps = frames.maps;
+  own = frames.own;
+  label = frames.label;
+  fixed = frames.fixed;
+  held = λ n is. frames.held n (is.0, is.1, was is.0 is.1 is.2, is.3);
+  standing = λ id o at. frames.standing id o (was id o at);
+}
+
+pub frames_back : (a b : Image) (g : Graph) → Holds a g → Frames a g b → Frames b g a
+frames_back a b g holds frames = record {
+  size = sym frames.size;
+  maps = holds.maps;
+  own = holds.own;
+  label = sym frames.label;
+  fixed = λ n is. sym (frames.fixed n is);
+  held = λ n is. let same = frames.held n (was_held a b g frames n is) in record { part = sym same.part; content = sym same.content };
+  standing = λ id o at bit n. sym (frames.standing id o at (ap is_committed (sym (frames.held id.block (id, o, at, inl refl)).part) ∙ bit) n);
+}
+
 -- ---- one write of the content
 
 pub not_map : (n : ℕ) → is_fixed n ≡ false → n % 64 ≢ 0
 not_map n is = λ (e : n % 64 ≡ 0). grind (arith, nat_tests)
 
-not_label : (n : ℕ) → is_fixed n ≡ false → n ≢ 1
+pub not_label : (n : ℕ) → is_fixed n ≡ false → n ≢ 1
 not_label n is = λ (e : n ≡ 1). grind (arith, nat_tests)
 
 -- the content of a loose block
@@ -73,46 +93,64 @@ frames_content a g c n block frames loose =
       standing = λ id o at bit m. ap (stands_for id.block) (entry m) ∙ frames.standing id o at bit m;
     }
 
+-- ---- entries
+
+-- an image with one entry changed has maps
+pub entry_maps : (c : Image) (n : ℕ) (e old : MapEntry) → AreMaps c → entry_in c n ≡ Some old → IsEntry e → AreMaps (with_entry c n e)
+entry_maps c n e old maps was is m below = elim (same_or_not m n) [
+  | inl same ↦ let here = entry_in-with_entry_same c n e old was is in rw (same, here) refl
+  | inr apart ↦ rw (entry_in-with_entry_other c n e old m was apart) (maps m (omega (arith, below, length-with_entry c n e)))
+]
+
+pub entry_own : (c : Image) (n : ℕ) (e old : MapEntry) → RootsOwnThemselves c → entry_in c n ≡ Some old → IsEntry e → OwnsItself n e → RootsOwnThemselves (with_entry c n e)
+entry_own c n e old own was is itself m f stands = elim (same_or_not m n) [
+  | inl same ↦
+      let one : e ≡ f = same_Some _ _ (sym (entry_in-with_entry_same c n e old was is) ∙ ap (entry_in (with_entry c n e)) (sym same) ∙ stands) in
+      subst (λ (x : MapEntry). OwnsItself m x) one (subst (λ (k : ℕ). OwnsItself k e) (sym same) itself)
+  | inr apart ↦ own m f (sym (entry_in-with_entry_other c n e old m was apart) ∙ stands)
+]
+
+not_fixed : (n : ℕ) → is_fixed n ≡ false → is_fixed n ≡ true → ⊥
+not_fixed n free is = let no : true ≡ false = sym is ∙ free in cc
+
+-- many entries at once
+pub frames_maps : (a : Image) (g : Graph) (c b : Image) → Holds a g → Frames a g c → ChangesMaps a g c b → Frames a g b
+frames_maps a g c b holds frames changes = record {
+  size = changes.size ∙ frames.size;
+  maps = changes.maps;
+  own = changes.own;
+  label = changes.contents 1 (λ is. cc) ∙ frames.label;
+  fixed = λ n fix. elim (changes.entries n) [ inl same ↦ same | inr may ↦ absurd (not_fixed n may.apart fix) ] ∙ frames.fixed n fix;
+  held = λ n held. record {
+    part = elim (changes.entries n) [ inl same ↦ ap part_of same | inr may ↦ may.keeps held ] ∙ (frames.held n held).part;
+    content = changes.contents n (not_map n (held_apart a g holds n held)) ∙ (frames.held n held).content;
+  };
+  standing = λ id o at bit n. elim (changes.entries n) [ inl same ↦ ap (stands_for id.block) same | inr may ↦ may.standing id o at bit ] ∙ frames.standing id o at bit n;
+}
+
 -- An entry, where no held block changes its part by it, and no shadow root of an object whose commit bit stands is made or ended.
 pub frames_entry : (a : Image) (g : Graph) (c : Image) (n : ℕ) (e old : MapEntry) → Holds a g → Frames a g c → is_fixed n ≡ false → (IsHeldBy a g n → part_of (Some e) ≡ part_of (Some old)) → entry_in c n ≡ Some old → IsEntry e → OwnsItself n e
     → ((id : Puid) (o : Object) → object_at g id ≡ Some o → is_committed (part_at a id.block) ≡ true → stands_for id.block (Some e) ≡ stands_for id.block (Some old))
     → Frames a g (with_entry c n e)
-frames_entry a g c n e old holds frames free keeps was is itself no_shadow =
-    let other : (m : ℕ) → m ≢ n → entry_in (with_entry c n e) m ≡ entry_in c m = λ m apart. entry_in-with_entry_other c n e old m was apart in
-    let here : entry_in (with_entry c n e) n ≡ Some e = entry_in-with_entry_same c n e old was is in
-    record {
-      size = length-with_entry c n e ∙ frames.size;
-      maps = λ m below. elim (same_or_not m n) [
-        | inl same ↦ rw (same, here) refl
-        | inr apart ↦ rw (other m apart) (frames.maps m (omega (arith, below, length-with_entry c n e)))
+frames_entry a g c n e old holds frames free keeps was is itself standing =
+    frames_maps a g c (with_entry c n e) holds frames (record {
+      size = length-with_entry c n e;
+      maps = entry_maps c n e old frames.maps was is;
+      own = entry_own c n e old frames.own was is itself;
+      contents = λ m other. block_at-with_entry c n e m (λ same. other (omega (arith, same)));
+      entries = λ m. elim (same_or_not m n) [
+        | inl same ↦ inr (subst (λ (k : ℕ). MayChange a g k (entry_in c k) (entry_in (with_entry c n e) k)) (sym same)
+            (rw (was, entry_in-with_entry_same c n e old was is) (record { apart = free; keeps = keeps; standing = standing })))
+        | inr apart ↦ inl (entry_in-with_entry_other c n e old m was apart)
       ];
-      own = λ m f stands. elim (same_or_not m n) [
-        | inl same ↦
-            let one : e ≡ f = same_Some _ _ (sym here ∙ ap (entry_in (with_entry c n e)) (sym same) ∙ stands) in
-            subst (λ (x : MapEntry). OwnsItself m x) one (subst (λ (k : ℕ). OwnsItself k e) (sym same) itself)
-        | inr apart ↦ frames.own m f (sym (other m apart) ∙ stands)
-      ];
-      label = block_at-with_entry c n e 1 (λ same. omega (arith, same)) ∙ frames.label;
-      fixed = λ m fix. other m (λ same. let no : true ≡ false = sym fix ∙ ap is_fixed same ∙ free in cc) ∙ frames.fixed m fix;
-      held = λ m held. record {
-        part = elim (same_or_not m n) [
-          | inl same ↦ ap (λ (k : ℕ). part_at (with_entry c n e) k) same ∙ ap part_of here ∙ keeps (subst (IsHeldBy a g) same held) ∙ ap part_of (sym was) ∙ ap (part_at c) (sym same)
-          | inr apart ↦ ap part_of (other m apart)
-        ] ∙ (frames.held m held).part;
-        content = block_at-with_entry c n e m (λ same. not_map m (held_apart a g holds m held) (omega (arith, same))) ∙ (frames.held m held).content;
-      };
-      standing = λ id o at bit m. elim (same_or_not m n) [
-        | inl same ↦ rw (same, here, was) (no_shadow id o at bit)
-        | inr apart ↦ ap (stands_for id.block) (other m apart)
-      ] ∙ frames.standing id o at bit m;
-    }
+    })
 
 -- ---- a block of one image of a frame, written into another
 
 pub block_mixed : (c k : Image) (n m : ℕ) → (block_at (set c n (block_at k n)) m ≡ block_at c m) ⊎ (block_at (set c n (block_at k n)) m ≡ block_at k m)
 block_mixed c k n m = elim (same_or_not m n) [
   | inr apart ↦ inl (get_or-set_other c n m (block_at k n) [] apart)
-  | inl same ↦ elim (lt_or_le n (length c)) [
+  | inl same ↦ elim (cases_lt n (length c)) [
     | inl below ↦ inr (rw same (get_or-set_same c n (block_at k n) [] below))
     | inr past ↦ inl (ap (λ (i : Image). block_at i m) (set_past c n (block_at k n) past))
   ]

@@ -1,5 +1,5 @@
 -- A draft that is written beside its object, and its commit.
-use Rattle.std.specs.Prelude.{◌≡◌, ℕ, true, false, List, [], ◌∷◌, length, filter, Some}
+use Rattle.std.specs.Prelude.{◌≡◌, ℕ, true, false, List, [], ◌∷◌, length, Some}
 use Rattle.cfs_base.specs.Disk.{Image, block_at}
 use Rattle.cfs_base.specs.declared.identifier.Puid.{Puid}
 use Rattle.cfs_base.specs.declared.kind.Place.TheVariants.{Root}
@@ -10,7 +10,6 @@ use Rattle.cyl_map.specs.Entry.{IsEntry}
 use Rattle.cyl_map.specs.Volume.{entry_in}
 use Rattle.ufs_model.specs.declared.object.Object.{Object}
 use Rattle.ufs_model.specs.Graph.{Graph, without}
-use Rattle.ufs_model.specs.Numbers.{numbers}
 use Rattle.vol_image.specs.Part.{BelongsTo, OwnsItself, SameAt, part_at, part_of, is_fixed, stands_for}
 use Rattle.vol_image.specs.Seen.{Held, tree_in}
 use Rattle.vol_image.specs.Reading.{IsTree}
@@ -19,11 +18,17 @@ use Rattle.vol_image.specs.Frame.{Frames, IsHeldBy, StandsForNone}
 
 -- the one shadow root that stands for r is s, of the kind and word of r's root, and its tree is that of this object
 pub record IsDraft (image : Image) (r s : ℕ) (o : Object) : Type 0 where
-  pub alone : filter (λ n. stands_for r (entry_in image n)) (numbers 0 (length image)) ≡ s ∷ []
+  pub alone : (n : ℕ) → stands_for r (entry_in image n) ≡ true → n ≡ s
   pub stands : stands_for r (entry_in image s) ≡ true
   pub shadow : roots.Root
   pub same : (root : roots.Root) → IsRootBlock (block_at image r) root → (shadow.kind ≡ root.kind) × (shadow.word ≡ root.word)
   pub tree : IsTree (length image) r (tree_in image (block_at image s)) shadow o
+
+-- In image b the object with root block r is read by s; what stands for it, and the tree of s, are those of image a.
+pub record IsReadBy (a b : Image) (r s : ℕ) : Type 0 where
+  pub source_is : source b r ≡ s
+  pub stands : (n : ℕ) → stands_for r (entry_in b n) ≡ stands_for r (entry_in a n)
+  pub tree : tree_in b (block_at b s) ≡ tree_in a (block_at a s)
 
 -- an entry with its commit bit
 abbrev pub committed : MapEntry → MapEntry
@@ -44,10 +49,11 @@ pub record Settles (c : Image) (g : Graph) (id : Puid) (s : ℕ) (b : Image) : T
   pub alone : (n : ℕ) → stands_for id.block (entry_in b n) ≡ true → n ≡ s
   pub inner : (path : List ℕ) (h : Held) → (tree_in c (block_at c id.block)).below path ≡ Some h → SameAt c b h.block
 
--- this entry may come in place of that one while an object settles: of its root, of the shadow root s, or of a block that no other object holds
+-- this entry may come in place of that one while an object settles
 pub record MaySettle (c : Image) (g : Graph) (id : Puid) (s n : ℕ) (old e : MapEntry) : Type 0 where
   pub apart : is_fixed n ≡ false
-  pub unheld : ¬ IsHeldBy c (without g (id ∷ [])) n
+  -- of a block that another object holds the state may change alone, as that of the root of an object that was made
+  pub others : IsHeldBy c (without g (id ∷ [])) n → part_of (Some e) ≡ part_of (Some old)
   pub entry : IsEntry e
   pub itself : OwnsItself n e
   -- a root stays one, with the bit or without

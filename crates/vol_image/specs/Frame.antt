@@ -1,12 +1,13 @@
 -- Frames: what an image may become while all that is seen of a graph's objects stays.
-use Rattle.std.specs.Prelude.{◌≡◌, ◌⊎◌, ℕ, true, false, List, length, Some}
+use Rattle.std.specs.Prelude.{◌≡◌, ◌≢◌, ◌⊎◌, ℕ, ◌%◌, true, false, List, length, Option, Some}
 use Rattle.cfs_base.specs.Disk.{Image, block_at}
 use Rattle.cfs_base.specs.declared.identifier.Puid.{Puid}
+use Rattle.cyl_map.specs.declared.state.BlockState.TheVariants.{Allocated}
 use Rattle.cyl_map.specs.declared.entry.MapEntry.{MapEntry}
 use Rattle.cyl_map.specs.Volume.{entry_in, AreMaps}
 use Rattle.ufs_model.specs.declared.object.Object.{Object}
 use Rattle.ufs_model.specs.Graph.{Graph, object_at}
-use Rattle.vol_image.specs.Part.{SameAt, RootsOwnThemselves, part_at, is_committed, is_fixed, stands_for}
+use Rattle.vol_image.specs.Part.{SameAt, RootsOwnThemselves, part_at, part_of, is_committed, is_fixed, stands_for}
 use Rattle.vol_image.specs.Seen.{Held}
 use Rattle.vol_image.specs.Sight.{source, sight}
 
@@ -38,3 +39,24 @@ pub record IsLoose (image : Image) (g : Graph) (n : ℕ) : Type 0 where
 -- a block with this entry is no shadow root of an object of the graph whose commit bit stands
 abbrev pub StandsForNone : Image → Graph → MapEntry → Type 0
 StandsForNone image g e = (id : Puid) (o : Object) → object_at g id ≡ Some o → is_committed (part_at image id.block) ≡ true → stands_for id.block (Some e) ≡ false
+
+-- One entry may come in place of another: the block is no map block and not the label, a block that is held keeps its
+-- part, and no shadow root of an object whose commit bit stands is made or ended.
+pub record MayChange (image : Image) (g : Graph) (n : ℕ) (old new : Option MapEntry) : Type 0 where
+  pub apart : is_fixed n ≡ false
+  pub keeps : IsHeldBy image g n → part_of new ≡ part_of old
+  pub standing : (id : Puid) (o : Object) → object_at g id ≡ Some o → is_committed (part_at image id.block) ≡ true
+      → stands_for id.block new ≡ stands_for id.block old
+
+-- Image b has the blocks of image c but for its maps, in which each entry is the same or may come in place of that one.
+pub record ChangesMaps (image : Image) (g : Graph) (c b : Image) : Type 0 where
+  pub size : length b ≡ length c
+  pub maps : AreMaps b
+  pub own : RootsOwnThemselves b
+  pub contents : (n : ℕ) → n % 64 ≢ 0 → block_at b n ≡ block_at c n
+  pub entries : (n : ℕ) → (entry_in b n ≡ entry_in c n) ⊎ MayChange image g n (entry_in c n) (entry_in b n)
+
+-- the object with this root block has no commit bit, and each of its blocks is Allocated
+pub record IsAtRest (image : Image) (r : ℕ) : Type 0 where
+  pub no_bit : is_committed (part_at image r) ≡ false
+  pub each : (n : ℕ) (e : MapEntry) → IsBlockOf image r n → entry_in image n ≡ Some e → e.state ≡ Allocated

@@ -9,5 +9,3 @@ pub mod Survives
 pub mod Frame
 pub mod Commit
 pub mod Run
-pub mod Worked
-pub mod Damaged

@@ -40,19 +40,23 @@ slot_in bytes s =
 abbrev pub held_in : Root → (ℕ → Option Held) → List ℕ
 held_in root leaf = filter (λ n. is_some (leaf n)) (numbers 0 (leaves_in root.size))
 
-abbrev pub bytes_in : Root → (ℕ → Option Held) → List ℕ
-bytes_in root leaf = leaves_content root.fill leaf (numbers 0 (leaves_in root.size))
+abbrev pub file_bytes : Root → (ℕ → Option Held) → List ℕ
+file_bytes root leaf = leaves_content root.fill leaf (numbers 0 (leaves_in root.size))
 
 abbrev file_with : FileKind → Root → (ℕ → Option Held) → Object
-file_with kind root leaf = objects.File (record { kind = kind; fill = root.fill; bytes = take root.size (bytes_in root leaf); held = held_in root leaf })
+file_with kind root leaf = objects.File (record { kind = kind; fill = root.fill; bytes = take root.size (file_bytes root leaf); held = held_in root leaf })
 
 -- the object with this root and these leaves
 unfoldable pub object_with : Root → (ℕ → Option Held) → Object
 object_with root leaf = elim root.kind [
   | kinds.Normal ↦ file_with file_kinds.Normal root leaf
   | kinds.Special ↦ file_with file_kinds.Special root leaf
-  | kinds.Index ↦ objects.Index (record { slots = map (slot_in (bytes_in root leaf)) (numbers 0 (root.size / 8)); held = held_in root leaf })
+  | kinds.Index ↦ objects.Index (record { slots = map (slot_in (file_bytes root leaf)) (numbers 0 (root.size / 8)); held = held_in root leaf })
 ]
+
+-- what a root reads as where nothing stands below it
+abbrev pub bare_object : Root → Object
+bare_object root = object_with root (λ n. None)
 
 -- ---- when a tree is one
 

@@ -3,6 +3,7 @@ use Rattle.cfs_base.specs.Disk.{Image}
 use Rattle.cfs_base.specs.Run.{Tells, Leaves, left_now}
 use Rattle.cfs_base.specs.declared.disk.Disk.{Ghosts}
 use Rattle.ufs_model.specs.Graph.{Graph}
+use Rattle.vol_image.specs.Sound.{Holds}
 use Rattle.vol_image.specs.Frame.{Frames}
 
 -- a run from `start` has come to `now` with no failure within the frame of image a: its content, what a crash leaves now, and what one on the way left
@@ -11,3 +12,10 @@ pub record Within {D : Type 0} (g : Ghosts D) (a : Image) (graph : Graph) (start
   pub content : Frames a graph (g.content now)
   pub here : (c : Image) → left_now g now c → Frames a graph c
   pub leaves : Leaves g start now (Frames a graph)
+
+-- The disk tells that it holds these objects, and whatever a crash leaves now is within their frame. Writes of other
+-- blocks may be pending.
+pub record Carries {D : Type 0} (g : Ghosts D) (graph : Graph) (d : D) : Type 0 where
+  pub tells : Tells g d
+  pub holds : Holds (g.content d) graph
+  pub here : (c : Image) → left_now g d c → Frames (g.content d) graph c

@@ -1,5 +1,5 @@
 -- Sound images, and the graph as which one reads.
-use Rattle.std.specs.Prelude.{◌≡◌, ℕ, ◌+◌, ◌*◌, ◌/◌, ◌<◌, ◌≤◌, true, List, length, filter, Some}
+use Rattle.std.specs.Prelude.{◌≡◌, ℕ, ◌+◌, ◌*◌, ◌/◌, ◌<◌, ◌≤◌, true, false, List, length, filter, replicate, Some}
 use Rattle.std.specs.List.{sum_by}
 use Rattle.cfs_base.specs.Disk.{Image, block_at}
 use Rattle.cfs_base.specs.declared.identifier.Puid.{Puid}
@@ -7,6 +7,7 @@ use Rattle.cfs_base.specs.declared.kind.Place.TheVariants.{Root}
 use Rattle.vol_label.specs.declared.label.Label.{Label}
 use Rattle.vol_label.specs.Label as labels
 use Rattle.block_tree.specs.declared.root.Root as roots
+use Rattle.block_tree.specs.Pointers.{pointers_of, node_pointers}
 use Rattle.block_tree.specs.Root.{IsRootBlock}
 use Rattle.cyl_map.specs.Volume.{entry_in, AreMaps}
 use Rattle.ufs_model.specs.declared.limits.TheConstants.{ROOT_SLOTS}
@@ -15,9 +16,10 @@ use Rattle.ufs_model.specs.declared.object.Object.TheVariants as objects
 use Rattle.ufs_model.specs.declared.object.Index.{Index}
 use Rattle.ufs_model.specs.Identifier.{is_among, rises}
 use Rattle.ufs_model.specs.Object.{blocks_of}
-use Rattle.ufs_model.specs.Graph.{Graph, ids_of, object_at, is_there, graph_pairs, has_pair}
+use Rattle.ufs_model.specs.Graph.{Graph, ids_of, object_at, is_there}
+pub use Rattle.ufs_model.specs.Graph.{IsClosedGraph}
 use Rattle.ufs_model.specs.Reach.{rooted}
-use Rattle.vol_image.specs.Part.{BelongsTo, RootsOwnThemselves, is_fixed, reserved}
+use Rattle.vol_image.specs.Part.{BelongsTo, RootsOwnThemselves, part_at, is_fixed, reserved}
 use Rattle.vol_image.specs.Reading.{IsTree}
 use Rattle.vol_image.specs.Sight.{Sight, sight}
 
@@ -40,6 +42,13 @@ pub record ReadsAs (size : ℕ) (id : Puid) (seen : Sight) (o : Object) : Type 0
   pub same_word : source.word ≡ root.word
   pub tree : IsTree size id.block seen.tree source o
 
+-- The root of a new object: the block is entered as its own root, and spells a root with no node.
+pub record IsBareRoot (image : Image) (id : Puid) (root : roots.Root) : Type 0 where
+  pub part : part_at image id.block ≡ Some (record { committed = false; place = Some Root; owner = id.block })
+  pub spelled : IsRootBlock (block_at image id.block) root
+  pub word : root.word ≡ id.word
+  pub no_node : pointers_of node_pointers (block_at image id.block) ≡ replicate 120 0
+
 -- ---- the volume
 
 -- the label of a volume with this root index; 1: it names the size of the disk
@@ -59,14 +68,6 @@ pub record Holds (image : Image) (g : Graph) : Type 0 where
   -- 5: the map blocks and the label are reserved
   pub fixed : (n : ℕ) → n < length image → is_fixed n ≡ true → entry_in image n ≡ Some reserved
   pub objects : (id : Puid) (o : Object) → object_at g id ≡ Some o → ReadsAs (length image) id (sight image id.block) o
-
--- a root index of 64 slots, with all to which it leads
-pub record IsClosedGraph (g : Graph) : Type 0 where
-  pub ordered : rises (ids_of g) ≡ true
-  -- 6: the root is an index of 64 slots
-  pub root : (i : Index) × (object_at g g.root ≡ Some (objects.Index i)) × (length i.slots ≡ ROOT_SLOTS)
-  -- 6: each identifier in a slot names an object
-  pub closed : (i x : Puid) → has_pair (graph_pairs g) i x ≡ true → is_there g x ≡ true
 
 -- how many blocks the objects of a graph take
 abbrev pub graph_blocks : Graph → ℕ

@@ -11,7 +11,9 @@ use Rattle.ufs_model.specs.declared.asked.Request.{Request}
 use Rattle.ufs_model.specs.declared.asked.Request.TheVariants as asks
 use Rattle.ufs_model.specs.declared.object.File.{File}
 use Rattle.ufs_model.specs.declared.object.Object.TheVariants as objects
-use Rattle.ufs_model.specs.Object.{Change, Overwrite, SetSize, changed_object}
+use Rattle.ufs_model.specs.Object.{changed_object}
+use Rattle.ufs_model.specs.declared.change.Change.{Change}
+use Rattle.ufs_model.specs.declared.change.Change.TheVariants.{Overwrite, SetSize}
 use Rattle.ufs_model.specs.Graph.{Graph, object_at, with_object, is_free_root}
 use Rattle.ufs_model.specs.State.{State, named}
 use Rattle.ufs_model.specs.Refusal.{refusal_of, target}
@@ -47,8 +49,9 @@ change_of (asks.Write file offset bytes) = Some (Overwrite offset bytes)
 change_of (asks.Size file) = None
 change_of (asks.Resize file size) = Some (SetSize size)
 
--- the request changes a normal file in place, from the one to the other
+-- the request is not refused, and changes a normal file in place, from the one to the other
 pub record ChangesInPlace (s : State) (who : ℕ) (request : Request) (id : Puid) (old new : File) : Type 0 where
+  pub allowed : refusal_of s who request ≡ None
   pub named_is : named s who (target request) ≡ Some id
   pub there : object_at s.graph id ≡ Some (objects.File old)
   pub normal : old.kind ≡ kinds.Normal

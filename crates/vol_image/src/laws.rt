@@ -1,26 +1,29 @@
 //! What is proved of images, as contracts. None of these calls does anything.
-ghost use Rattle.std.specs.Prelude.{◌≡◌, ◌≢◌, ℕ, ◌<◌, ◌%◌, List, [], ◌∷◌, length, set, true, false, Some};
+ghost use Rattle.std.specs.Prelude.{◌≡◌, ◌≢◌, ℕ, ◌<◌, ◌%◌, ◌*◌, List, [], ◌∷◌, length, set, true, false, Some};
 ghost use Rattle.cfs_base.specs.Disk.{Image, block_at};
 ghost use Rattle.cfs_base.specs.declared.identifier.Puid.{Puid};
+ghost use Rattle.cfs_base.specs.declared.kind.FileKind.TheVariants as file_kinds;
+ghost use Rattle.cfs_base.specs.declared.kind.Kind.TheVariants as kinds;
 ghost use Rattle.block_tree.specs.Tree.{levels_of};
 ghost use Rattle.block_tree.specs.declared.root.Root as roots;
 ghost use Rattle.cyl_map.specs.Entry.{IsEntry};
 ghost use Rattle.cyl_map.specs.Volume.{map_of, entry_in, with_entry};
 ghost use Rattle.cyl_map.specs.declared.entry.MapEntry.{MapEntry};
 ghost use Rattle.cyl_map.specs.declared.state.BlockState.{BlockState};
-ghost use Rattle.cyl_map.specs.declared.state.BlockState.TheVariants.{Free};
+ghost use Rattle.cyl_map.specs.declared.state.BlockState.TheVariants.{Allocated, Free};
 ghost use Rattle.ufs_model.specs.Graph.{Graph, object_at, with_object, without};
-ghost use Rattle.ufs_model.specs.Object.{blocks_of, held_levels};
+ghost use Rattle.ufs_model.specs.Object.{blocks_of, held_levels, new_file, new_index};
 ghost use Rattle.ufs_model.specs.declared.object.Object.{Object};
-ghost use Rattle.vol_image.specs.Commit.{IsDraft, MaySettle, Settles, committed, root_from_source};
+ghost use Rattle.ufs_model.specs.declared.object.Object.TheVariants as objects;
+ghost use Rattle.vol_image.specs.Commit.{IsDraft, IsReadBy, MaySettle, Settles, committed, root_from_source};
 ghost use Rattle.vol_image.specs.Count.{blocks_held, levels_held};
 ghost use Rattle.vol_image.specs.Fault.{Fault};
-ghost use Rattle.vol_image.specs.Frame.{Frames, IsHeldBy, IsLoose, StandsForNone};
+ghost use Rattle.vol_image.specs.Frame.{ChangesMaps, Frames, IsAtRest, IsBlockOf, IsHeldBy, IsLoose, StandsForNone};
 ghost use Rattle.vol_image.specs.Part.{IsTaken, OwnsItself, is_fixed, stands_for};
-ghost use Rattle.vol_image.specs.Reading.{IsTree};
+ghost use Rattle.vol_image.specs.Reading.{IsTree, bare_object};
 ghost use Rattle.vol_image.specs.Seen.{Held, tree_in};
 ghost use Rattle.vol_image.specs.Sight.{sight, source};
-ghost use Rattle.vol_image.specs.Sound.{Holds, IsClosedGraph, IsSoundAs, LeavesFour, ReadsAs, rooted_part};
+ghost use Rattle.vol_image.specs.Sound.{Holds, IsBareRoot, IsClosedGraph, IsSoundAs, LeavesFour, ReadsAs, rooted_part};
 
 /// One entry written changes that entry and no other, and no block but its map.
 pub fn entry_written()
@@ -39,10 +42,13 @@ pub fn law_of_frames()
     ensures holds { (a b : Image) (g : Graph) → Holds a g → Frames a g b → Holds b g }
 {}
 
-/// Frames compose, and a block that is written within a frame may be written into each image of it.
+/// Frames compose and go back, and a block that is written within a frame may be written into each image of it.
 pub fn frames_compose()
     ensures begin { (a : Image) (g : Graph) → Holds a g → Frames a g a }
     ensures then { (a b c : Image) (g : Graph) → Frames a g b → Frames b g c → Frames a g c }
+    ensures fewer { (a b : Image) (g h : Graph) → Frames a g b
+        → ((x : Puid) (o : Object) → object_at h x ≡ Some o → object_at g x ≡ Some o) → Frames a h b }
+    ensures back { (a b : Image) (g : Graph) → Holds a g → Frames a g b → Frames b g a }
     ensures write { (a : Image) (g : Graph) (c content : Image) (n : ℕ) (block : List ℕ) → n < length content → Frames a g c
         → Frames a g (set content n block) → Frames a g (set c n block) }
 {}
@@ -60,6 +66,21 @@ pub fn loose_blocks_change()
         → StandsForNone a g (record old { state = s }) → StandsForNone a g old → Frames a g (with_entry c n (record old { state = s })) }
 {}
 
+/// Many entries of maps may change at once, each as it may alone.
+pub fn maps_change()
+    ensures { (a : Image) (g : Graph) (c b : Image) → Holds a g → Frames a g c → ChangesMaps a g c b → Frames a g b }
+{}
+
+/// A block with the owner of an object at rest that isn't Allocated, as what a draft claimed, is none of the object's.
+pub fn claims_are_loose()
+    ensures loose { (a : Image) (g : Graph) (r n : ℕ) → Holds a g → IsAtRest a r → (taken : IsTaken a n r)
+        → taken.is.state ≢ Allocated → IsLoose a g n }
+    // What is loose is so in each image of the frame, and an object stays at rest where the entries of its blocks stay.
+    ensures stays { (a b : Image) (g : Graph) (n : ℕ) → Frames a g b → IsLoose a g n → IsLoose b g n }
+    ensures rest { (a b : Image) (g : Graph) (id : Puid) (o : Object) → object_at g id ≡ Some o → Frames a g b
+        → IsAtRest a id.block → ((n : ℕ) → IsBlockOf a id.block n → entry_in b n ≡ entry_in a n) → IsAtRest b id.block }
+{}
+
 /// One object may change while all others stay: its blocks are loose for the others, and an image within their frame has
 /// it as it is then seen.
 pub fn one_object_changes()
@@ -69,11 +90,31 @@ pub fn one_object_changes()
         → ReadsAs (length a) id (sight b id.block) o → Holds b (with_object g id o) }
 {}
 
+/// An object may be new: its root is written into a block that no object holds, and all others stay.
+pub fn objects_are_made()
+    ensures reads { (a : Image) (id : Puid) (root : roots.Root) → IsBareRoot a id root
+        → ReadsAs (length a) id (sight a id.block) (bare_object root) }
+    ensures holds { (a b : Image) (g : Graph) (id : Puid) (o : Object) → Holds a g → Frames a g b
+        → ReadsAs (length b) id (sight b id.block) o → Holds b (with_object g id o) }
+    // An image that holds objects holds any of them alone.
+    ensures fewer { (a : Image) (g h : Graph) → Holds a g → h.root ≡ g.root
+        → ((x : Puid) (o : Object) → object_at h x ≡ Some o → object_at g x ≡ Some o) → Holds a h }
+    ensures index { (root : roots.Root) (slots : ℕ) → root.kind ≡ kinds.Index → root.fill ≡ 0 → root.size ≡ 8 * slots
+        → bare_object root ≡ objects.Index (new_index slots) }
+    ensures normal { (root : roots.Root) → root.kind ≡ kinds.Normal → root.size ≡ 0
+        → bare_object root ≡ objects.File (new_file file_kinds.Normal root.fill) }
+    ensures special { (root : roots.Root) → root.kind ≡ kinds.Special → root.size ≡ 0
+        → bare_object root ≡ objects.File (new_file file_kinds.Special root.fill) }
+{}
+
 /// Once the commit bit is set the object is its draft; once the draft's root is copied it still is.
 pub fn commit_sets_the_bit()
     ensures bit { (a : Image) (g : Graph) (id : Puid) (was o : Object) (e : MapEntry) (s : ℕ) → Holds a g → object_at g id ≡ Some was
         → entry_in a id.block ≡ Some e → IsEntry (committed e) → IsDraft a id.block s o
         → Holds (with_entry a id.block (committed e)) (with_object g id o) }
+    ensures read_by { (a : Image) (g : Graph) (id : Puid) (was o : Object) (e : MapEntry) (s : ℕ) → Holds a g
+        → object_at g id ≡ Some was → entry_in a id.block ≡ Some e → IsEntry (committed e) → IsDraft a id.block s o
+        → IsReadBy a (with_entry a id.block (committed e)) id.block s }
     ensures copy { (c : Image) (g : Graph) (id : Puid) (o : Object) → Holds c g → object_at g id ≡ Some o
         → Holds (set c id.block (root_from_source c id.block)) (with_object g id o) }
 {}

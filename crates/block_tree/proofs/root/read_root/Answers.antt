@@ -35,10 +35,10 @@ returns-in-Err c =
     let two = begins bytes c.in-Some.kind (omega arith) c.in-Some.ensures.known (omega arith) (c.is_fill.ensures.0 c.if-not-is_fill.false) in
     let gap : length (take 2 (drop 2 bytes)) ≡ 2 = omega (arith, length-take 2 (drop 2 bytes), length-drop 2 bytes) in
     let zeros = c.in_default-first_nonzero.ensures.none ∙ ap (λ (n : ℕ). replicate n 0) gap in
-    let eight = begins_eight bytes c.in-Some.kind (get_or bytes 1 0) c.u32_of-word.result two zeros (sym c.u32_of-word.ensures) (omega arith) in
+    let eight = begins_eight bytes c.in-Some.kind (get_or bytes 1 0) c.u32_at-word.result two zeros (sym (c.u32_at-word.ensures.spelled ∙ ap (λ (b : List ℕ). take 4 (drop 4 b)) (sym same))) (omega arith) in
     let bad = c.in-Err.ensures in
     subst (λ (b : List ℕ). IsFirstBadByte b (8 + c.in-Err.i)) same
-    (size_bad bytes c.in-Some.kind (get_or bytes 1 0) c.u32_of-word.result c.in-Err.i eight bad.0 (subst (λ (b : List ℕ). IsFirstBad (IsSize c.in-Some.kind) (to_be_bytes w64) b c.in-Err.i) c.u64_of.ensures bad.1))
+    (size_bad bytes c.in-Some.kind (get_or bytes 1 0) c.u32_at-word.result c.in-Err.i eight bad.0 (subst (λ (b : List ℕ). IsFirstBad (IsSize c.in-Some.kind) (to_be_bytes w64) b c.in-Err.i) (c.u64_at.ensures.spelled ∙ ap (λ (b : List ℕ). take 8 (drop 8 b)) (sym same)) bad.1))
 
 pub returns-in-Some-first_nonzero-2 : goal.returns-in-Some-first_nonzero-2
 returns-in-Some-first_nonzero-2 c =
@@ -48,11 +48,11 @@ returns-in-Some-first_nonzero-2 c =
     let two = begins bytes c.in-Some.kind (omega arith) c.in-Some.ensures.known (omega arith) (c.is_fill.ensures.0 c.if-not-is_fill.false) in
     let gap : length (take 2 (drop 2 bytes)) ≡ 2 = omega (arith, length-take 2 (drop 2 bytes), length-drop 2 bytes) in
     let zeros = c.in_default-first_nonzero.ensures.none ∙ ap (λ (n : ℕ). replicate n 0) gap in
-    let eight = begins_eight bytes c.in-Some.kind (get_or bytes 1 0) c.u32_of-word.result two zeros (sym c.u32_of-word.ensures) (omega arith) in
-    let sixteen = begins_sixteen bytes c.in-Some.kind (get_or bytes 1 0) c.u32_of-word.result c.in-Ok.size eight (sym c.u64_of.ensures ∙ ap (to_be_bytes w64) (sym c.in-Ok.ensures.0)) c.in-Ok.ensures.1 in
+    let eight = begins_eight bytes c.in-Some.kind (get_or bytes 1 0) c.u32_at-word.result two zeros (sym (c.u32_at-word.ensures.spelled ∙ ap (λ (b : List ℕ). take 4 (drop 4 b)) (sym same))) (omega arith) in
+    let sixteen = begins_sixteen bytes c.in-Some.kind (get_or bytes 1 0) c.u32_at-word.result c.in-Ok.size eight (ap (λ (b : List ℕ). take 8 (drop 8 b)) same ∙ sym c.u64_at.ensures.spelled ∙ ap (to_be_bytes w64) (sym c.in-Ok.ensures.0)) c.in-Ok.ensures.1 in
     let bad = c.in-Some-first_nonzero-2.ensures.found in
     subst (λ (b : List ℕ). IsFirstBadByte b (16 + c.in-Some-first_nonzero-2.i)) same
-    (tail_bad bytes c.in-Some.kind (get_or bytes 1 0) c.u32_of-word.result c.in-Ok.size c.in-Some-first_nonzero-2.i sixteen (omega (arith, bad.0, length-take 16 (drop 16 bytes))) bad.1 bad.2)
+    (tail_bad bytes c.in-Some.kind (get_or bytes 1 0) c.u32_at-word.result c.in-Ok.size c.in-Some-first_nonzero-2.i sixteen (omega (arith, bad.0, length-take 16 (drop 16 bytes))) bad.1 bad.2)
 
 pub returns : goal.returns
 returns c =
@@ -62,10 +62,10 @@ returns c =
     let two = begins bytes c.in-Some.kind (omega arith) c.in-Some.ensures.known (omega arith) (c.is_fill.ensures.0 c.if-not-is_fill.false) in
     let gap : length (take 2 (drop 2 bytes)) ≡ 2 = omega (arith, length-take 2 (drop 2 bytes), length-drop 2 bytes) in
     let zeros = c.in_default-first_nonzero.ensures.none ∙ ap (λ (n : ℕ). replicate n 0) gap in
-    let eight = begins_eight bytes c.in-Some.kind (get_or bytes 1 0) c.u32_of-word.result two zeros (sym c.u32_of-word.ensures) (omega arith) in
-    let sixteen = begins_sixteen bytes c.in-Some.kind (get_or bytes 1 0) c.u32_of-word.result c.in-Ok.size eight (sym c.u64_of.ensures ∙ ap (to_be_bytes w64) (sym c.in-Ok.ensures.0)) c.in-Ok.ensures.1 in
+    let eight = begins_eight bytes c.in-Some.kind (get_or bytes 1 0) c.u32_at-word.result two zeros (sym (c.u32_at-word.ensures.spelled ∙ ap (λ (b : List ℕ). take 4 (drop 4 b)) (sym same))) (omega arith) in
+    let sixteen = begins_sixteen bytes c.in-Some.kind (get_or bytes 1 0) c.u32_at-word.result c.in-Ok.size eight (ap (λ (b : List ℕ). take 8 (drop 8 b)) same ∙ sym c.u64_at.ensures.spelled ∙ ap (to_be_bytes w64) (sym c.in-Ok.ensures.0)) c.in-Ok.ensures.1 in
     let tail : length (take 16 (drop 16 bytes)) ≡ 16 = omega (arith, length-take 16 (drop 16 bytes), length-drop 16 bytes) in
-    let root : Root = record { kind = c.in-Some.kind; fill = get_or bytes 1 0; word = c.u32_of-word.result; size = c.in-Ok.size; nodes = c.read_pointers.new.into } in
+    let root : Root = record { kind = c.in-Some.kind; fill = get_or bytes 1 0; word = c.u32_at-word.result; size = c.in-Ok.size; nodes = c.read_pointers.new.into } in
     subst (λ (b : List ℕ). IsRootBlock b root) same
     (root_block bytes root long sixteen (c.in_default-first_nonzero-2.ensures.none ∙ ap (λ (n : ℕ). replicate n 0) tail)
     (c.read_pointers.ensures.spelled ∙ take_all 480 (take 480 (drop 32 bytes)) (omega (arith, length-take 480 (drop 32 bytes))) ∙ take_all 480 (drop 32 bytes) (omega (arith, length-drop 32 bytes))) (omega arith) c.read_pointers.ensures.fit)

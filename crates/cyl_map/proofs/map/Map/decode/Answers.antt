@@ -1,51 +1,40 @@
-use Rattle.std.proofs.Common.{◌∙◌, Ok, refl, sym, ap, subst, arith, length-set}
+use Rattle.std.proofs.Common.{◌∙◌, Ok, length, sym, ap, subst}
 use Rattle.cyl_map.specs.Map as spec
-use Rattle.cyl_map.specs.Reading.{IsFirstBad, entry_of}
-use Rattle.cyl_map.proofs.Maps.{read_all, is_map_of, spelled_of, entries_read, entries_of_spelled, entries_one, read_more, none_bad_entry, not_bad, first_bad_entry, refused_exactly}
+use Rattle.cyl_map.proofs.Maps.{entries_read, spells_read, spells_these, none_bad_entry, AreEntries-map_spelling, refused_exactly}
 use Rattle.cyl_map.proofs.map.Map.decode.Goals as goal
+use Rattle.cyl_map.proofs.map.Map.decode.Goals.{Else-not-is_spelled}
 
-pub returns-in-Err-clause-only : goal.returns-in-Err-clause-only
-returns-in-Err-clause-only c map is spelled =
-    let same = c.bytes_at.ensures ∙ ap (λ b. spec.bytes_at b c.loop-entry.entry) c.bytes-bytes.ensures.bytes in
-    let bad = subst (λ bs. IsFirstBad bs c.in-Err.bad.byte) same ((c.in-Err.ensures.refused c.in-Err.bad.byte).0 refl) in
-    absurd (not_bad _ map 64 c.loop-entry.entry c.in-Err.bad.byte (entries_of_spelled _ map is spelled) (omega arith) bad)
+pub returns-then-not-is_spelled-clause-only : goal.returns-then-not-is_spelled-clause-only
+returns-then-not-is_spelled-clause-only c map is spelled =
+    absurd (none_bad_entry _ _ _ (AreEntries-map_spelling c.bytes-bytes.result.now map is (c.bytes-bytes.ensures.bytes ∙ spelled)) c.first_bad.ensures)
 
-pub returns-in-Err-clause-refused : goal.returns-in-Err-clause-refused
-returns-in-Err-clause-refused c =
-    let same = c.bytes_at.ensures ∙ ap (λ b. spec.bytes_at b c.loop-entry.entry) c.bytes-bytes.ensures.bytes in
-    let bad = subst (λ bs. IsFirstBad bs c.in-Err.bad.byte) same ((c.in-Err.ensures.refused c.in-Err.bad.byte).0 refl) in
-    refused_exactly _ (record { entry = c.loop-entry.entry; byte = c.in-Err.bad.byte })
-    (first_bad_entry _ c.loop-entry.entries c.loop-entry.entry c.in-Err.bad.byte (omega arith) c.loop-entry.invariant.read bad)
+pub returns-then-not-is_spelled-clause-refused : goal.returns-then-not-is_spelled-clause-refused
+returns-then-not-is_spelled-clause-refused c =
+    refused_exactly c.args.block.now c.first_bad.result
+    (subst (λ bs. spec.IsFirstBadEntry bs c.first_bad.result.entry c.first_bad.result.byte) c.bytes-bytes.ensures.bytes c.first_bad.ensures)
 
-pub loop-entry-preserved : goal.loop-entry-preserved
-loop-entry-preserved c =
-    let same = c.bytes_at.ensures ∙ ap (λ b. spec.bytes_at b c.loop-entry.entry) c.bytes-bytes.ensures.bytes in
-    record {
-      long = length-set c.loop-entry.entries c.loop-entry.entry c.in-Ok.found ∙ c.loop-entry.invariant.long;
-      read = read_more _ c.loop-entry.entries c.loop-entry.entry c.in-Ok.found (omega (arith, c.loop-entry.invariant.long)) c.loop-entry.invariant.read (ap entry_of (sym same) ∙ c.in-Ok.ensures.value);
-    }
+-- the bytes that are kept
+spells : (c : Else-not-is_spelled) → spec.SpellsMap c.bytes-bytes.result.now
+spells c = spells_read c.bytes-bytes.result.now (ap length c.bytes-bytes.ensures.bytes ∙ c.bytes-bytes.ensures.long) (c.is_spelled.ensures.0 c.if-not-is_spelled.false)
 
 pub invariant_of-result : goal.invariant_of-result
-invariant_of-result c =
-    is_map_of c.args.block.now c.loop-entry.entries c.loop-entry.invariant.long (read_all _ _ _ (omega arith) c.loop-entry.invariant.read)
+invariant_of-result c = spells (goal.at-invariant_of-result c).Else-not-is_spelled
 
 pub returns-clause-read : goal.returns-clause-read
 returns-clause-read c =
-    let read = read_all _ _ _ (omega arith) c.loop-entry.invariant.read in (
-      is_map_of c.args.block.now c.loop-entry.entries c.loop-entry.invariant.long read,
-      spelled_of c.args.block.now c.loop-entry.entries c.bytes-bytes.ensures.long c.loop-entry.invariant.long read,
-    )
+    let is = spells (goal.at-returns-clause-read c).Else-not-is_spelled in (is.entries, sym c.bytes-bytes.ensures.bytes ∙ is.spelled)
 
 pub returns-clause-only : goal.returns-clause-only
 returns-clause-only c map is spelled =
-    let read = read_all _ _ _ (omega arith) c.loop-entry.invariant.read in
-    ap (λ es. Ok es) (entries_one c.args.block.now c.loop-entry.entries map c.loop-entry.invariant.long is.long read (entries_of_spelled _ map is spelled))
+    ap (λ es. Ok es) (spells_these c.bytes-bytes.result.now map is (c.bytes-bytes.ensures.bytes ∙ spelled)).0
 
 pub returns-clause-refused : goal.returns-clause-refused
-returns-clause-refused c entry byte =
-    let read = read_all _ _ _ (omega arith) c.loop-entry.invariant.read in
-    (λ e. cc, λ bad. absurd (none_bad_entry c.args.block.now c.loop-entry.entries entry byte read bad))
+returns-clause-refused c entry byte = (
+  λ e. cc,
+  λ bad. absurd (none_bad_entry c.args.block.now entry byte (subst spec.AreEntries c.bytes-bytes.ensures.bytes (c.is_spelled.ensures.0 c.if-not-is_spelled.false)) bad),
+)
 
 pub returns-clause-entries : goal.returns-clause-entries
 returns-clause-entries c =
-    entries_read c.args.block.now c.loop-entry.entries c.loop-entry.invariant.long (read_all _ _ _ (omega arith) c.loop-entry.invariant.read)
+    let is = spells (goal.at-returns-clause-entries c).Else-not-is_spelled in
+    entries_read c.args.block.now _ is.entries (sym c.bytes-bytes.ensures.bytes ∙ is.spelled)

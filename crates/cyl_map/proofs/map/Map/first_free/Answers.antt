@@ -1,27 +1,28 @@
-use Rattle.std.proofs.Common.{sym, refl, arith, false, None}
+use Rattle.std.proofs.Common.{◌≡◌, ◌↔◌, ◌∙◌, sym, ap, subst, position}
+use Rattle.std.specs.Prelude.{IsNone}
 use Rattle.cyl_map.specs.Map as spec
-use Rattle.cyl_map.proofs.FreeEntries.{position_found, position_nowhere, count_none}
-use Rattle.cyl_map.specs.declared.entry.MapEntry.{MapEntry}
-use Rattle.cyl_map.specs.declared.state.BlockState.TheVariants.{Free}
-use Rattle.cyl_map.proofs.Rows.{made}
+use Rattle.cyl_map.specs.Reading.{said_by}
+use Rattle.cyl_map.proofs.FreeEntries.{position-map, none_counted}
 use Rattle.cyl_map.proofs.map.Map.first_free.Goals as goal
+use Rattle.cyl_map.proofs.map.Map.first_free.Goals.{After-first_free}
 
-abbrev none_yet : MapEntry
-none_yet = made Free false None 0
-
-pub returns-then-is_free-clause-first : goal.returns-then-is_free-clause-first
-returns-then-is_free-clause-first c =
-    rw (← c.self.view_is) (sym (position_found spec.is_free c.self.inside.entries c.loop-entry.entry _
-    (omega (arith, c.self.invariant.long)) (c.loop-entry.invariant _) (sym c.if-is_free.ensures)))
+found : (c : After-first_free) → c.first_free.result ≡ position spec.is_free c.args.self.now
+found c =
+    rw (← c.self.view_is) (c.first_free.ensures ∙ ap (position (λ b. spec.is_free (said_by b))) c.eights.ensures.each
+    ∙ sym (position-map spec.is_free said_by (spec.eights c.self.inside.bytes)))
 
 pub returns-clause-first : goal.returns-clause-first
-returns-clause-first c =
-    rw (← c.self.view_is) (sym (position_nowhere spec.is_free c.self.inside.entries none_yet
-    (λ k lt. c.loop-entry.invariant none_yet k (omega (arith, c.self.invariant.long)))))
+returns-clause-first c = sym c.in_ok-place.was ∙ found (goal.at-returns-clause-first c).After-first_free
 
 pub returns-clause-none : goal.returns-clause-none
-returns-clause-none c = (
-  λ _. rw (← c.self.view_is) (count_none spec.is_free c.self.inside.entries none_yet
-      (λ k lt. c.loop-entry.invariant none_yet k (omega (arith, c.self.invariant.long)))),
-  λ _. refl,
-)
+returns-clause-none c =
+    subst (λ o. IsNone o ↔ (spec.free_entries c.args.self.now ≡ 0)) (sym (found (goal.at-returns-clause-none c).After-first_free) ∙ c.in_ok-place.was) (none_counted spec.is_free c.args.self.now)
+
+pub returns-in_err-place-clause-first : goal.returns-in_err-place-clause-first
+returns-in_err-place-clause-first c =
+    c.from_residual.ensures ∙ sym c.in_err-place.was ∙ found (goal.at-returns-in_err-place-clause-first c).After-first_free
+
+pub returns-in_err-place-clause-none : goal.returns-in_err-place-clause-none
+returns-in_err-place-clause-none c =
+    subst (λ o. IsNone o ↔ (spec.free_entries c.args.self.now ≡ 0)) (sym (found (goal.at-returns-in_err-place-clause-none c).After-first_free) ∙ c.in_err-place.was ∙ sym c.from_residual.ensures)
+    (none_counted spec.is_free c.args.self.now)

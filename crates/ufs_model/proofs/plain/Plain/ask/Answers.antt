@@ -1,13 +1,11 @@
-use Rattle.std.proofs.Common.{◌≡◌, rules, ap}
+use Rattle.std.proofs.Common.{◌≡◌, ap}
 use Rattle.std.specs.Prelude.{OnErr}
 use Rattle.std.proofs.lemmas.Result.{on_err_weaker}
-use Rattle.ufs_model.proofs.Legal.{told_legal, told_answer}
+use Rattle.ufs_model.specs.Plain.{Server}
+use Rattle.ufs_model.proofs.Legal.{told_legal}
 use Rattle.ufs_model.proofs.plain.Plain.ask.Goals as goal
 
 pub returns-clause-step : goal.returns-clause-step
 returns-clause-step c =
-    let same : OnErr c.answer.result (c.answer.new.self.state ≡ c.args.self.now.state) = on_err_weaker c.answer.result (λ e. ap (λ server. server.state) e) c.answer.ensures.memory in
+    let same : OnErr c.answer.result (c.answer.new.self.state ≡ c.args.self.now.state) = on_err_weaker c.answer.result (λ e. ap (λ (server : Server). server.state) e) c.answer.ensures.memory in
     rw c.unwrap_or.ensures (told_legal _ _ _ _ _ c.answer.result c.answer.ensures.running c.answer.ensures.answer same)
-
-pub returns-clause-answer : goal.returns-clause-answer
-returns-clause-answer c = rw c.unwrap_or.ensures (told_answer _ _ _ _ _ c.answer.result c.answer.ensures.answer)

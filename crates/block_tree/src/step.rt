@@ -1,0 +1,95 @@
+//! One step over the held leaves of a tree.
+ghost use Rattle.std.specs.Prelude.{◌≡◌, ◌≢◌, ℕ, ◌+◌, ◌<◌, ◌≤◌, length, get_or, IfOk, IfErr, IfSome};
+ghost use Rattle.cfs_base.specs.Calls.{OnlyReads};
+ghost use Rattle.cfs_base.specs.Disk.{block_at};
+ghost use Rattle.cfs_base.specs.Run.{Tells};
+ghost use Rattle.block_tree.specs.Pointers.{pointers_of, leaf_pointers};
+ghost use Rattle.block_tree.specs.Reads.{IsFault, IsPast};
+ghost use Rattle.block_tree.specs.Root.{root_spelling};
+ghost use Rattle.block_tree.specs.Step.{IsFirstSet, IsPastFrom, IsStepIn, IsStepped};
+ghost use Rattle.block_tree.specs.Tree.{HasNoDeadEnd, leaf_block};
+
+use crate::fault::TreeFault;
+use crate::leaf::{LEAF_LIMIT, node_at};
+use crate::root::Root;
+use crate::walk::HeldLeaf;
+use cfs_base::Disk;
+
+/// A held leaf, and whether another follows.
+#[derive(Clone, Copy, Debug, PartialEq, Eq)]
+pub struct HeldStep {
+    pub held: HeldLeaf,
+    pub follows: bool,
+}
+
+/// The first place from one on with a pointer that isn't 0.
+fn first_set(pointers: &[u32], from: usize) -> Option<usize>
+    ensures { IsFirstSet pointers.now from result }
+{
+    for place in from..pointers.len() {
+        if pointers[place] != 0 {
+            return Some(place);
+        }
+    }
+    None
+}
+
+/// The step in one node, from a place of it on. Makes at most 1 device call.
+fn step_in<D: Disk>(
+    disk: &mut D,
+    root: &Root,
+    node: usize,
+    from: usize,
+) -> Result<Option<HeldStep>, TreeFault>
+    requires node { node < 120 }
+    requires there { get_or root.now.nodes node 0 ≢ 0 }
+    ensures step { Tells D.Disk disk.old → IfOk result (IsStepIn root.now.nodes
+        (pointers_of leaf_pointers (block_at (D.content disk.old) (get_or root.now.nodes node 0))) node from) }
+    ensures within { IfOk result (λ step. IfSome step (λ s. (s.held.leaf < LEAF_LIMIT) × (s.held.block ≢ 0))) }
+    ensures refused { IfErr result (IsFault D.Disk disk.old disk.new (λ b. b ≡ get_or root.now.nodes node 0)) }
+    ensures reads { OnlyReads D.Disk 1 disk.old disk.new }
+{
+    let content = node_at(disk, root.nodes[node])?;
+    let Some(place) = first_set(&content.leaves, from) else {
+        return Ok(None);
+    };
+    let next_leaf = first_set(&content.leaves, place + 1);
+    let next_node = first_set(&root.nodes, node + 1);
+    Ok(Some(HeldStep {
+        held: HeldLeaf {
+            leaf: (128 * node + place) as u32,
+            block: content.leaves[place],
+        },
+        follows: next_leaf.is_some() || next_node.is_some(),
+    }))
+}
+
+/// The first held leaf not below the given one, and whether another follows. Makes at most 2 device calls. Of a tree with
+/// a node that leads to no leaf it may tell of fewer leaves than are held.
+pub fn step_held<D: Disk>(
+    disk: &mut D,
+    root: &Root,
+    from: u32,
+) -> Result<Option<HeldStep>, TreeFault>
+    ensures step { Tells D.Disk disk.old → HasNoDeadEnd (D.content disk.old) (root_spelling root.now)
+        → IfOk result (IsStepped (D.content disk.old) (root_spelling root.now) from) }
+    // Whatever nodes lead to no leaf, the leaf that is found is the tree's.
+    ensures there { Tells D.Disk disk.old → IfOk result (λ step. IfSome step (λ s.
+        leaf_block (D.content disk.old) (root_spelling root.now) s.held.leaf ≡ s.held.block)) }
+    ensures within { IfOk result (λ step. IfSome step (λ s. (s.held.leaf < LEAF_LIMIT) × (s.held.block ≢ 0))) }
+    ensures refused { IfErr result (IsFault D.Disk disk.old disk.new
+        (IsPastFrom (D.content disk.old) (D.blocks disk.old) (root_spelling root.now) from)) }
+    ensures reads { OnlyReads D.Disk 2 disk.old disk.new }
+{
+    let Some(first) = first_set(&root.nodes, (from / 128) as usize) else {
+        return Ok(None);
+    };
+    let start = from.max(128 * first as u32);
+    if let Some(step) = step_in(disk, root, first, (start % 128) as usize)? {
+        return Ok(Some(step));
+    }
+    let Some(second) = first_set(&root.nodes, first + 1) else {
+        return Ok(None);
+    };
+    step_in(disk, root, second, 0)
+}

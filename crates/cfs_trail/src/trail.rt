@@ -1,0 +1,123 @@
+//! The list of events with their moments.
+ghost use Rattle.std.specs.Prelude.{◌≡◌, ◌+◌, ◌<◌, ◌≤◌, [], ◌∷◌, ◌++◌, length, slice_get, Some, IsOk, OnOk, OnErr};
+
+use cfs_base::NoMemory;
+use std::alloc::Global;
+use std::marker::Model;
+use ufs_model::Event;
+
+/// An event, and the disk's moment when it was recorded.
+#[derive(Debug, Drop)]
+struct Entry {
+    event: Event,
+    moment: u64,
+}
+
+/// The events of a run in their order, each with the disk's moment when it was recorded.
+#[derive(Debug, Drop)]
+pub struct Trail {
+    entries: Vec<Entry>,
+}
+
+impl Model for Trail {
+    ghost use Rattle.cfs_trail.specs.Trail.{Recorded};
+
+    ghost Value = { Recorded };
+
+    ghost use Rattle.std.specs.Prelude.{◌-◌, map, vec_len, vec_capacity};
+
+    ghost view = { λ t. record {
+      events = map (λ e. e.event) t.entries.items;
+      moments = map (λ e. e.moment) t.entries.items;
+      room = vec_capacity t.entries - vec_len t.entries;
+    } };
+}
+
+impl Trail {
+    /// A trail of no events. Takes no memory.
+    pub fn new(alloc: Global) -> Trail
+        ensures { result ≡ record { events = []; moments = []; room = 0 } }
+    {
+        Trail {
+            entries: Vec::new(alloc),
+        }
+    }
+
+    /// The number of events, each of which has its moment.
+    pub fn len(&self) -> u64
+        ensures events { result ≡ length self.now.events }
+        ensures moments { result ≡ length self.now.moments }
+    {
+        self.entries.len() as u64
+    }
+
+    /// The event at a place, counted from 0.
+    pub fn event(&self, at: u64) -> &Event
+        requires { at < length self.now.events }
+        ensures { slice_get self.now.events at ≡ Some result.now }
+    {
+        &self.entries[at as usize].event
+    }
+
+    /// The moment at which the event at a place was recorded.
+    pub fn moment(&self, at: u64) -> u64
+        requires { at < length self.now.events }
+        ensures { slice_get self.now.moments at ≡ Some result }
+    {
+        self.entries[at as usize].moment
+    }
+
+    /// Makes room for so many events more. Where memory is wanting all stays as it was.
+    pub fn reserve(&mut self, more: u64) -> Result<(), NoMemory>
+        ensures room { OnOk result (more ≤ self.new.room) }
+        ensures events { self.new.events ≡ self.old.events }
+        ensures moments { self.new.moments ≡ self.old.moments }
+        ensures kept { self.old.room ≤ self.new.room }
+        ensures roomy { more ≤ self.old.room → IsOk result }
+        ensures err { OnErr result (self.new ≡ self.old) }
+    {
+        self.entries.reserve(more as usize)?;
+        Ok(())
+    }
+
+    /// Records an event with the disk's moment. Takes no memory.
+    pub fn push(&mut self, event: Event, moment: u64)
+        requires { 0 < self.old.room }
+        ensures events { self.new.events ≡ self.old.events ++ event ∷ [] }
+        ensures moments { self.new.moments ≡ self.old.moments ++ moment ∷ [] }
+        ensures room { self.new.room + 1 ≡ self.old.room }
+    {
+        self.entries.push_reserved(Entry { event, moment });
+    }
+}
+
+#[cfg(test)]
+mod tests {
+    use super::*;
+    use cfs_base::{Ids, Puid};
+    use std::test::Fail;
+
+    #[test]
+    fn events_are_read_back_with_their_moments(rt: HostRuntime) -> Result<(), Fail> {
+        let gone = [Puid::of(0x0000_0003_903d_f1a0)].to_vec(rt.alloc())?;
+        let mut trail = Trail::new(rt.alloc());
+        assert_eq!(rt; trail.len(), 0);
+        trail.reserve(3).ok().ok_or("memory")?;
+        trail.push(Event::Began, 17);
+        trail.push(
+            Event::Vanish {
+                ids: Ids::new(gone),
+            },
+            17,
+        );
+        trail.push(Event::Finished, 40);
+        assert_eq!(rt; trail.len(), 3);
+        assert!(rt; matches!(trail.event(0), Event::Began));
+        assert!(rt; matches!(trail.event(1), Event::Vanish { .. }));
+        assert!(rt; matches!(trail.event(2), Event::Finished));
+        assert_eq!(rt; trail.moment(0), 17);
+        assert_eq!(rt; trail.moment(1), 17);
+        assert_eq!(rt; trail.moment(2), 40);
+        Ok(())
+    }
+}

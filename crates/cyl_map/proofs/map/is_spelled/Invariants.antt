@@ -1,0 +1,7 @@
+use Rattle.std.proofs.Common.{◌≡◌, ◌↔◌, ℕ, ◌<◌, true}
+use Rattle.std.specs.Prelude.{IsSome}
+use Rattle.cyl_map.specs.Map.{entry_at}
+use Rattle.cyl_map.proofs.map.is_spelled.Given as goal
+
+abbrev pub invariant-loop-bytes : goal.invariant-loop-bytes
+invariant-loop-bytes l = (l.good ≡ true) ↔ ((k : ℕ) → k < l.bytes-index → IsSome (entry_at l.block k))

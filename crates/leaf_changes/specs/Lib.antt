@@ -1,0 +1,4 @@
+pub mod Bytes
+pub mod Leaves
+pub mod Gives
+pub mod Changes

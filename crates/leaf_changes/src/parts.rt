@@ -1,0 +1,48 @@
+//! The bytes of a leaf and those of a part of its file, copied from the one to the other.
+ghost use Rattle.std.specs.Prelude.{◌≡◌, ◌*◌, length};
+ghost use Rattle.leaf_changes.specs.Bytes.{overlaid, patched, with_leaf, cut};
+
+use cfs_base::Block;
+
+/// Lays bytes that stand from `from` on over bytes that stand from `at` on, as far as they meet.
+fn lay_over(below: &mut [u8], at: u64, above: &[u8], from: u64)
+    ensures { below.new ≡ overlaid at below.old from above.now }
+{
+    let start = from.saturating_sub(at);
+    let skipped = at.saturating_sub(from);
+    let room = (below.len() as u64).saturating_sub(start);
+    let rest = (above.len() as u64).saturating_sub(skipped);
+    let count = room.min(rest);
+    if count > 0 {
+        let (start, skipped, count) = (start as usize, skipped as usize, count as usize);
+        below[start..start + count].copy_from_slice(&above[skipped..skipped + count]);
+    }
+}
+
+/// Writes bytes that stand at an offset of a file, counted in bytes, into one of its leaves, as far as they lie in it.
+pub fn patch_leaf(block: &mut Block, leaf: u32, offset: u64, bytes: &[u8])
+    ensures patched { block.new ≡ patched leaf offset bytes.now block.old }
+    ensures long { length block.old ≡ 512 }
+{
+    let mut content = *block.bytes();
+    lay_over(&mut content, 512 * leaf as u64, bytes, offset);
+    *block = Block::of(content);
+}
+
+/// Copies the bytes of a leaf into a part of its file that begins at an offset, as far as they lie in it.
+pub fn read_part(block: &Block, leaf: u32, offset: u64, part: &mut [u8])
+    ensures { part.new ≡ with_leaf leaf block.now offset part.old }
+{
+    lay_over(part, offset, block.bytes(), 512 * leaf as u64);
+}
+
+/// Puts fill bytes into the leaf in which a file of this size ends, from its end on: into all of it where the size is a
+/// multiple of 512.
+pub fn cut_leaf(block: &mut Block, size: u64, fill: u8)
+    ensures cut { block.new ≡ cut size fill block.old }
+    ensures long { length block.old ≡ 512 }
+{
+    let mut content = *block.bytes();
+    content[(size % 512) as usize..].fill(fill);
+    *block = Block::of(content);
+}

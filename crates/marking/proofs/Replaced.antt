@@ -1,0 +1,186 @@
+-- One object of the graph is replaced by one of its kind, or an object is made, or what is open changes.
+use Rattle.std.proofs.Common.{◌≡◌, ◌⊎◌, inl, inr, ℕ, zero, suc, ◌*◌, ◌≤◌, ◌==◌, List, [], ◌∷◌, take, drop, set, length, refl, sym, ◌∙◌, ap, subst, arith, true, false, cond, ◌||◌, Option, Some, None}
+use Rattle.std.specs.Prelude.{nat_lt}
+use Rattle.std.specs.List.{filter_map, sum_by}
+use Rattle.std.specs.Ordering.{match_ordering, is_eq}
+use Rattle.std.specs.declared.cmp.Ordering.TheVariants.{Less, Equal, Greater}
+use Rattle.std.specs.BTreeMap.{insert_entry, is_at}
+use Rattle.std.specs.Map.{lookup}
+use Rattle.std.proofs.lemmas.Bool.{or_cases, or_left, or_right}
+use Rattle.std.proofs.lemmas.List.Sums.{sum_by-cons}
+use Rattle.cfs_base.specs.declared.identifier.Puid.{Puid}
+use Rattle.cfs_base.specs.declared.kind.Kind.{Kind}
+use Rattle.ufs_model.specs.declared.object.Object.{Object}
+use Rattle.ufs_model.specs.declared.object.Object.TheVariants as objects
+use Rattle.ufs_model.specs.declared.object.Index.{Index}
+use Rattle.ufs_model.specs.Identifier.{puid_cmp, same_puid, is_among}
+use Rattle.ufs_model.specs.Numbers.{with_number}
+use Rattle.ufs_model.specs.Object.{filled, leaf_of_slot}
+use Rattle.ufs_model.specs.Graph.{Graph, object_at, with_object}
+use Rattle.ufs_model.specs.State.{State, open_ids}
+use Rattle.ufs_model.specs.Reach.{starts_now}
+use Rattle.marking.specs.declared.memory.Rescue.{Rescue}
+use Rattle.marking.specs.Leaves.{in_leaf, is_found, kind_of, kind_at}
+use Rattle.marking.specs.Colours.{Colours}
+use Rattle.marking.specs.Marking.{Waits, is_remembered, is_index_there}
+use Rattle.marking.specs.Pace.{cursor_of, read_of, read_in, read_so_far}
+use Rattle.marking.specs.Meanwhile.{Changes}
+use Rattle.ufs_model.proofs.Reached.{same_puid_is, same_puid_itself, joined_has, joined_has_new, joined_within}
+use Rattle.ufs_model.proofs.Graphs.{object_at-with_object}
+
+-- ---- a slot that is filled
+
+abbrev ids_in : List (Option Puid) → List Puid
+ids_in slots = filter_map (λ slot. slot) slots
+
+-- among the identifiers of slots, one of which was set
+set_adds : (x : Puid) (what : Option Puid) (slots : List (Option Puid)) (k : ℕ) → is_among x (ids_in (set slots k what)) ≡ true → (is_among x (ids_in slots) ≡ true) ⊎ (what ≡ Some x)
+set_adds x what [] k h = inl h
+set_adds x None (None ∷ slots) zero h = inl h
+set_adds x None (Some z ∷ slots) zero h = inl (or_right (same_puid x z) (is_among x (ids_in slots)) h)
+set_adds x (Some y) (s ∷ slots) zero h = elim (or_cases (same_puid x y) (is_among x (ids_in slots)) h) [ inl here ↦ inr (ap Some (sym (same_puid_is x y here))) | inr later ↦ inl (head s later) ]
+  where
+    head : (s : Option Puid) → is_among x (ids_in slots) ≡ true → is_among x (ids_in (s ∷ slots)) ≡ true
+    head None later = later
+    head (Some z) later = or_right (same_puid x z) (is_among x (ids_in slots)) later
+set_adds x what (None ∷ slots) (suc k) h = set_adds x what slots k h
+set_adds x what (Some z ∷ slots) (suc k) h = elim (or_cases (same_puid x z) (is_among x (ids_in (set slots k what))) h) [
+  | inl here ↦ inl (or_left (same_puid x z) (is_among x (ids_in slots)) here)
+  | inr later ↦ elim (set_adds x what slots k later) [ inl was ↦ inl (or_right (same_puid x z) (is_among x (ids_in slots)) was) | inr new ↦ inr new ]
+]
+
+-- a part of them is as it was, or one of it was set
+drop_set : (n : ℕ) (slots : List (Option Puid)) (k : ℕ) (what : Option Puid) → (drop n (set slots k what) ≡ drop n slots) ⊎ ((j : ℕ) × (drop n (set slots k what) ≡ set (drop n slots) j what))
+drop_set zero slots k what = inr (k, refl)
+drop_set (suc n) [] k what = inl refl
+drop_set (suc n) (s ∷ slots) zero what = inl refl
+drop_set (suc n) (s ∷ slots) (suc k) what = drop_set n slots k what
+
+take_set : (n : ℕ) (slots : List (Option Puid)) (k : ℕ) (what : Option Puid) → (take n (set slots k what) ≡ take n slots) ⊎ ((j : ℕ) × (take n (set slots k what) ≡ set (take n slots) j what))
+take_set zero slots k what = inl refl
+take_set (suc n) [] k what = inl refl
+take_set (suc n) (s ∷ slots) zero what = inr (0, refl)
+take_set (suc n) (s ∷ slots) (suc k) what = elim (take_set n slots k what) [ inl same ↦ inl (ap (λ (l : List (Option Puid)). s ∷ l) same) | inr (j, is) ↦ inr (suc j, ap (λ (l : List (Option Puid)). s ∷ l) is) ]
+
+pub fill_adds : (i : Index) (slot : ℕ) (what : Option Puid) (x : Puid) (leaf : ℕ) → in_leaf (Some (objects.Index (filled i slot what))) leaf x ≡ true → (in_leaf (Some (objects.Index i)) leaf x ≡ true) ⊎ (what ≡ Some x)
+fill_adds i slot what x leaf h = elim (drop_set (64 * leaf) i.slots slot what) [
+  | inl same ↦ inl (subst (λ (l : List (Option Puid)). is_among x (ids_in (take 64 l)) ≡ true) same h)
+  | inr (j, is) ↦ elim (take_set 64 (drop (64 * leaf) i.slots) j what) [
+    | inl same ↦ inl (subst (λ (l : List (Option Puid)). is_among x (ids_in l) ≡ true) (ap (take 64) is ∙ same) h)
+    | inr (k, at) ↦ set_adds x what (take 64 (drop (64 * leaf) i.slots)) k (subst (λ (l : List (Option Puid)). is_among x (ids_in l) ≡ true) (ap (take 64) is ∙ at) h)
+  ]
+]
+
+-- one leaf more is held
+with_sum : (f : ℕ → ℕ) (n : ℕ) (ms : List ℕ) → sum_by f ms ≤ sum_by f (with_number n ms)
+with_sum f n [] = omega arith
+with_sum f n (m ∷ ms) =
+    elim (n == m) as (λ t. sum_by f (m ∷ ms) ≤ sum_by f (cond t (m ∷ ms) (cond (nat_lt n m) (n ∷ m ∷ ms) (m ∷ with_number n ms)))) [
+      | true ↦ omega arith
+      | false ↦ elim (nat_lt n m) as (λ t. sum_by f (m ∷ ms) ≤ sum_by f (cond t (n ∷ m ∷ ms) (m ∷ with_number n ms))) [
+        | true ↦ omega (arith, sum_by-cons f n (m ∷ ms))
+        | false ↦ omega (arith, sum_by-cons f m ms, sum_by-cons f m (with_number n ms), with_sum f n ms)
+      ]
+    ]
+
+with_length : (n : ℕ) (ms : List ℕ) → length ms ≤ length (with_number n ms)
+with_length n [] = omega arith
+with_length n (m ∷ ms) =
+    elim (n == m) as (λ t. length (m ∷ ms) ≤ length (cond t (m ∷ ms) (cond (nat_lt n m) (n ∷ m ∷ ms) (m ∷ with_number n ms)))) [
+      | true ↦ omega arith
+      | false ↦ elim (nat_lt n m) as (λ t. length (m ∷ ms) ≤ length (cond t (n ∷ m ∷ ms) (m ∷ with_number n ms))) [
+        | true ↦ omega arith
+        | false ↦ let rest = with_length n ms in omega (arith, rest)
+      ]
+    ]
+
+read_more : (k : Option ℕ) (slot : ℕ) (what : Option Puid) (i : Index) → read_of k i.held ≤ read_of k (filled i slot what).held
+read_more k slot None i = omega arith
+read_more None slot (Some x) i = let more = with_length (leaf_of_slot slot) i.held in omega (arith, more)
+read_more (Some cursor) slot (Some x) i = with_sum (λ leaf. cond (nat_lt leaf cursor) 1 0) (leaf_of_slot slot) i.held
+
+pub fill_reads : (c : Colours) (k : Puid) (i : Index) (slot : ℕ) (what : Option Puid) → read_in c (k, objects.Index i) ≤ read_in c (k, objects.Index (filled i slot what))
+fill_reads c k i slot what =
+    elim (c.marked k.block) as (λ t. cond t (read_of (cursor_of c.grey k) i.held) 0 ≤ cond t (read_of (cursor_of c.grey k) (filled i slot what).held) 0) [ true ↦ read_more (cursor_of c.grey k) slot what i | false ↦ omega arith ]
+
+-- ---- one entry of the graph more, or another
+
+entry_reads : (f : Puid × Object → ℕ) (k : Puid) (o : Object) (es : List (Puid × Object)) → ((old : Object) → lookup (is_at (puid_cmp k)) es ≡ Some old → f (k, old) ≤ f (k, o))
+    → sum_by f es ≤ sum_by f (insert_entry puid_cmp es k o)
+entry_reads f k o [] le = omega arith
+entry_reads f k o (e ∷ es) le =
+    elim (puid_cmp k e.0) as (λ r. puid_cmp k e.0 ≡ r → sum_by f (e ∷ es) ≤ sum_by f (match_ordering r ((k, o) ∷ e ∷ es) ((e.0, o) ∷ es) (e ∷ insert_entry puid_cmp es k o))) [
+      | Less ↦ λ is. omega (arith, sum_by-cons f (k, o) (e ∷ es))
+      | Equal ↦ λ is.
+          let same : k ≡ e.0 = same_puid_is k e.0 (ap is_eq is) in
+          let more : f (e.0, e.1) ≤ f (e.0, o) = subst (λ (j : Puid). f (j, e.1) ≤ f (j, o)) same (le e.1 (rw is refl)) in
+          omega (arith, more, sum_by-cons f e es, sum_by-cons f (e.0, o) es)
+      | Greater ↦ λ is. omega (arith, sum_by-cons f e es, sum_by-cons f e (insert_entry puid_cmp es k o), entry_reads f k o es (λ old at. le old (rw is at)))
+    ] refl
+
+-- ---- what is open
+
+starts_cases : (s : State) (x : Puid) → is_among x (starts_now s) ≡ true → (is_among x (open_ids s) ≡ true) ⊎ (x ≡ s.graph.root)
+starts_cases s x h =
+    elim (or_cases (is_among x (open_ids s)) (same_puid x s.graph.root) (joined_within (λ y. is_among y (open_ids s) || same_puid y s.graph.root) (open_ids s) (s.graph.root ∷ [])
+    (λ y at. or_left (is_among y (open_ids s)) (same_puid y s.graph.root) at)
+    (λ y at. elim (or_cases (same_puid y s.graph.root) false at) [ inl here ↦ or_right (is_among y (open_ids s)) (same_puid y s.graph.root) here | inr none ↦ cc ]) x h)) [
+      | inl now ↦ inl now
+      | inr root ↦ inr (same_puid_is x s.graph.root root)
+    ]
+
+-- where no more is open but what has its rescue, no more is among the starts
+starts_change : (s t : State) (more : List Rescue) → t.graph.root ≡ s.graph.root → ((x : Puid) → is_among x (open_ids t) ≡ true → (is_among x (open_ids s) ≡ true) ⊎ Waits more None x)
+    → (x : Puid) → is_among x (starts_now t) ≡ true → (is_among x (starts_now s) ≡ true) ⊎ Waits more None x
+starts_change s t more root opened x h = elim (starts_cases t x h) [
+  | inl now ↦ elim (opened x now) [ inl was ↦ inl (joined_has_new (open_ids s) (s.graph.root ∷ []) x was) | inr new ↦ inr new ]
+  | inr is ↦ inl (joined_has (open_ids s) (s.graph.root ∷ []) x (or_left (same_puid x s.graph.root) false (subst (λ (y : Puid). same_puid x y ≡ true) (is ∙ root) (same_puid_itself x))))
+]
+
+-- ---- the changes
+
+module _ (s t : State) (more : List Rescue)
+    (rescues : (index : Option Puid) (x : Puid) → Waits more index x → (is_remembered t.collection index x ≡ true) × (is_index_there t.graph index ≡ true))
+    (memory : (index : Option Puid) (x : Puid) → is_remembered s.collection index x ≡ true → is_remembered t.collection index x ≡ true)
+    (opened : (x : Puid) → is_among x (open_ids t) ≡ true → (is_among x (open_ids s) ≡ true) ⊎ Waits more None x) where
+  -- the graph stays
+  pub same_graph : t.graph ≡ s.graph → Changes s t more
+  same_graph is = record {
+    root = ap (λ (g : Graph). g.root) is;
+    kinds = λ x kind h. ap (λ (g : Graph). kind_at g x) is ∙ h;
+    found = λ from leaf x h. found from leaf x h;
+    rescues = rescues;
+    memory = memory;
+    leaves = λ c. subst (λ (g : Graph). read_so_far s.graph c ≤ read_so_far g c) (sym is) (omega arith);
+  }
+    where
+      found : (from : Option Puid) (leaf : ℕ) (x : Puid) → is_found t from leaf x ≡ true → (is_found s from leaf x ≡ true) ⊎ Waits more from x
+      found None leaf x h = starts_change s t more (ap (λ (g : Graph). g.root) is) opened x h
+      found (Some i) leaf x h = inl (subst (λ (g : Graph). in_leaf (object_at g i) leaf x ≡ true) is h)
+
+  -- an object becomes one of its kind, or is made; what it refers to now stood there, or has its rescue
+  pub with_one : (k : Puid) (o : Object) → t.graph ≡ with_object s.graph k o
+      → ((old : Object) → object_at s.graph k ≡ Some old → (kind_of (Some o) ≡ kind_of (Some old)) × ((c : Colours) → read_in c (k, old) ≤ read_in c (k, o)))
+      → ((leaf : ℕ) (x : Puid) → in_leaf (Some o) leaf x ≡ true → (in_leaf (object_at s.graph k) leaf x ≡ true) ⊎ Waits more (Some k) x) → Changes s t more
+  with_one k o is old_is adds = record {
+    root = ap (λ (g : Graph). g.root) is;
+    kinds = λ x kind h. ap (λ (g : Graph). kind_at g x) is ∙ ap kind_of (object_at-with_object s.graph k o x) ∙ elim (same_puid x k) as (λ b. same_puid x k ≡ b → kind_of (cond b (Some o) (object_at s.graph x)) ≡ Some kind) [
+      | true ↦ λ same. at_k (object_at s.graph k) refl kind (subst (λ (y : Puid). kind_at s.graph y ≡ Some kind) (same_puid_is x k same) h)
+      | false ↦ λ other. h
+    ] refl;
+    found = λ from leaf x h. found from leaf x h;
+    rescues = rescues;
+    memory = memory;
+    leaves = λ c. subst (λ (g : Graph). read_so_far s.graph c ≤ read_so_far g c) (sym is) (entry_reads (read_in c) k o s.graph.objects (λ old at. (old_is old at).1 c));
+  }
+    where
+      at_k : (here : Option Object) → object_at s.graph k ≡ here → (kind : Kind) → kind_of here ≡ Some kind → kind_of (Some o) ≡ Some kind
+      at_k None here kind h = cc
+      at_k (Some old) here kind h = (old_is old here).0 ∙ h
+
+      found : (from : Option Puid) (leaf : ℕ) (x : Puid) → is_found t from leaf x ≡ true → (is_found s from leaf x ≡ true) ⊎ Waits more from x
+      found None leaf x h = starts_change s t more (ap (λ (g : Graph). g.root) is) opened x h
+      found (Some i) leaf x h = elim (same_puid i k) as (λ b. same_puid i k ≡ b → in_leaf (cond b (Some o) (object_at s.graph i)) leaf x ≡ true → (in_leaf (object_at s.graph i) leaf x ≡ true) ⊎ Waits more (Some i) x) [
+        | true ↦ λ same now. subst (λ (j : Puid). (in_leaf (object_at s.graph j) leaf x ≡ true) ⊎ Waits more (Some j) x) (sym (same_puid_is i k same)) (adds leaf x now)
+        | false ↦ λ other now. inl now
+      ] refl (ap (λ (here : Option Object). in_leaf here leaf x) (sym (object_at-with_object s.graph k o i)) ∙ ap (λ (g : Graph). in_leaf (object_at g i) leaf x) (sym is) ∙ h)

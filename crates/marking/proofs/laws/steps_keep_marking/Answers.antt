@@ -1,0 +1,18 @@
+use Rattle.std.proofs.Common.{subst, []}
+use Rattle.ufs_model.specs.State.{State}
+use Rattle.marking.specs.Colours.{all_shaded, none_marked}
+use Rattle.marking.specs.Marking.{IsMarking}
+use Rattle.marking.proofs.Wells.{well}
+use Rattle.marking.proofs.Steps.{begun, begin_keeps, take_keeps, scan_keeps}
+use Rattle.marking.proofs.Asked.{allowed}
+use Rattle.marking.proofs.laws.steps_keep_marking.Goals as goal
+
+pub returns-clause-begin : goal.returns-clause-begin
+returns-clause-begin c seed s t names roots began state are all =
+    subst (λ (u : State). IsMarking u (all_shaded names roots none_marked) []) (allowed _ (begun s) t began).1 (begin_keeps s (well s state) names are roots all)
+
+pub returns-clause-take : goal.returns-clause-take
+returns-clause-take c s names r rest colours state are is = take_keeps s (well s state) names are r rest colours is
+
+pub returns-clause-scan : goal.returns-clause-scan
+returns-clause-scan c s names waiting colours e i state are first at is = scan_keeps s (well s state) names are waiting colours e i first at is

@@ -1,0 +1,63 @@
+-- What is marked and what is grey, and how shading changes it.
+use Rattle.std.specs.Prelude.{ℕ, Bool, true, false, ◌||◌, ◌==◌, if◌then◌else◌, List, [], ◌∷◌, Option, Some, None, slice_get}
+use Rattle.std.specs.BTreeMap.{is_at}
+use Rattle.std.specs.Map.{lookup}
+use Rattle.cfs_base.specs.declared.identifier.Puid.{Puid}
+use Rattle.cfs_base.specs.declared.kind.Kind.{Kind}
+use Rattle.cfs_base.specs.declared.kind.Kind.TheVariants.{Normal, Special, Index}
+use Rattle.ufs_model.specs.Identifier.{puid_cmp}
+use Rattle.marking.specs.declared.memory.Grey.{Grey}
+
+pub record Colours : Type 0 where
+  -- whether the object with this root block is marked
+  pub marked : ℕ → Bool
+  -- the marked indices that are not read to their end
+  pub grey : List Grey
+
+abbrev pub none_marked : Colours
+none_marked = record { marked = λ block. false; grey = [] }
+
+-- ---- shading
+
+abbrev pub is_index : Kind → Bool
+is_index Normal = false
+is_index Special = false
+is_index Index = true
+
+-- an object that isn't marked is marked, and grey where it is an index
+abbrev pub shaded : Puid → Kind → Colours → Colours
+shaded id kind c =
+    if c.marked id.block then c else record {
+      marked = λ block. (block == id.block) || c.marked block;
+      grey = if is_index kind then record { id = id; cursor = 0 } ∷ c.grey else c.grey;
+    }
+
+-- the kind that a list of identifiers has for one
+abbrev pub kind_in : List (Puid × Kind) → Puid → Option Kind
+kind_in names id = lookup (is_at (puid_cmp id)) names
+
+-- an identifier that isn't in the list is not shaded
+abbrev pub shaded_as : Option Kind → Puid → Colours → Colours
+shaded_as None id c = c
+shaded_as (Some kind) id c = shaded id kind c
+
+abbrev pub shaded_in : List (Puid × Kind) → Puid → Colours → Colours
+shaded_in names id c = shaded_as (kind_in names id) id c
+
+abbrev pub all_shaded : List (Puid × Kind) → List Puid → Colours → Colours
+all_shaded names [] c = c
+all_shaded names (id ∷ ids) c = all_shaded names ids (shaded_in names id c)
+
+-- ---- the first grey index
+
+abbrev pub first_grey : Colours → Option Grey
+first_grey c = slice_get c.grey 0
+
+-- its cursor moves, or it is read to its end and grey no more
+abbrev pub moved_first : Option ℕ → List Grey → List Grey
+moved_first next [] = []
+moved_first None (e ∷ es) = es
+moved_first (Some cursor) (e ∷ es) = record { id = e.id; cursor = cursor } ∷ es
+
+abbrev pub moved : Option ℕ → Colours → Colours
+moved next c = record c { grey = moved_first next c.grey }

@@ -1,0 +1,6 @@
+pub mod Keys
+pub mod Lists
+pub mod Collide
+pub mod Tied
+pub mod Without
+mod Models

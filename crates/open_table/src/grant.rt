@@ -1,0 +1,11 @@
+//! One grant.
+use cfs_base::{Mode, Puid, Session, Tuid};
+
+/// An object that a session has open.
+#[derive(Clone, Copy, Debug, PartialEq, Eq)]
+pub struct Grant {
+    pub tuid: Tuid,
+    pub session: Session,
+    pub id: Puid,
+    pub mode: Mode,
+}

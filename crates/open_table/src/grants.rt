@@ -1,0 +1,184 @@
+//! The grants of all sessions.
+ghost use Rattle.std.specs.Prelude.{◌≡◌, ◌<◌, ◌++◌, [], ◌∷◌, length, slice_get, true, false, Some, None};
+ghost use Rattle.std.specs.Prelude.{IsTrue, IsOk, OnOk, OnErr, IfOk, IfErr};
+ghost use Rattle.std.specs.List.{list_any};
+ghost use Rattle.ufs_model.specs.Identifier.{same_puid, same_tuid};
+ghost use Rattle.open_table.specs.Grants.{grant_in, first_of, mode_in, without_grant, without_session, is_held};
+ghost use Rattle.open_table.specs.Grants.{conflicts, mode_against, fault_of};
+
+use crate::objects::Objects;
+use crate::sessions::Sessions;
+use crate::{AcquireFault, Grant, NoGrant};
+use cfs_base::{Mode, NoMemory, Puid, Session, Tuid};
+use std::alloc::Global;
+use std::marker::Model;
+use ufs_model::MOST_GRANTS;
+
+/// The grants of all sessions, in the order of acquiring. A grant is found among its own session's grants, and how an
+/// object is open by one look-up. Only `reserve` takes memory.
+#[derive(Drop)]
+pub struct Grants {
+    grants: Vec<Grant>,
+    sessions: Sessions,
+    objects: Objects,
+}
+
+impl Model for Grants {
+    ghost use Rattle.open_table.specs.Grants.{Table};
+
+    ghost Value = { Table };
+
+    ghost use Rattle.std.specs.Prelude.{nat_lt, nat_le, ◌&&◌, vec_len, vec_capacity};
+    ghost use Rattle.std.specs.HashMap.{spare};
+    ghost use Rattle.ufs_model.specs.declared.limits.TheConstants.{MOST_GRANTS};
+    ghost use Rattle.open_table.specs.Parts.{IsTied, own_in, mode_at};
+
+    ghost view = { λ t. record {
+      grants = t.grants.items;
+      has_room = nat_lt (vec_len t.grants) (vec_capacity t.grants) && nat_lt (vec_len t.grants) 4294967295
+          && nat_lt 0 (spare t.sessions.own) && nat_le MOST_GRANTS (vec_capacity t.sessions.fresh)
+          && nat_lt 0 (spare t.objects.modes);
+    } };
+
+    ghost invariant = { λ t. IsTied t.grants.items (own_in t.sessions.own) (mode_at t.objects.modes) };
+}
+
+impl Grants {
+    /// No grants. Takes no memory.
+    pub fn new(alloc: Global) -> Grants
+        ensures { result ≡ record { grants = []; has_room = false } }
+    {
+        Grants {
+            grants: Vec::new(alloc),
+            sessions: Sessions::new(alloc),
+            objects: Objects::new(alloc),
+        }
+    }
+
+    /// Makes room for one more, whoever it is for. Where memory is wanting the grants stay as they were.
+    pub fn reserve(&mut self) -> Result<(), NoMemory>
+        ensures grants { self.new.grants ≡ self.old.grants }
+        ensures room { OnOk result (self.new.has_room ≡ true) }
+        ensures kept { self.old.has_room ≡ true → self.new.has_room ≡ true }
+        ensures roomy { self.old.has_room ≡ true → IsOk result }
+    {
+        if self.grants.len() >= u32::MAX as usize {
+            return Err(NoMemory);
+        }
+        self.grants.reserve(1)?;
+        self.sessions.reserve()?;
+        self.objects.reserve()?;
+        Ok(())
+    }
+
+    /// Adds a grant, whose temporary identifier must be new. Takes no memory, and uses up the room that was made.
+    /// Where it is refused all stays as it was.
+    pub fn acquire(&mut self, grant: Grant) -> Result<(), AcquireFault>
+        requires room { self.old.has_room ≡ true }
+        requires new { list_any (λ g. same_tuid g.tuid grant.tuid) self.old.grants ≡ false }
+        ensures grants { OnOk result (self.new.grants ≡ self.old.grants ++ grant ∷ []) }
+        ensures allowed { OnOk result (fault_of self.old.grants grant ≡ None) }
+        ensures fault { IfErr result (λ fault. fault_of self.old.grants grant ≡ Some fault) }
+        ensures err { OnErr result (self.new ≡ self.old) }
+    {
+        if let Some(mode) = self.standing_against(grant) {
+            return Err(AcquireFault::Locked { mode });
+        }
+        if self.sessions.of(grant.session).len() >= MOST_GRANTS as usize {
+            return Err(AcquireFault::Grants);
+        }
+        self.grants.push_reserved(grant);
+        self.sessions.add(grant);
+        self.objects.open(grant.id, grant.mode);
+        Ok(())
+    }
+
+    /// The mode of those that stand on the object and conflict with this grant.
+    fn standing_against(&self, grant: Grant) -> Option<Mode>
+        ensures { result ≡ mode_against self.now.grants grant }
+    {
+        let mode = self.objects.mode_on(grant.id)?;
+        conflict(grant.mode, mode).then_some(mode)
+    }
+
+    /// The session's grant with this temporary identifier.
+    pub fn find(&self, who: Session, tuid: Tuid) -> Option<Grant>
+        ensures { result ≡ grant_in self.now.grants who tuid }
+    {
+        self.sessions.find(who, tuid)
+    }
+
+    /// Takes the session's grant with this temporary identifier out, which goes over the list. Where there is none all
+    /// stays as it was. Takes no memory.
+    pub fn close(&mut self, who: Session, tuid: Tuid) -> Result<Grant, NoGrant>
+        ensures found { IfOk result (λ grant. grant_in self.old.grants who tuid ≡ Some grant) }
+        ensures grants { OnOk result (self.new.grants ≡ without_grant self.old.grants who tuid) }
+        ensures none { OnErr result (grant_in self.old.grants who tuid ≡ None) }
+        ensures err { OnErr result (self.new ≡ self.old) }
+        ensures room { self.old.has_room ≡ true → self.new.has_room ≡ true }
+    {
+        let closed = self.find(who, tuid).ok_or(NoGrant)?;
+        self.grants
+            .retain(|g| !(g.session == who && g.tuid == tuid));
+        self.sessions.remove(who, tuid);
+        if !is_open(&self.grants, closed.id) {
+            self.objects.close(closed.id);
+        }
+        Ok(closed)
+    }
+
+    /// How an object is open. Grants on one object are all in one mode.
+    pub fn mode_on(&self, id: Puid) -> Option<Mode>
+        ensures { result ≡ mode_in self.now.grants id }
+    {
+        self.objects.mode_on(id)
+    }
+
+    /// The first of the session's grants.
+    pub fn next_of(&self, who: Session) -> Option<Grant>
+        ensures { result ≡ first_of self.now.grants who }
+    {
+        self.sessions.of(who).first().copied()
+    }
+
+    /// Takes all grants of the session out, one after the other. Takes no memory.
+    pub fn drop_session(&mut self, who: Session)
+        ensures grants { self.new.grants ≡ without_session self.old.grants who }
+        ensures room { self.old.has_room ≡ true → self.new.has_room ≡ true }
+    {
+        while let Some(grant) = self.next_of(who) {
+            let _ = self.close(who, grant.tuid);
+        }
+        self.sessions.forget(who);
+    }
+
+    /// The number of grants.
+    pub fn len(&self) -> u32
+        ensures len { result ≡ length self.now.grants }
+        ensures held { IsTrue (is_held self.now.grants) }
+    {
+        self.grants.len() as u32
+    }
+
+    /// The grant at a place, in the order of acquiring from 0.
+    pub fn at(&self, place: u32) -> Grant
+        requires { place < length self.now.grants }
+        ensures { slice_get self.now.grants place ≡ Some result }
+    {
+        self.grants[place as usize]
+    }
+}
+
+/// Whether one of these grants is on the object.
+fn is_open(grants: &[Grant], id: Puid) -> bool
+    ensures { result ≡ list_any (λ g. same_puid g.id id) grants.now }
+{
+    grants.iter().any(|g| g.id == id)
+}
+
+/// Whether two grants on one object in these modes can't stand together.
+fn conflict(wanted: Mode, standing: Mode) -> bool
+    ensures { result ≡ conflicts wanted standing }
+{
+    wanted == Mode::Writing || standing == Mode::Writing
+}

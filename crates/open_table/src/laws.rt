@@ -1,0 +1,41 @@
+//! That the table tells what the model asks of its grants, as contracts. None of these calls does anything.
+ghost use Rattle.std.specs.Prelude.{◌≡◌, ℕ, ◌+◌, ◌++◌, [], ◌∷◌, Bool, true, is_some, nat_le, length, option_map};
+ghost use Rattle.cfs_base.specs.declared.identifier.Puid.{Puid};
+ghost use Rattle.cfs_base.specs.declared.identifier.Tuid.{Tuid};
+ghost use Rattle.cfs_base.specs.declared.kind.Mode.{Mode};
+ghost use Rattle.ufs_model.specs.declared.asked.Request.TheVariants as asks;
+ghost use Rattle.ufs_model.specs.declared.limits.TheConstants.{MOST_GRANTS};
+ghost use Rattle.ufs_model.specs.State.{State, grant_of, after_leave};
+ghost use Rattle.ufs_model.specs.Outcome.{outcome_of};
+ghost use Rattle.ufs_model.specs.Word.{word};
+ghost use Rattle.ufs_model.specs.Refusal.{is_open, is_open_for_writing, is_locked, has_all_grants};
+ghost use Rattle.open_table.specs.declared.grant.Grant.{Grant};
+ghost use Rattle.open_table.specs.Grants.{grant_in, grants_of, mode_in, mode_against, without_grant, without_session};
+ghost use Rattle.open_table.specs.Grants.{none_collide};
+ghost use Rattle.open_table.specs.Model.{shown, table_of, is_writing};
+
+/// A table of the model's grants, without their drafts: what is found in it, when an opening is refused, and what
+/// a closing and a leave make of it.
+pub fn table_follows_the_model()
+    ensures found { (s : State) (who : ℕ) (t : Tuid)
+        → grant_in (table_of s.grants) who t ≡ option_map shown (grant_of s who t) }
+    ensures open { (s : State) (id : Puid) → is_some (mode_in (table_of s.grants) id) ≡ is_open s id }
+    ensures written { (s : State) (id : Puid) → none_collide (table_of s.grants) ≡ true
+        → is_writing (mode_in (table_of s.grants) id) ≡ is_open_for_writing s id }
+    ensures locked { (s : State) (who : ℕ) (g : Grant)
+        → is_some (mode_against (table_of s.grants) g) ≡ is_locked s who (asks.OpenFor g.id g.mode) }
+    ensures full { (s : State) (who : ℕ) (id : Puid) (mode : Mode)
+        → nat_le MOST_GRANTS (length (grants_of (table_of s.grants) who))
+        ≡ has_all_grants s who (asks.OpenFor id mode) }
+    ensures opened { (seed : ℕ) (s : State) (who : ℕ) (id : Puid) (mode : Mode) (b : ℕ)
+        → table_of (outcome_of seed s who (asks.OpenFor id mode) b).1.grants ≡ table_of s.grants ++ record {
+          tuid = record { draw = s.drawn + 1; word = word seed (s.drawn + 1) };
+          session = who;
+          id = id;
+          mode = mode;
+        } ∷ [] }
+    ensures closed { (seed : ℕ) (s : State) (who : ℕ) (t : Tuid) (commit : Bool) (b : ℕ)
+        → table_of (outcome_of seed s who (asks.Close t commit) b).1.grants ≡ without_grant (table_of s.grants) who t }
+    ensures left { (s : State) (who : ℕ)
+        → table_of (after_leave s who).grants ≡ without_session (table_of s.grants) who }
+{}

@@ -1,0 +1,6 @@
+pub mod Listed
+pub mod Tables
+pub mod Opened
+pub mod Firsts
+pub mod Taken
+mod Graphs

@@ -1,0 +1,4 @@
+pub mod Cells
+pub mod Directory
+pub mod Draw
+pub mod Kinds

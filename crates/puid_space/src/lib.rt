@@ -1,0 +1,14 @@
+//! The identifiers of a volume's objects, and the random words that new ones are made of.
+//! The layers above use that `Directory` is a finite map from identifiers to kinds, and that `Draw` gives the words of
+//! a seed in turn.
+#![tactic(auto)]
+
+mod directory;
+mod draw;
+mod laws;
+#[cfg(test)]
+mod tests;
+
+pub use directory::Directory;
+pub use draw::{Draw, Drawn, root_word};
+pub use laws::{kinds_follow_the_graph, taken_are_left_out};

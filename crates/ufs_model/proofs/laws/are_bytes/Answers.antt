@@ -1,0 +1,12 @@
+use Rattle.std.proofs.Common.{refl, get_or, arith}
+use Rattle.std.specs.Prelude.{nat_lt}
+use Rattle.std.specs.List.{list_all}
+use Rattle.std.proofs.lemmas.Bool.{lt-ltb}
+use Rattle.std.proofs.lemmas.List.Recursion.{and_from_places}
+use Rattle.ufs_model.proofs.laws.are_bytes.Goals as goal
+
+-- each byte fits its type
+pub returns : goal.returns
+returns c =
+    and_from_places (list_all (λ byte. nat_lt byte 256)) (λ byte. nat_lt byte 256) refl (λ _ _. refl) c.args.bytes.now 0
+    (λ i _. lt-ltb (get_or c.args.bytes.now i 0) 256 (omega (arith, c.type_inv.bytes i)))

@@ -1,0 +1,9 @@
+use Rattle.std.proofs.Common.{◌≡◌, rules}
+use Rattle.std.specs.Prelude.{filter, nat_lt}
+use Rattle.ufs_model.proofs.Rising.{filter-rises}
+use Rattle.ufs_model.proofs.numbers.Numbers.below.Goals as goal
+
+pub invariant_of-result : goal.invariant_of-result
+invariant_of-result c =
+    let is : c.in_ok-collect.field-0.items ≡ filter (λ n. nat_lt n c.args.limit) c.self.inside.numbers.items = search rules in
+    rw is (filter-rises (λ n. nat_lt n c.args.limit) c.self.inside.numbers.items c.self.invariant)

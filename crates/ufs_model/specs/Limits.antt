@@ -1,0 +1,43 @@
+-- The limits of the server, as numbers.
+use Rattle.std.specs.Prelude.{ℕ}
+
+-- the bytes of a leaf, and its slots, each of 8 bytes
+abbrev pub leaf_bytes : ℕ
+leaf_bytes = 512
+
+abbrev pub leaf_slots : ℕ
+leaf_slots = 64
+
+-- how many blocks of the level below an inner block leads to
+abbrev pub fan_out : ℕ
+fan_out = 128
+
+-- the bytes of the largest file, and the slots of the largest index
+abbrev pub most_bytes : ℕ
+most_bytes = 7864320
+
+abbrev pub most_slots : ℕ
+most_slots = 983040
+
+-- the slots of the root index
+abbrev pub root_slots : ℕ
+root_slots = 64
+
+-- the bytes of the largest read or write
+abbrev pub most_at_once : ℕ
+most_at_once = 4096
+
+-- the grants of one session at a time
+abbrev pub most_grants : ℕ
+most_grants = 64
+
+-- how many blocks stay Free for deletes
+abbrev pub reserve : ℕ
+reserve = 4
+
+-- the bytes of the longest request line, and of the longest name
+abbrev pub most_line : ℕ
+most_line = 16384
+
+abbrev pub most_name : ℕ
+most_name = 32

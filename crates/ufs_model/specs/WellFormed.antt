@@ -1,0 +1,79 @@
+-- Well-formed states, and the events that keep them so.
+use Rattle.std.specs.Prelude.{◌≡◌, ℕ, Bool, true, false, ◌&&◌, ◌==◌, nat_lt, nat_le, IsTrue, List, map, Option, Some, None}
+use Rattle.std.specs.List.{list_all}
+use Rattle.cfs_base.specs.declared.kind.FileKind.{FileKind}
+use Rattle.cfs_base.specs.declared.kind.FileKind.TheVariants as kinds
+use Rattle.ufs_model.specs.declared.asked.Request.{Request}
+use Rattle.ufs_model.specs.declared.asked.Request.TheVariants as asks
+use Rattle.ufs_model.specs.declared.asked.Event.{Event}
+use Rattle.ufs_model.specs.declared.asked.Event.TheVariants as events
+use Rattle.ufs_model.specs.declared.object.Object.{Object}
+use Rattle.ufs_model.specs.declared.object.Object.TheVariants as objects
+use Rattle.ufs_model.specs.declared.object.Draft.{Draft}
+use Rattle.ufs_model.specs.declared.object.Grant.{Grant}
+use Rattle.ufs_model.specs.Numbers.{numbers_rise}
+use Rattle.ufs_model.specs.Object.{is_object}
+use Rattle.ufs_model.specs.Graph.{Graph, object_at, IsGraph}
+use Rattle.ufs_model.specs.State.{State}
+
+-- ---- grants
+
+abbrev pub same_kind : FileKind → FileKind → Bool
+same_kind kinds.Normal kinds.Normal = true
+same_kind kinds.Normal kinds.Special = false
+same_kind kinds.Special kinds.Normal = false
+same_kind kinds.Special kinds.Special = true
+
+-- a file of the kind and fill byte of the file that it is to become
+abbrev pub is_draft_of : Object → Object → Bool
+is_draft_of (objects.File f) (objects.File d) = same_kind d.kind f.kind && (d.fill == f.fill) && is_object (objects.File d)
+is_draft_of (objects.File f) (objects.Index i) = false
+is_draft_of (objects.Index i) d = false
+
+-- the object is there, and the draft, where there is one, is of it
+abbrev pub is_open_so : Option Object → Option Draft → Bool
+is_open_so None draft = false
+is_open_so (Some o) None = true
+is_open_so (Some o) (Some d) = is_draft_of o d.object
+
+abbrev pub is_grant_in : Graph → Grant → Bool
+is_grant_in g grant = is_open_so (object_at g grant.id) grant.draft
+
+abbrev pub draws_of : List Grant → List ℕ
+draws_of grants = map (λ g. g.tuid.draw) grants
+
+-- ---- states
+
+-- a well-formed graph and grants in it, in the order in which they were drawn
+pub record IsState (s : State) : Type 0 where
+  pub graph : IsGraph s.graph
+  pub grants : list_all (is_grant_in s.graph) s.grants ≡ true
+  pub rising : numbers_rise (draws_of s.grants) ≡ true
+  pub drawn : list_all (λ draw. nat_le draw s.drawn) (draws_of s.grants) ≡ true
+
+-- ---- events
+
+-- what is to be stored is bytes
+abbrev pub stores_bytes : Request → Bool
+stores_bytes (asks.CreateFile kind fill index slot) = nat_lt fill 256
+stores_bytes (asks.CreateIndex slots index slot) = true
+stores_bytes (asks.Retain index slot id) = true
+stores_bytes (asks.Retrieve index slot) = true
+stores_bytes (asks.Delete index slot) = true
+stores_bytes (asks.Slots index) = true
+stores_bytes (asks.OpenFor id mode) = true
+stores_bytes (asks.Close grant commit) = true
+stores_bytes (asks.Read file offset count) = true
+stores_bytes (asks.Write file offset bytes) = list_all (λ byte. nat_lt byte 256) bytes
+stores_bytes (asks.Size file) = true
+stores_bytes (asks.Resize file size) = true
+
+-- An event's fill and bytes are below 256. Definitions are over numbers; what the code asks is always so
+abbrev pub IsSpeakable : Event → Type 0
+IsSpeakable (events.Unread who why) = Unit {0}
+IsSpeakable (events.Ask who request reply) = IsTrue (stores_bytes request)
+IsSpeakable (events.Leave who stopped) = Unit {0}
+IsSpeakable events.Began = Unit {0}
+IsSpeakable (events.Vanish ids) = Unit {0}
+IsSpeakable events.Finished = Unit {0}
+IsSpeakable (events.Halted moment) = Unit {0}

@@ -1,0 +1,54 @@
+-- Blocks of objects that are gone.
+use Rattle.std.proofs.Common.{◌≡◌, inl, inr, ℕ, ◌+◌, ◌≤◌, List, length, Bool, true, false, not, ◌&&◌, Option, refl, ap, subst, arith}
+use Rattle.std.specs.List.{list_all}
+use Rattle.std.proofs.lemmas.Bool.{and_parts, and_from, both_ways, false_from_ne_true, not-true, not_from_false}
+use Rattle.cfs_base.specs.Disk.{Image}
+use Rattle.cfs_base.specs.declared.identifier.Puid.{Puid}
+use Rattle.cyl_map.specs.declared.entry.MapEntry.{MapEntry}
+use Rattle.cyl_map.specs.Volume.{entry_in}
+use Rattle.ufs_model.specs.Identifier.{is_among, rises}
+use Rattle.ufs_model.specs.Graph.{Graph, has_block, ids_of, is_there, without}
+use Rattle.vol_image.proofs.Graphs.{rises-entries}
+use Rattle.vol_owners.specs.Owner.{is_taken, is_placed, owner_of, is_made, is_stray, stray_blocks}
+use Rattle.vol_owners.specs.Account.{Accounts, IsSwept, Opened}
+use Rattle.vol_owners.specs.Change.{ChangesOnly, IsOfThese}
+use Rattle.vol_owners.specs.Room.{blocks_taken}
+use Rattle.vol_owners.proofs.Entries.{free_unplaced}
+use Rattle.vol_owners.proofs.Rooms.{room}
+use Rattle.vol_owners.proofs.Steps.{vanish_goes_on}
+use Rattle.vol_owners.proofs.Sums.{ones_le}
+
+abbrev stray_parts : Graph → Option MapEntry → Type 0
+stray_parts g entry = (is_placed is_taken entry ≡ true) × (is_made entry ≡ false) × (has_block g.objects (owner_of entry) ≡ false)
+
+parts_of : (g : Graph) (entry : Option MapEntry) → is_stray g entry ≡ true → stray_parts g entry
+parts_of g entry stray =
+    let one = and_parts (is_placed is_taken entry) (not (is_made entry) && not (has_block g.objects (owner_of entry))) stray in
+    let two = and_parts (not (is_made entry)) (not (has_block g.objects (owner_of entry))) one.1 in
+    (one.0, not-true _ two.0, not-true _ two.1)
+
+-- A step in which what passes the test is made, or of an object that is there, adds no stray.
+module _ (T : Option MapEntry → Bool) (a b : Image) (g h : Graph) (changes : ChangesOnly T a b) (these : IsOfThese T g h) where
+  was_stray : (n : ℕ) → is_stray h (entry_in b n) ≡ true → is_stray g (entry_in a n) ≡ true
+  was_stray n stray =
+      let p = parts_of h (entry_in b n) stray in
+      elim (changes.entries n) [
+        | inl same ↦ subst (λ (e : Option MapEntry). is_stray g e ≡ true) same
+            (and_from _ _ p.0 (and_from _ _ (not_from_false _ p.1) (not_from_false _ (false_from_ne_true _ (λ held. both_ways _ p.2 (these.more (owner_of (entry_in b n)) held))))))
+        | inr both ↦ elim both.1 [
+          | inl free ↦ absurd (both_ways _ (free_unplaced is_taken refl (entry_in b n) free) p.0)
+          | inr two ↦ absurd (both_ways _ p.2 (these.there (entry_in b n) two.1 p.1))
+        ]
+      ]
+
+  pub strays_stay : stray_blocks b h (length b) ≤ stray_blocks a g (length a)
+  strays_stay = omega (arith, ones_le (λ n. is_stray h (entry_in b n)) (λ n. is_stray g (entry_in a n)) 0 (length b) was_stray, ap (λ (n : ℕ). stray_blocks a g n) changes.size)
+
+  pub stays_swept : IsSwept a g → IsSwept b h
+  stays_swept swept = record { none = λ n. false_from_ne_true _ (λ stray. both_ways _ (swept.none n) (was_stray n stray)) }
+
+-- a vanish makes strays of the blocks of what it takes, and the Free blocks stay
+pub vanish_counts : (a : Image) (g : Graph) (ds : List Opened) (ids : List Puid) → Accounts a g ds → rises (ids_of g) ≡ true → list_all (λ d. is_there (without g ids) d.id) ds ≡ true
+    → stray_blocks a (without g ids) (length a) + blocks_taken (without g ids) ds ≡ stray_blocks a g (length a) + blocks_taken g ds
+vanish_counts a g ds ids had up on =
+    omega (arith, room a g ds had up, room a (without g ids) ds (vanish_goes_on a g ds ids had on) (rises-entries (λ x. not (is_among x ids)) g.objects up))

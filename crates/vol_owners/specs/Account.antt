@@ -1,0 +1,149 @@
+-- Each block of an image has one use, and its entry says which: Free, fixed, of the tree of one object, of one draft,
+-- or of an object that is gone.
+use Rattle.std.specs.Prelude.{◌≡◌, ◌⊎◌, ℕ, zero, suc, Bool, true, false, not, ◌&&◌, ◌==◌, List, [], ◌∷◌, ◌++◌, length, take, get_or, filter, Option, Some, None, option_to_list}
+use Rattle.std.specs.List.{list_all}
+use Rattle.cfs_base.specs.Disk.{Image, block_at}
+use Rattle.cfs_base.specs.declared.identifier.Puid.{Puid}
+use Rattle.block_tree.specs.declared.root.Root as roots
+use Rattle.block_tree.specs.Root.{IsRootBlock, root_spelling}
+use Rattle.block_tree.specs.Tree.{levels_of, width, path_to, tree_of}
+use Rattle.cyl_map.specs.declared.entry.MapEntry.{MapEntry}
+use Rattle.cyl_map.specs.Volume.{entry_in}
+use Rattle.ufs_model.specs.declared.object.Draft.{Draft}
+use Rattle.ufs_model.specs.declared.object.Object.{Object}
+use Rattle.ufs_model.specs.Identifier.{same_puid}
+use Rattle.ufs_model.specs.Graph.{Graph, object_at, is_there}
+use Rattle.ufs_model.specs.Numbers.{numbers, has_number}
+use Rattle.vol_image.specs.Part.{part_at, is_committed, is_fixed, stands_for}
+use Rattle.vol_image.specs.Seen.{Held, Tree, tree_in}
+use Rattle.vol_image.specs.Reading.{IsTree}
+use Rattle.vol_image.specs.Frame.{IsBlockOf}
+use Rattle.vol_image.specs.Sound.{Holds}
+use Rattle.vol_owners.specs.Owner.{is_had, is_meant, is_leaving, is_taken, is_placed, owner_of, is_of, is_root, is_made, is_stray}
+
+-- ---- an object
+
+-- The blocks of the object with this root block are those that it has, and no other: none waits to be freed.
+pub record HasItsBlocks (image : Image) (r : ℕ) : Type 0 where
+  pub no_bit : is_committed (part_at image r) ≡ false
+  pub each : (n : ℕ) → IsBlockOf image r n → is_of is_had r (entry_in image n) ≡ true
+  pub no_other : (n : ℕ) → is_of is_had r (entry_in image n) ≡ true → IsBlockOf image r n
+  pub none_leaves : (n : ℕ) → is_of is_leaving r (entry_in image n) ≡ false
+
+-- ---- a draft
+
+-- the block stands somewhere in a tree
+pub record StandsIn (tree : Tree) (n : ℕ) : Type 0 where
+  pub path : List ℕ
+  pub held : Held
+  pub there : tree.below path ≡ Some held
+  pub is : held.block ≡ n
+
+abbrev pub passes : (ℕ → Bool) → Option Held → Bool
+passes test None = false
+passes test (Some h) = test h.block
+
+-- so many levels below a root of this content the numbers of those paths that pass a test
+abbrev pub numbers_at : (List ℕ → Bool) → List ℕ → ℕ → List ℕ
+numbers_at test root d =
+    filter (λ k. test (path_to (take d (levels_of root)) k)) (numbers 0 (width (take d (levels_of root))))
+
+-- of the blocks so many levels below the root those that pass a test; and level by level, from this depth up
+abbrev pub standing_at : (ℕ → Bool) → Tree → ℕ → List ℕ
+standing_at test tree d = numbers_at (λ path. passes test (tree.below path)) tree.root d
+
+abbrev pub levels_standing : (ℕ → Bool) → Tree → ℕ → List (List ℕ)
+levels_standing test tree zero = []
+levels_standing test tree (suc d) = standing_at test tree (suc d) ∷ levels_standing test tree d
+
+-- What the draft of an object has of its own: a shadow root, once it has one; in memory the object's root, and the root
+-- that it is to get; and the root of the object that it makes, if it makes one.
+pub record Opened : Type 0 where
+  pub id : Puid
+  pub shadow : Option ℕ
+  pub own : roots.Root
+  pub root : roots.Root
+  pub draft : Draft
+  pub created : Option ℕ
+
+-- the content that the object's root is to get
+abbrev pub content_of : Opened → List ℕ
+content_of d = root_spelling d.root
+
+abbrev pub is_meant_for : Image → ℕ → ℕ → Bool
+is_meant_for image r n = is_of is_meant r (entry_in image n)
+
+-- The tree of the content gives the draft. The blocks that are meant for the object are the shadow root and those of
+-- this tree that are fresh, and no other.
+pub record HasDraft (image : Image) (id : Puid) (d : Opened) : Type 0 where
+  pub own : IsRootBlock (block_at image id.block) d.own
+  pub same_kind : d.root.kind ≡ d.own.kind
+  pub same_word : d.root.word ≡ d.own.word
+  pub tree : IsTree (length image) id.block (tree_in image (content_of d)) d.root d.draft.object
+  pub shadow : (s : ℕ) → d.shadow ≡ Some s → stands_for id.block (entry_in image s) ≡ true
+  pub fresh : (k : ℕ) → get_or d.draft.fresh k []
+      ≡ get_or (levels_standing (is_meant_for image id.block) (tree_in image (content_of d)) (length (levels_of (content_of d)))) k []
+  pub no_other : (n : ℕ) → is_meant_for image id.block n ≡ true
+      → (d.shadow ≡ Some n) ⊎ StandsIn (tree_in image (content_of d)) n
+
+-- the drafts of one object
+abbrev pub drafts_of : List Opened → Puid → List Opened
+drafts_of drafts id = filter (λ d. same_puid d.id id) drafts
+
+-- there is one, or none and nothing is meant for the object
+abbrev pub HasDrafts : Image → Puid → List Opened → Type 0
+HasDrafts image id [] = (n : ℕ) → is_meant_for image id.block n ≡ false
+HasDrafts image id (d ∷ []) = HasDraft image id d
+HasDrafts image id (d ∷ e ∷ more) = ⊥
+
+-- ---- fresh blocks, told by comparing pointers
+
+-- at the end of this path a root of content `new` leads to a block, and one of content `own` to another or to none
+abbrev pub differs_at : Image → (own new : List ℕ) → List ℕ → Bool
+differs_at image own new path =
+    not (tree_of image new path == 0) && not (tree_of image own path == tree_of image new path)
+
+-- the numbers of those that are so many levels below the root
+abbrev pub differing_at : Image → (own new : List ℕ) → ℕ → List ℕ
+differing_at image own new d = numbers_at (differs_at image own new) new d
+
+-- ---- objects that drafts make
+
+-- the roots of these
+abbrev pub created_of : List Opened → List ℕ
+created_of [] = []
+created_of (d ∷ ds) = option_to_list d.created ++ created_of ds
+
+-- the root is entered, and is all that has this owner so far
+pub record IsMade (image : Image) (c : ℕ) : Type 0 where
+  pub entered : is_made (entry_in image c) ≡ true
+  pub alone : (n : ℕ) → is_of is_taken c (entry_in image n) ≡ true → n ≡ c
+
+abbrev pub numbers_differ : List ℕ → Bool
+numbers_differ [] = true
+numbers_differ (n ∷ ns) = not (has_number n ns) && numbers_differ ns
+
+-- ---- all
+
+-- the root of this owner stands
+abbrev pub HasRoot : Image → ℕ → Type 0
+HasRoot image r = is_root is_taken (entry_in image r) ≡ true
+
+pub record Accounts (image : Image) (g : Graph) (ds : List Opened) : Type 0 where
+  pub holds : Holds image g
+  -- what isn't fixed is Free or has a place in some object
+  pub placed : (n : ℕ) (e : MapEntry) → entry_in image n ≡ Some e → is_fixed n ≡ false → is_taken e.state ≡ true
+      → is_placed is_taken (Some e) ≡ true
+  -- while a block is left of an object its root is: roots are swept last, so no new object finds blocks of an old one
+  pub rooted : (n : ℕ) → is_placed is_taken (entry_in image n) ≡ true → HasRoot image (owner_of (entry_in image n))
+  pub objects : (id : Puid) (o : Object) → object_at g id ≡ Some o → HasItsBlocks image id.block
+  pub drafts : (id : Puid) (o : Object) → object_at g id ≡ Some o → HasDrafts image id (drafts_of ds id)
+  pub on_objects : list_all (λ d. is_there g d.id) ds ≡ true
+  -- the roots that are made are those that the drafts make, each one
+  pub made : (c : ℕ) → has_number c (created_of ds) ≡ true → IsMade image c
+  pub made_by : (n : ℕ) → is_made (entry_in image n) ≡ true → has_number n (created_of ds) ≡ true
+  pub made_once : numbers_differ (created_of ds) ≡ true
+
+-- no block is one of an object that is gone
+pub record IsSwept (image : Image) (g : Graph) : Type 0 where
+  pub none : (n : ℕ) → is_stray g (entry_in image n) ≡ false

@@ -1,0 +1,16 @@
+pub mod Zeros
+pub mod Sights
+pub mod OneLeaf
+pub mod RootIndex
+pub mod WithA
+pub mod Worked
+pub mod WorkedRun
+pub mod WorkedBytes
+pub mod DamagedBlocks
+pub mod DamagedTrees
+pub mod FullTree
+pub mod Full
+pub mod Uses
+pub mod DraftedUses
+pub mod HalfSound
+pub mod HalfLost

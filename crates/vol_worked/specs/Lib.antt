@@ -1,0 +1,5 @@
+pub mod Worked
+pub mod Damaged
+pub mod Single
+pub mod HalfWritten
+pub mod Drafted
