@@ -1,6 +1,6 @@
 //! The files that a command names, opened.
 ghost use Rattle.std.specs.Prelude.{◌≡◌, length, map, string_bytes, IfOk};
-ghost use Rattle.cfs_serve.specs.Words.{play_in};
+ghost use Rattle.cfs_serve.specs.Words.{asked_in};
 ghost use Rattle.cfs_serve.specs.Whole.{HasPlaces};
 
 use cfs_host::{FileSink, FileSource, Stream};
@@ -64,10 +64,10 @@ fn make_sinks(rt: &HostRuntime, alloc: Global, paths: &[Path]) -> Result<Vec<Any
     Ok(sinks)
 }
 
-/// Opens what the words name, and nothing for words that are of no form. Where it can't, it tells why and answers the
+/// Opens what the words name, and nothing for a page or for words that are of no form. Where it can't, it tells why and answers the
 /// status.
 pub(crate) fn open(rt: &HostRuntime, alloc: Global, words: &[String]) -> Result<Opened, u8>
-    ensures { IfOk result (λ o. HasPlaces (play_in (map string_bytes words.now)) (length o.sources.items) (length o.sinks.items)) }
+    ensures { IfOk result (λ o. HasPlaces (asked_in (map string_bytes words.now)) (length o.sources.items) (length o.sinks.items)) }
 {
     let names = match names(alloc, words) {
         Ok(names) => names,

@@ -1,5 +1,5 @@
 mod LineLemmas
 mod Lookups
+mod Naming
 mod Readings
-mod Steady
 mod WordLemmas

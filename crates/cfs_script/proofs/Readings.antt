@@ -3,7 +3,7 @@ use Rattle.std.proofs.Common.{◌≡◌, List, Ok, Err, Result, refl, ap, ◌∙
 use Rattle.ufs_model.specs.Spoken.{Reading, Is, Unbound, Bad, ◌⊛◌}
 use Rattle.cfs_script.specs.declared.fault.ScriptFault.{ScriptFault}
 use Rattle.cfs_script.specs.declared.fault.ScriptFault.TheVariants as faults
-use Rattle.cfs_script.specs.Read.{Tells}
+use Rattle.cfs_script.specs.Read.{Answers}
 
 -- a pair of readings
 abbrev pub paired : {A B : Type 0} → Reading A → Reading B → Reading (A × B)
@@ -23,17 +23,22 @@ abbrev mapped : {A B : Type 0} → (A → B) → Result A ScriptFault → Result
 mapped g (Ok x) = Ok (g x)
 mapped g (Err fault) = Err fault
 
-Tells-mapped : {A B : Type 0} (g : A → B) (res : Result A ScriptFault) (r : Reading A) → Tells res r → Tells (mapped g res) (Is g ⊛ r)
-Tells-mapped g (Ok x) r h = rw h refl
-Tells-mapped g (Err faults.Syntax) r h = rw h refl
-Tells-mapped g (Err faults.NoName) r h = rw h refl
-Tells-mapped g (Err faults.Memory) r h = absurd h
+Answers-mapped : {A B : Type 0} (g : A → B) (res : Result A ScriptFault) (r : Reading A) → Answers res r → Answers (mapped g res) (Is g ⊛ r)
+Answers-mapped g (Ok x) r h = rw h refl
+Answers-mapped g (Err faults.Syntax) r h = rw h refl
+Answers-mapped g (Err faults.NoName) r h = rw h refl
+Answers-mapped g (Err faults.Memory) r h = tt
 
 -- what tells a pair tells what is made of it
-pub Tells-two : {A B C : Type 0} (f : A → B → C) (res : Result (A × B) ScriptFault) (r : Reading A) (s : Reading B)
-    → Tells res (paired r s) → Tells (mapped (λ p. f p.0 p.1) res) (Is f ⊛ r ⊛ s)
-Tells-two f res r s h = rw ⊛-paired (Tells-mapped (λ p. f p.0 p.1) res (paired r s) h)
+pub Answers-two : {A B C : Type 0} (f : A → B → C) (res : Result (A × B) ScriptFault) (r : Reading A) (s : Reading B)
+    → Answers res (paired r s) → Answers (mapped (λ p. f p.0 p.1) res) (Is f ⊛ r ⊛ s)
+Answers-two f res r s h = rw ⊛-paired (Answers-mapped (λ p. f p.0 p.1) res (paired r s) h)
 
-pub Tells-three : {A B C D : Type 0} (f : A → B → C → D) (res : Result ((A × B) × C) ScriptFault) (r : Reading A) (s : Reading B) (t : Reading C)
-    → Tells res (paired (paired r s) t) → Tells (mapped (λ p. f p.0.0 p.0.1 p.1) res) (Is f ⊛ r ⊛ s ⊛ t)
-Tells-three f res r s t h = rw ⊛-paired (Tells-two (λ p x. f p.0 p.1 x) res (paired r s) t h)
+pub Answers-three : {A B C D : Type 0} (f : A → B → C → D) (res : Result ((A × B) × C) ScriptFault) (r : Reading A) (s : Reading B) (t : Reading C)
+    → Answers res (paired (paired r s) t) → Answers (mapped (λ p. f p.0.0 p.0.1 p.1) res) (Is f ⊛ r ⊛ s ⊛ t)
+Answers-three f res r s t h = rw ⊛-paired (Answers-two (λ p x. f p.0 p.1 x) res (paired r s) t h)
+
+pub Answers-four : {A B C D E : Type 0} (f : A → B → C → D → E) (res : Result (((A × B) × C) × D) ScriptFault)
+    (r : Reading A) (s : Reading B) (t : Reading C) (u : Reading D)
+    → Answers res (paired (paired (paired r s) t) u) → Answers (mapped (λ p. f p.0.0.0 p.0.0.1 p.0.1 p.1) res) (Is f ⊛ r ⊛ s ⊛ t ⊛ u)
+Answers-four f res r s t u h = rw ⊛-paired (Answers-three (λ p x y. f p.0 p.1 x y) res (paired r s) t u h)

@@ -12,7 +12,7 @@ use Rattle.std.specs.Str.Parse.{digits_value}
 use Rattle.std.specs.Int.{w32, from_be_bytes}
 use Rattle.hex.specs.Hex.{decode_sized, is_hex_digit}
 use Rattle.hex.proofs.HexLemmas.{IsOk-decode_sized, decode_of-ok, decode_sized-twice}
-use Rattle.ufs_model.specs.Spoken.{Reading, Is, Bad, number_in, digits_in}
+use Rattle.ufs_model.specs.Spoken.{Reading, Is, Bad, number_in, byte_in, digits_in}
 
 -- digits are the digits of `parse`
 pub own : IsNumeralModel (λ ds. all_ascii_digits ds ≡ true) (digits_value 10)
@@ -57,3 +57,18 @@ digits_in-decoded word bytes h =
     let half = (decode_of-ok word bytes (sym (decode_sized-twice word 8 long) ∙ h)).2 in
     let pairs = rw long at h in
     rw (long, all, pairs) (ap (λ (b : List ℕ). Is (record { block = from_be_bytes w32 (take 4 b); word = from_be_bytes w32 (drop 4 b) })) (eight bytes (omega arith)))
+
+-- what decodes into one byte is that byte
+pub byte_in-decoded : (word bytes : List ℕ) → decode_sized word 1 ≡ Ok bytes → byte_in word ≡ Is (get_or bytes 0 0)
+byte_in-decoded word [] h =
+    let long : length word ≡ 2 = ((IsOk-decode_sized word 1).0 (rw h refl)).0 in
+    let half = (decode_of-ok word [] (sym (decode_sized-twice word 1 long) ∙ h)).2 in
+    absurd (omega (arith, long, half))
+byte_in-decoded word (b ∷ []) h =
+    let long : length word ≡ 2 = ((IsOk-decode_sized word 1).0 (rw h refl)).0 in
+    let pairs = rw long at h in
+    rw (long, pairs) refl
+byte_in-decoded word (b ∷ c ∷ bytes) h =
+    let long : length word ≡ 2 = ((IsOk-decode_sized word 1).0 (rw h refl)).0 in
+    let half = (decode_of-ok word (b ∷ c ∷ bytes) (sym (decode_sized-twice word 1 long) ∙ h)).2 in
+    absurd (omega (arith, long, half))

@@ -1,22 +1,29 @@
--- The lines that are built.
-use Rattle.std.specs.Prelude.{◌≢◌, ℕ, List, [], ◌∷◌}
-use Rattle.ufs_model.specs.Names.{Names}
-use Rattle.ufs_model.specs.Spoken.{Bad, Form, spoken, create_index_form, retain_form, retrieve_form, delete_form, slots_form}
+-- The forms of lines that are read, by their verbs.
+use Rattle.std.specs.Prelude.{List, [], ◌∷◌, map}
+use Rattle.ufs_model.specs.Spoken.{Form, create_file_form, create_index_form, retain_form, retrieve_form, delete_form, slots_form}
+use Rattle.ufs_model.specs.Spoken.{open_form, close_form, read_form, write_form, size_form, resize_form}
 use Rattle.cfs_script.specs.declared.verb.Verb.{Verb}
 use Rattle.cfs_script.specs.declared.verb.Verb.TheVariants as verbs
 
--- the forms of these lines
-abbrev pub built_forms : List Form
-built_forms = create_index_form ∷ retain_form ∷ retrieve_form ∷ delete_form ∷ slots_form ∷ []
-
 -- the form that begins with this verb
 abbrev pub form_of_verb : Verb → Form
+form_of_verb verbs.CreateFile = create_file_form
 form_of_verb verbs.CreateIndex = create_index_form
 form_of_verb verbs.Retain = retain_form
 form_of_verb verbs.Retrieve = retrieve_form
 form_of_verb verbs.Delete = delete_form
 form_of_verb verbs.Slots = slots_form
+form_of_verb verbs.Open = open_form
+form_of_verb verbs.Close = close_form
+form_of_verb verbs.Read = read_form
+form_of_verb verbs.Write = write_form
+form_of_verb verbs.Size = size_form
+form_of_verb verbs.Resize = resize_form
 
--- the words are of a form, whatever names stand for
-abbrev pub IsFormed : List (List ℕ) → Type 0
-IsFormed words = (names : Names) → spoken built_forms names words ≢ Bad
+-- a language: the forms of these verbs
+abbrev pub forms_of : List Verb → List Form
+forms_of language = map form_of_verb language
+
+-- the language of the program: the lines that are served
+abbrev pub built_forms : List Form
+built_forms = create_index_form ∷ retain_form ∷ retrieve_form ∷ delete_form ∷ slots_form ∷ []

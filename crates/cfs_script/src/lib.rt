@@ -19,7 +19,9 @@ pub use line::{NextLine, next_line};
 pub use name::{Name, is_name};
 pub use names::Names;
 pub use reply::{REPLY_ROOM, print_reply, print_unread};
-pub use spoken::{Spoken, name_to_bind, read_line, resolve};
+pub use spoken::{Spoken, read_line};
+pub use verb::{Verb, all_verbs, built_verbs};
+pub use word::number_of;
 
 #[cfg(test)]
 mod tests;

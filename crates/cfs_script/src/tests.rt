@@ -1,5 +1,5 @@
-use crate::{Name, Names, ScriptFault, name_to_bind, read_line, resolve};
-use cfs_base::{Puid, Tuid};
+use crate::{Name, Names, ScriptFault, Spoken, all_verbs, built_verbs, read_line};
+use cfs_base::{FileKind, Mode, Puid, Tuid};
 use std::alloc::Global;
 use std::process::Abort;
 use std::test::Fail;
@@ -22,8 +22,8 @@ const GRANT: Tuid = Tuid {
 
 /// What the line asks of a session with these names.
 fn ask(alloc: Global, names: &Names, line: &[u8]) -> Result<Request, ScriptFault> {
-    let words = read_line(alloc, line)?;
-    resolve(alloc, &words, names)
+    let Spoken { request, name: _ } = read_line(alloc, &all_verbs(), line, names)?;
+    Ok(request)
 }
 
 fn expect_fault(rt: &impl Abort, alloc: Global, names: &Names, line: &[u8], fault: ScriptFault) {
@@ -41,8 +41,8 @@ fn expect_slots(rt: &impl Abort, alloc: Global, names: &Names, line: &[u8], want
 }
 
 fn bind(alloc: Global, names: &mut Names, line: &[u8], to: Bound) -> Result<(), Fail> {
-    let words = read_line(alloc, line)?;
-    if let Some(name) = name_to_bind(alloc, &words)? {
+    let Spoken { request: _, name } = read_line(alloc, &all_verbs(), line, names)?;
+    if let Some(name) = name {
         names.reserve()?;
         names.bind(name, to);
     }
@@ -96,6 +96,87 @@ fn each_form_is_read(rt: HostRuntime) -> Result<(), Fail> {
         Request::Delete { index, slot } => assert_eq!(rt; (index, slot), (Ref::Direct(A), 7)),
         _ => assert!(rt; false),
     }
+    Ok(())
+}
+
+#[test]
+fn each_form_on_files_is_read(rt: HostRuntime) -> Result<(), Fail> {
+    let names = some_names(rt.alloc())?;
+    match ask(rt.alloc(), &names, b"create-file f special 2E a 1")? {
+        Request::CreateFile {
+            kind,
+            fill,
+            index,
+            slot,
+        } => {
+            assert_eq!(rt; (kind, fill), (FileKind::Special, 0x2e));
+            assert_eq!(rt; (index, slot), (Ref::Direct(A), 1));
+        }
+        _ => assert!(rt; false),
+    }
+    match ask(rt.alloc(), &names, b"open w a write")? {
+        Request::OpenFor { id, mode } => assert_eq!(rt; (id, mode), (A, Mode::Writing)),
+        _ => assert!(rt; false),
+    }
+    match ask(rt.alloc(), &names, b"close g commit")? {
+        Request::Close { grant, commit } => assert_eq!(rt; (grant, commit), (GRANT, true)),
+        _ => assert!(rt; false),
+    }
+    match ask(rt.alloc(), &names, b"write g 1 5aFf")? {
+        Request::Write {
+            file,
+            offset,
+            bytes,
+        } => {
+            assert_eq!(rt; (file, offset), (Ref::Through(GRANT), 1));
+            assert_eq!(rt; bytes.as_slice(), [0x5a, 0xff].as_slice());
+        }
+        _ => assert!(rt; false),
+    }
+    Ok(())
+}
+
+#[test]
+fn lines_out_of_the_language_are_syntax(rt: HostRuntime) -> Result<(), Fail> {
+    let names = some_names(rt.alloc())?;
+    let lines: [&[u8]; 4] = [b"size g", b"read g 0 1", b"resize g 4", b"close g abort"];
+    for line in lines {
+        let built = read_line(rt.alloc(), &built_verbs(), line, &names);
+        assert!(rt; matches!(built, Err(ScriptFault::Syntax)));
+        assert!(rt; ask(rt.alloc(), &names, line).is_ok());
+    }
+    Ok(())
+}
+
+#[test]
+fn files_have_words_of_their_own(rt: HostRuntime) -> Result<(), Fail> {
+    let names = some_names(rt.alloc())?;
+    let lines: [&[u8]; 7] = [
+        b"close root commit",
+        b"close 00000002e56a5d40 commit",
+        b"close g",
+        b"open w a reading",
+        b"create-file f other 00 root 0",
+        b"create-file f normal 0 root 0",
+        b"write g 0 0",
+    ];
+    for line in lines {
+        expect_fault(&rt, rt.alloc(), &names, line, ScriptFault::Syntax);
+    }
+    expect_fault(
+        &rt,
+        rt.alloc(),
+        &names,
+        b"close a commit",
+        ScriptFault::NoName,
+    );
+    expect_fault(
+        &rt,
+        rt.alloc(),
+        &names,
+        b"open w g read",
+        ScriptFault::NoName,
+    );
     Ok(())
 }
 
@@ -187,10 +268,13 @@ fn a_name_bound_again_stands_for_the_new_in_its_session_alone(rt: HostRuntime) -
 
 #[test]
 fn only_what_answers_an_identifier_binds(rt: HostRuntime) -> Result<(), Fail> {
-    let words = read_line(rt.alloc(), b"retrieve b root 0")?;
-    let name = name_to_bind(rt.alloc(), &words)?;
-    assert_eq!(rt; name.as_ref().map(Name::as_slice), Some(b"b".as_slice()));
-    let words = read_line(rt.alloc(), b"delete root 0")?;
-    assert!(rt; name_to_bind(rt.alloc(), &words)?.is_none());
+    let names = Names::new(rt.alloc(), ROOT);
+    let line = read_line(rt.alloc(), &all_verbs(), b"retrieve b root 0", &names)?;
+    assert_eq!(rt;
+        line.name.as_ref().map(Name::as_slice),
+        Some(b"b".as_slice())
+    );
+    let line = read_line(rt.alloc(), &all_verbs(), b"delete root 0", &names)?;
+    assert!(rt; line.name.is_none());
     Ok(())
 }

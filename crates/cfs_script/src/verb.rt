@@ -1,44 +1,100 @@
 //! The verbs of the language, a row each.
-ghost use Rattle.std.specs.Prelude.{◌≡◌};
+ghost use Rattle.std.specs.Prelude.{◌≡◌, map};
 ghost use Rattle.std.specs.Option.{option_map};
-ghost use Rattle.ufs_model.specs.Spoken.{form_of};
-ghost use Rattle.cfs_script.specs.Language.{built_forms, form_of_verb};
+ghost use Rattle.ufs_model.specs.Spoken.{all_forms, form_of};
+ghost use Rattle.cfs_script.specs.Language.{built_forms, form_of_verb, forms_of};
 
 /// What a request line begins with.
 #[derive(Clone, Copy, Debug, PartialEq, Eq)]
 pub enum Verb {
+    CreateFile,
     CreateIndex,
     Retain,
     Retrieve,
     Delete,
     Slots,
+    Open,
+    Close,
+    Read,
+    Write,
+    Size,
+    Resize,
 }
 
-/// The verb that this word is.
-pub fn verb_of(word: &[u8]) -> Option<Verb>
-    ensures { option_map form_of_verb result ≡ form_of built_forms word.now }
+/// The verbs of the lines that the program serves.
+pub fn built_verbs() -> [Verb; 5]
+    ensures { forms_of result ≡ built_forms }
 {
-    if word == b"create-index".as_slice() {
-        Some(Verb::CreateIndex)
-    } else if word == b"retain".as_slice() {
-        Some(Verb::Retain)
-    } else if word == b"retrieve".as_slice() {
-        Some(Verb::Retrieve)
-    } else if word == b"delete".as_slice() {
-        Some(Verb::Delete)
-    } else if word == b"slots".as_slice() {
-        Some(Verb::Slots)
-    } else {
-        None
+    [
+        Verb::CreateIndex,
+        Verb::Retain,
+        Verb::Retrieve,
+        Verb::Delete,
+        Verb::Slots,
+    ]
+}
+
+/// All verbs.
+pub fn all_verbs() -> [Verb; 12]
+    ensures { forms_of result ≡ all_forms }
+{
+    [
+        Verb::CreateFile,
+        Verb::CreateIndex,
+        Verb::Retain,
+        Verb::Retrieve,
+        Verb::Delete,
+        Verb::Slots,
+        Verb::Open,
+        Verb::Close,
+        Verb::Read,
+        Verb::Write,
+        Verb::Size,
+        Verb::Resize,
+    ]
+}
+
+impl Verb {
+    /// Its word.
+    fn letters(self) -> &'static [u8]
+        ensures { result.now ≡ (form_of_verb self).verb }
+    {
+        match self {
+            Verb::CreateFile => b"create-file",
+            Verb::CreateIndex => b"create-index",
+            Verb::Retain => b"retain",
+            Verb::Retrieve => b"retrieve",
+            Verb::Delete => b"delete",
+            Verb::Slots => b"slots",
+            Verb::Open => b"open",
+            Verb::Close => b"close",
+            Verb::Read => b"read",
+            Verb::Write => b"write",
+            Verb::Size => b"size",
+            Verb::Resize => b"resize",
+        }
+    }
+
+    /// Whether the next word is a name that an ok reply binds.
+    pub fn binds(self) -> bool
+        ensures { result ≡ (form_of_verb self).binds }
+    {
+        match self {
+            Verb::CreateFile | Verb::CreateIndex | Verb::Retrieve | Verb::Open => true,
+            Verb::Retain | Verb::Delete | Verb::Slots | Verb::Close => false,
+            Verb::Read | Verb::Write | Verb::Size | Verb::Resize => false,
+        }
     }
 }
 
-/// Whether the next word is a name that an ok reply binds.
-pub fn binds(verb: Verb) -> bool
-    ensures { result ≡ (form_of_verb verb).binds }
+/// The verb of this language that the word is.
+pub fn verb_of(language: &[Verb], word: &[u8]) -> Option<Verb>
+    ensures { option_map form_of_verb result ≡ form_of (forms_of language.now) word.now }
 {
-    match verb {
-        Verb::CreateIndex | Verb::Retrieve => true,
-        Verb::Retain | Verb::Delete | Verb::Slots => false,
+    'language: for verb in language {
+        if word == verb.letters() {
+            return Some(*verb);
+        }
     }
+    None
 }

@@ -1,16 +1,17 @@
 //! What single words say.
-ghost use Rattle.std.specs.Prelude.{◌≡◌};
+ghost use Rattle.std.specs.Prelude.{◌≡◌, MatchOption};
 ghost use Rattle.std.specs.List.{list_all};
 ghost use Rattle.std.specs.Char.{is_ascii_digit};
-ghost use Rattle.ufs_model.specs.Spoken.{Is, Reading, digits_in, id_in, number_in, ref_in, ◌⊛◌};
+ghost use Rattle.ufs_model.specs.Spoken.{Bad, Is, Reading, byte_in, bytes_in, digits_in, grant_in, id_in, number_in, ref_in, ◌⊛◌};
 ghost use Rattle.cfs_script.specs.NameTable.{names_of};
-ghost use Rattle.cfs_script.specs.Read.{Tells};
+ghost use Rattle.cfs_script.specs.Read.{Answers, commit_in, kind_in, mode_in};
 
 use crate::fault::ScriptFault;
 use crate::name::{is_id_digits, is_name};
 use crate::names::Names;
-use cfs_base::Puid;
-use hex::FromHex;
+use cfs_base::{Bytes, FileKind, Mode, Puid, Tuid};
+use hex::{FromHex, FromHexError};
+use std::alloc::Global;
 use ufs_model::{Bound, Ref};
 
 /// Whether the word is of decimal digits alone.
@@ -21,24 +22,98 @@ fn has_digits(word: &[u8]) -> bool
 }
 
 /// The number that the word writes: 1 to 20 decimal digits, within a u64.
-pub fn number_in(word: &[u8]) -> Result<u64, ScriptFault>
-    ensures { Tells result (number_in word.now) }
+pub fn number_of(word: &[u8]) -> Option<u64>
+    ensures { MatchOption result (number_in word.now ≡ Bad) (λ number. number_in word.now ≡ Is number) }
 {
     if word.is_empty() || word.len() > 20 || !has_digits(word) {
-        return Err(ScriptFault::Syntax);
+        return None;
     }
     let Ok(text) = str::from_utf8(word) else {
-        return Err(ScriptFault::Syntax);
+        return None;
     };
     match text.parse() {
-        Ok(number) => Ok(number),
+        Ok(number) => Some(number),
+        Err(_) => None,
+    }
+}
+
+/// The same, as a word of a line.
+pub fn number_in(word: &[u8]) -> Result<u64, ScriptFault>
+    ensures { Answers result (number_in word.now) }
+{
+    match number_of(word) {
+        Some(number) => Ok(number),
+        None => Err(ScriptFault::Syntax),
+    }
+}
+
+/// The bytes that the word writes: two hexadecimal digits or more, of an even number.
+pub fn bytes_in(alloc: Global, word: &[u8]) -> Result<Bytes, ScriptFault>
+    ensures { Answers result (bytes_in word.now) }
+{
+    if word.is_empty() {
+        return Err(ScriptFault::Syntax);
+    }
+    match hex::decode(alloc, word) {
+        Ok(bytes) => Ok(Bytes::new(bytes)),
+        Err(FromHexError::OutOfMemory) => Err(ScriptFault::Memory),
         Err(_) => Err(ScriptFault::Syntax),
+    }
+}
+
+/// The byte that the word writes: two hexadecimal digits.
+pub fn byte_in(word: &[u8]) -> Result<u8, ScriptFault>
+    ensures { Answers result (byte_in word.now) }
+{
+    let Ok(bytes) = <[u8; 1]>::from_hex(word) else {
+        return Err(ScriptFault::Syntax);
+    };
+    let [byte] = bytes;
+    Ok(byte)
+}
+
+/// The kind of file that the word names.
+pub fn kind_in(word: &[u8]) -> Result<FileKind, ScriptFault>
+    ensures { Answers result (kind_in word.now) }
+{
+    if word == b"normal".as_slice() {
+        Ok(FileKind::Normal)
+    } else if word == b"special".as_slice() {
+        Ok(FileKind::Special)
+    } else {
+        Err(ScriptFault::Syntax)
+    }
+}
+
+/// For what an object is to be opened.
+pub fn mode_in(word: &[u8]) -> Result<Mode, ScriptFault>
+    ensures { Answers result (mode_in word.now) }
+{
+    if word == b"read".as_slice() {
+        Ok(Mode::Reading)
+    } else if word == b"write".as_slice() {
+        Ok(Mode::Writing)
+    } else {
+        Err(ScriptFault::Syntax)
+    }
+}
+
+/// Whether a draft is to become the file.
+pub fn commit_in(word: &[u8]) -> Result<bool, ScriptFault>
+    ensures { Answers result (commit_in word.now) }
+{
+    if word == b"commit".as_slice() {
+        Ok(true)
+    } else if word == b"abort".as_slice() {
+        Ok(false)
+    } else {
+        Err(ScriptFault::Syntax)
     }
 }
 
 /// The identifier that the word writes: 16 hexadecimal digits.
 fn digits_in(word: &[u8]) -> Result<Puid, ScriptFault>
-    ensures { Tells result (digits_in word.now) }
+    ensures { Answers result (digits_in word.now) }
 {
     let Ok(bytes) = <[u8; 8]>::from_hex(word) else {
         return Err(ScriptFault::Syntax);
@@ -52,7 +127,7 @@ fn digits_in(word: &[u8]) -> Result<Puid, ScriptFault>
 
 /// The identifier that the word stands for: `root`, 16 hexadecimal digits, or a name.
 pub fn id_in(names: &Names, word: &[u8]) -> Result<Puid, ScriptFault>
-    ensures { Tells result (id_in (names_of names.now) word.now) }
+    ensures { Answers result (id_in (names_of names.now) word.now) }
 {
     if word == b"root".as_slice() {
         return Ok(names.root());
@@ -71,7 +146,7 @@ pub fn id_in(names: &Names, word: &[u8]) -> Result<Puid, ScriptFault>
 
 /// What a request goes to: as `id_in`, or a name that stands for a grant.
 pub fn ref_in(names: &Names, word: &[u8]) -> Result<Ref, ScriptFault>
-    ensures { Tells result (ref_in (names_of names.now) word.now) }
+    ensures { Answers result (ref_in (names_of names.now) word.now) }
 {
     if word == b"root".as_slice() {
         return Ok(Ref::Direct(names.root()));
@@ -89,12 +164,25 @@ pub fn ref_in(names: &Names, word: &[u8]) -> Result<Ref, ScriptFault>
     }
 }
 
+/// The grant that the name stands for.
+pub fn grant_in(names: &Names, word: &[u8]) -> Result<Tuid, ScriptFault>
+    ensures { Answers result (grant_in (names_of names.now) word.now) }
+{
+    if !is_name(word) {
+        return Err(ScriptFault::Syntax);
+    }
+    match names.find(word) {
+        Some(Bound::Temporary(grant)) => Ok(grant),
+        _ => Err(ScriptFault::NoName),
+    }
+}
+
 /// Both, where both can be read. No form comes before no name, and want of memory stands between the two.
 pub fn both<A: Drop, B: Drop>(
     a: Result<A, ScriptFault>,
     b: Result<B, ScriptFault>,
 ) -> Result<(A, B), ScriptFault>
-    ensures { (r : Reading A) (s : Reading B) → Tells a r → Tells b s → Tells result (Is (λ x y. (x, y)) ⊛ r ⊛ s) }
+    ensures { (r : Reading A) (s : Reading B) → Answers a r → Answers b s → Answers result (Is (λ x y. (x, y)) ⊛ r ⊛ s) }
 {
     match (a, b) {
         (Ok(a), Ok(b)) => Ok((a, b)),

@@ -68,6 +68,15 @@ impl<'a> Words<'a> {
         let (second, third) = self.two()?;
         Some((first, second, third))
     }
+
+    /// The four words that are left, where there are no more.
+    pub fn four(mut self) -> Option<(&'a [u8], &'a [u8], &'a [u8], &'a [u8])>
+        ensures { MatchOption result (length self.entry ≢ 4) (λ words. self.entry ≡ words.0.now ∷ words.1.now ∷ words.2.now ∷ words.3.now ∷ []) }
+    {
+        let first = self.next()?;
+        let (second, third, fourth) = self.three()?;
+        Some((first, second, third, fourth))
+    }
 }
 
 /// Where the first byte of a word stands.

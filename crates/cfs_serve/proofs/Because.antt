@@ -12,9 +12,10 @@ use Rattle.cfs_serve.specs.declared.report.Cause.TheVariants as causes
 use Rattle.cfs_serve.specs.declared.report.Report.{Report}
 use Rattle.cfs_serve.specs.Report.{report_text}
 use Rattle.cfs_serve.specs.Session.{Replied, wants_memory}
-use Rattle.cfs_serve.specs.Words.{Play}
+use Rattle.cfs_serve.specs.declared.page.Page.{Page}
+use Rattle.cfs_serve.specs.Words.{Asked, Shows, Nothing, is_service}
 use Rattle.cfs_serve.specs.Whole.{ended}
-use Rattle.cfs_serve.specs.Top.{Outside, EachSource, EachSink, HadLeft, AreWithin, SomeRose, source_faults, sink_faults, IsQuiet, WritesReport, IsStatus, EndedWell, SinkFailed, SourceFailed, MemoryWanting, IsOver, LimitPassed}
+use Rattle.cfs_serve.specs.Top.{Outside, EachSource, EachSink, HadLeft, AreWithin, SomeRose, source_faults, sink_faults, IsQuiet, WritesReport, IsStatus, EndedWell, Showed, SinkFailed, SourceFailed, MemoryWanting, IsOver, LimitPassed}
 
 -- a service whose sinks took all
 pub record Served (trail : List Event) (old new : Outside) (counts : Option Counts) : Type 0 where
@@ -24,7 +25,11 @@ pub record Served (trail : List Event) (old new : Outside) (counts : Option Coun
   pub replied : EachSink (λ session sink after. Wrote sink after (printed_replies session trail)) old new
   pub memory : list_any wants_memory trail ≡ false
 
-module _ (asked : Option Play) (old new : Outside) (counts : Option Counts) (trail : List Event) where
+pub none_is : {X : Type 0} (o : Option X) → IsNone o → o ≡ None
+none_is None none = refl
+none_is (Some x) none = cc none
+
+module _ (asked : Asked) (old new : Outside) (counts : Option Counts) (trail : List Event) where
   abbrev pub told : Cause → Report
   told cause = record { counts = counts; cause = cause }
 
@@ -35,7 +40,8 @@ module _ (asked : Option Play) (old new : Outside) (counts : Option Counts) (tra
   -- what a cause shows
   abbrev pub Because : Cause → Type 0
   Because causes.Nothing = Served trail old new counts
-  Because causes.Words = IsNone counts × (asked ≡ None) × ((scripts : List (List ℕ)) → HadLeft old scripts → AreWithin scripts)
+  Because (causes.Page page) = IsNone counts × (asked ≡ Shows page) × ((scripts : List (List ℕ)) → HadLeft old scripts → AreWithin scripts)
+  Because causes.Words = IsNone counts × (asked ≡ Nothing) × ((scripts : List (List ℕ)) → HadLeft old scripts → AreWithin scripts)
   Because causes.Sink = IsSome counts × ((scripts : List (List ℕ)) → HadLeft old scripts → AreWithin scripts) × SomeRose (sink_faults old) (sink_faults new)
   Because (causes.Source n) = SourceFailed (told (causes.Source n)) old new × SomeRose (source_faults old) (source_faults new)
   Because causes.Memory = Unit {0}
@@ -53,6 +59,7 @@ module _ (asked : Option Play) (old new : Outside) (counts : Option Counts) (tra
   pub status : (cause : Cause) (written : Bool) → Told cause written → IsStatus (ended written cause) cause old new
   status cause true wrote = inl refl
   status causes.Nothing false wrote = inr (refl, (refl, wrote.failed))
+  status (causes.Page page) false wrote = inr (refl, (refl, wrote.failed))
   status causes.Memory false wrote = inr (refl, (refl, wrote.failed))
   status causes.Words false wrote = inl refl
   status causes.Sink false wrote = inl refl
@@ -61,31 +68,23 @@ module _ (asked : Option Play) (old new : Outside) (counts : Option Counts) (tra
   status causes.LongTotal false wrote = inl refl
 
   pub status_0 : (cause : Cause) (written : Bool) → Because cause → Told cause written → ended written cause ≡ 0
-      → EndedWell (told cause) trail old new
-  status_0 causes.Nothing true because wrote is = record {
+      → EndedWell (told cause) trail old new ⊎ Showed (told cause) old new
+  status_0 causes.Nothing true because wrote is = inl (record {
     served = because.served;
     nothing = refl;
     answered = because.answered;
     replied = because.replied;
     memory = because.memory;
     reported = wrote;
-  }
+  })
+  status_0 (causes.Page page) true because wrote is =
+      let none = none_is counts because.0 in inr (record { page = page; is = rw none refl; written = rw none at wrote })
   status_0 causes.Nothing false because wrote is = absurd (omega (arith, is))
-  status_0 causes.Words true because wrote is = absurd (omega (arith, is))
-  status_0 causes.Words false because wrote is = absurd (omega (arith, is))
-  status_0 causes.Sink true because wrote is = absurd (omega (arith, is))
-  status_0 causes.Sink false because wrote is = absurd (omega (arith, is))
-  status_0 (causes.Source n) true because wrote is = absurd (omega (arith, is))
-  status_0 (causes.Source n) false because wrote is = absurd (omega (arith, is))
-  status_0 causes.Memory true because wrote is = absurd (omega (arith, is))
-  status_0 causes.Memory false because wrote is = absurd (omega (arith, is))
-  status_0 (causes.Long n) true because wrote is = absurd (omega (arith, is))
-  status_0 (causes.Long n) false because wrote is = absurd (omega (arith, is))
-  status_0 causes.LongTotal true because wrote is = absurd (omega (arith, is))
-  status_0 causes.LongTotal false because wrote is = absurd (omega (arith, is))
+  status_0 cause true because wrote is = absurd (omega (arith, is))
+  status_0 cause false because wrote is = absurd (omega (arith, is))
 
-  pub status_2 : (cause : Cause) (written : Bool) → Because cause → ended written cause ≡ 2 → IsNone counts × (asked ≡ None)
-  status_2 causes.Words written because is = (because.0, because.1)
+  pub status_2 : (cause : Cause) (written : Bool) → Because cause → ended written cause ≡ 2 → asked ≡ Nothing
+  status_2 causes.Words written because is = because.1
   status_2 cause true because is = absurd (omega (arith, is))
   status_2 cause false because is = absurd (omega (arith, is))
 
@@ -93,6 +92,7 @@ module _ (asked : Option Play) (old new : Outside) (counts : Option Counts) (tra
       → SinkFailed (told cause) old new
   status_5 causes.Sink written because wrote is = inl (because.0, refl, because.2)
   status_5 causes.Nothing false because wrote is = inr (refl, wrote.failed)
+  status_5 (causes.Page page) false because wrote is = inr (refl, wrote.failed)
   status_5 causes.Memory false because wrote is = inr (refl, wrote.failed)
   status_5 cause true because wrote is = absurd (omega (arith, is))
   status_5 cause false because wrote is = absurd (omega (arith, is))
@@ -117,6 +117,7 @@ module _ (asked : Option Play) (old new : Outside) (counts : Option Counts) (tra
   pub over : (cause : Cause) (written : Bool) → Because cause → (scripts : List (List ℕ)) → HadLeft old scripts → ¬ (AreWithin scripts)
       → (ended written cause ≡ 9) ⊎ (cause ≡ causes.Memory) ⊎ (ended written cause ≡ 6)
   over causes.Nothing written because scripts had past = absurd (past (because.within scripts had))
+  over (causes.Page page) written because scripts had past = absurd (past (because.2 scripts had))
   over causes.Words written because scripts had past = absurd (past (because.2 scripts had))
   over causes.Sink written because scripts had past = absurd (past (because.1 scripts had))
   over causes.Memory written because scripts had past = inr (inl refl)
@@ -127,20 +128,28 @@ module _ (asked : Option Play) (old new : Outside) (counts : Option Counts) (tra
   over causes.LongTotal true because scripts had past = inl refl
   over causes.LongTotal false because scripts had past = inl refl
 
-  pub complete : (cause : Cause) (written : Bool) → Because cause → Told cause written → IsSome asked → (scripts : List (List ℕ)) → HadLeft old scripts → AreWithin scripts
+  pub complete : (cause : Cause) (written : Bool) → Because cause → Told cause written → is_service asked ≡ true → (scripts : List (List ℕ)) → HadLeft old scripts → AreWithin scripts
       → IsQuiet old new → (ended written cause ≡ 0) ⊎ (ended written cause ≡ 7)
   complete causes.Nothing true because wrote is scripts had within quiet = inl refl
   complete causes.Memory true because wrote is scripts had within quiet = inr refl
   complete causes.Nothing false because wrote is scripts had within quiet = absurd (quiet.report wrote.failed)
   complete causes.Memory false because wrote is scripts had within quiet = absurd (quiet.report wrote.failed)
-  complete causes.Words written because wrote is scripts had within quiet = absurd (none_asked (ap is_some because.1) is)
+  complete causes.Words written because wrote is scripts had within quiet = absurd (not_so (rw because.1 at is))
     where
-      none_asked : {b : Bool} → b ≡ false → b ≡ true → ⊥
-      none_asked here there = cc
+      not_so : false ≡ true → ⊥
+      not_so e = cc
+  complete (causes.Page page) written because wrote is scripts had within quiet = absurd (not_so (rw because.1 at is))
+    where
+      not_so : false ≡ true → ⊥
+      not_so e = cc
   complete causes.Sink written because wrote is scripts had within quiet = absurd (quiet.sinks because.2)
   complete (causes.Source n) written because wrote is scripts had within quiet = absurd (quiet.sources because.1)
   complete (causes.Long n) written because wrote is scripts had within quiet = absurd (because.2 scripts had within)
   complete causes.LongTotal written because wrote is scripts had within quiet = absurd (because.2 scripts had within)
+
+pub shown : (page : Page) (old new : Outside) (text : List ℕ) (written : Bool) → Replied old.report new.report text written → IsQuiet old new → ended written (causes.Page page) ≡ 0
+shown page old new text true wrote quiet = refl
+shown page old new text false wrote quiet = absurd (quiet.report wrote.failed)
 
 pub is_2 : (written : Bool) → ended written causes.Words ≡ 2
 is_2 true = refl

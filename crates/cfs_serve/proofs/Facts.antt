@@ -11,32 +11,23 @@ use Rattle.ufs_model.specs.Run.{IsLegalRun, replay}
 use Rattle.ufs_model.specs.Script.{request_lines}
 use Rattle.ufs_model.specs.Turns.{is_turn_of, turns_in}
 use Rattle.ufs_model.specs.Printed.{printed_replies}
-use Rattle.cfs_serve.specs.declared.limits.TheConstants.{MOST_SCRIPT, MOST_LINES}
+use Rattle.cfs_serve.specs.Limits.{most_script, most_lines}
 use Rattle.cfs_serve.specs.declared.report.Counts.{Counts}
 use Rattle.cfs_serve.specs.declared.report.Cause.{Cause}
 use Rattle.cfs_serve.specs.declared.report.Cause.TheVariants as causes
 use Rattle.cfs_serve.specs.declared.report.Report.{Report}
 use Rattle.cfs_serve.specs.Session.{Replied, is_calm, wants_memory}
-use Rattle.cfs_serve.specs.Words.{Play}
+use Rattle.cfs_serve.specs.declared.page.Page.{Page}
+use Rattle.cfs_serve.specs.Words.{Asked, Play, Shows, Serves, Nothing}
 use Rattle.cfs_serve.specs.Played.{IsPlayed, IsScript, IsCause, IsRunOf, spoiled_by}
 use Rattle.cfs_serve.specs.Whole.{HasPlaces, Asks}
-use Rattle.cfs_serve.specs.Top.{Outside, EachSource, EachSink, AreWithin, opened, IsServedFrom, is_reply, is_finish, counts_of, WasServed, took_all}
+use Rattle.cfs_serve.specs.Top.{Outside, AreWithin, opened, IsServedFrom, is_reply, is_finish, counts_of, took_all, Did}
 use Rattle.cfs_serve.proofs.Because.{Because}
 use Rattle.cfs_serve.proofs.Playing.{only_turns, turns_in-leave}
 
-pub record Facts (asked : Option Play) (old new : Outside) (told : Report) (trail : List Event) : Type 0 where
-  pub places : HasPlaces asked (length new.sources) (length new.sinks)
-  pub unserved : IsNone told.counts → (trail ≡ []) × (new.sinks ≡ old.sinks)
-  pub legal : IfSome asked (λ play. IsLegalRun play.seed (opened play.seed) trail)
-  pub calm : list_all is_calm trail ≡ true
-  pub leaves : WasServed told → trail ≡ turns_in 0 trail ++ events.Leave 0 None ∷ []
-  pub turns : IfSome asked (λ play. WasServed told → EachSource (λ session source _. IsServedFrom play.seed trail (took_all told.cause) session source) old new)
-  pub replied : EachSink (λ session sink after. Replied sink after (printed_replies session trail) (took_all told.cause)) old new
-  pub counted : IfSome asked (λ play. IfSome told.counts (λ counts. (last : State) → replay play.seed (opened play.seed) trail ≡ Some last → counts ≡ counts_of (length old.sources) trail last.graph))
-  pub cause : IsNone told.counts → ¬ (told.cause ≡ causes.Nothing)
-  pub memory : WasServed told → took_all told.cause ≡ true → ((told.cause ≡ causes.Memory) ↔ (list_any wants_memory trail ≡ true))
-  pub words : (told.cause ≡ causes.Words) ↔ (asked ≡ None)
-  pub because : Because asked old new told.counts trail told.cause
+-- what a run did and told, and what its cause shows
+abbrev pub Facts : Asked → (old new : Outside) → Report → List Event → Type 0
+Facts asked old new told trail = Did asked old new told trail × Because asked old new told.counts trail told.cause
 
 abbrev pub places : List Supply → List Intake → Intake → Outside
 places sources sinks report = record { sources = sources; sinks = sinks; report = report }
@@ -74,70 +65,99 @@ no_scripts (left ∷ rest) had = absurd (some had)
     some : {x : Option (List ℕ)} {xs : List (Option (List ℕ))} → [] ≡ x ∷ xs → ⊥
     some e = cc
 
-within_one : (left : List ℕ) → length left ≤ MOST_SCRIPT → length (request_lines left) ≤ MOST_LINES → AreWithin (left ∷ [])
+within_one : (left : List ℕ) → length left ≤ most_script → length (request_lines left) ≤ most_lines → AreWithin (left ∷ [])
 within_one left short few = ((λ k d below. let at : k ≡ 0 = omega (arith, below) in rw at short), omega (arith, few))
 
 -- a source whose script is within the limits
-within : (source : Supply) (script : List ℕ) → IsScript source script → length script ≤ MOST_SCRIPT → length (request_lines script) ≤ MOST_LINES
+within : (source : Supply) (script : List ℕ) → IsScript source script → length script ≤ most_script → length (request_lines script) ≤ most_lines
     → (scripts : List (List ℕ)) → Had (source ∷ []) scripts → AreWithin scripts
 within source script whole short few scripts had =
     let one = one_script source scripts had in
     let same : script ≡ one.0 = whole one.0 one.1 in
     rw one.2 (within_one one.0 (rw (← same) short) (rw (← same) few))
 
--- ---- no words that ask for a run
+-- ---- no service was asked for
 
-pub of_nothing : (report report_after : Intake) → Facts None (places [] [] report) (places [] [] report_after) (record { counts = None; cause = causes.Words }) []
-of_nothing report report_after = record {
-  places = (refl, refl);
-  unserved = λ none. (refl, refl);
-  legal = tt;
-  calm = refl;
-  leaves = λ served. absurd (clash-sym served);
-  turns = tt;
-  replied = tt;
-  counted = tt;
-  cause = λ none e. cc;
-  memory = λ served. absurd (clash-sym served);
-  words = ((λ is. refl), (λ is. refl));
-  because = (refl, refl, no_scripts);
-}
+pub of_nothing : (report report_after : Intake) → Facts Nothing (places [] [] report) (places [] [] report_after) (record { counts = None; cause = causes.Words }) []
+of_nothing report report_after = (
+  record {
+    places = (refl, refl);
+    unserved = λ none. (refl, refl);
+    unasked = λ none. refl;
+    leaves = λ served. absurd (clash-sym served);
+    legal = tt;
+    calm = refl;
+    turns = tt;
+    replied = tt;
+    words = ((λ is. refl), (λ is. refl));
+    page = λ page. ((λ is. cc), (λ is. cc));
+    counted = tt;
+    cause = λ none e. cc;
+    memory = λ served. absurd (clash-sym served);
+  },
+  (refl, refl, no_scripts),
+)
+
+pub of_page : (shown : Page) (report report_after : Intake)
+    → Facts (Shows shown) (places [] [] report) (places [] [] report_after) (record { counts = None; cause = causes.Page shown }) []
+of_page shown report report_after = (
+  record {
+    places = (refl, refl);
+    unserved = λ none. (refl, refl);
+    unasked = λ none. refl;
+    leaves = λ served. absurd (clash-sym served);
+    legal = tt;
+    calm = refl;
+    turns = tt;
+    replied = tt;
+    words = ((λ is. cc), (λ is. cc));
+    page = λ page. ((λ is. cc), (λ is. cc));
+    counted = tt;
+    cause = λ none e. cc;
+    memory = λ served. absurd (clash-sym served);
+  },
+  (refl, refl, no_scripts),
+)
 
 -- ---- nothing was served
 
 module _ (play : Play) (source source_after : Supply) (sink report report_after : Intake) where
   abbrev Unserved : Cause → Type 0
-  Unserved cause = Facts (Some play) (places (source ∷ []) (sink ∷ []) report) (places (source_after ∷ []) (sink ∷ []) report_after) (record { counts = None; cause = cause }) []
+  Unserved cause = Facts (Serves play) (places (source ∷ []) (sink ∷ []) report) (places (source_after ∷ []) (sink ∷ []) report_after) (record { counts = None; cause = cause }) []
 
-  unserved : (cause : Cause) → took_all cause ≡ true → ¬ (cause ≡ causes.Words) → ¬ (cause ≡ causes.Nothing)
-      → Because (Some play) (places (source ∷ []) (sink ∷ []) report) (places (source_after ∷ []) (sink ∷ []) report_after) None [] cause → Unserved cause
-  unserved cause took other told because = record {
-    places = (refl, refl);
-    unserved = λ none. (refl, refl);
-    legal = refl;
-    calm = refl;
-    leaves = λ served. absurd (clash-sym served);
-    turns = λ served. absurd (clash-sym served);
-    replied = (rw took (nothing sink), tt);
-    counted = tt;
-    cause = λ none. told;
-    memory = λ served. absurd (clash-sym served);
-    words = ((λ is. absurd (other is)), (λ is. cc));
-    because = because;
-  }
+  unserved : (cause : Cause) → took_all cause ≡ true → ¬ (cause ≡ causes.Words) → ((page : Page) → ¬ (cause ≡ causes.Page page)) → ¬ (cause ≡ causes.Nothing)
+      → Because (Serves play) (places (source ∷ []) (sink ∷ []) report) (places (source_after ∷ []) (sink ∷ []) report_after) None [] cause → Unserved cause
+  unserved cause took other paged told because = (
+    record {
+      places = (refl, refl);
+      unserved = λ none. (refl, refl);
+      unasked = λ no. absurd (clash no);
+      leaves = λ served. absurd (clash-sym served);
+      legal = refl;
+      calm = refl;
+      turns = λ served. absurd (clash-sym served);
+      replied = (rw took (nothing sink), tt);
+      words = ((λ is. absurd (other is)), (λ is. cc));
+      page = λ page. ((λ is. absurd (paged page is)), (λ is. cc));
+      counted = tt;
+      cause = λ none. told;
+      memory = λ served. absurd (clash-sym served);
+    },
+    because,
+  )
 
   pub of_none : (cause : Cause) → IsCause source source_after cause → Unserved cause
-  of_none (causes.Source n) is = unserved (causes.Source n) refl (λ e. cc) (λ e. cc)
+  of_none (causes.Source n) is = unserved (causes.Source n) refl (λ e. cc) (λ page e. cc) (λ e. cc)
       ((n, refl, omega (arith, is.0), rw is.0 is.1), inl is.1)
-  of_none (causes.Long n) is = unserved (causes.Long n) refl (λ e. cc) (λ e. cc) (
+  of_none (causes.Long n) is = unserved (causes.Long n) refl (λ e. cc) (λ page e. cc) (λ e. cc) (
     refl,
     ((omega (arith, is.0)), (λ scripts had. let one = one_script source scripts had in rw (one.2, is.0) (is.1 one.0 one.1))),
     (λ scripts had short. let one = one_script source scripts had in
-        let long : MOST_SCRIPT < length one.0 = is.1 one.0 one.1 in
-        let least : length one.0 ≤ MOST_SCRIPT = (rw one.2 at short).0 0 [] (omega arith) in
+        let long : most_script < length one.0 = is.1 one.0 one.1 in
+        let least : length one.0 ≤ most_script = (rw one.2 at short).0 0 [] (omega arith) in
         omega (arith, long, least)),
   )
-  of_none causes.LongTotal is = unserved causes.LongTotal refl (λ e. cc) (λ e. cc) (
+  of_none causes.LongTotal is = unserved causes.LongTotal refl (λ e. cc) (λ page e. cc) (λ e. cc) (
     refl,
     (λ scripts had. let one = one_script source scripts had in
         let over = is one.0 one.1 in
@@ -146,8 +166,9 @@ module _ (play : Play) (source source_after : Supply) (sink report report_after 
         let over = is one.0 one.1 in
         omega (arith, over.1, (rw one.2 at few).1)),
   )
-  of_none causes.Memory is = unserved causes.Memory refl (λ e. cc) (λ e. cc) tt
+  of_none causes.Memory is = unserved causes.Memory refl (λ e. cc) (λ page e. cc) (λ e. cc) tt
   of_none causes.Nothing is = absurd is
+  of_none (causes.Page page) is = absurd is
   of_none causes.Words is = absurd is
   of_none causes.Sink is = absurd is
 
@@ -171,7 +192,7 @@ finishes_none (events.Ask who request reply ∷ turns) all = finishes_none turns
 finishes_none (e ∷ turns) all = absurd (clash-sym all)
 
 module _ (play : Play) (source source_after : Supply) (sink sink_after report report_after : Intake) (script : List ℕ) (whole : IsScript source script)
-    (short : length script ≤ MOST_SCRIPT) (few : length (request_lines script) ≤ MOST_LINES)
+    (short : length script ≤ most_script) (few : length (request_lines script) ≤ most_lines)
     (trail : List Event) (objects replies : ℕ) (counts_all : length trail ≡ replies + 1) where
   abbrev Played : Bool → Bool → Type 0
   Played starved all = IsPlayed built_forms play.seed script sink sink_after trail objects starved all
@@ -180,7 +201,7 @@ module _ (play : Play) (source source_after : Supply) (sink sink_after report re
   counts = record { sessions = 1; replies = replies; collections = 0; objects = objects }
 
   abbrev Session : Bool → Bool → Type 0
-  Session starved all = Facts (Some play) (places (source ∷ []) (sink ∷ []) report) (places (source_after ∷ []) (sink_after ∷ []) report_after)
+  Session starved all = Facts (Serves play) (places (source ∷ []) (sink ∷ []) report) (places (source_after ∷ []) (sink_after ∷ []) report_after)
       (record { counts = Some counts; cause = spoiled_by starved all }) trail
 
   turns_are : (starved all : Bool) (played : Played starved all) → turns_in 0 trail ≡ played.turns
@@ -219,30 +240,34 @@ module _ (play : Play) (source source_after : Supply) (sink sink_after report re
       some : {x y : State} → Some x ≡ Some y → x ≡ y
       some e = cc
 
-  session : (starved all : Bool) (played : Played starved all) → took_all (spoiled_by starved all) ≡ all → ¬ (spoiled_by starved all ≡ causes.Words)
+  session : (starved all : Bool) (played : Played starved all) → took_all (spoiled_by starved all) ≡ all → ¬ (spoiled_by starved all ≡ causes.Words) → ((page : Page) → ¬ (spoiled_by starved all ≡ causes.Page page))
       → (all ≡ true → ((spoiled_by starved all ≡ causes.Memory) ↔ (list_any wants_memory trail ≡ true)))
-      → Because (Some play) (places (source ∷ []) (sink ∷ []) report) (places (source_after ∷ []) (sink_after ∷ []) report_after) (Some counts) trail (spoiled_by starved all)
+      → Because (Serves play) (places (source ∷ []) (sink ∷ []) report) (places (source_after ∷ []) (sink_after ∷ []) report_after) (Some counts) trail (spoiled_by starved all)
       → Session starved all
-  session starved all played took other memory because = record {
-    places = (refl, refl);
-    unserved = λ none. absurd (clash none);
-    legal = ap is_some played.legal;
-    calm = played.calm;
-    leaves = λ served. leaves starved all played;
-    turns = λ served. (rw took (from starved all played), tt);
-    replied = (rw took played.replied, tt);
-    counted = counted starved all played;
-    cause = λ none. absurd (clash none);
-    memory = λ served is. memory (sym took ∙ is);
-    words = ((λ is. absurd (other is)), (λ is. cc));
-    because = because;
-  }
+  session starved all played took other paged memory because = (
+    record {
+      places = (refl, refl);
+      unserved = λ none. absurd (clash none);
+      unasked = λ no. absurd (clash no);
+      leaves = λ served. leaves starved all played;
+      legal = ap is_some played.legal;
+      calm = played.calm;
+      turns = λ served. (rw took (from starved all played), tt);
+      replied = (rw took played.replied, tt);
+      words = ((λ is. absurd (other is)), (λ is. cc));
+      page = λ page. ((λ is. absurd (paged page is)), (λ is. cc));
+      counted = counted starved all played;
+      cause = λ none. absurd (clash none);
+      memory = λ served is. memory (sym took ∙ is);
+    },
+    because,
+  )
 
   pub of_session : (starved all : Bool) → Played starved all → Session starved all
-  of_session starved false played = session starved false played refl (λ e. cc) (λ is. absurd (clash-sym is))
+  of_session starved false played = session starved false played refl (λ e. cc) (λ page e. cc) (λ is. absurd (clash-sym is))
       (refl, within source script whole short few, inl played.replied.failed)
-  of_session true true played = session true true played refl (λ e. cc) (λ is. ((λ m. sym played.wanting), (λ m. refl))) tt
-  of_session false true played = session false true played refl (λ e. cc) (λ is. ((λ m. absurd (clash-memory m)), (λ m. absurd (clash-sym (played.wanting ∙ m))))) (record {
+  of_session true true played = session true true played refl (λ e. cc) (λ page e. cc) (λ is. ((λ m. sym played.wanting), (λ m. refl))) tt
+  of_session false true played = session false true played refl (λ e. cc) (λ page e. cc) (λ is. ((λ m. absurd (clash-memory m)), (λ m. absurd (clash-sym (played.wanting ∙ m))))) (record {
     served = refl;
     within = within source script whole short few;
     answered = ((λ left is. answered false true played refl ∙ ap (λ s. length (request_lines s)) (whole left is)), tt);
@@ -261,26 +286,26 @@ no_items (x ∷ xs) none = absurd (omega (arith, none))
 
 of_run : (play : Play) (source source_after : Supply) (sink sink_after report report_after : Intake) (told : Report) (trail : List Event)
     → IsRunOf built_forms play.seed source source_after sink sink_after told trail
-    → Facts (Some play) (places (source ∷ []) (sink ∷ []) report) (places (source_after ∷ []) (sink_after ∷ []) report_after) told trail
+    → Facts (Serves play) (places (source ∷ []) (sink ∷ []) report) (places (source_after ∷ []) (sink_after ∷ []) report_after) told trail
 of_run play source source_after sink sink_after report report_after told trail (inl s) =
     rw s.served.told (of_session play source source_after sink sink_after report report_after s.script s.whole s.short s.few
     trail s.served.objects s.served.replies s.served.counted s.served.starved s.served.all s.served.played)
 of_run play source source_after sink sink_after report report_after told trail (inr n) =
     rw (n.nothing.told, n.nothing.no_event, n.nothing.untouched) (of_none play source source_after sink report report_after n.cause n.is)
 
-pub facts : (asked : Option Play) (sources sources_after : List Supply) (sinks sinks_after : List Intake) (report report_after : Intake) (told : Report) (trail : List Event)
-    → HasPlaces asked (length sources) (length sinks)
-    → Asks built_forms asked (record { sources = sources; sinks = sinks }) (record { sources = sources_after; sinks = sinks_after }) told trail
-    → Facts asked (places sources sinks report) (places sources_after sinks_after report_after) told trail
-facts None sources sources_after sinks sinks_after report report_after told trail places asks =
-    rw (
-      asks.told,
-      asks.no_event,
-      ap (λ p. p.sources) asks.untouched,
-      ap (λ p. p.sinks) asks.untouched,
-      no_items sources places.0,
-      no_items sinks places.1,
-    ) (of_nothing report report_after)
-facts (Some play) sources sources_after sinks sinks_after report report_after told trail places asks =
-    rw (asks.sources.0, asks.sources.1, asks.sinks.0, asks.sinks.1)
-    (of_run play asks.source asks.source_after asks.sink asks.sink_after report report_after told trail asks.run)
+module _ (sources sources_after : List Supply) (sinks sinks_after : List Intake) (report report_after : Intake) (told : Report) (trail : List Event) where
+  abbrev From : Asked → Type 0
+  From asked = HasPlaces asked (length sources) (length sinks)
+      → Asks built_forms asked (record { sources = sources; sinks = sinks }) (record { sources = sources_after; sinks = sinks_after }) told trail
+      → Facts asked (places sources sinks report) (places sources_after sinks_after report_after) told trail
+
+  pub facts : (asked : Asked) → From asked
+  facts Nothing none asks =
+      rw (asks.told, asks.no_event, ap (λ p. p.sources) asks.untouched, ap (λ p. p.sinks) asks.untouched, no_items sources none.0, no_items sinks none.1)
+      (of_nothing report report_after)
+  facts (Shows page) none asks =
+      rw (asks.told, asks.no_event, ap (λ p. p.sources) asks.untouched, ap (λ p. p.sinks) asks.untouched, no_items sources none.0, no_items sinks none.1)
+      (of_page page report report_after)
+  facts (Serves play) places asks =
+      rw (asks.sources.0, asks.sources.1, asks.sinks.0, asks.sinks.1)
+      (of_run play asks.source asks.source_after asks.sink asks.sink_after report report_after told trail asks.run)

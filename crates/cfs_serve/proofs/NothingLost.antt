@@ -16,34 +16,13 @@ use Rattle.cfs_serve.specs.declared.report.Cause.TheVariants as causes
 use Rattle.cfs_serve.specs.declared.report.Report.{Report}
 use Rattle.cfs_serve.specs.Report.{report_text}
 use Rattle.cfs_serve.specs.Session.{Replied, is_calm, wants_memory}
-use Rattle.cfs_serve.specs.Words.{Play}
+use Rattle.cfs_serve.specs.declared.page.Page.{Page}
+use Rattle.cfs_serve.specs.Words.{Asked, Play, Shows, Serves, Nothing}
 use Rattle.cfs_serve.specs.Played.{IsCause, IsRunOf, spoiled_by}
 use Rattle.cfs_serve.specs.Whole.{HasPlaces, Asks, IsWhole, ended}
-use Rattle.cfs_serve.specs.Top.{Outside, EachSource, EachSink, opened, IsServedFrom, is_reply, is_finish, counts_of, WasServed, took_all, WritesReport, IsStatus, EndedWell, SinkFailed, SourceFailed, MemoryWanting, LimitPassed}
+use Rattle.cfs_serve.specs.Top.{Outside, opened, is_reply, is_finish, took_all, IsStatus, EndedWell, Showed, Said}
+use Rattle.cfs_serve.proofs.Because.{none_is}
 use Rattle.cfs_serve.proofs.Facts.{places, replies_are, finishes_none, no_items, clash, clash-sym}
-
--- what `top` says
-pub record Said (asked : Option Play) (old new : Outside) (told : Report) (status : ℕ) (trail : List Event) : Type 0 where
-  pub given : HasPlaces asked (length old.sources) (length old.sinks)
-  pub places : HasPlaces asked (length new.sources) (length new.sinks)
-  pub unserved : IsNone told.counts → (trail ≡ []) × (new.sinks ≡ old.sinks)
-  pub leaves : WasServed told → trail ≡ turns_in 0 trail ++ events.Leave 0 None ∷ []
-  pub legal : IfSome asked (λ play. IsLegalRun play.seed (opened play.seed) trail)
-  pub calm : list_all is_calm trail ≡ true
-  pub turns : IfSome asked (λ play. WasServed told → EachSource (λ session source _. IsServedFrom play.seed trail (took_all told.cause) session source) old new)
-  pub replied : EachSink (λ session sink after. Replied sink after (printed_replies session trail) (took_all told.cause)) old new
-  pub words : (told.cause ≡ causes.Words) ↔ (asked ≡ None)
-  pub unasked : asked ≡ None → IsNone told.counts
-  pub counted : IfSome asked (λ play. IfSome told.counts (λ counts. (last : State) → replay play.seed (opened play.seed) trail ≡ Some last → counts ≡ counts_of (length old.sources) trail last.graph))
-  pub cause : IsNone told.counts → ¬ (told.cause ≡ causes.Nothing)
-  pub memory : WasServed told → took_all told.cause ≡ true → ((told.cause ≡ causes.Memory) ↔ (list_any wants_memory trail ≡ true))
-  pub reported : WritesReport told old new
-  pub is_status : IsStatus status told.cause old new
-  pub status_0 : status ≡ 0 → EndedWell told trail old new
-  pub status_5 : status ≡ 5 → SinkFailed told old new
-  pub status_6 : status ≡ 6 → SourceFailed told old new
-  pub status_7 : status ≡ 7 → MemoryWanting told old new
-  pub status_9 : status ≡ 9 → LimitPassed told old
 
 -- ---- the report and the status
 
@@ -61,6 +40,8 @@ module _ (old new : Outside) (text : List ℕ) where
       → (whole : Bool) × Replied old.report new.report text whole × (status ≡ ended whole cause)
   written causes.Nothing status wrote (inl is) zero seven = (true, zero is, is)
   written causes.Nothing status wrote (inr is) zero seven = (false, cut wrote is.1.1, is.0)
+  written (causes.Page page) status wrote (inl is) zero seven = (true, zero is, is)
+  written (causes.Page page) status wrote (inr is) zero seven = (false, cut wrote is.1.1, is.0)
   written causes.Memory status wrote (inl is) zero seven = (true, seven is, is)
   written causes.Memory status wrote (inr is) zero seven = (false, cut wrote is.1.1, is.0)
   written causes.Words status (inl all) (inl is) zero seven = (true, all, is)
@@ -77,10 +58,6 @@ module _ (old new : Outside) (text : List ℕ) where
 
 -- ---- small facts
 
-none_is : {X : Type 0} (o : Option X) → is_some o ≡ false → o ≡ None
-none_is None none = refl
-none_is (Some x) none = absurd (clash none)
-
 some_is : {X : Type 0} (o : Option X) → is_some o ≡ true → (x : X) × (o ≡ Some x)
 some_is None some = absurd (clash-sym some)
 some_is (Some x) some = (x, refl)
@@ -93,8 +70,11 @@ one_item (x ∷ y ∷ xs) one = absurd (omega (arith, one))
 head_is : {X : Type 0} {x y : X} → x ∷ [] ≡ y ∷ [] → x ≡ y
 head_is e = cc
 
-no_play : {play : Play} → Some play ≡ None → ⊥
+no_play : {play : Play} → Serves play ≡ Nothing → ⊥
 no_play e = cc
+
+no_page : {play : Play} {page : Page} → Serves play ≡ Shows page → ⊥
+no_page e = cc
 
 report_is : (r : Report) (counts : Option Counts) (cause : Cause) → r.counts ≡ counts → r.cause ≡ cause → r ≡ record { counts = counts; cause = cause }
 report_is r counts cause is so = ap (λ c. record { counts = c; cause = r.cause }) is ∙ ap (λ c. record { counts = counts; cause = c }) so
@@ -111,12 +91,13 @@ all_turns (e ∷ trail) =
 
 module _ (play : Play) (source source_after : Supply) (sink sink_after report report_after : Intake) (status : ℕ) (trail : List Event) where
   abbrev SaidOne : Option Counts → Cause → Type 0
-  SaidOne counts cause = Said (Some play) (places (source ∷ []) (sink ∷ []) report) (places (source_after ∷ []) (sink_after ∷ []) report_after)
+  SaidOne counts cause = Said (Serves play) (places (source ∷ []) (sink ∷ []) report) (places (source_after ∷ []) (sink_after ∷ []) report_after)
       (record { counts = counts; cause = cause }) status trail
 
   cause_of_none : (cause : Cause) → SaidOne None cause → IsCause source source_after cause
-  cause_of_none causes.Nothing said = absurd (said.cause refl refl)
-  cause_of_none causes.Words said = absurd (no_play (said.words.0 refl))
+  cause_of_none causes.Nothing said = absurd (said.did.cause refl refl)
+  cause_of_none (causes.Page page) said = absurd (no_page ((said.did.page page).0 refl))
+  cause_of_none causes.Words said = absurd (no_play (said.did.words.0 refl))
   cause_of_none causes.Memory said = tt
   cause_of_none causes.Sink said = elim said.is_status as (λ _. ⊥) [
     | inl is ↦ elim (said.status_5 is) as (λ _. ⊥) [ inl s ↦ clash-sym s.0 | inr s ↦ clash-sym s.0 ]
@@ -147,7 +128,7 @@ module _ (play : Play) (source source_after : Supply) (sink sink_after report re
   ]
 
   cause_of_some : (counts : Counts) (cause : Cause) → SaidOne (Some counts) cause → cause ≡ spoiled_by (list_any wants_memory trail) (took_all cause)
-  cause_of_some counts causes.Nothing said = never (list_any wants_memory trail) (λ wants. other ((said.memory refl refl).1 wants))
+  cause_of_some counts causes.Nothing said = never (list_any wants_memory trail) (λ wants. other ((said.did.memory refl refl).1 wants))
     where
       never : (b : Bool) → ¬ (b ≡ true) → causes.Nothing ≡ spoiled_by b true
       never true not = absurd (not refl)
@@ -155,13 +136,14 @@ module _ (play : Play) (source source_after : Supply) (sink sink_after report re
 
       other : causes.Nothing ≡ causes.Memory → ⊥
       other e = cc
-  cause_of_some counts causes.Memory said = rw ((said.memory refl refl).0 refl) refl
+  cause_of_some counts causes.Memory said = rw ((said.did.memory refl refl).0 refl) refl
   cause_of_some counts causes.Sink said = spoiled (list_any wants_memory trail)
     where
       spoiled : (b : Bool) → causes.Sink ≡ spoiled_by b false
       spoiled true = refl
       spoiled false = refl
-  cause_of_some counts causes.Words said = absurd (no_play (said.words.0 refl))
+  cause_of_some counts (causes.Page page) said = absurd (no_page ((said.did.page page).0 refl))
+  cause_of_some counts causes.Words said = absurd (no_play (said.did.words.0 refl))
   cause_of_some counts (causes.Source n) said = elim said.is_status as (λ _. causes.Source n ≡ spoiled_by (list_any wants_memory trail) true) [
     | inl is ↦ absurd (clash (ap (λ r. is_some r.counts) (said.status_6 is).1))
     | inr is ↦ absurd (clash-sym is.1.0)
@@ -180,18 +162,18 @@ module _ (play : Play) (source source_after : Supply) (sink sink_after report re
   run_of None cause said = inr (record {
     cause = cause;
     is = cause_of_none cause said;
-    nothing = record { no_event = (said.unserved refl).0; untouched = head_is (said.unserved refl).1; told = refl };
+    nothing = record { no_event = (said.did.unserved refl).0; untouched = head_is (said.did.unserved refl).1; told = refl };
   })
   run_of (Some counts) cause said =
-      let from = (said.turns refl).0 in
-      let ran = some_is (replay play.seed (opened play.seed) trail) said.legal in
-      let leaves = said.leaves refl in
+      let from = (said.did.turns refl).0 in
+      let ran = some_is (replay play.seed (opened play.seed) trail) said.did.legal in
+      let leaves = said.did.leaves refl in
       let one_more : length trail ≡ length (turns_in 0 trail) + 1 = ap length leaves ∙ length-append (turns_in 0 trail) (events.Leave 0 None ∷ []) in
       let replies : length (filter is_reply trail) ≡ length (turns_in 0 trail) =
       ap (λ es. length (filter is_reply es)) leaves ∙ ap length (replies_are (turns_in 0 trail) (all_turns trail)) in
       let none : length (filter is_finish trail) ≡ 0 = ap (λ es. length (filter is_finish es)) leaves ∙ ap length (finishes_none (turns_in 0 trail) (all_turns trail)) in
       let counted : counts ≡ record { sessions = 1; replies = length (filter is_reply trail); collections = 0; objects = length ran.0.graph.objects } =
-      said.counted ran.0 ran.1 ∙ ap (λ n. record { sessions = 1; replies = length (filter is_reply trail); collections = n; objects = length ran.0.graph.objects }) none in
+      said.did.counted ran.0 ran.1 ∙ ap (λ n. record { sessions = 1; replies = length (filter is_reply trail); collections = n; objects = length ran.0.graph.objects }) none in
       inl (record {
         script = from.script;
         whole = from.whole;
@@ -210,9 +192,9 @@ module _ (play : Play) (source source_after : Supply) (sink sink_after report re
             leaves = leaves;
             alone = all_turns trail;
             of_script = from.turns;
-            calm = said.calm;
+            calm = said.did.calm;
             wanting = refl;
-            replied = said.replied.0;
+            replied = said.did.replied.0;
             answered = λ is. one_more ∙ ap (λ n. n + 1) (from.answered is);
           };
           counted = one_more ∙ ap (λ n. n + 1) (sym replies);
@@ -220,38 +202,55 @@ module _ (play : Play) (source source_after : Supply) (sink sink_after report re
         };
       })
 
-asks : (asked : Option Play) (sources sources_after : List Supply) (sinks sinks_after : List Intake) (report report_after : Intake) (told : Report) (status : ℕ) (trail : List Event)
-    → Said asked (places sources sinks report) (places sources_after sinks_after report_after) told status trail
-    → Asks built_forms asked (record { sources = sources; sinks = sinks }) (record { sources = sources_after; sinks = sinks_after }) told trail
-asks None sources sources_after sinks sinks_after report report_after told status trail said =
-    let none = said.unasked refl in
-    record {
-      no_event = (said.unserved none).0;
-      untouched = rw (no_items sources said.given.0, no_items sinks said.given.1, no_items sources_after said.places.0, no_items sinks_after said.places.1) refl;
-      told = report_is told None causes.Words (none_is told.counts none) (said.words.1 refl);
-    }
-asks (Some play) sources sources_after sinks sinks_after report report_after told status trail said =
-    let source = one_item sources said.given.0 in
-    let source_after = one_item sources_after said.places.0 in
-    let sink = one_item sinks said.given.1 in
-    let sink_after = one_item sinks_after said.places.1 in
-    record {
-      source = source.0;
-      source_after = source_after.0;
-      sink = sink.0;
-      sink_after = sink_after.0;
-      sources = (source.1, source_after.1);
-      sinks = (sink.1, sink_after.1);
-      run = run_of play source.0 source_after.0 sink.0 sink_after.0 report report_after status trail told.counts told.cause
-          (rw (source.1, source_after.1, sink.1, sink_after.1) at said);
-    }
+module _ (sources sources_after : List Supply) (sinks sinks_after : List Intake) (report report_after : Intake) (told : Report) (status : ℕ) (trail : List Event) where
+  abbrev From : Asked → Type 0
+  From asked = HasPlaces asked (length sources) (length sinks)
+      → Said asked (places sources sinks report) (places sources_after sinks_after report_after) told status trail
+      → Asks built_forms asked (record { sources = sources; sinks = sinks }) (record { sources = sources_after; sinks = sinks_after }) told trail
 
-pub whole : (asked : Option Play) (old new : Outside) (told : Report) (status : ℕ) (trail : List Event) → Said asked old new told status trail
+  asks : (asked : Asked) → From asked
+  asks Nothing given said =
+      let none = said.did.unasked refl in
+      record {
+        no_event = (said.did.unserved none).0;
+        untouched = rw (no_items sources given.0, no_items sinks given.1, no_items sources_after said.did.places.0, no_items sinks_after said.did.places.1) refl;
+        told = report_is told None causes.Words (none_is told.counts none) (said.did.words.1 refl);
+      }
+  asks (Shows page) given said =
+      let none = said.did.unasked refl in
+      record {
+        no_event = (said.did.unserved none).0;
+        untouched = rw (no_items sources given.0, no_items sinks given.1, no_items sources_after said.did.places.0, no_items sinks_after said.did.places.1) refl;
+        told = report_is told None (causes.Page page) (none_is told.counts none) ((said.did.page page).1 refl);
+      }
+  asks (Serves play) given said =
+      let source = one_item sources given.0 in
+      let source_after = one_item sources_after said.did.places.0 in
+      let sink = one_item sinks given.1 in
+      let sink_after = one_item sinks_after said.did.places.1 in
+      record {
+        source = source.0;
+        source_after = source_after.0;
+        sink = sink.0;
+        sink_after = sink_after.0;
+        sources = (source.1, source_after.1);
+        sinks = (sink.1, sink_after.1);
+        run = run_of play source.0 source_after.0 sink.0 sink_after.0 report report_after status trail told.counts told.cause
+            (rw (source.1, source_after.1, sink.1, sink_after.1) at said);
+      }
+
+-- a status 0 tells a report that was written whole
+reported : (told : Report) (trail : List Event) (old new : Outside) → EndedWell told trail old new ⊎ Showed told old new → Wrote old.report new.report (report_text told)
+reported told trail old new (inl well) = well.reported
+reported told trail old new (inr showed) = rw showed.is showed.written
+
+pub whole : (asked : Asked) (old new : Outside) (told : Report) (status : ℕ) (trail : List Event)
+    → HasPlaces asked (length old.sources) (length old.sinks) → Said asked old new told status trail
     → IsWhole built_forms asked (record { sources = old.sources; sinks = old.sinks }) (record { sources = new.sources; sinks = new.sinks }) old.report new.report told status trail
-whole asked old new told status trail said =
-    let wrote = written old new (report_text told) told.cause status said.reported said.is_status (λ is. (said.status_0 is).reported) (λ is. (said.status_7 is).1) in
+whole asked old new told status trail given said =
+    let wrote = written old new (report_text told) told.cause status said.reported said.is_status (λ is. reported told trail old new (said.status_0 is)) (λ is. (said.status_7 is).1) in
     record {
-      run = asks asked old.sources new.sources old.sinks new.sinks old.report new.report told status trail said;
+      run = asks old.sources new.sources old.sinks new.sinks old.report new.report told status trail asked given said;
       written = wrote.0;
       reported = wrote.1;
       said = wrote.2;

@@ -1,3 +1,5 @@
+pub mod Limits
+pub mod Pages
 pub mod Words
 pub mod Told
 pub mod Report

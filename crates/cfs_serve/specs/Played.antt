@@ -11,7 +11,7 @@ use Rattle.ufs_model.specs.Script.{request_lines}
 use Rattle.ufs_model.specs.Spoken.{Form}
 use Rattle.ufs_model.specs.Turns.{AreTurns, is_turn_of}
 use Rattle.ufs_model.specs.Printed.{printed_replies}
-use Rattle.cfs_serve.specs.declared.limits.TheConstants.{MOST_SCRIPT, MOST_LINES}
+use Rattle.cfs_serve.specs.Limits.{most_script, most_lines}
 use Rattle.cfs_serve.specs.declared.report.Cause.{Cause}
 use Rattle.cfs_serve.specs.declared.report.Cause.TheVariants as causes
 use Rattle.cfs_serve.specs.declared.report.Report.{Report}
@@ -77,10 +77,11 @@ IsScript source script = (left : List ℕ) → source.left ≡ Some left → scr
 -- why nothing was served
 abbrev pub IsCause : (source after : Supply) → Cause → Type 0
 IsCause source after (causes.Source i) = (i ≡ 0) × Rose source.faults after.faults
-IsCause source after (causes.Long i) = (i ≡ 0) × ((left : List ℕ) → source.left ≡ Some left → MOST_SCRIPT < length left)
-IsCause source after causes.LongTotal = (left : List ℕ) → source.left ≡ Some left → (length left ≤ MOST_SCRIPT) × (MOST_LINES < length (request_lines left))
+IsCause source after (causes.Long i) = (i ≡ 0) × ((left : List ℕ) → source.left ≡ Some left → most_script < length left)
+IsCause source after causes.LongTotal = (left : List ℕ) → source.left ≡ Some left → (length left ≤ most_script) × (most_lines < length (request_lines left))
 IsCause source after causes.Memory = Unit {0}
 IsCause source after causes.Nothing = ⊥
+IsCause source after (causes.Page page) = ⊥
 IsCause source after causes.Words = ⊥
 IsCause source after causes.Sink = ⊥
 
@@ -88,8 +89,8 @@ IsCause source after causes.Sink = ⊥
 pub record ServesSource (forms : List Form) (seed : ℕ) (source : Supply) (sink after : Intake) (report : Report) (trail : List Event) : Type 0 where
   pub script : List ℕ
   pub whole : IsScript source script
-  pub short : length script ≤ MOST_SCRIPT
-  pub few : length (request_lines script) ≤ MOST_LINES
+  pub short : length script ≤ most_script
+  pub few : length (request_lines script) ≤ most_lines
   pub served : ServesSession forms seed script sink after report trail
 
 -- nothing was served, for this cause

@@ -1,13 +1,15 @@
--- The report of a run: what was served, what ended it, and the status.
+-- The report of a run: what was served, what ended it, and the status; or a page alone.
 use Rattle.std.specs.Prelude.{ℕ, List, [], ◌++◌, codes, Option, Some, None}
 use Rattle.cfs_serve.specs.Told.{told}
 use Rattle.cfs_serve.specs.declared.report.Counts.{Counts}
 use Rattle.cfs_serve.specs.declared.report.Cause.{Cause}
 use Rattle.cfs_serve.specs.declared.report.Cause.TheVariants as causes
 use Rattle.cfs_serve.specs.declared.report.Report.{Report}
+use Rattle.cfs_serve.specs.Pages.{page_text}
 
 abbrev pub status_of : Cause → ℕ
 status_of causes.Nothing = 0
+status_of (causes.Page page) = 0
 status_of causes.Words = 2
 status_of causes.Sink = 5
 status_of (causes.Source i) = 6
@@ -23,6 +25,7 @@ counts_text (Some c) =
 
 abbrev pub cause_text : Cause → List ℕ
 cause_text causes.Nothing = []
+cause_text (causes.Page page) = []
 cause_text causes.Words = codes "words\n"
 cause_text causes.Sink = codes "sink\n"
 cause_text (causes.Source i) = told (codes "source") i
@@ -30,5 +33,10 @@ cause_text causes.Memory = codes "memory\n"
 cause_text (causes.Long i) = told (codes "long") i
 cause_text causes.LongTotal = codes "long total\n"
 
+-- the line of the cause, and the status; or the page
+abbrev pub ending_text : Cause → List ℕ
+ending_text (causes.Page page) = page_text page
+ending_text cause = cause_text cause ++ told (codes "status") (status_of cause)
+
 abbrev pub report_text : Report → List ℕ
-report_text r = counts_text r.counts ++ cause_text r.cause ++ told (codes "status") (status_of r.cause)
+report_text r = counts_text r.counts ++ ending_text r.cause

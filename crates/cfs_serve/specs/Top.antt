@@ -1,25 +1,30 @@
 -- What a whole run comes to, for whoever started it: the trail, the sinks, what is told, and what the status says.
-use Rattle.std.specs.Prelude.{◌≡◌, ℕ, ◌+◌, ◌<◌, ◌≤◌, ◌⊎◌, Bool, true, false, List, [], ◌∷◌, map, length, get_or, All, filter, sum_by, slice_index_or, Some, None, IsSome, IsNone}
-use Rattle.std.specs.List.{list_any}
+use Rattle.std.specs.Prelude.{◌≡◌, ◌↔◌, ℕ, ◌+◌, ◌<◌, ◌≤◌, ◌⊎◌, Bool, true, false, List, [], ◌∷◌, ◌++◌, map, length, get_or, All, filter, sum_by, slice_index_or, Some, None, IfSome, IsSome, IsNone}
+use Rattle.std.specs.List.{list_any, list_all}
 use Rattle.cfs_base.specs.Outside.{Intake, Supply, Rose}
 use Rattle.cfs_script.specs.Language.{built_forms}
 use Rattle.cfs_streams.specs.Writing.{Wrote, WroteSome}
 use Rattle.ufs_model.specs.declared.asked.Event.{Event}
 use Rattle.ufs_model.specs.declared.asked.Event.TheVariants as events
 use Rattle.ufs_model.specs.Graph.{Graph, fresh_graph}
+use Rattle.ufs_model.specs.State.{State}
+use Rattle.ufs_model.specs.Run.{IsLegalRun, replay}
 use Rattle.ufs_model.specs.Script.{request_lines}
 use Rattle.ufs_model.specs.Turns.{AreTurns, turns_in}
 use Rattle.ufs_model.specs.Printed.{printed_replies}
-use Rattle.cfs_serve.specs.declared.limits.TheConstants.{MOST_SCRIPT, MOST_LINES}
-use Rattle.cfs_serve.specs.declared.running.Bay.{Bay}
-use Rattle.cfs_serve.specs.declared.running.Ended.{Ended}
+use Rattle.cfs_serve.specs.Limits.{most_script, most_lines}
+use Rattle.cfs_serve.specs.declared.run.Bay.{Bay}
+use Rattle.cfs_serve.specs.declared.run.Ended.{Ended}
 use Rattle.cfs_serve.specs.declared.report.Counts.{Counts}
 use Rattle.cfs_serve.specs.declared.report.Cause.{Cause}
 use Rattle.cfs_serve.specs.declared.report.Cause.TheVariants as causes
 use Rattle.cfs_serve.specs.declared.report.Report.{Report}
+use Rattle.cfs_serve.specs.declared.page.Page.{Page}
+use Rattle.cfs_serve.specs.Pages.{page_text}
 use Rattle.cfs_serve.specs.Report.{report_text, status_of}
-use Rattle.cfs_serve.specs.Session.{wants_memory}
-use Rattle.cfs_serve.specs.Words.{root_of}
+use Rattle.cfs_serve.specs.Session.{Replied, is_calm, wants_memory}
+use Rattle.cfs_serve.specs.Whole.{HasPlaces}
+use Rattle.cfs_serve.specs.Words.{Asked, Shows, Nothing, IfServes, is_service, root_of}
 
 -- ---- what is outside
 
@@ -74,13 +79,13 @@ abbrev pub HadLeft : Outside → List (List ℕ) → Type 0
 HadLeft o scripts = map (λ s. s.left) o.sources ≡ map Some scripts
 
 abbrev pub AreShort : List (List ℕ) → Type 0
-AreShort scripts = All (λ script. length script ≤ MOST_SCRIPT) scripts
+AreShort scripts = All (λ script. length script ≤ most_script) scripts
 
 abbrev pub lines_in : List (List ℕ) → ℕ
 lines_in scripts = sum_by (λ script. length (request_lines script)) scripts
 
 abbrev pub AreWithin : List (List ℕ) → Type 0
-AreWithin scripts = AreShort scripts × (lines_in scripts ≤ MOST_LINES)
+AreWithin scripts = AreShort scripts × (lines_in scripts ≤ most_lines)
 
 -- ---- the trail
 
@@ -92,8 +97,8 @@ opened seed = fresh_graph (root_of seed)
 pub record IsServedFrom (seed : ℕ) (trail : List Event) (all : Bool) (session : ℕ) (source : Supply) : Type 0 where
   pub script : List ℕ
   pub whole : (left : List ℕ) → source.left ≡ Some left → script ≡ left
-  pub short : length script ≤ MOST_SCRIPT
-  pub few : length (request_lines script) ≤ MOST_LINES
+  pub short : length script ≤ most_script
+  pub few : length (request_lines script) ≤ most_lines
   -- its events are the turns of the script: one for each request line, if the sinks took all
   pub turns : AreTurns built_forms session (root_of seed) script trail
   pub answered : all ≡ true → length (turns_in session trail) ≡ length (request_lines script)
@@ -136,6 +141,7 @@ WasServed told = IsSome told.counts
 -- the sessions' sinks took all replies, by what is told
 abbrev pub took_all : Cause → Bool
 took_all causes.Nothing = true
+took_all (causes.Page page) = true
 took_all causes.Words = true
 took_all causes.Sink = false
 took_all (causes.Source n) = true
@@ -146,6 +152,7 @@ took_all causes.LongTotal = true
 -- nothing is told that is worse than want of memory
 abbrev pub is_mild : Cause → Bool
 is_mild causes.Nothing = true
+is_mild (causes.Page page) = true
 is_mild causes.Words = false
 is_mild causes.Sink = false
 is_mild (causes.Source n) = false
@@ -178,6 +185,12 @@ pub record EndedWell (told : Report) (trail : List Event) (old new : Outside) : 
   pub memory : list_any wants_memory trail ≡ false
   pub reported : Wrote old.report new.report (report_text told)
 
+-- or a page was asked for, and its text is written whole
+pub record Showed (told : Report) (old new : Outside) : Type 0 where
+  pub page : Page
+  pub is : told ≡ record { counts = None; cause = causes.Page page }
+  pub written : Wrote old.report new.report (page_text page)
+
 -- 5: a session's sink failed, and so it is told; or that of the report
 abbrev pub SinkFailed : Report → Outside → Outside → Type 0
 SinkFailed told old new = (WasServed told × (told.cause ≡ causes.Sink) × SomeRose (sink_faults old) (sink_faults new)) ⊎ SpoilsReport told.cause old new
@@ -194,9 +207,10 @@ MemoryWanting told old new = (told.cause ≡ causes.Memory) × Wrote old.report 
 
 -- the source of that number had more than its limit; or all of them together, and none alone
 abbrev pub IsOver : Cause → Outside → Type 0
-IsOver (causes.Long n) o = (n < length o.sources) × ((scripts : List (List ℕ)) → HadLeft o scripts → MOST_SCRIPT < length (slice_index_or scripts n []))
-IsOver causes.LongTotal o = (scripts : List (List ℕ)) → HadLeft o scripts → AreShort scripts × (MOST_LINES < lines_in scripts)
+IsOver (causes.Long n) o = (n < length o.sources) × ((scripts : List (List ℕ)) → HadLeft o scripts → most_script < length (slice_index_or scripts n []))
+IsOver causes.LongTotal o = (scripts : List (List ℕ)) → HadLeft o scripts → AreShort scripts × (most_lines < lines_in scripts)
 IsOver causes.Nothing o = ⊥
+IsOver (causes.Page page) o = ⊥
 IsOver causes.Words o = ⊥
 IsOver causes.Sink o = ⊥
 IsOver (causes.Source n) o = ⊥
@@ -205,3 +219,53 @@ IsOver causes.Memory o = ⊥
 -- 9: nothing was served, and it is told which limit was passed
 abbrev pub LimitPassed : Report → Outside → Type 0
 LimitPassed told old = IsNone told.counts × IsOver told.cause old
+
+-- ---- all that is said
+
+-- What a run does and tells: by what its words ask for, what is outside before and after, what is told, and the trail.
+pub record Did (asked : Asked) (old new : Outside) (told : Report) (trail : List Event) : Type 0 where
+  -- as many sources and sinks are handed back as there were
+  pub places : HasPlaces asked (length new.sources) (length new.sinks)
+  -- nothing was served, and then there is no event and no sink took a byte; or one session was, and left
+  pub unserved : IsNone told.counts → (trail ≡ []) × (new.sinks ≡ old.sinks)
+  pub unasked : is_service asked ≡ false → IsNone told.counts
+  pub leaves : WasServed told → trail ≡ turns_in 0 trail ++ events.Leave 0 None ∷ []
+  -- the events are one legal run on the opened graph, with no disk and no stop behind any of them
+  pub legal : IfServes asked (λ play. IsLegalRun play.seed (opened play.seed) trail)
+  pub calm : list_all is_calm trail ≡ true
+  -- they are the turns of the script that the source had
+  pub turns : IfServes asked (λ play. WasServed told → EachSource (λ session source _.
+      IsServedFrom play.seed trail (took_all told.cause) session source) old new)
+  -- the sink has taken the replies, all or some of their beginning
+  pub replied : EachSink (λ session sink after. Replied sink after (printed_replies session trail) (took_all told.cause)) old new
+  -- it is told exactly that the words are of no form, or that this page was asked for
+  pub words : (told.cause ≡ causes.Words) ↔ (asked ≡ Nothing)
+  pub page : (page : Page) → (told.cause ≡ causes.Page page) ↔ (asked ≡ Shows page)
+  -- the counts are those of the trail and of the last graph
+  pub counted : IfServes asked (λ play. IfSome told.counts (λ counts. (last : State)
+      → replay play.seed (opened play.seed) trail ≡ Some last → counts ≡ counts_of (length old.sources) trail last.graph))
+  -- where nothing was served it is told why
+  pub cause : IsNone told.counts → ¬ (told.cause ≡ causes.Nothing)
+  -- a service whose sinks took all tells want of memory exactly where a reply told it
+  pub memory : WasServed told → took_all told.cause ≡ true → ((told.cause ≡ causes.Memory) ↔ (list_any wants_memory trail ≡ true))
+
+-- What `top` says: all this, and what the status says.
+pub record Said (asked : Asked) (old new : Outside) (told : Report) (status : ℕ) (trail : List Event) : Type 0 where
+  pub did : Did asked old new told trail
+  -- the report's sink has taken the report, all or some of its beginning
+  pub reported : WritesReport told old new
+  -- the status is that of the cause, or 5 for a report that failed; and what each status says
+  pub is_status : IsStatus status told.cause old new
+  pub status_0 : status ≡ 0 → EndedWell told trail old new ⊎ Showed told old new
+  pub status_2 : (status ≡ 2) ↔ (asked ≡ Nothing)
+  pub status_5 : status ≡ 5 → SinkFailed told old new
+  pub status_6 : status ≡ 6 → SourceFailed told old new
+  pub status_7 : status ≡ 7 → MemoryWanting told old new
+  pub status_9 : status ≡ 9 → LimitPassed told old
+  -- a limit that was passed gives 9, unless a source failed or memory was wanting
+  pub over : (scripts : List (List ℕ)) → HadLeft old scripts → ¬ (AreWithin scripts)
+      → (status ≡ 9) ⊎ (told.cause ≡ causes.Memory) ⊎ (status ≡ 6)
+  -- where no limit was passed and no count rose, a service gives 0 or 7; and a page gives 0
+  pub complete : is_service asked ≡ true → (scripts : List (List ℕ)) → HadLeft old scripts → AreWithin scripts
+      → IsQuiet old new → (status ≡ 0) ⊎ (status ≡ 7)
+  pub shown : (page : Page) → asked ≡ Shows page → IsQuiet old new → status ≡ 0

@@ -1,12 +1,12 @@
--- A whole run, step by step: the words, the sources and the sinks, the report and the status. The clauses of `top` follow from it.
-use Rattle.std.specs.Prelude.{◌≡◌, ℕ, Bool, true, false, List, [], ◌∷◌, Option, Some, None}
+-- A whole run, step by step: the words, the sources and the sinks, the report and the status. What `top` says follows from it.
+use Rattle.std.specs.Prelude.{◌≡◌, ℕ, Bool, true, false, List, [], ◌∷◌, None}
 use Rattle.cfs_base.specs.Outside.{Intake, Supply}
 use Rattle.ufs_model.specs.declared.asked.Event.{Event}
 use Rattle.ufs_model.specs.Spoken.{Form}
 use Rattle.cfs_serve.specs.declared.report.Cause.{Cause}
 use Rattle.cfs_serve.specs.declared.report.Cause.TheVariants as causes
 use Rattle.cfs_serve.specs.declared.report.Report.{Report}
-use Rattle.cfs_serve.specs.Words.{Play}
+use Rattle.cfs_serve.specs.Words.{Asked, Shows, Serves, Nothing}
 use Rattle.cfs_serve.specs.Report.{status_of, report_text}
 use Rattle.cfs_serve.specs.Session.{Replied}
 use Rattle.cfs_serve.specs.Played.{IsRunOf}
@@ -17,15 +17,16 @@ pub record Places : Type 0 where
   pub sinks : List Intake
 
 -- a source and a sink for one session, or none
-abbrev pub HasPlaces : Option Play → (sources sinks : ℕ) → Type 0
-HasPlaces (Some play) sources sinks = (sources ≡ 1) × (sinks ≡ 1)
-HasPlaces None sources sinks = (sources ≡ 0) × (sinks ≡ 0)
+abbrev pub HasPlaces : Asked → (sources sinks : ℕ) → Type 0
+HasPlaces (Serves play) sources sinks = (sources ≡ 1) × (sinks ≡ 1)
+HasPlaces (Shows page) sources sinks = (sources ≡ 0) × (sinks ≡ 0)
+HasPlaces Nothing sources sinks = (sources ≡ 0) × (sinks ≡ 0)
 
--- no words that ask for a run: nothing was served, and no sink took a byte
-pub record AsksNothing (old new : Places) (report : Report) (trail : List Event) : Type 0 where
+-- no service was asked for: nothing was served, no sink took a byte, and this is told
+pub record AsksNone (cause : Cause) (old new : Places) (report : Report) (trail : List Event) : Type 0 where
   pub no_event : trail ≡ []
   pub untouched : new ≡ old
-  pub told : report ≡ record { counts = None; cause = causes.Words }
+  pub told : report ≡ record { counts = None; cause = cause }
 
 -- one session was asked for, and so it went
 pub record AsksOne (forms : List Form) (seed : ℕ) (old new : Places) (report : Report) (trail : List Event) : Type 0 where
@@ -37,14 +38,16 @@ pub record AsksOne (forms : List Form) (seed : ℕ) (old new : Places) (report :
   pub sinks : (old.sinks ≡ sink ∷ []) × (new.sinks ≡ sink_after ∷ [])
   pub run : IsRunOf forms seed source source_after sink sink_after report trail
 
-abbrev pub Asks : List Form → Option Play → (old new : Places) → Report → List Event → Type 0
-Asks forms (Some play) old new report trail = AsksOne forms play.seed old new report trail
-Asks forms None old new report trail = AsksNothing old new report trail
+abbrev pub Asks : List Form → Asked → (old new : Places) → Report → List Event → Type 0
+Asks forms (Serves play) old new report trail = AsksOne forms play.seed old new report trail
+Asks forms (Shows page) old new report trail = AsksNone (causes.Page page) old new report trail
+Asks forms Nothing old new report trail = AsksNone causes.Words old new report trail
 
 -- the status: that of the cause, but for a report that could not be written where nothing worse is told
 abbrev pub ended : (written : Bool) → Cause → ℕ
 ended true cause = status_of cause
 ended false causes.Nothing = 5
+ended false (causes.Page page) = 5
 ended false causes.Memory = 5
 ended false causes.Words = 2
 ended false causes.Sink = 5
@@ -53,7 +56,7 @@ ended false (causes.Long i) = 9
 ended false causes.LongTotal = 9
 
 -- the report of the run is this one, and so it was written
-pub record IsWhole (forms : List Form) (asked : Option Play) (old new : Places) (report report_after : Intake) (told : Report) (status : ℕ) (trail : List Event) : Type 0 where
+pub record IsWhole (forms : List Form) (asked : Asked) (old new : Places) (report report_after : Intake) (told : Report) (status : ℕ) (trail : List Event) : Type 0 where
   pub run : Asks forms asked old new told trail
   -- the sink of the report has taken all of it, or some of its beginning
   pub written : Bool

@@ -1,10 +1,12 @@
 -- What the words of a command ask for.
-use Rattle.std.specs.Prelude.{ℕ, ◌^◌, Bool, ◌&&◌, ◌==◌, nat_lt, nat_le, if◌then◌else◌, List, [], ◌∷◌, length, map, String, string_bytes, Option, Some, None, codes}
-use Rattle.std.specs.Str.{bytes_eq, all_ascii_digits}
-use Rattle.std.specs.Str.Parse.{digits_value}
+use Rattle.std.specs.Prelude.{ℕ, Bool, true, false, ◌&&◌, ◌==◌, nat_lt, nat_le, if◌then◌else◌, List, [], ◌∷◌, length, map, String, string_bytes, Option, Some, None, codes}
+use Rattle.std.specs.Str.{bytes_eq}
 use Rattle.cfs_base.specs.declared.identifier.Puid.{Puid}
+use Rattle.ufs_model.specs.Spoken.{Reading, Is, Unbound, Bad, number_in}
 use Rattle.ufs_model.specs.Word.{word}
-use Rattle.cfs_serve.specs.declared.limits.TheConstants.{MOST_CYLINDERS}
+use Rattle.cfs_serve.specs.declared.page.Page.{Page}
+use Rattle.cfs_serve.specs.declared.page.Page.TheVariants as pages
+use Rattle.cfs_serve.specs.Limits.{most_cylinders}
 
 -- a service of one session on a new volume in memory: its size, its seed, and where the session's requests come from and
 -- where its replies go
@@ -14,18 +16,18 @@ pub record Play : Type 0 where
   pub input : List ℕ
   pub output : List ℕ
 
--- 1 to 20 decimal digits of a number below 2^64
-abbrev pub number_of : List ℕ → Option ℕ
-number_of w =
-    if nat_lt 0 (length w) && nat_le (length w) 20 && all_ascii_digits w && nat_lt (digits_value 10 w) (2 ^ 64)
-    then Some (digits_value 10 w) else None
+-- what was read, where something was
+abbrev pub read_or_none : {A : Type 0} → Reading A → Option A
+read_or_none (Is x) = Some x
+read_or_none Unbound = None
+read_or_none Bad = None
 
 abbrev is_file_word : List ℕ → Bool
 is_file_word w = nat_lt 0 (length w)
 
 abbrev play_of : (cylinders seed collections : ℕ) (input output : List ℕ) → Option Play
 play_of cylinders seed collections input output =
-    if nat_lt 0 cylinders && nat_le cylinders MOST_CYLINDERS && (collections == 0) && is_file_word input && is_file_word output
+    if nat_lt 0 cylinders && nat_le cylinders most_cylinders && (collections == 0) && is_file_word input && is_file_word output
     then Some (record { cylinders = cylinders; seed = seed; input = input; output = output }) else None
 
 abbrev numbered : Option ℕ → Option ℕ → Option ℕ → List ℕ → List ℕ → Option Play
@@ -37,12 +39,41 @@ numbered None seed collections input output = None
 -- `play CYLINDERS SEED 0 IN OUT`
 abbrev pub play_in : List (List ℕ) → Option Play
 play_in (verb ∷ cylinders ∷ seed ∷ collections ∷ input ∷ output ∷ []) =
-    if bytes_eq verb (codes "play") then numbered (number_of cylinders) (number_of seed) (number_of collections) input output else None
+    if bytes_eq verb (codes "play") then numbered (read_or_none (number_in cylinders)) (read_or_none (number_in seed)) (read_or_none (number_in collections)) input output else None
 play_in words = None
 
--- what the words of a command ask for
-abbrev pub asked_by : {Z : Type 0} → List (String Z) → Option Play
-asked_by words = play_in (map string_bytes words)
+-- a page, by its word alone
+abbrev pub page_in : List (List ℕ) → Option Page
+page_in (word ∷ []) = if bytes_eq word (codes "--help") then Some pages.Help else if bytes_eq word (codes "--version") then Some pages.Version else None
+page_in words = None
+
+-- what the words of a command ask for: a page, a service, or nothing
+pub data Asked : Type 0 where
+  Shows : Page → Asked
+  Serves : Play → Asked
+  Nothing : Asked
+
+abbrev either : Option Page → Option Play → Asked
+either (Some page) play = Shows page
+either None (Some play) = Serves play
+either None None = Nothing
+
+abbrev pub asked_in : List (List ℕ) → Asked
+asked_in words = either (page_in words) (play_in words)
+
+abbrev pub asked_by : {Z : Type 0} → List (String Z) → Asked
+asked_by words = asked_in (map string_bytes words)
+
+-- where a service is asked for, this holds of it
+abbrev pub IfServes : Asked → (Play → Type 0) → Type 0
+IfServes (Shows page) holds = Unit {0}
+IfServes (Serves play) holds = holds play
+IfServes Nothing holds = Unit {0}
+
+abbrev pub is_service : Asked → Bool
+is_service (Shows page) = false
+is_service (Serves play) = true
+is_service Nothing = false
 
 -- the identifier of the root index of a new volume
 abbrev pub root_of : ℕ → Puid

@@ -5,21 +5,21 @@
 mod binding;
 mod hearing;
 mod limits;
+mod page;
 mod paths;
 mod play;
 mod report;
-mod running;
+mod run;
 mod session;
 mod trail;
-mod whole;
 mod words;
 
 pub use limits::{MOST_CYLINDERS, MOST_LINES, MOST_SCRIPT};
+pub use page::Page;
 pub use paths::{Names, Path, Paths, WordsFault};
 pub use report::{Cause, Counts, Report};
-pub use running::{Bay, Ended};
+pub use run::{Bay, Ended, top};
 pub use trail::Trail;
-pub use whole::top;
 pub use words::names;
 
 #[cfg(test)]

@@ -79,3 +79,12 @@ pub(crate) fn one_path(alloc: Global, text: &str) -> Result<Paths, AllocError>
     paths.push(path_of(alloc, text)?)?;
     Ok(Paths { paths })
 }
+
+/// No names. Takes no memory.
+pub(crate) fn no_paths(alloc: Global) -> Paths
+    ensures { result ≡ [] }
+{
+    Paths {
+        paths: Vec::new(alloc),
+    }
+}

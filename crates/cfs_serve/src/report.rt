@@ -1,8 +1,9 @@
 //! The report of a run, and its status.
-ghost use Rattle.std.specs.Prelude.{◌≡◌};
+ghost use Rattle.std.specs.Prelude.{◌≡◌, ◌++◌, codes};
 ghost use Rattle.cfs_streams.specs.Writing.{WritesWhole};
 ghost use Rattle.cfs_serve.specs.Told.{told};
 
+use crate::page::Page;
 use cfs_base::{Failed, Sink};
 use cfs_streams::write_whole;
 use itoa::Buffer;
@@ -19,10 +20,12 @@ pub struct Counts {
     pub objects: u64,
 }
 
-/// What ended a run before its end, or spoiled it.
+/// What ended a run before its end, or spoiled it; or that a page was asked for.
 #[derive(Clone, Copy, Debug, PartialEq, Eq)]
 pub enum Cause {
     Nothing,
+    /// This page was asked for, and it is all that the report has.
+    Page(Page),
     /// The words are of no form.
     Words,
     /// A session's sink failed.
@@ -45,7 +48,7 @@ impl Cause {
         ensures { result ≡ status_of self }
     {
         match self {
-            Cause::Nothing => 0,
+            Cause::Nothing | Cause::Page(_) => 0,
             Cause::Words => 2,
             Cause::Sink => 5,
             Cause::Source(_) => 6,
@@ -57,17 +60,37 @@ impl Cause {
     ghost use Rattle.cfs_serve.specs.Report.{cause_text};
 
     /// Writes the line of the cause, where it has one.
-    fn write<K: Sink>(self, sink: &mut K) -> Result<(), Failed>
+    fn write_line<K: Sink>(self, sink: &mut K) -> Result<(), Failed>
         ensures { WritesWhole (K.intake sink.old) (K.intake sink.new) (cause_text self) result }
     {
         match self {
-            Cause::Nothing => Ok(()),
+            Cause::Nothing | Cause::Page(_) => Ok(()),
             Cause::Words => write_whole(sink, b"words\n"),
             Cause::Sink => write_whole(sink, b"sink\n"),
             Cause::Source(source) => write_number(sink, b"source", source),
             Cause::Memory => write_whole(sink, b"memory\n"),
             Cause::Long(source) => write_number(sink, b"long", source),
             Cause::LongTotal => write_whole(sink, b"long total\n"),
+        }
+    }
+
+    /// Writes the line of the cause and that of the status.
+    fn write_told<K: Sink>(self, sink: &mut K) -> Result<(), Failed>
+        ensures { WritesWhole (K.intake sink.old) (K.intake sink.new) (cause_text self ++ told (codes "status") (status_of self)) result }
+    {
+        self.write_line(sink)?;
+        write_number(sink, b"status", u64::from(self.status()))
+    }
+
+    ghost use Rattle.cfs_serve.specs.Report.{ending_text};
+
+    /// Writes the lines that end the report, or the page that stands in its place.
+    fn write_ending<K: Sink>(self, sink: &mut K) -> Result<(), Failed>
+        ensures { WritesWhole (K.intake sink.old) (K.intake sink.new) (ending_text self) result }
+    {
+        match self {
+            Cause::Page(page) => write_whole(sink, page.text()),
+            _ => self.write_told(sink),
         }
     }
 }
@@ -124,7 +147,6 @@ impl Report {
         ensures { WritesWhole (K.intake sink.old) (K.intake sink.new) (report_text self) result }
     {
         self.write_counts(sink)?;
-        self.cause.write(sink)?;
-        write_number(sink, b"status", u64::from(self.cause.status()))
+        self.cause.write_ending(sink)
     }
 }

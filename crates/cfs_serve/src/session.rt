@@ -10,8 +10,8 @@ ghost use Rattle.ufs_model.specs.declared.asked.Reply.{Reply};
 ghost use Rattle.cfs_serve.specs.Heard.{HasRoom};
 ghost use Rattle.cfs_serve.specs.Session.{Answers, IsServedSo, IsServing, Tells, TakesLine, Terms, terms, wants_memory};
 
-use crate::binding::{bind_reply, hear};
-use crate::hearing::Heard;
+use crate::binding::bind_reply;
+use crate::hearing::{Heard, hear};
 use crate::trail::Trail;
 use cfs_base::{NoMemory, Puid, Sink};
 use cfs_script::{Name, Names, REPLY_ROOM, next_line, print_reply, print_unread};

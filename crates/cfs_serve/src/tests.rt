@@ -1,6 +1,8 @@
 //! Whole runs on sources and sinks in memory.
+ghost use Rattle.cfs_serve.specs.Words.{asked_by};
+ghost use Rattle.cfs_serve.specs.Whole.{HasPlaces};
 
-use crate::{Bay, Cause, Ended, WordsFault, names, top};
+use crate::{Bay, Cause, Ended, Page, WordsFault, names, top};
 use cfs_base::{Failed, Sink};
 use cfs_fakes::{MemoryDisk, MemorySink, MemorySource, OpenGate};
 use std::alloc::{AllocError, Global};
@@ -26,6 +28,19 @@ fn words_of(alloc: Global, texts: &[&str]) -> Result<Vec<String>, AllocError> {
     Ok(words)
 }
 
+/// The words name so many sources, and as many sinks.
+fn expect_places(rt: &impl Abort, alloc: Global, words: &[String], count: usize)
+    ensures { HasPlaces (asked_by words.now) count count }
+{
+    match names(alloc, words) {
+        Ok(named) => {
+            assert_eq!(rt; named.sources.as_slice().len(), count);
+            assert_eq!(rt; named.sinks.as_slice().len(), count);
+        }
+        Err(_) => panic!(rt; "the words are of no form"),
+    }
+}
+
 /// Serves one session. Its words are of a form.
 fn serve<K: Sink + Drop>(
     rt: &impl Abort,
@@ -35,7 +50,7 @@ fn serve<K: Sink + Drop>(
     report: K,
 ) -> Result<Ended<MemoryDisk, MemorySource, K>, AllocError> {
     let words = words_of(alloc, &["play", "1", "0", "0", "in", "out"])?;
-    assert!(rt; names(alloc, words.as_slice()).is_ok());
+    expect_places(rt, alloc, words.as_slice(), 1);
     let mut sources = Vec::new(alloc);
     sources.push(source)?;
     let mut sinks = Vec::new(alloc);
@@ -260,5 +275,25 @@ fn a_sink_may_take_a_byte_a_call(rt: HostRuntime) -> Result<(), Fail> {
     let alloc = rt.alloc();
     run_slowly(&rt, alloc, u64::MAX, STORED_REPLIES, 0)?;
     run_slowly(&rt, alloc, 1, b"o", 5)?;
+    Ok(())
+}
+
+#[test]
+fn a_page_is_printed_alone(rt: HostRuntime) -> Result<(), Fail> {
+    let alloc = rt.alloc();
+    let words = words_of(alloc, &["--version"])?;
+    let bay: Bay<MemoryDisk, MemorySource, MemorySink> = Bay {
+        disk: None,
+        sources: Vec::new(alloc),
+        sinks: Vec::new(alloc),
+        report: MemorySink::new(alloc, Vec::new(alloc)),
+    };
+    expect_places(&rt, alloc, words.as_slice(), 0);
+    let ended = top(alloc, words.as_slice(), bay, &OpenGate);
+    assert_eq!(rt; ended.report.bytes(), b"cfs 0.1.0\n".as_slice());
+    assert_eq!(rt; ended.status, 0);
+    assert_eq!(rt; ended.told.cause, Cause::Page(Page::Version));
+    let more = words_of(alloc, &["--help", "play"])?;
+    assert!(rt; matches!(names(alloc, more.as_slice()), Err(WordsFault::Words)));
     Ok(())
 }

@@ -1,10 +1,13 @@
 //! The words of a command.
-ghost use Rattle.std.specs.Prelude.{◌≡◌, ◌↔◌, List, ℕ, [], ◌∷◌, map, Some, None, IsNone, IfSome, IfOk, Err, string_bytes};
-ghost use Rattle.std.specs.Str.{all_ascii_digits};
-ghost use Rattle.cfs_serve.specs.Words.{Play, play_in, number_of};
+ghost use Rattle.std.specs.Prelude.{◌≡◌, ◌↔◌, List, ℕ, [], ◌∷◌, length, map, Some, None, IsNone, IfSome, IfOk, Err, string_bytes};
+ghost use Rattle.ufs_model.specs.Spoken.{number_in};
+ghost use Rattle.cfs_serve.specs.Whole.{HasPlaces};
+ghost use Rattle.cfs_serve.specs.Words.{read_or_none, Play, Serves, Nothing, asked_in, page_in, play_in};
 
 use crate::limits::MOST_CYLINDERS;
-use crate::paths::{Names, WordsFault, one_path};
+use crate::page::Page;
+use crate::paths::{Names, WordsFault, no_paths, one_path};
+use cfs_script::number_of;
 use std::alloc::Global;
 
 /// A service of one session on a new volume in memory.
@@ -16,31 +19,11 @@ pub(crate) struct Played<'a> {
     pub output: &'a str,
 }
 
-fn are_digits(word: &[u8]) -> bool
-    ensures { result ≡ all_ascii_digits word.now }
-{
-    for byte in word {
-        if !byte.is_ascii_digit() {
-            return false;
-        }
-    }
-    true
-}
-
 /// The number that a word writes: 1 to 20 decimal digits within a u64.
 fn number(word: &str) -> Option<u64>
-    ensures { result ≡ number_of word.now }
+    ensures { result ≡ read_or_none (number_in word.now) }
 {
-    if word.len() > 20 {
-        return None;
-    }
-    if !are_digits(word.as_bytes()) {
-        return None;
-    }
-    match word.parse::<u64>() {
-        Ok(number) => Some(number),
-        Err(_) => None,
-    }
+    number_of(word.as_bytes())
 }
 
 /// What six words ask for.
@@ -95,12 +78,35 @@ pub(crate) fn play_asked(words: &[String]) -> Option<Played<'_>>
     )
 }
 
-/// What the words of a command name. `Words` comes exactly where they are of no form.
-pub fn names(alloc: Global, words: &[String]) -> Result<Names, WordsFault>
-    ensures words { result ≡ Err WordsFault.Words ↔ (play_in (map string_bytes words.now) ≡ None) }
-    ensures sources { IfOk result (λ n. (p : Play) → play_in (map string_bytes words.now) ≡ Some p → n.sources ≡ p.input ∷ []) }
-    ensures sinks { IfOk result (λ n. (p : Play) → play_in (map string_bytes words.now) ≡ Some p → n.sinks ≡ p.output ∷ []) }
+/// The page that the words ask for: one word alone.
+pub(crate) fn page_asked(words: &[String]) -> Option<Page>
+    ensures { result ≡ page_in (map string_bytes words.now) }
 {
+    let [word] = words else {
+        return None;
+    };
+    if word.as_str() == "--help" {
+        Some(Page::Help)
+    } else if word.as_str() == "--version" {
+        Some(Page::Version)
+    } else {
+        None
+    }
+}
+
+/// What the words of a command name: nothing for a page. `Words` comes exactly where they are of no form.
+pub fn names(alloc: Global, words: &[String]) -> Result<Names, WordsFault>
+    ensures words { result ≡ Err WordsFault.Words ↔ (asked_in (map string_bytes words.now) ≡ Nothing) }
+    ensures places { IfOk result (λ n. HasPlaces (asked_in (map string_bytes words.now)) (length n.sources) (length n.sinks)) }
+    ensures sources { IfOk result (λ n. (p : Play) → asked_in (map string_bytes words.now) ≡ Serves p → n.sources ≡ p.input ∷ []) }
+    ensures sinks { IfOk result (λ n. (p : Play) → asked_in (map string_bytes words.now) ≡ Serves p → n.sinks ≡ p.output ∷ []) }
+{
+    if page_asked(words).is_some() {
+        return Ok(Names {
+            sources: no_paths(alloc),
+            sinks: no_paths(alloc),
+        });
+    }
     let Some(play) = play_asked(words) else {
         return Err(WordsFault::Words);
     };

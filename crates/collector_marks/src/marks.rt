@@ -1,5 +1,5 @@
 //! Marked objects, and grey indices.
-ghost use Rattle.std.specs.Prelude.{◌≡◌, ◌+◌, ◌<◌, ◌≤◌, OnOk, OnErr, IfOk, IsOk, Some};
+ghost use Rattle.std.specs.Prelude.{◌≡◌, ◌+◌, ◌<◌, ◌≤◌, OnOk, OnErr, IfOk, IfSome, IsOk, Some};
 ghost use Rattle.collector_marks.specs.Kept.{SameMarks, blocks_of, colours_of};
 ghost use Rattle.marking.specs.Colours.{first_grey, is_index, moved, none_marked, shaded};
 
@@ -30,6 +30,11 @@ impl Model for Marks {
       grey = reverse a.grey.items;
       room = vec_capacity a.grey - vec_len a.grey;
     } };
+
+    ghost use Rattle.std.specs.Prelude.{◌<◌, length, All};
+
+    // Each is an object of the volume.
+    ghost invariant = { λ a. All (λ e. e.id.block < length a.marked.items) a.grey.items };
 }
 
 fn is_index(kind: Kind) -> bool
@@ -122,7 +127,8 @@ impl Marks {
 
     /// The first grey index; None exactly where none is grey.
     pub fn next_grey(&self) -> Option<Grey>
-        ensures { result ≡ first_grey (colours_of self.now) }
+        ensures first { result ≡ first_grey (colours_of self.now) }
+        ensures inside { IfSome result (λ e. e.id.block < blocks_of self.now) }
     {
         self.grey.last().copied()
     }

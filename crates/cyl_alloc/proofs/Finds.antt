@@ -5,7 +5,8 @@ use Rattle.cfs_base.specs.declared.disk.Disk.{Ghosts}
 use Rattle.cfs_base.specs.declared.refusal.Trouble.{Trouble}
 use Rattle.cfs_base.specs.declared.refusal.Trouble.TheVariants as trouble
 use Rattle.cyl_alloc.specs.Counts.{IsFirstAbove}
-use Rattle.cyl_alloc.specs.Refusals.{IsMapTrouble, IsFindRefusal, refused_by}
+use Rattle.cyl_alloc.specs.Refusals.{IsMapTrouble, IsFindRefusal}
+use Rattle.cfs_base.specs.Refusals.{refused_by}
 use Rattle.cyl_alloc.specs.Space.{Kept, IsBadMap}
 
 -- cylinder j is the first that counts a Free block, by the number of its map block

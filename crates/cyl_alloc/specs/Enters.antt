@@ -9,7 +9,8 @@ use Rattle.cfs_base.specs.declared.refusal.Refused.{Refused}
 use Rattle.cfs_base.specs.declared.refusal.Refused.TheVariants.{Full}
 use Rattle.cyl_map.specs.declared.entry.MapEntry.{MapEntry}
 use Rattle.cyl_map.specs.Volume.{map_of, map_with, with_entry}
-use Rattle.cyl_alloc.specs.Refusals.{IsFindRefusal, had_tried}
+use Rattle.cyl_alloc.specs.Refusals.{IsFindRefusal}
+use Rattle.cfs_base.specs.Refusals.{had_tried}
 use Rattle.cyl_alloc.specs.Space.{Kept, AreCounts, IsGoodMap, IsLeastFree, after_taking}
 
 -- one of these images, with this entry written for the image's least-numbered Free block

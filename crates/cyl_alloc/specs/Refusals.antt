@@ -1,6 +1,7 @@
 -- Why a call on the maps of a volume is refused.
-use Rattle.std.specs.Prelude.{◌≡◌, ◌⊎◌, ℕ, ◌*◌, ◌/◌, ◌<◌, Bool, false, Some, sum}
+use Rattle.std.specs.Prelude.{◌≡◌, ◌⊎◌, ℕ, ◌*◌, ◌/◌, ◌<◌, Some, sum}
 use Rattle.cfs_base.specs.Calls.{HasStopped}
+use Rattle.cfs_base.specs.Codes.{no_entry, other_count}
 use Rattle.cfs_base.specs.Run.{Tells}
 use Rattle.cfs_base.specs.declared.disk.Disk.{Ghosts}
 use Rattle.cfs_base.specs.declared.refusal.Damage.{Damage}
@@ -12,28 +13,11 @@ use Rattle.cyl_map.specs.Volume.{map_of}
 use Rattle.cyl_alloc.specs.Counts.{IsFirstAbove}
 use Rattle.cyl_alloc.specs.Space.{Kept, AreCounts, IsBadMap, IsGoodMap}
 
--- ---- whether a write or barrier was tried
-
-abbrev pub had_tried : Refused → Bool
-had_tried (refused.Full need) = false
-had_tried (refused.Disk tried) = tried
-had_tried (refused.Damaged damage) = false
-had_tried refused.Memory = false
-
-abbrev pub trouble_had_tried : Trouble → Bool
-trouble_had_tried (trouble.Disk tried) = tried
-trouble_had_tried (trouble.Damaged damage) = false
-
--- the refusal of a call that may take blocks or memory, of which only a call that takes none is refused
-abbrev pub refused_by : Trouble → Refused
-refused_by (trouble.Disk tried) = refused.Disk tried
-refused_by (trouble.Damaged damage) = refused.Damaged damage
-
 -- ---- the map of one block
 
 -- the map block of this block was read, and is no map
 pub record IsNoMap {D : Type 0} (g : Ghosts D) (old : D) (n : ℕ) (damage : Damage) : Type 0 where
-  pub code : damage.code ≡ 2
+  pub code : damage.code ≡ no_entry
   pub block : damage.block ≡ map_of n
   pub bad : Tells g old → IsBadMap (g.content old) n
 
@@ -49,8 +33,8 @@ pub record IsNoFind {D : Type 0} (g : Ghosts D) (old : D) (kept : Kept) (damage 
   pub block : damage.block ≡ map_of damage.block
   pub on_disk : damage.block < g.blocks old
   pub first : IsFirstAbove kept.free (Some (damage.block / 64))
-  pub why : ((damage.code ≡ 2) × (Tells g old → IsBadMap (g.content old) damage.block))
-      ⊎ ((damage.code ≡ 12) × (Tells g old → ¬ AreCounts (g.content old) kept))
+  pub why : ((damage.code ≡ no_entry) × (Tells g old → IsBadMap (g.content old) damage.block))
+      ⊎ ((damage.code ≡ other_count) × (Tells g old → ¬ AreCounts (g.content old) kept))
 
 -- no block is Free, a device call failed, or no Free block was found where one was counted
 abbrev pub IsFindRefusal : {D : Type 0} → Ghosts D → D → D → Kept → Refused → Type 0
@@ -63,7 +47,7 @@ IsFindRefusal g old new kept refused.Memory = ⊥
 
 -- the first map block of the disk that is no map
 pub record IsFirstNoMap {D : Type 0} (g : Ghosts D) (old : D) (damage : Damage) : Type 0 where
-  pub code : damage.code ≡ 2
+  pub code : damage.code ≡ no_entry
   pub block : damage.block ≡ map_of damage.block
   pub on_disk : damage.block < g.blocks old
   pub bad : Tells g old → IsBadMap (g.content old) damage.block

@@ -6,14 +6,12 @@ ghost use Rattle.cfs_base.specs.Run.{Tells, Leaves, left_now};
 ghost use Rattle.cyl_map.specs.Entry.{IsEntry};
 ghost use Rattle.cyl_map.specs.Volume.{map_of, map_with, with_entry};
 ghost use Rattle.cyl_alloc.specs.Maps.{IsMapOf};
-ghost use Rattle.cyl_alloc.specs.Refusals.{IsMapTrouble, trouble_had_tried};
+ghost use Rattle.cyl_alloc.specs.Refusals.{IsMapTrouble};
+ghost use Rattle.cfs_base.specs.Refusals.{trouble_had_tried};
 ghost use Rattle.cyl_alloc.specs.Space.{IsGoodMap};
 
-use cfs_base::{Block, BlockNo, Damage, Disk, Failed, Trouble};
+use cfs_base::{Block, BlockNo, Damage, Disk, Failed, Trouble, code};
 use cyl_map::{Map, MapEntry};
-
-/// The code of a map block that is no map.
-pub(crate) const NO_MAP: u8 = 2;
 
 /// Reads the map that has a block's entry. `Damaged` names its map block, with code 2, which is no map.
 pub fn read_map<D: Disk>(disk: &mut D, block: u32) -> Result<Map, Trouble>
@@ -33,7 +31,7 @@ pub fn read_map<D: Disk>(disk: &mut D, block: u32) -> Result<Map, Trouble>
         Ok(map) => Ok(map),
         Err(_) => Err(Trouble::Damaged(Damage {
             block: at,
-            code: NO_MAP,
+            code: code::NO_ENTRY,
         })),
     }
 }

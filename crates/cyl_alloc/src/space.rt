@@ -2,6 +2,7 @@
 ghost use Rattle.std.specs.Prelude.{◌≡◌, ℕ, ◌+◌, ◌*◌, ◌/◌, ◌<◌, ◌≤◌, ◌↔◌, true, false, length, sum, IsTrue, IsErr, Err, IfOk, IfErr, OnOk};
 ghost use Rattle.cfs_base.specs.Calls.{OnlyReads, MakesAtMost};
 ghost use Rattle.cfs_base.specs.Disk.{Image, Written};
+ghost use Rattle.cfs_base.specs.Refusals.{had_tried, trouble_had_tried};
 ghost use Rattle.cfs_base.specs.Run.{Tells, Leaves, left_now};
 ghost use Rattle.cfs_base.specs.declared.refusal.Refused.TheVariants.{Full};
 ghost use Rattle.cyl_map.specs.Entry.{IsEntry};
@@ -14,14 +15,11 @@ ghost use Rattle.cyl_alloc.specs.Refusals as refusals;
 ghost use Rattle.cyl_alloc.specs.Space as spec;
 
 use crate::counts::Counts;
-use crate::maps::{NO_MAP, read_map, write_entry};
-use cfs_base::{BlockNo, Damage, Disk, Need, Place, Refused, Trouble};
+use crate::maps::{read_map, write_entry};
+use cfs_base::{BlockNo, Damage, Disk, Need, Place, Refused, Trouble, code};
 use cyl_map::{BlockState, Map, MapEntry};
 use std::alloc::Global;
 use std::marker::Model;
-
-/// The code of a map that has another number of Free entries than was counted.
-const OTHER_COUNT: u8 = 12;
 
 /// How many blocks of each cylinder of a volume are Free. It is counted on, and handed in with, one disk of 64 blocks a
 /// cylinder.
@@ -48,16 +46,6 @@ struct Found {
     map: Map,
 }
 
-/// The same refusal of a call that may take blocks or memory.
-fn refused(trouble: Trouble) -> Refused
-    ensures { result ≡ refusals.refused_by trouble }
-{
-    match trouble {
-        Trouble::Disk { tried } => Refused::Disk { tried },
-        Trouble::Damaged(damage) => Refused::Damaged(damage),
-    }
-}
-
 impl Space {
     /// Counts the Free blocks of a disk, with one read a cylinder. `Damaged` names the first map block that is no map,
     /// with code 2. Nothing was written where it is refused.
@@ -70,7 +58,7 @@ impl Space {
         ensures whole { Tells D.Disk disk.old → OnOk result ((j : ℕ) → j < cylinders →
             spec.IsGoodMap (D.content disk.old) (64 * j)) }
         ensures refused { IfErr result (refusals.IsCountRefusal D.Disk disk.old disk.new) }
-        ensures untried { IfErr result (λ error. refusals.had_tried error ≡ false) }
+        ensures untried { IfErr result (λ error. had_tried error ≡ false) }
         ensures reads { OnlyReads D.Disk cylinders disk.old disk.new }
     {
         let Ok(mut counts) = Counts::zeros(alloc, cylinders) else {
@@ -79,7 +67,7 @@ impl Space {
         for cylinder in 0..cylinders {
             match Space::count_free(disk, cylinder) {
                 Ok(count) => counts.put(cylinder, count),
-                Err(trouble) => return Err(refused(trouble)),
+                Err(trouble) => return Err(Refused::from(trouble)),
             }
         }
         Ok(Space { counts })
@@ -95,7 +83,7 @@ impl Space {
         ensures whole { Tells D.Disk disk.old → OnOk result
             (spec.IsGoodMap (D.content disk.old) (64 * cylinder)) }
         ensures refused { IfErr result (refusals.IsMapTrouble D.Disk disk.old disk.new (64 * cylinder)) }
-        ensures untried { IfErr result (λ trouble. refusals.trouble_had_tried trouble ≡ false) }
+        ensures untried { IfErr result (λ trouble. trouble_had_tried trouble ≡ false) }
         ensures reads { OnlyReads D.Disk 1 disk.old disk.new }
     {
         let blocks = disk.blocks();
@@ -125,7 +113,7 @@ impl Space {
             IfOk result (λ block. spec.IsGoodMap (D.content disk.old) block.0) }
         ensures full { (result ≡ Err (Full (record { free = 0; need = 1 }))) ↔ (sum self.now.free ≡ 0) }
         ensures refused { IfErr result (refusals.IsFindRefusal D.Disk disk.old disk.new self.now) }
-        ensures untried { IfErr result (λ error. refusals.had_tried error ≡ false) }
+        ensures untried { IfErr result (λ error. had_tried error ≡ false) }
         ensures reads { OnlyReads D.Disk 1 disk.old disk.new }
     {
         match self.least(disk) {
@@ -214,7 +202,7 @@ impl Space {
         ensures cylinders { length self.new.free ≡ length self.old.free }
         ensures refused { IfErr result (refusals.IsMapTrouble D.Disk disk.old disk.new block.0) }
         ensures unless_tried { IfErr result (λ trouble.
-            refusals.trouble_had_tried trouble ≡ false → OnlyReads D.Disk 1 disk.old disk.new) }
+            trouble_had_tried trouble ≡ false → OnlyReads D.Disk 1 disk.old disk.new) }
         ensures images { Tells D.Disk disk.old → Leaves D.Disk disk.old disk.new
             (Written (left_now D.Disk disk.old) (map_of block.0)
             (map_with (D.content disk.old) block.0 spec.free_entry)) }
@@ -282,7 +270,7 @@ impl Space {
             result ≡ Err (Full (record { free = 0; need = 1 })) }
         ensures some { OnOk result (0 < sum self.now.free) }
         ensures refused { IfErr result (refusals.IsFindRefusal D.Disk disk.old disk.new self.now) }
-        ensures untried { IfErr result (λ error. refusals.had_tried error ≡ false) }
+        ensures untried { IfErr result (λ error. had_tried error ≡ false) }
         ensures reads { OnlyReads D.Disk 1 disk.old disk.new }
     {
         let Some(cylinder) = self.counts.first() else {
@@ -290,7 +278,7 @@ impl Space {
         };
         let map = match read_map(disk, 64 * cylinder) {
             Ok(map) => map,
-            Err(error) => return Err(refused(error)),
+            Err(error) => return Err(Refused::from(error)),
         };
         match map.first_free() {
             Some(entry) => Ok(Found {
@@ -299,7 +287,7 @@ impl Space {
             }),
             None => Err(Refused::Damaged(Damage {
                 block: 64 * cylinder,
-                code: OTHER_COUNT,
+                code: code::OTHER_COUNT,
             })),
         }
     }

@@ -17,7 +17,7 @@ last_first (x ∷ xs) =
     ∙ ap Some (sym (get_or-reverse all 0 x (omega arith)))
     ∙ sym (slice_get-get_or (reverse all) 0 x (omega (arith, length-reverse all)))
 
-pub returns : goal.returns
-returns c =
+pub returns-clause-first : goal.returns-clause-first
+returns-clause-first c =
     c.copied.ensures ∙ c.last.ensures.value ∙ ap (λ (xs : List Grey). slice_get xs (length xs - 1)) c.deref.ensures.value
     ∙ last_first c.self.inside.grey.items ∙ ap (λ (m : Marked). first_grey (colours_of m)) c.self.view_is

@@ -28,4 +28,4 @@ returns-in-None-clause-refused g c =
 pub returns-in-Err-clause-refused : goal.returns-in-Err-clause-refused
 returns-in-Err-clause-refused g c =
     let above = subst (λ (l : List ℕ). IsFirstAbove l (Some c.in-Some.cylinder)) (ap (λ (kept : Kept). kept.free) c.self.view_is) c.in-Some.ensures.first in
-    rw c.refused.ensures (find_refused g.D.Disk c.args.disk.now c.read_map.new.disk c.args.self.now c.in-Some.cylinder c.in-Err.error above c.requires.size c.in-Err.ensures.refused)
+    rw c.from.ensures (find_refused g.D.Disk c.args.disk.now c.read_map.new.disk c.args.self.now c.in-Some.cylinder c.in-Err.error above c.requires.size c.in-Err.ensures.refused)

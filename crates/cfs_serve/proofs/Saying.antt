@@ -1,0 +1,38 @@
+-- What `top` says follows from the steps of the run.
+use Rattle.std.proofs.Common.{◌≡◌, ℕ, List, length, sym, ◌∙◌}
+use Rattle.cfs_script.specs.Language.{built_forms}
+use Rattle.ufs_model.specs.declared.asked.Event.{Event}
+use Rattle.cfs_serve.specs.declared.report.Report.{Report}
+use Rattle.cfs_serve.specs.Words.{Asked}
+use Rattle.cfs_serve.specs.Whole.{HasPlaces, IsWhole, ended}
+use Rattle.cfs_serve.specs.Top.{Outside, Said}
+use Rattle.cfs_serve.proofs.Because as why
+use Rattle.cfs_serve.proofs.Facts.{facts}
+
+pub said : (asked : Asked) (old new : Outside) (told : Report) (status : ℕ) (trail : List Event)
+    → HasPlaces asked (length old.sources) (length old.sinks)
+    → IsWhole built_forms asked (record { sources = old.sources; sinks = old.sinks }) (record { sources = new.sources; sinks = new.sinks }) old.report new.report told status trail
+    → Said asked old new told status trail
+said asked old new told status trail given whole =
+    let f = facts old.sources new.sources old.sinks new.sinks old.report new.report told trail asked given whole.run in
+    let counts = told.counts in
+    let cause = told.cause in
+    let wrote = whole.reported in
+    let is : (n : ℕ) → status ≡ n → ended whole.written cause ≡ n = λ n so. sym whole.said ∙ so in
+    record {
+      did = f.0;
+      reported = why.reported asked old new counts trail cause whole.written wrote;
+      is_status = rw whole.said (why.status asked old new counts trail cause whole.written wrote);
+      status_0 = λ so. why.status_0 asked old new counts trail cause whole.written f.1 wrote (is 0 so);
+      status_2 = (
+        (λ so. why.status_2 asked old new counts trail cause whole.written f.1 (is 2 so)),
+        (λ none. whole.said ∙ rw (f.0.words.1 none) (why.is_2 whole.written)),
+      );
+      status_5 = λ so. why.status_5 asked old new counts trail cause whole.written f.1 wrote (is 5 so);
+      status_6 = λ so. why.status_6 asked old new counts trail cause whole.written f.1 (is 6 so);
+      status_7 = λ so. why.status_7 asked old new counts trail cause whole.written wrote (is 7 so);
+      status_9 = λ so. why.status_9 asked old new counts trail cause whole.written f.1 (is 9 so);
+      over = rw whole.said (why.over asked old new counts trail cause whole.written f.1);
+      complete = rw whole.said (why.complete asked old new counts trail cause whole.written f.1 wrote);
+      shown = λ page shows quiet. whole.said ∙ rw ((f.0.page page).1 shows) (why.shown page old new _ whole.written wrote quiet);
+    }

@@ -1,0 +1,14 @@
+-- The limits of the program, as numbers.
+use Rattle.std.specs.Prelude.{ℕ}
+
+-- the cylinders of the largest volume in memory
+abbrev pub most_cylinders : ℕ
+most_cylinders = 1024
+
+-- the bytes of the longest request file
+abbrev pub most_script : ℕ
+most_script = 16777216
+
+-- the request lines of all files together
+abbrev pub most_lines : ℕ
+most_lines = 500000

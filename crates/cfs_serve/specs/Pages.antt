@@ -1,0 +1,18 @@
+-- The pages, line by line. Whoever adds a form of words adds its lines.
+use Rattle.std.specs.Prelude.{ℕ, List, ◌++◌, codes}
+use Rattle.cfs_serve.specs.declared.page.Page.{Page}
+use Rattle.cfs_serve.specs.declared.page.Page.TheVariants as pages
+
+abbrev pub page_text : Page → List ℕ
+page_text pages.Help =
+    codes "cfs play CYLINDERS SEED 0 IN OUT\n"
+    ++ codes "    serve the request lines of IN on a new volume in memory: replies to OUT, a report to standard output;\n"
+    ++ codes "    IN and OUT are files, or - for the standard streams\n"
+    ++ codes "cfs --help\n"
+    ++ codes "    print this page\n"
+    ++ codes "cfs --version\n"
+    ++ codes "    print the version\n"
+    ++ codes "status: 0 all is well, 2 the words are of no form, 5 a sink failed, 6 a source failed, 7 memory was wanting,\n"
+    ++ codes "    9 a limit was passed, 10 a file cannot be opened or made\n"
+    ++ codes "manual: docs/cfs.1, docs/PROGRAM.md\n"
+page_text pages.Version = codes "cfs 0.1.0\n"

@@ -1,0 +1,35 @@
+//! The pages that the program prints for its own sake.
+ghost use Rattle.std.specs.Prelude.{◌≡◌};
+ghost use Rattle.cfs_serve.specs.Pages.{page_text};
+
+#[derive(Clone, Copy, Debug, PartialEq, Eq)]
+pub enum Page {
+    /// Of `--help`: the forms of the words, and the statuses.
+    Help,
+    /// Of `--version`.
+    Version,
+}
+
+impl Page {
+    /// What is printed.
+    pub fn text(self) -> &'static [u8]
+        ensures { result.now ≡ page_text self }
+    {
+        match self {
+            Page::Help => {
+                b"cfs play CYLINDERS SEED 0 IN OUT
+    serve the request lines of IN on a new volume in memory: replies to OUT, a report to standard output;
+    IN and OUT are files, or - for the standard streams
+cfs --help
+    print this page
+cfs --version
+    print the version
+status: 0 all is well, 2 the words are of no form, 5 a sink failed, 6 a source failed, 7 memory was wanting,
+    9 a limit was passed, 10 a file cannot be opened or made
+manual: docs/cfs.1, docs/PROGRAM.md
+"
+            }
+            Page::Version => b"cfs 0.1.0\n",
+        }
+    }
+}

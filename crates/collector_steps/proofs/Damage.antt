@@ -1,0 +1,65 @@
+-- Why a leaf of an index isn't read: what a device call or a pointer past the disk tells of the index.
+use Rattle.std.proofs.Common.{◌≡◌, ◌≢◌, ℕ, ◌/◌, ◌%◌, ◌≤◌, ◌++◌, List, [], ◌∷◌, get_or, false, refl, sym, ap, ◌∙◌, subst}
+use Rattle.cfs_base.specs.Calls.{OnlyReads, HasFailed, HasStopped}
+use Rattle.cfs_base.specs.Codes.{past_disk}
+use Rattle.cfs_base.specs.Disk.{Image, block_at}
+use Rattle.cfs_base.specs.Run.{Tells}
+use Rattle.cfs_base.specs.declared.disk.Disk.{Ghosts}
+use Rattle.cfs_base.specs.declared.refusal.Trouble.TheVariants as trouble
+use Rattle.cfs_base.specs.declared.refusal.Trouble.{Trouble}
+use Rattle.cfs_base.proofs.Calls.{stopped_after_reads, tells_on}
+use Rattle.block_tree.specs.declared.fault.TreeFault.{TreeFault}
+use Rattle.block_tree.specs.declared.fault.TreeFault.TheVariants as faults
+use Rattle.block_tree.specs.declared.root.Root.{Root}
+use Rattle.block_tree.specs.declared.step.HeldStep.{HeldStep}
+use Rattle.block_tree.specs.Pointers.{node_pointers, pointers_of}
+use Rattle.block_tree.specs.Reads.{IsFault, IsPast}
+use Rattle.block_tree.specs.Root.{IsRootBlock, root_spelling}
+use Rattle.block_tree.specs.Step.{IsPastFrom}
+use Rattle.block_tree.specs.Tree.{leaf_block, levels_of, path_to, tree_of}
+use Rattle.block_tree.proofs.Trees.{past_is, path_is, node_block}
+use Rattle.collector_steps.specs.Scan.{IsIndexDamage, IsLeafTrouble, IsScanTrouble, LeadsPast, PastDisk, trouble_of}
+
+-- a pointer of the root
+past_node : (image : Image) (size r from b : ℕ) → IsPastFrom image size (block_at image r) from b → LeadsPast image size r r
+past_node image size r from b is =
+    let at = past_is image size (block_at image r) is.leaf b is.past in
+    record { path = []; k = is.leaf / 128; at = refl; past = subst (IsPast size) (at.0 ∙ sym (node_block image (block_at image r) (is.leaf / 128))) at.1 }
+
+-- a pointer of a node
+past_leaf : (image : Image) (size r node leaf b : ℕ) → node ≡ tree_of image (block_at image r) (leaf / 128 ∷ []) → leaf_block image (block_at image r) leaf ≡ b → IsPast size b → LeadsPast image size r node
+past_leaf image size r node leaf b is at past = record {
+  path = leaf / 128 ∷ [];
+  k = leaf % 128;
+  at = is;
+  past = subst (IsPast size) (sym at ∙ ap (tree_of image (block_at image r)) (path_is (block_at image r) leaf)) past;
+}
+
+module _ {D : Type 0} (g : Ghosts D) (old mid new : D) (n r : ℕ) (root : Root) (reads : OnlyReads g n old mid) (is : Tells g old → IsRootBlock (block_at (g.content old) r) root) where
+  -- the step was refused
+  pub step_refused : (m from : ℕ) (fault : TreeFault) → OnlyReads g m mid new → IsFault g mid new (IsPastFrom (g.content mid) (g.blocks mid) (root_spelling root) from) fault → IsScanTrouble g old new r (trouble_of r fault)
+  step_refused m from faults.Disk then is = stopped_after_reads g old mid new n false reads (record { failed = is; tries = λ e. cc; no_try = λ e. then.tries; untouched = λ e. then.content })
+  step_refused m from (faults.BadPointer b) then past =
+      let at : Tells g old → LeadsPast (g.content old) (g.blocks old) r r = λ tells.
+      let here = past.1 (tells_on g old mid new n reads tells) in
+      past_node (g.content old) (g.blocks old) r from b (told_of tells here) in
+      PastDisk refl at
+    where
+      told_of : Tells g old → IsPastFrom (g.content mid) (g.blocks mid) (root_spelling root) from b → IsPastFrom (g.content old) (g.blocks old) (block_at (g.content old) r) from b
+      told_of tells here =
+          subst (λ (spelled : List ℕ). IsPastFrom (g.content old) (g.blocks old) spelled from b) (sym (is tells).spelled)
+          (subst (λ (image : Image). IsPastFrom image (g.blocks old) (root_spelling root) from b) reads.content
+          (subst (λ (size : ℕ). IsPastFrom (g.content mid) size (root_spelling root) from b) reads.same.size here))
+
+  -- the leaf was
+  pub leaf_refused : (step : HeldStep) (t : Trouble) → (Tells g old → root.nodes ≡ pointers_of node_pointers (block_at (g.content old) r))
+      → (Tells g old → leaf_block (g.content old) (root_spelling root) step.held.leaf ≡ step.held.block) → step.held.block ≢ 0
+      → IsLeafTrouble g mid new root.nodes step t → IsScanTrouble g old new r t
+  leaf_refused step (trouble.Disk tried) nodes there some stop = stopped_after_reads g old mid new n tried reads stop
+  leaf_refused step (trouble.Damaged damage) nodes there some (code, block, past) =
+      let at : Tells g old → LeadsPast (g.content old) (g.blocks old) r damage.block = λ tells.
+      past_leaf (g.content old) (g.blocks old) r damage.block step.held.leaf step.held.block
+      (block ∙ ap (λ (l : List ℕ). get_or l (step.held.leaf / 128) 0) (nodes tells) ∙ sym (node_block (g.content old) (block_at (g.content old) r) (step.held.leaf / 128)))
+      (ap (λ (b : List ℕ). leaf_block (g.content old) b step.held.leaf) (is tells).spelled ∙ there tells)
+      (some, subst (λ (size : ℕ). size ≤ step.held.block) reads.same.size past) in
+      PastDisk code at

@@ -1,0 +1,197 @@
+-- A leaf of an index as the disk has it, and as the model has it.
+use Rattle.std.proofs.Common.{◌≡◌, ◌≢◌, ◌⊎◌, inl, inr, ℕ, zero, suc, ◌+◌, ◌*◌, ◌/◌, ◌<◌, ◌≤◌, List, [], ◌∷◌, ◌++◌, length, take, drop, get_or, replicate, refl, sym, ◌∙◌, ap, subst, arith, Bool, true, false, cond, Option, Some, None, is_some, nat_le}
+use Rattle.std.specs.Prelude.{find, map, IfSome}
+use Rattle.std.specs.List.{filter_map}
+use Rattle.std.proofs.lemmas.Bool.{cases_lt}
+use Rattle.std.proofs.lemmas.List.{take_at}
+use Rattle.cfs_base.specs.Disk.{Image, AreBlocks, block_at}
+use Rattle.cfs_base.specs.declared.identifier.Puid.{Puid}
+use Rattle.cfs_base.specs.declared.kind.Kind.{Kind}
+use Rattle.cfs_base.specs.declared.kind.Kind.TheVariants as kinds
+use Rattle.cfs_base.specs.declared.disk.Disk.{Ghosts}
+use Rattle.cfs_base.specs.declared.refusal.Trouble.{Trouble}
+use Rattle.cfs_base.specs.declared.refusal.Trouble.TheVariants as trouble
+use Rattle.cfs_base.specs.Refusals.{refused_by}
+use Rattle.cfs_base.specs.Run.{Tells}
+use Rattle.block_tree.specs.declared.root.Root as roots
+use Rattle.block_tree.specs.declared.step.HeldStep.{HeldStep}
+use Rattle.block_tree.specs.Step.{IsStep, IsStepped, NoneHeld}
+use Rattle.block_tree.specs.Tree.{HasNoDeadEnd, leaf_block, levels_of, path_to, tree_of}
+use Rattle.block_tree.proofs.Walks.{count_is}
+use Rattle.ufs_model.specs.declared.object.Object.{Object}
+use Rattle.ufs_model.specs.declared.object.Object.TheVariants as objects
+use Rattle.ufs_model.specs.declared.object.Index.{Index}
+use Rattle.ufs_model.specs.Graph.{Graph, object_at}
+use Rattle.ufs_model.specs.Numbers.{numbers, numbers_rise, has_number}
+use Rattle.ufs_model.specs.Object.{leaves_in}
+use Rattle.ufs_model.specs.State.{the_index}
+use Rattle.ufs_model.proofs.Rising.{in_filter, to_filter, in_numbers, to_numbers, numbers-rise, filter-rises}
+use Rattle.marking.specs.Colours.{Colours, all_shaded, moved}
+use Rattle.marking.specs.Leaves.{leaf_ids}
+use Rattle.marking.specs.Steps.{next_held, cursor_after, read, scanned}
+use Rattle.marking.proofs.Steps.{find_on, find_least, find_none}
+use Rattle.vol_image.specs.Part.{part_at, is_committed}
+use Rattle.vol_image.specs.Reading.{IsTree, object_with, leaf_in, held_in, file_bytes, leaf_content, slot_in}
+use Rattle.vol_image.specs.Seen.{Held, held_at, tree_in}
+use Rattle.vol_image.specs.Sight.{source, sight}
+use Rattle.vol_image.specs.Sound.{Holds}
+use Rattle.vol_image.proofs.AtRoot.{read_by_root}
+use Rattle.vol_image.proofs.Views.{held}
+use Rattle.collector_steps.specs.Scan.{IsDamaged, IsScanTrouble, LeadsPast, NoRoot, PastDisk, ids_from, next_cursor, stepped}
+use Rattle.collector_steps.proofs.Slots.{ids_of_leaf}
+
+-- ---- what is held at a pointer
+
+held_some : (image : Image) (n : ℕ) → n ≢ 0 → held_at image n ≡ Some (held image n)
+held_some image zero some = absurd (some refl)
+held_some image (suc n) some = refl
+
+at_some : (image : Image) (n : ℕ) → is_some (held_at image n) ≡ true → n ≢ 0
+at_some image zero h = cc
+at_some image (suc n) h = λ (e : suc n ≡ 0). absurd (omega (arith, e))
+
+-- ---- the root of an index
+
+record IsIndexRoot (root : roots.Root) (leaf : ℕ → Option Held) (i : Index) : Type 0 where
+  kind : root.kind ≡ kinds.Index
+  slots : i.slots ≡ map (slot_in (file_bytes root leaf)) (numbers 0 (root.size / 8))
+  held_leaves : i.held ≡ held_in root leaf
+
+index_root : (root : roots.Root) (leaf : ℕ → Option Held) (i : Index) → object_with root leaf ≡ objects.Index i → IsIndexRoot root leaf i
+unfolding object_with
+index_root root leaf i h = from root.kind refl h
+  where
+    from : (k : Kind) → root.kind ≡ k → object_with (record root { kind = k }) leaf ≡ objects.Index i → IsIndexRoot root leaf i
+    from kinds.Normal is q = cc
+    from kinds.Special is q = cc
+    from kinds.Index is q = record {
+      kind = is;
+      slots = sym (ap (λ (o : Object). (the_index o).slots) q);
+      held_leaves = sym (ap (λ (o : Object). (the_index o).held) q);
+    }
+
+-- ---- a step in its tree
+
+module _ (image : Image) (blocks : AreBlocks image) (owner : ℕ) (content : List ℕ) (root : roots.Root) (i : Index) (tree : IsTree (length image) owner (tree_in image content) root (objects.Index i)) where
+  pub alive : HasNoDeadEnd image content
+  alive path some short =
+      let next = tree.leads_on path (held image (tree_of image content path)) (held_some image (tree_of image content path) some) short in
+      (next.0, at_some image (tree_of image content (path ++ next.0 ∷ [])) next.1)
+
+  abbrev leaf_at : ℕ → Option Held
+  leaf_at n = leaf_in (tree_in image content) n
+
+  abbrev count : ℕ
+  count = leaves_in root.size
+
+  index_is : IsIndexRoot root leaf_at i
+  index_is = index_root root leaf_at i tree.object
+
+  rising : numbers_rise i.held ≡ true
+  rising = subst (λ (ns : List ℕ). numbers_rise ns ≡ true) (sym index_is.held_leaves) (filter-rises (λ n. is_some (leaf_at n)) (numbers 0 count) (numbers-rise 0 count))
+
+  in_held : (leaf : ℕ) → leaf_block image content leaf ≢ 0 → has_number leaf i.held ≡ true
+  in_held leaf some =
+      let here = held_some image (leaf_block image content leaf) some in
+      subst (λ (ns : List ℕ). has_number leaf ns ≡ true) (sym index_is.held_leaves)
+      (to_filter (λ n. is_some (leaf_at n)) leaf (numbers 0 count) (ap is_some here) (to_numbers leaf 0 count (omega arith) (omega (arith, tree.within leaf (held image (leaf_block image content leaf)) here))))
+
+  of_held : (leaf : ℕ) → has_number leaf i.held ≡ true → (leaf_block image content leaf ≢ 0) × (leaf < 15360)
+  of_held leaf h =
+      let parts = in_filter (λ n. is_some (leaf_at n)) leaf (numbers 0 count) (subst (λ (ns : List ℕ). has_number leaf ns ≡ true) index_is.held_leaves h) in
+      let inside = in_numbers leaf 0 count parts.1 in
+      (at_some image (leaf_block image content leaf) parts.0, omega (arith, inside.1, tree.spelled.good.1.size.limit))
+
+  -- some leaf from one on is held, none is, or the first of them is this one
+  some_next : (next : Option ℕ) {from : ℕ} → next_held from i ≡ next → (leaf : ℕ) → from ≤ leaf → has_number leaf i.held ≡ true → is_some next ≡ true
+  some_next None {from} is leaf on there = absurd (find_none from i.held is leaf there on)
+  some_next (Some l) is leaf on there = refl
+
+  none_next : (from : ℕ) → ((leaf : ℕ) → from ≤ leaf → has_number leaf i.held ≡ true → ⊥) → next_held from i ≡ None
+  none_next from none = at (next_held from i) refl
+    where
+      at : (next : Option ℕ) → next_held from i ≡ next → next ≡ None
+      at None is = refl
+      at (Some leaf) is = let on = find_on from leaf i.held is in absurd (none leaf on.0 on.1)
+
+  first_next : (from leaf : ℕ) → from ≤ leaf → has_number leaf i.held ≡ true → ((l : ℕ) → from ≤ l → l < leaf → has_number l i.held ≡ true → ⊥) → next_held from i ≡ Some leaf
+  first_next from leaf on there first = at (next_held from i) refl
+    where
+      at : (next : Option ℕ) → next_held from i ≡ next → next ≡ Some leaf
+      at None is = absurd (find_none from i.held is leaf there on)
+      at (Some l) is = let here = find_on from l i.held is in elim (cases_lt l leaf) [
+        | inl less ↦ absurd (first l here.0 less here.1)
+        | inr past ↦ ap Some (omega (arith, past, find_least from l i.held rising is leaf there on))
+      ]
+
+  quiet : (from to leaf : ℕ) → NoneHeld image content from to → from ≤ leaf → leaf < to → has_number leaf i.held ≡ true → ⊥
+  quiet from to leaf none on below there = (of_held leaf there).0 (none leaf on below)
+
+  -- the identifiers in a leaf's bytes are those in its slots
+  ids_are : (l : ℕ) → leaf_block image content l ≢ 0 → leaf_ids i l ≡ ids_from (block_at image (leaf_block image content l)) 0
+  ids_are l some =
+      let b = leaf_block image content l in
+      let here = held_some image b some in
+      let bytes : leaf_content root.fill (leaf_at l) ≡ block_at image b = ap (leaf_content root.fill) here ∙ take_at (block_at image b) (replicate 512 root.fill) 512 (blocks b (tree.on_disk (path_to (levels_of content) l) (held image b) here)).long in
+      let sizes = tree.spelled.good.1.size.slots index_is.kind in
+      let inside : l < count = tree.within l (held image b) here in
+      ap (λ (slots : List (Option Puid)). filter_map (λ slot. slot) (take 64 (drop (64 * l) slots))) index_is.slots
+      ∙ ids_of_leaf root.fill leaf_at count (root.size / 8) l inside (omega (arith, sizes.0, sizes.1)) (λ k less past.
+      ap (λ (xs : List ℕ). get_or xs k 0) bytes ∙ tree.filled l k (held image b) here less (omega (arith, past, sizes.1)) ∙ tree.spelled.good.1.fill index_is.kind)
+      ∙ ap (λ (xs : List ℕ). ids_from xs 0) bytes
+
+  -- where the reading goes on
+  follows_is : (cursor : ℕ) (s : HeldStep) → IsStep image content cursor s → cursor_after s.held.leaf i ≡ next_cursor s
+  follows_is cursor s is = at s.follows refl
+    where
+      at : (more : Bool) → s.follows ≡ more → cursor_after s.held.leaf i ≡ next_cursor s
+      at true more =
+          let next = is.follows more in
+          let some : is_some (next_held (s.held.leaf + 1) i) ≡ true = some_next (next_held (s.held.leaf + 1) i) refl next.leaf next.on (in_held next.leaf next.held) in
+          rw (some, more) refl
+      at false more =
+          let none : next_held (s.held.leaf + 1) i ≡ None = none_next (s.held.leaf + 1) (λ leaf on there.
+          quiet (s.held.leaf + 1) 15360 leaf (subst (NoneHeld image content (s.held.leaf + 1)) (count_is content) (is.last more)) on (of_held leaf there).1 there) in
+          rw (none, more) refl
+
+  -- a step on the disk is one of the model
+  pub stepped_is : (names : List (Puid × Kind)) (cursor : ℕ) (c : Colours) (step : Option HeldStep) (bytes : List ℕ) → IsStepped image content cursor step
+      → IfSome step (λ s. bytes ≡ block_at image s.held.block) → stepped names step (ids_from bytes 0) c ≡ scanned names i cursor c
+  stepped_is names cursor c None bytes none told =
+      let gone : next_held cursor i ≡ None = none_next cursor (λ leaf on there. quiet cursor 15360 leaf (subst (NoneHeld image content cursor) (count_is content) none) on (of_held leaf there).1 there) in
+      ap (λ (next : Option ℕ). read names i next c) (sym gone)
+  stepped_is names cursor c (Some s) bytes is told =
+      let some : leaf_block image content s.held.leaf ≢ 0 = λ gone. is.is_held (sym is.block ∙ gone) in
+      let here : next_held cursor i ≡ Some s.held.leaf = first_next cursor s.held.leaf is.on (in_held s.held.leaf some) (λ leaf on below there. quiet cursor s.held.leaf leaf is.before on below there) in
+      let content_is : bytes ≡ block_at image (leaf_block image content s.held.leaf) = told ∙ ap (block_at image) (sym is.block) in
+      let ids : ids_from bytes 0 ≡ leaf_ids i s.held.leaf = ap (λ (xs : List ℕ). ids_from xs 0) content_is ∙ sym (ids_are s.held.leaf some) in
+      ap (λ (next : Option ℕ). all_shaded names (ids_from bytes 0) (moved next c)) (sym (follows_is cursor s is))
+      ∙ ap (λ (xs : List Puid). all_shaded names xs (moved (cursor_after s.held.leaf i) c)) ids
+      ∙ ap (λ (next : Option ℕ). read names i next c) (sym here)
+
+  -- no pointer of it leads past the disk
+  pub none_past : (r block : ℕ) → content ≡ block_at image r → ¬ LeadsPast image (length image) r block
+  none_past r block is past =
+      let stands = past.past.0 in
+      let here = subst (λ (root : List ℕ). tree_of image root (past.path ++ past.k ∷ []) ≢ 0) (sym is) stands in
+      let b = tree_of image content (past.path ++ past.k ∷ []) in
+      let below = tree.on_disk (past.path ++ past.k ∷ []) (held image b) (held_some image b here) in
+      absurd (omega (arith, below, subst (λ (root : List ℕ). length image ≤ tree_of image root (past.path ++ past.k ∷ [])) (sym is) past.past.1))
+
+-- ---- an index of a graph that the disk holds
+
+-- it is read by its root, as no commit bit stands
+pub tree_of_index : (image : Image) (g : Graph) → Holds image g → (id : Puid) (i : Index) → object_at g id ≡ Some (objects.Index i) → is_committed (part_at image id.block) ≡ false
+    → (root : roots.Root) × IsTree (length image) id.block (tree_in image (block_at image id.block)) root (objects.Index i)
+unfolding sight
+tree_of_index image g holds id i at no_bit =
+    let reads = holds.objects id (objects.Index i) at in
+    (reads.source, subst (λ (content : List ℕ). IsTree (length image) id.block (tree_in image content) reads.source (objects.Index i)) (read_by_root image id.block (block_at image id.block) no_bit refl) reads.tree)
+
+-- it isn't damaged
+pub sound_index : {D : Type 0} (g : Ghosts D) (old new : D) (r : ℕ) (root : roots.Root) (i : Index) (t : Trouble) → Tells g old → AreBlocks (g.content old) → length (g.content old) ≡ g.blocks old
+    → IsTree (length (g.content old)) r (tree_in (g.content old) (block_at (g.content old) r)) root (objects.Index i) → IsScanTrouble g old new r t → ¬ IsDamaged (refused_by t)
+sound_index g old new r root i (trouble.Disk tried) tells blocks size tree is = λ h. h
+sound_index g old new r root i (trouble.Damaged damage) tells blocks size tree (NoRoot code block none) = λ h. none tells root tree.spelled
+sound_index g old new r root i (trouble.Damaged damage) tells blocks size tree (PastDisk code past) =
+    λ h. none_past (g.content old) blocks r (block_at (g.content old) r) root i tree r damage.block refl (subst (λ (n : ℕ). LeadsPast (g.content old) n r damage.block) (sym size) (past tells))

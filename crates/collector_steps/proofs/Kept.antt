@@ -1,0 +1,93 @@
+-- What the steps of the marking keep.
+use Rattle.std.proofs.Common.{◌≡◌, ◌⊎◌, inl, ℕ, List, [], ◌∷◌, refl, sym, ap, ◌∙◌, subst, Option, Some, None}
+use Rattle.std.specs.Prelude.{option_map}
+use Rattle.cfs_base.specs.Disk.{Image}
+use Rattle.cfs_base.specs.Outside.{count_after}
+use Rattle.cfs_base.specs.declared.identifier.Puid.{Puid}
+use Rattle.cfs_base.specs.declared.kind.Kind.{Kind}
+use Rattle.cfs_base.specs.declared.kind.FileKind.{FileKind}
+use Rattle.cfs_base.specs.declared.kind.FileKind.TheVariants as file_kinds
+use Rattle.collector_marks.specs.Kept.{Marked}
+use Rattle.marking.specs.Colours.{Colours, first_grey}
+use Rattle.marking.specs.Leaves as leaves
+use Rattle.marking.specs.Marking.{IsGrey, IsMarking}
+use Rattle.marking.specs.Pace.{IsPaced}
+use Rattle.marking.specs.Steps.{AreNames, rescued, scanned}
+use Rattle.marking.specs.declared.memory.Grey.{Grey}
+use Rattle.marking.specs.declared.memory.Rescue.{Rescue}
+use Rattle.marking.proofs.Leaves.{index_there}
+use Rattle.marking.proofs.Paces.{pace_scan, pace_take, scan_raises}
+use Rattle.marking.proofs.Steps.{first_is, first_marked, scan_keeps, take_keeps}
+use Rattle.marking.proofs.Wells.{well}
+use Rattle.puid_space.specs.Directory.{kind_in}
+use Rattle.puid_space.specs.Kinds.{kind_of, kinds_of}
+use Rattle.ufs_model.specs.Graph.{Graph, object_at}
+use Rattle.ufs_model.specs.State.{State}
+use Rattle.ufs_model.specs.WellFormed.{IsState}
+use Rattle.ufs_model.specs.declared.object.Index.{Index}
+use Rattle.ufs_model.specs.declared.object.Object.{Object}
+use Rattle.ufs_model.specs.declared.object.Object.TheVariants as objects
+use Rattle.collector_steps.specs.declared.phase.Phase.{Phase}
+use Rattle.collector_steps.specs.declared.phase.Phase.TheVariants as phases
+use Rattle.collector_steps.specs.Collecting.{Collecting, Collects, IsCollecting, colours_in, waiting_in}
+
+-- ---- the directory
+
+same_kind : (o : Option Object) → option_map kind_of o ≡ leaves.kind_of o
+same_kind None = refl
+same_kind (Some (objects.Index i)) = refl
+same_kind (Some (objects.File f)) = at f.kind
+  where
+    at : (k : FileKind) → option_map kind_of (Some (objects.File (record f { kind = k }))) ≡ leaves.kind_of (Some (objects.File (record f { kind = k })))
+    at file_kinds.Normal = refl
+    at file_kinds.Special = refl
+
+pub are_names : ((g : Graph) (id : Puid) → kind_in (kinds_of g) id ≡ option_map kind_of (object_at g id)) → (names : List (Puid × Kind)) (g : Graph) → names ≡ kinds_of g → AreNames names g
+are_names law names g is id = ap (λ (ns : List (Puid × Kind)). kind_in ns id) is ∙ law g id ∙ same_kind (object_at g id)
+
+-- ---- the phases
+
+abbrev pub InMarking : State → Collecting → Type 0
+InMarking s k = IsMarking s (colours_in k) (waiting_in k) × IsPaced s.graph (colours_in k) (waiting_in k) k.steps k.added
+
+pub of_marking : (image : Image) (s : State) (k : Collecting) → k.phase ≡ phases.Marking → Collects image s k → InMarking s k
+of_marking image s k is h = subst (λ (p : Phase). IsCollecting p image s k) is h
+
+pub to_marking : (image : Image) (s : State) (k : Collecting) → k.phase ≡ phases.Marking → InMarking s k → Collects image s k
+to_marking image s k is h = subst (λ (p : Phase). IsCollecting p image s k) (sym is) h
+
+-- told by its parts
+pub by_parts : (s : State) (c d : Colours) (ws vs : List Rescue) (steps made added more : ℕ) → c ≡ d → ws ≡ vs → steps ≡ made → added ≡ more
+    → IsMarking s d vs × IsPaced s.graph d vs made more → IsMarking s c ws × IsPaced s.graph c ws steps added
+by_parts s c d ws vs steps made added more colours waits same counted is =
+    subst (λ (e : Colours). IsMarking s e ws × IsPaced s.graph e ws steps added) (sym colours)
+    (subst (λ (us : List Rescue). IsMarking s d us × IsPaced s.graph d us steps added) (sym waits)
+    (subst (λ (n : ℕ). IsMarking s d vs × IsPaced s.graph d vs n added) (sym same)
+    (subst (λ (n : ℕ). IsMarking s d vs × IsPaced s.graph d vs made n) (sym counted) is)))
+
+pub as_marking : (image : Image) (s : State) (k : Collecting) (c : Colours) (waiting : List Rescue) (steps added : ℕ) → k.phase ≡ phases.Marking → colours_in k ≡ c → waiting_in k ≡ waiting
+    → k.steps ≡ steps → k.added ≡ added → IsMarking s c waiting × IsPaced s.graph c waiting steps added → Collects image s k
+as_marking image s k c waiting steps added phase colours waits same counted is =
+    to_marking image s k phase (by_parts s (colours_in k) c (waiting_in k) waiting k.steps steps k.added added colours waits same counted is)
+
+-- ---- a scan, and a rescue taken
+
+-- the first grey index is one
+pub grey_index : (s : State) (c : Colours) (waiting : List Rescue) (e : Grey) → IsMarking s c waiting → first_grey c ≡ Some e → (i : Index) × (object_at s.graph e.id ≡ Some (objects.Index i))
+grey_index s c waiting e is first =
+    let grey = first_is c e first in
+    index_there (object_at s.graph e.id) (is.coloured.grey e.id (subst (λ (es : List Grey). IsGrey es e.id) (sym grey.1) (inl refl))).1
+
+module _ (s : State) (state : IsState s) (names : List (Puid × Kind)) (are : AreNames names s.graph) where
+  pub scan_kept : (c : Colours) (waiting : List Rescue) (steps added : ℕ) (e : Grey) (i : Index) → first_grey c ≡ Some e → object_at s.graph e.id ≡ Some (objects.Index i)
+      → IsMarking s c waiting → IsPaced s.graph c waiting steps added
+      → IsMarking s (scanned names i e.cursor c) waiting × IsPaced s.graph (scanned names i e.cursor c) waiting (count_after steps) added
+  scan_kept c waiting steps added e i first at is pace = (
+    scan_keeps s (well s state) names are waiting c e i first at is,
+    pace_scan s.graph c (scanned names i e.cursor c) waiting steps added
+        (scan_raises s.graph c e i names first is.coloured.once (first_marked s c waiting e first is.coloured) at) pace,
+  )
+
+  pub take_kept : (c : Colours) (steps added : ℕ) (r : Rescue) (rest : List Rescue) → IsMarking s c (r ∷ rest) → IsPaced s.graph c (r ∷ rest) steps added
+      → IsMarking s (rescued names r c) rest × IsPaced s.graph (rescued names r c) rest (count_after steps) added
+  take_kept c steps added r rest is pace = (take_keeps s (well s state) names are r rest c is, pace_take s.graph c names r rest steps added pace)

@@ -1,0 +1,27 @@
+-- The entries of a map that is swept, the first so many of them first.
+use Rattle.std.proofs.Common.{◌≡◌, ℕ, ◌+◌, ◌-◌, ◌<◌, ◌≤◌, List, [], ◌∷◌, ◌++◌, min, length, take, drop, get_or, set, map, count_by, sym, ap, ◌∙◌, refl, arith, Bool, true, false}
+use Rattle.std.proofs.lemmas.List.{get_or_default, get_or_at, drop_more, length-append, length-drop, length-map, length-take}
+use Rattle.std.proofs.lemmas.List.Edits.{map_over_more}
+use Rattle.std.proofs.lemmas.List.Sums.{count_by_more_no, count_by_more_yes}
+use Rattle.cyl_alloc.specs.Space.{free_entry}
+use Rattle.cyl_map.specs.declared.entry.MapEntry.{MapEntry}
+
+module _ (f : MapEntry → MapEntry) (p : MapEntry → Bool) (xs ys : List MapEntry) (i : ℕ) (is : ys ≡ map f (take i xs) ++ drop i xs) (room : length ys ≡ 64) (below : i < 64) where
+  long : length (map f (take i xs)) ≡ min i (length xs)
+  long = length-map (take i xs) f ∙ length-take i xs
+
+  pub whole : length xs ≡ 64
+  whole = omega (arith, ap length is, length-append (map f (take i xs)) (drop i xs), long, length-drop i xs, room, below)
+
+  pub next_swept : set ys i (f (get_or ys i free_entry)) ≡ map f (take (i + 1) xs) ++ drop (i + 1) xs
+  next_swept = map_over_more f xs ys i (get_or ys i free_entry) (omega (arith, whole, below)) is (get_or_default ys i free_entry (get_or ys i free_entry) (omega (arith, room, below)))
+
+  at : get_or ys i free_entry ≡ get_or xs i free_entry
+  at = ap (λ (l : List MapEntry). get_or l i free_entry) (is ∙ ap (λ (l : List MapEntry). map f (take i xs) ++ l) (drop_more xs i free_entry (omega (arith, whole, below))))
+      ∙ get_or_at (map f (take i xs)) (get_or xs i free_entry) (drop (i + 1) xs) free_entry i (omega (arith, long, whole, below))
+
+  pub one_more : p (get_or ys i free_entry) ≡ true → count_by p (take (i + 1) xs) ≡ count_by p (take i xs) + 1
+  one_more goes = count_by_more_yes p xs i free_entry (omega (arith, whole, below)) (ap p (sym at) ∙ goes)
+
+  pub none_more : p (get_or ys i free_entry) ≡ false → count_by p (take (i + 1) xs) ≡ count_by p (take i xs)
+  none_more stays = count_by_more_no p xs i free_entry (omega (arith, whole, below)) (ap p (sym at) ∙ stays)

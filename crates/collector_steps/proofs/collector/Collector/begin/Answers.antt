@@ -1,0 +1,18 @@
+use Rattle.std.proofs.Common.{◌≡◌, ◌∙◌, [], ap, refl, subst}
+use Rattle.marking.specs.Colours.{Colours, all_shaded, none_marked}
+use Rattle.marking.specs.Marking.{IsMarking}
+use Rattle.marking.proofs.Asked.{allowed}
+use Rattle.marking.proofs.Paces.{pace_begin}
+use Rattle.marking.proofs.Steps.{begin_keeps, begun}
+use Rattle.marking.proofs.Wells.{well}
+use Rattle.ufs_model.specs.State.{State}
+use Rattle.collector_steps.proofs.Kept.{are_names, by_parts}
+use Rattle.collector_steps.proofs.collector.Collector.begin.Goals as goal
+
+pub returns-clause-keeps : goal.returns-clause-keeps
+returns-clause-keeps c = λ seed s t image state named all began.
+    let names = c.args.names.now.named in
+    let roots = c.args.roots.now in
+    let colours = all_shaded names roots none_marked in
+    let is = subst (λ (u : State). IsMarking u colours []) (allowed _ (begun s) t began).1 (begin_keeps s (well s state) names (are_names c.kinds_follow_the_graph.ensures.kind names s.graph named) roots all) in
+    by_parts t _ colours _ [] _ 1 _ 0 (c.shade_all.ensures.shaded ∙ ap (all_shaded names roots) c.clear.ensures.none) c.clear-2.ensures.none refl refl (is, pace_begin t.graph colours)

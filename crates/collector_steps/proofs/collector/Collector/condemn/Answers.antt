@@ -1,0 +1,82 @@
+use Rattle.std.proofs.Common.{◌≡◌, ◌∙◌, ◌+◌, ◌≤◌, ℕ, List, [], ap, arith, refl, subst, sym, vec_len, vec_capacity, length, ◌++◌, Vec, Global, not}
+use Rattle.std.specs.Prelude.{filter}
+use Rattle.collector_marks.specs.Kept.{blocks_of, colours_of}
+use Rattle.ufs_model.specs.Identifier.{is_among}
+use Rattle.ufs_model.specs.declared.collection.Collection.TheVariants as collections
+use Rattle.std.specs.Map.{keys_of}
+use Rattle.cfs_base.specs.declared.identifier.Puid.{Puid}
+use Rattle.marking.specs.Marking.{IsMarking}
+use Rattle.marking.specs.Pace.{IsPaced}
+use Rattle.marking.specs.Steps.{unmarked}
+use Rattle.marking.proofs.Asked.{allowed}
+use Rattle.marking.proofs.Condemned.{condemned_may_vanish}
+use Rattle.marking.proofs.Paces.{pace_end}
+use Rattle.marking.proofs.Wells.{well}
+use Rattle.marking.specs.declared.memory.Rescue.{Rescue}
+use Rattle.puid_space.specs.Directory.{kept_by, taken_by}
+use Rattle.puid_space.specs.Kinds.{kinds_of}
+use Rattle.ufs_model.specs.Graph.{without, ids_of}
+use Rattle.ufs_model.specs.State.{State}
+use Rattle.ufs_model.specs.Vanish.{MayVanish}
+use Rattle.cfs_base.specs.Disk.{Image}
+use Rattle.collector_steps.specs.Collecting.{Collecting, Collects, colours_in, volume_of, waiting_in}
+use Rattle.collector_steps.specs.Steady.{IsReady}
+use Rattle.collector_steps.specs.declared.phase.Phase.{Phase}
+use Rattle.collector_steps.proofs.Directories.{few_named, taken_unmarked}
+use Rattle.collector_steps.proofs.Kept.{of_marking}
+use Rattle.collector_steps.proofs.collector.Collector.condemn.Goals as goal
+
+pub take_unmarked-requires : goal.take_unmarked-requires
+take_unmarked-requires c =
+    let inside = c.self.inside in
+    let phase = ap (λ (k : Collecting). k.phase) c.self.view_is ∙ c.requires.phase in
+    let ready = subst (λ (p : Phase). IsReady p (blocks_of inside.marks) (vec_capacity inside.condemned)) phase c.self.invariant.1.ready in
+    let room = few_named c.args.names.now c.room-room.ensures.listing in
+    let none : vec_len inside.condemned ≡ 0 = inside.condemned.ok.0 ∙ ap length c.self.invariant.0 in
+    rw (c.replace-gone.ensures.value) (omega (arith, ready, room, c.requires.blocks, ap volume_of c.self.view_is, none))
+
+-- those that were taken out
+taken : (c : goal.After-new-2) → c.new-2.result ≡ taken_by (colours_in c.args.self.now).marked c.args.names.now.named
+taken c =
+    c.new-2.ensures ∙ c.take_unmarked.ensures.gone
+    ∙ ap (λ (items : List Puid). items ++ taken_by (colours_of c.self.inside.marks).marked c.args.names.now.named) (ap (λ (gone : Vec Puid Global). gone.items) c.replace-gone.ensures.value ∙ c.self.invariant.0)
+    ∙ ap (λ (k : Collecting). taken_by (colours_in k).marked c.args.names.now.named) c.self.view_is
+
+pub returns-clause-ids : goal.returns-clause-ids
+returns-clause-ids c = taken c ∙ taken_unmarked (colours_in c.args.self.now) c.args.names.now.named
+
+-- nothing waits
+marking : (c : goal.After-new-2) (s : State) (image : Image) → Collects image s c.args.self.now → IsMarking s (colours_in c.args.self.now) [] × IsPaced s.graph (colours_in c.args.self.now) [] c.args.self.now.steps c.args.self.now.added
+marking c s image is =
+    subst (λ (ws : List Rescue). IsMarking s (colours_in c.args.self.now) ws × IsPaced s.graph (colours_in c.args.self.now) ws c.args.self.now.steps c.args.self.now.added) c.requires.taken
+    (of_marking image s c.args.self.now c.requires.phase is)
+
+pub returns-clause-legal : goal.returns-clause-legal
+returns-clause-legal c = λ s image state named is.
+    let ids : c.new-2.result ≡ unmarked (colours_in c.args.self.now) (ids_of s.graph) =
+    returns-clause-ids c ∙ ap (unmarked (colours_in c.args.self.now)) (ap keys_of named ∙ c.kinds_follow_the_graph.ensures.ids s.graph) in
+    subst (MayVanish s) (sym ids) (condemned_may_vanish s (well s state) (colours_in c.args.self.now) c.requires.read (marking c s image is).0)
+
+pub returns-clause-keeps : goal.returns-clause-keeps
+returns-clause-keeps c = λ seed s t a b named is fits gone.
+    let paced = (marking c s a is).1 in (
+      (λ n below. absurd (omega (arith, below))),
+      λ less.
+          let was = ap (λ (k : Collecting). k.added) c.self.view_is in
+          let end = pace_end s.graph (colours_in c.args.self.now) c.args.self.now.steps c.args.self.now.added (volume_of c.args.self.now) paced (omega (arith, less, was)) fits in
+          omega (arith, end, was, ap (λ (k : Collecting). k.steps) c.self.view_is, ap volume_of c.self.view_is, c.saturating_add-self-inside.ensures),
+    )
+
+pub returns-clause-left : goal.returns-clause-left
+returns-clause-left c = λ seed s t named gone.
+    let goes = taken c in
+    c.take_unmarked.ensures.named
+    ∙ ap (λ (k : Collecting). kept_by (colours_in k).marked c.args.names.now.named) c.self.view_is
+    ∙ sym (c.taken_are_left_out.ensures (colours_in c.args.self.now).marked c.args.names.now.named)
+    ∙ ap (λ (ids : List Puid). filter (λ e. not (is_among e.0 ids)) c.args.names.now.named) (sym goes)
+    ∙ ap (filter (λ e. not (is_among e.0 c.new-2.result))) named
+    ∙ sym (c.kinds_follow_the_graph.ensures.gone s.graph c.new-2.result)
+    ∙ ap (λ (u : State). kinds_of u.graph) (allowed _ (vanished s c.new-2.result) t gone).1
+  where
+    vanished : State → List Puid → State
+    vanished s ids = record s { graph = without s.graph ids; collection = collections.Sweeping }

@@ -1,0 +1,7 @@
+use Rattle.std.proofs.Common.{◌≡◌, ◌↔◌, ◌∙◌, subst, sym, ap, [], Bool}
+use Rattle.std.specs.Prelude.{is_some, IsTrue}
+use Rattle.collector_steps.proofs.Firsts.{some_first}
+use Rattle.collector_steps.proofs.collector.Collector.has_grey.Goals as goal
+
+pub returns : goal.returns
+returns c = rw (c.is_some.ensures, c.next_grey.ensures.first, sym c.self.view_is) (some_first c.self.inside.marks.grey)

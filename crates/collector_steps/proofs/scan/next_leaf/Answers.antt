@@ -1,0 +1,32 @@
+use Rattle.std.proofs.Common.{◌≡◌, ◌∙◌, ◌+◌, ◌≤◌, ℕ, subst, sym, arith}
+use Rattle.std.specs.Prelude.{◌<◌, ◌≢◌, IfErr, IfSome, Option}
+use Rattle.std.proofs.lemmas.Result.{err_from_is_err_and}
+use Rattle.cfs_base.specs.Calls.{OnlyReads}
+use Rattle.cfs_base.proofs.Calls.{reads_then, tells_on}
+use Rattle.cfs_base.specs.Disk.{Image}
+use Rattle.cfs_base.specs.Run.{Tells}
+use Rattle.block_tree.specs.Root.{root_spelling}
+use Rattle.block_tree.specs.Tree.{leaf_block}
+use Rattle.block_tree.specs.declared.step.HeldStep.{HeldStep}
+use Rattle.collector_steps.proofs.Damage.{step_refused, leaf_refused}
+use Rattle.collector_steps.specs.Scan.{IsScanTrouble}
+use Rattle.collector_steps.proofs.scan.next_leaf.Given.{Over}
+use Rattle.collector_steps.proofs.scan.next_leaf.Goals as goal
+
+pub returns-in-Err-clause-refused : goal.returns-in-Err-clause-refused
+returns-in-Err-clause-refused g c =
+    rw (c.trouble_at.ensures)
+    (step_refused g.D.Disk c.args.disk.now c.root_at.new.disk c.step_held.new.disk 1 c.args.block c.in_ok-root.root c.root_at.ensures.reads c.in_ok-root.ensures.root 2 c.args.cursor c.in-Err.fault c.step_held.ensures.reads c.in-Err.ensures.refused)
+
+pub returns-in_err-read_step-clause-refused : goal.returns-in_err-read_step-clause-refused
+returns-in_err-read_step-clause-refused g c =
+    let p = err_from_is_err_and c.from_residual-in_err-read_step.result c.from_residual-in_err-read_step.ensures.1 in
+    let before = reads_then g.D.Disk c.args.disk.now c.root_at.new.disk c.step_held.new.disk 1 2 3 c.root_at.ensures.reads c.step_held.ensures.reads (omega arith) in
+    let within = subst (λ (step : Option HeldStep). IfSome step (λ s. (s.held.leaf < 15360) × (s.held.block ≢ 0))) c.in-Ok-Some.field-0-is c.in-Ok-Some.ensures.within in
+    let there : Tells g.D.Disk c.args.disk.now → leaf_block (g.D.Disk.content c.args.disk.now) (root_spelling c.in_ok-root.root) c.in-Ok-Some.step.held.leaf ≡ c.in-Ok-Some.step.held.block = λ tells.
+    subst (λ (image : Image). leaf_block image (root_spelling c.in_ok-root.root) c.in-Ok-Some.step.held.leaf ≡ c.in-Ok-Some.step.held.block) c.root_at.ensures.reads.content
+    (subst (λ (step : Option HeldStep). IfSome step (λ s. leaf_block (g.D.Disk.content c.root_at.new.disk) (root_spelling c.in_ok-root.root) s.held.leaf ≡ s.held.block)) c.in-Ok-Some.field-0-is
+    (c.in-Ok-Some.ensures.there (tells_on g.D.Disk c.args.disk.now c.root_at.new.disk c.step_held.new.disk 1 c.root_at.ensures.reads tells))) in
+    rw (p.1, p.2)
+    (leaf_refused g.D.Disk c.args.disk.now c.step_held.new.disk c.read_step.new.disk 3 c.args.block c.in_ok-root.root before c.in_ok-root.ensures.root
+    c.in-Ok-Some.step c.in_err-read_step.field-0.0 c.in_ok-root.ensures.nodes there within.1 c.in_err-read_step.ensures.refused)

@@ -1,0 +1,77 @@
+-- What a collector keeps, and what holds of it between any two calls.
+use Rattle.std.specs.Prelude.{◌≡◌, ℕ, ◌+◌, ◌-◌, ◌*◌, ◌/◌, ◌^◌, ◌<◌, ◌≤◌, List, [], length}
+use Rattle.cfs_base.specs.Disk.{Image}
+use Rattle.cfs_base.specs.declared.disk.Disk.{Ghosts}
+use Rattle.cfs_base.specs.declared.identifier.Puid.{Puid}
+use Rattle.cfs_base.specs.declared.kind.Kind.{Kind}
+use Rattle.collector_marks.specs.Kept.{Marked, Waiting, SameMarks, blocks_of, colours_of}
+use Rattle.marking.specs.declared.memory.Rescue.{Rescue}
+use Rattle.marking.specs.Colours.{Colours}
+use Rattle.marking.specs.Marking.{IsMarking}
+use Rattle.marking.specs.Pace.{IsPaced}
+use Rattle.ufs_model.specs.State.{State}
+use Rattle.ufs_model.specs.WellFormed.{IsState}
+use Rattle.puid_space.specs.Kinds.{kinds_of}
+use Rattle.vol_owners.specs.Account.{Accounts, IsSwept, Opened}
+use Rattle.vol_image.specs.Run.{Carries}
+use Rattle.collector_steps.specs.declared.phase.Phase.{Phase}
+use Rattle.collector_steps.specs.declared.phase.Phase.TheVariants as phases
+use Rattle.collector_steps.specs.Sweep.{NoInner, NoStray}
+
+pub record Collecting : Type 0 where
+  pub marks : Marked
+  pub rescues : Waiting
+  pub phase : Phase
+  -- the steps since the collection began, and the rescues added; each stays at the last number of a u64
+  pub steps : ℕ
+  pub added : ℕ
+
+-- what is marked and grey, and what waits
+abbrev pub colours_in : Collecting → Colours
+colours_in k = colours_of k.marks
+
+abbrev pub waiting_in : Collecting → List Rescue
+waiting_in k = k.rescues.list
+
+-- the blocks of the volume
+abbrev pub volume_of : Collecting → ℕ
+volume_of k = blocks_of k.marks
+
+-- nothing but room may have changed
+pub record IsAsBefore (old new : Collecting) : Type 0 where
+  pub marks : SameMarks old.marks new.marks
+  pub rescues : waiting_in new ≡ waiting_in old
+  pub phase : new.phase ≡ old.phase
+  pub steps : new.steps ≡ old.steps
+  pub added : new.added ≡ old.added
+
+-- the same but for rescues, for the step and for where the collection is
+abbrev pub SameVolume : Collecting → Collecting → Type 0
+SameVolume old new = volume_of new ≡ volume_of old
+
+-- ---- the disk
+
+-- The disk carries the state's graph, each block has its one use, and the directory has the graph's identifiers.
+pub record Serves {D : Type 0} (g : Ghosts D) (disk : D) (names : List (Puid × Kind)) (s : State) (ds : List Opened) : Type 0 where
+  pub state : IsState s
+  pub named : names ≡ kinds_of s.graph
+  pub carries : Carries g s.graph disk
+  pub accounts : Accounts (g.content disk) s.graph ds
+
+-- ---- between any two calls
+
+-- At most so many steps were made beside one for each rescue and each block, as long as rescues were counted.
+abbrev pub IsWithin : Collecting → ℕ → Type 0
+IsWithin k more = k.added < 2 ^ 64 - 1 → k.steps ≤ volume_of k + k.added + more
+
+-- By phase: what holds of the marks, or how far the sweep is; and how many steps were made.
+abbrev pub IsCollecting : Phase → Image → State → Collecting → Type 0
+IsCollecting phases.Idle image s k = Unit {0}
+IsCollecting phases.Marking image s k = IsMarking s (colours_in k) (waiting_in k) × IsPaced s.graph (colours_in k) (waiting_in k) k.steps k.added
+IsCollecting (phases.Inner cylinder) image s k = NoInner image s.graph cylinder × IsWithin k (2 + cylinder)
+IsCollecting (phases.Roots cylinder) image s k =
+    NoInner image s.graph (volume_of k / 64) × (NoStray image s.graph cylinder × IsWithin k (2 + volume_of k / 64 + cylinder))
+IsCollecting phases.Swept image s k = IsSwept image s.graph × IsWithin k (2 + 2 * (volume_of k / 64))
+
+abbrev pub Collects : Image → State → Collecting → Type 0
+Collects image s k = IsCollecting k.phase image s k

@@ -1,0 +1,5 @@
+pub mod Scan
+pub mod Steady
+pub mod Sweep
+pub mod Collecting
+pub mod Swept

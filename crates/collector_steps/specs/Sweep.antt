@@ -1,0 +1,54 @@
+-- What a sweep makes Free.
+use Rattle.std.specs.Prelude.{◌≡◌, ◌≢◌, ◌⊎◌, ℕ, ◌*◌, ◌/◌, ◌<◌, ◌≤◌, Bool, true, false, not, ◌&&◌, if◌then◌else◌, List, length, map, option_map, Option, Some, None}
+use Rattle.cfs_base.specs.Disk.{Image, block_at}
+use Rattle.cfs_base.specs.declared.identifier.Puid.{Puid}
+use Rattle.cfs_base.specs.declared.kind.Kind.{Kind}
+use Rattle.cyl_alloc.specs.Space.{free_entry}
+use Rattle.cyl_map.specs.declared.entry.MapEntry.{MapEntry}
+use Rattle.cyl_map.specs.Volume.{entry_in}
+use Rattle.puid_space.specs.Directory.{has_root_in}
+use Rattle.ufs_model.specs.Graph.{Graph}
+use Rattle.vol_owners.specs.Owner.{is_taken, is_made, is_root, is_placed, is_stray}
+use Rattle.collector_steps.specs.declared.sweep.Pass.{Pass}
+use Rattle.collector_steps.specs.declared.sweep.Pass.TheVariants as passes
+
+-- ---- one entry
+
+-- the first pass is over nodes, leaves and shadow roots, the second over roots
+abbrev pub is_of_pass : Pass → MapEntry → Bool
+is_of_pass passes.Inner e = is_placed is_taken (Some e) && not (is_root is_taken (Some e))
+is_of_pass passes.Roots e = is_root is_taken (Some e) && not (is_made (Some e))
+
+-- a block of the pass whose owner is the root block of no object
+abbrev pub goes : List (Puid × Kind) → Pass → MapEntry → Bool
+goes names pass e = is_of_pass pass e && not (has_root_in names e.owner)
+
+abbrev pub swept : List (Puid × Kind) → Pass → MapEntry → MapEntry
+swept names pass e = if goes names pass e then free_entry else e
+
+abbrev pub swept_map : List (Puid × Kind) → Pass → List MapEntry → List MapEntry
+swept_map names pass entries = map (swept names pass) entries
+
+-- ---- one cylinder
+
+-- Image b is a, but that each entry of the cylinder that goes is Free.
+pub record IsSweptOf (names : List (Puid × Kind)) (pass : Pass) (cylinder : ℕ) (a b : Image) : Type 0 where
+  pub size : length b ≡ length a
+  pub contents : (n : ℕ) → n ≢ 64 * cylinder → block_at b n ≡ block_at a n
+  pub here : (n : ℕ) → n / 64 ≡ cylinder → entry_in b n ≡ option_map (swept names pass) (entry_in a n)
+  pub elsewhere : (n : ℕ) → n / 64 ≢ cylinder → entry_in b n ≡ entry_in a n
+
+-- ---- cylinder after cylinder
+
+-- In the cylinders that the inner pass has left no node, leaf or shadow root is a block of an object that is gone.
+abbrev pub NoInner : Image → Graph → ℕ → Type 0
+NoInner image g cylinders = (n : ℕ) → n / 64 < cylinders → is_stray g (entry_in image n) ≡ true → is_root is_taken (entry_in image n) ≡ true
+
+-- In those that the root pass has left no block is.
+abbrev pub NoStray : Image → Graph → ℕ → Type 0
+NoStray image g cylinders = (n : ℕ) → n / 64 < cylinders → is_stray g (entry_in image n) ≡ false
+
+-- roots are swept once no other block of a vanished object is left
+abbrev pub MayBegin : Pass → Image → Graph → Type 0
+MayBegin passes.Inner image g = Unit {0}
+MayBegin passes.Roots image g = NoInner image g (length image / 64)

@@ -1,0 +1,182 @@
+//! The collector: how a collection begins, takes rescues, condemns and ends.
+ghost use Rattle.std.specs.Prelude.{◌≡◌, ℕ, ◌+◌, ◌-◌, ◌*◌, ◌/◌, ◌^◌, ◌<◌, ◌≤◌, List, [], ◌∷◌, ◌++◌, length, OnOk, OnErr, IfOk, IsTrue, ◌↔◌, Some};
+ghost use Rattle.cfs_base.specs.Disk.{Image};
+ghost use Rattle.cfs_base.specs.Outside.{count_after};
+ghost use Rattle.cfs_base.specs.declared.identifier.Puid.{Puid};
+ghost use Rattle.collector_steps.specs.Collecting.{Collects, IsAsBefore, colours_in, volume_of, waiting_in};
+ghost use Rattle.marking.specs.Colours.{all_shaded, none_marked};
+ghost use Rattle.marking.specs.Steps.{rescued};
+ghost use Rattle.marking.specs.declared.memory.Rescue as memory;
+ghost use Rattle.puid_space.specs.Kinds.{kinds_of};
+ghost use Rattle.ufs_model.specs.Identifier.{is_among};
+ghost use Rattle.ufs_model.specs.Next.{next};
+ghost use Rattle.ufs_model.specs.Reach.{starts_now};
+ghost use Rattle.ufs_model.specs.State.{State};
+ghost use Rattle.ufs_model.specs.WellFormed.{IsState};
+ghost use Rattle.ufs_model.specs.declared.asked.Event.TheVariants as events;
+
+use crate::phase::Phase;
+use crate::shading::{shade_all, shade_rescued};
+use cfs_base::{NoMemory, Puid};
+use collector_marks::{Marks, Rescue, Rescues};
+use puid_space::{Directory, kinds_follow_the_graph};
+use std::alloc::Global;
+use std::marker::Model;
+
+/// A collector of the objects of a volume. Clauses see its marks, the rescues that wait, where it is, and two counts.
+#[derive(Debug, Drop)]
+pub struct Collector {
+    pub(crate) marks: Marks,
+    pub(crate) rescues: Rescues,
+    /// Empty, with room for all that may be condemned while a collection marks.
+    pub(crate) condemned: Vec<Puid>,
+    pub(crate) phase: Phase,
+    /// The steps since the collection began.
+    pub(crate) steps: u64,
+    /// The rescues added since then.
+    added: u64,
+    pub(crate) alloc: Global,
+}
+
+impl Model for Collector {
+    ghost use Rattle.collector_steps.specs.Collecting.{Collecting};
+
+    ghost Value = { Collecting };
+
+    ghost use Rattle.std.specs.Prelude.{◌≡◌, [], vec_capacity};
+    ghost use Rattle.collector_marks.specs.Kept.{blocks_of};
+    ghost use Rattle.collector_steps.specs.Steady.{IsSteady};
+
+    ghost view = { λ a. record { marks = a.marks; rescues = a.rescues; phase = a.phase; steps = a.steps; added = a.added } };
+
+    ghost invariant = { λ a. (a.condemned.items ≡ []) × IsSteady a.phase (blocks_of a.marks) (vec_capacity a.condemned) };
+}
+
+impl Collector {
+    /// No collection runs on a volume of so many blocks.
+    pub fn new(alloc: Global, blocks: u32) -> Result<Collector, NoMemory>
+        requires { 0 < blocks }
+        ensures phase { IfOk result (λ k. k.phase ≡ Phase.Idle) }
+        ensures volume { IfOk result (λ k. volume_of k ≡ blocks) }
+        ensures waiting { IfOk result (λ k. waiting_in k ≡ []) }
+    {
+        Ok(Collector {
+            marks: Marks::new(alloc, blocks)?,
+            rescues: Rescues::new(alloc),
+            condemned: Vec::new(alloc),
+            phase: Phase::Idle,
+            steps: 0,
+            added: 0,
+            alloc,
+        })
+    }
+
+    /// A collection begins: nothing is marked but these objects, the root and each that is open. Makes room for all that
+    /// may be condemned.
+    pub fn begin(&mut self, roots: &[Puid], names: &Directory) -> Result<(), NoMemory>
+        requires phase { self.old.phase ≡ Phase.Idle }
+        requires blocks { names.now.room ≤ volume_of self.old }
+        ensures begun { OnOk result (colours_in self.new ≡ all_shaded names.now.named roots.now none_marked) }
+        ensures waiting { OnOk result (waiting_in self.new ≡ []) }
+        ensures phase { OnOk result (self.new.phase ≡ Phase.Marking) }
+        ensures counts { OnOk result ((self.new.steps ≡ 1) × (self.new.added ≡ 0)) }
+        ensures volume { volume_of self.new ≡ volume_of self.old }
+        ensures same { OnErr result (IsAsBefore self.old self.new) }
+        ensures keeps { (seed : ℕ) (s t : State) (image : Image) → IsState s → names.now.named ≡ kinds_of s.graph
+            → ((x : Puid) → is_among x roots.now ≡ is_among x (starts_now s)) → next seed s events.Began ≡ Some t
+            → OnOk result (Collects image t self.new) }
+    {
+        kinds_follow_the_graph();
+        self.condemned.reserve(self.marks.blocks())?;
+        self.marks.reserve(roots.len())?;
+        self.marks.clear();
+        self.rescues.clear();
+        self.phase = Phase::Marking;
+        self.steps = 1;
+        self.added = 0;
+        shade_all(&mut self.marks, names, roots);
+        Ok(())
+    }
+
+    /// Makes room for one rescue.
+    pub fn reserve(&mut self) -> Result<(), NoMemory>
+        ensures room { OnOk result (0 < self.new.rescues.room) }
+        ensures same { IsAsBefore self.old self.new }
+    {
+        self.rescues.reserve()
+    }
+
+    /// Adds a rescue: an object that was put into an index, or opened, where there is none. Takes no memory.
+    pub fn rescue(&mut self, index: Option<Puid>, id: Puid)
+        requires { 0 < self.old.rescues.room }
+        ensures waiting { waiting_in self.new ≡ waiting_in self.old ++ record { index = index; id = id } ∷ [] }
+        ensures marks { self.new.marks ≡ self.old.marks }
+        ensures phase { self.new.phase ≡ self.old.phase }
+        ensures steps { self.new.steps ≡ self.old.steps }
+        ensures added { self.new.added ≡ count_after self.old.added }
+    {
+        self.rescues.push(Rescue { index, id });
+        self.added = self.added.saturating_add(1);
+    }
+
+    /// Takes the oldest rescue, and shades its object where it has no index or its index is marked.
+    pub fn take(&mut self, names: &Directory) -> Result<(), NoMemory>
+        requires phase { self.old.phase ≡ Phase.Marking }
+        requires waits { ¬ (waiting_in self.old ≡ []) }
+        requires blocks { names.now.room ≤ volume_of self.old }
+        ensures taken { (r : memory.Rescue) (rest : List memory.Rescue) → waiting_in self.old ≡ r ∷ rest → OnOk result
+            ((waiting_in self.new ≡ rest) × (colours_in self.new ≡ rescued names.now.named r (colours_in self.old))) }
+        ensures phase { self.new.phase ≡ self.old.phase }
+        ensures steps { OnOk result (self.new.steps ≡ count_after self.old.steps) }
+        ensures added { self.new.added ≡ self.old.added }
+        ensures volume { volume_of self.new ≡ volume_of self.old }
+        ensures same { OnErr result (IsAsBefore self.old self.new) }
+        ensures keeps { (s : State) (image : Image) → IsState s → names.now.named ≡ kinds_of s.graph
+            → Collects image s self.old → OnOk result (Collects image s self.new) }
+    {
+        kinds_follow_the_graph();
+        self.marks.reserve(1)?;
+        let Some(rescue) = self.rescues.take() else {
+            return Ok(());
+        };
+        self.steps = self.steps.saturating_add(1);
+        shade_rescued(&mut self.marks, names, rescue);
+        Ok(())
+    }
+
+    /// The collection ends.
+    pub fn end(&mut self)
+        requires { self.old.phase ≡ Phase.Swept }
+        ensures phase { self.new.phase ≡ Phase.Idle }
+        ensures steps { self.new.steps ≡ count_after self.old.steps }
+        ensures added { self.new.added ≡ self.old.added }
+        ensures marks { self.new.marks ≡ self.old.marks }
+        ensures waiting { waiting_in self.new ≡ waiting_in self.old }
+        ensures bounded { (s : State) (image : Image) → Collects image s self.old → self.old.added < 2 ^ 64 - 1
+            → self.new.steps ≤ volume_of self.old + self.old.added + 2 * (volume_of self.old / 64) + 3 }
+    {
+        self.phase = Phase::Idle;
+        self.steps = self.steps.saturating_add(1);
+    }
+
+    /// Where the collection is.
+    pub fn phase(&self) -> Phase
+        ensures { result ≡ self.now.phase }
+    {
+        self.phase
+    }
+
+    /// Whether a rescue waits.
+    pub fn has_rescue(&self) -> bool
+        ensures { IsTrue result ↔ ¬ (waiting_in self.now ≡ []) }
+    {
+        !self.rescues.is_empty()
+    }
+
+    /// Whether an index is grey.
+    pub fn has_grey(&self) -> bool
+        ensures { IsTrue result ↔ ¬ (self.now.marks.grey ≡ []) }
+    {
+        self.marks.next_grey().is_some()
+    }
+}

@@ -1,0 +1,66 @@
+//! Objects shaded by their identifiers.
+ghost use Rattle.std.specs.Prelude.{◌≡◌, ◌+◌, ◌<◌, ◌≤◌, length, IfSome};
+ghost use Rattle.collector_marks.specs.Kept.{blocks_of, colours_of};
+ghost use Rattle.marking.specs.Colours.{all_shaded, shaded_in};
+ghost use Rattle.marking.specs.Steps.{is_live, rescued};
+ghost use Rattle.puid_space.specs.Directory.{kind_in};
+
+use cfs_base::{Kind, Puid};
+use collector_marks::{Marks, Rescue};
+use puid_space::Directory;
+
+/// The kind of an object, whose root block there is room for where it is there.
+fn kind_of(names: &Directory, id: Puid) -> Option<Kind>
+    ensures kind { result ≡ kind_in names.now.named id }
+    ensures inside { IfSome result (λ _. id.block < names.now.room) }
+{
+    let _room = names.room();
+    names.kind(id)
+}
+
+/// Shades an object; nothing where it isn't there. Takes no memory.
+pub fn shade_one(marks: &mut Marks, names: &Directory, id: Puid)
+    requires room { 0 < marks.old.room }
+    requires blocks { names.now.room ≤ blocks_of marks.old }
+    ensures shaded { colours_of marks.new ≡ shaded_in names.now.named id (colours_of marks.old) }
+    ensures blocks { blocks_of marks.new ≡ blocks_of marks.old }
+    ensures room { marks.old.room ≤ marks.new.room + 1 }
+{
+    if let Some(kind) = kind_of(names, id) {
+        marks.shade_reserved(id, kind);
+    }
+}
+
+/// Shades each of these. Takes no memory.
+pub fn shade_all(marks: &mut Marks, names: &Directory, ids: &[Puid])
+    requires room { length ids.now ≤ marks.old.room }
+    requires blocks { names.now.room ≤ blocks_of marks.old }
+    ensures shaded { colours_of marks.new ≡ all_shaded names.now.named ids.now (colours_of marks.old) }
+    ensures blocks { blocks_of marks.new ≡ blocks_of marks.old }
+{
+    for id in ids {
+        shade_one(marks, names, *id);
+    }
+}
+
+/// Whether an object that is found here is looked for: there is no index, or it is marked.
+fn is_live(marks: &Marks, index: Option<Puid>) -> bool
+    ensures { result ≡ is_live index (colours_of marks.now) }
+{
+    match index {
+        None => true,
+        Some(index) => marks.is_marked(index.block),
+    }
+}
+
+/// Shades the object of a rescue, where it has no index or its index is marked. Takes no memory.
+pub fn shade_rescued(marks: &mut Marks, names: &Directory, rescue: Rescue)
+    requires room { 0 < marks.old.room }
+    requires blocks { names.now.room ≤ blocks_of marks.old }
+    ensures shaded { colours_of marks.new ≡ rescued names.now.named rescue (colours_of marks.old) }
+    ensures blocks { blocks_of marks.new ≡ blocks_of marks.old }
+{
+    if is_live(marks, rescue.index) {
+        shade_one(marks, names, rescue.id);
+    }
+}

@@ -1,0 +1,5 @@
+pub mod Valid
+pub mod Courses
+pub mod Changes
+pub mod Committed
+pub mod Settling

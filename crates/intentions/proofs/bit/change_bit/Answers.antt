@@ -1,0 +1,23 @@
+use Rattle.std.proofs.Common.{◌≡◌, subst}
+use Rattle.std.specs.Prelude.{OnOk}
+use Rattle.cfs_base.specs.Run.{Leaves}
+use Rattle.cyl_map.specs.Volume.{with_entry}
+use Rattle.cyl_map.specs.declared.entry.MapEntry.{MapEntry}
+use Rattle.intentions.specs.Entries as entries
+use Rattle.intentions.proofs.Changes.{rewrites_bit}
+use Rattle.intentions.proofs.bit.change_bit.Goals as goal
+
+pub returns : goal.returns
+returns g c =
+    let read = c.read_entry.new.disk in
+    let new = c.put_between.new.disk in
+    let n = c.args.root.0 in
+    let value = c.of-now.ensures.value in
+    record {
+      changes = rewrites_bit g.D.Disk n (λ e. entries.changed c.args.how e) c.in_ok-found.found.entry c.in_ok-found.found.map c.args.disk.now read new c.put_between.result c.in_ok-found.ensures.reads
+          c.in_ok-found.ensures.entry c.in_ok-found.ensures.map c.in_ok-found.ensures.whole
+          (λ is. subst (λ (e : MapEntry). OnOk c.put_between.result (g.D.Disk.content new ≡ with_entry (g.D.Disk.content read) n e)) value (c.put_between.ensures.written is))
+          c.put_between.ensures.settled
+          (λ tells is. subst (λ (e : MapEntry). Leaves g.D.Disk read new (λ k. k ≡ with_entry (g.D.Disk.content read) n e)) value (c.put_between.ensures.images tells is))
+          c.put_between.ensures.refused c.put_between.ensures.stopped c.put_between.ensures.made c.put_between.ensures.calls;
+    }

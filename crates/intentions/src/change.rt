@@ -1,0 +1,128 @@
+//! What is done to an entry.
+ghost use Rattle.std.specs.Prelude.{◌≡◌};
+ghost use Rattle.cyl_map.specs.Entry.{IsEntry};
+ghost use Rattle.intentions.specs.Entries as spec;
+
+use cfs_base::Place;
+use cyl_map::{BlockState, MapEntry};
+
+/// A change of an entry. Where it doesn't fit an entry, that stays as it is.
+#[derive(Clone, Copy, Debug, PartialEq, Eq)]
+pub enum Change {
+    /// A Free block is claimed for an owner's place.
+    Claim { place: Place, owner: u32 },
+    /// A node or leaf is to be given up.
+    Release,
+    /// The commit bit of a root is set.
+    SetBit,
+    /// The commit bit is cleared.
+    ClearBit,
+    /// An intention is carried out: the block becomes Allocated, or Free.
+    Finish,
+    /// An intention is taken back: the block becomes Free, or Allocated.
+    Undo,
+}
+
+/// The entry of a Free block.
+const FREE: MapEntry = MapEntry {
+    state: BlockState::Free,
+    committed: false,
+    place: None,
+    owner: 0,
+};
+
+/// The same entry in another state.
+fn restated(entry: MapEntry, state: BlockState) -> MapEntry
+    ensures { result ≡ spec.restated state entry }
+{
+    MapEntry { state, ..entry }
+}
+
+fn released(entry: MapEntry) -> MapEntry
+    requires { IsEntry entry }
+    ensures value { result ≡ spec.released entry }
+    ensures entry { IsEntry result }
+{
+    match entry.place {
+        Some(Place::Node(_)) | Some(Place::Leaf(_)) => match entry.state {
+            BlockState::Allocated | BlockState::IntendAllocate => {
+                restated(entry, BlockState::IntendDeallocate)
+            }
+            BlockState::Free | BlockState::IntendDeallocate => entry,
+        },
+        Some(Place::Root) | Some(Place::ShadowRoot) | None => entry,
+    }
+}
+
+fn with_bit(entry: MapEntry) -> MapEntry
+    requires { IsEntry entry }
+    ensures value { result ≡ spec.with_bit entry }
+    ensures entry { IsEntry result }
+{
+    match entry.place {
+        Some(Place::Root) => MapEntry {
+            committed: true,
+            ..entry
+        },
+        Some(Place::ShadowRoot) | Some(Place::Node(_)) | Some(Place::Leaf(_)) | None => entry,
+    }
+}
+
+fn without_bit(entry: MapEntry) -> MapEntry
+    requires { IsEntry entry }
+    ensures value { result ≡ spec.without_bit entry }
+    ensures entry { IsEntry result }
+{
+    MapEntry {
+        committed: false,
+        ..entry
+    }
+}
+
+fn finished(entry: MapEntry) -> MapEntry
+    requires { IsEntry entry }
+    ensures value { result ≡ spec.finished entry }
+    ensures entry { IsEntry result }
+{
+    match entry.state {
+        BlockState::Free | BlockState::Allocated => entry,
+        BlockState::IntendAllocate => restated(entry, BlockState::Allocated),
+        BlockState::IntendDeallocate => FREE,
+    }
+}
+
+fn undone(entry: MapEntry) -> MapEntry
+    requires { IsEntry entry }
+    ensures value { result ≡ spec.undone entry }
+    ensures entry { IsEntry result }
+{
+    match entry.state {
+        BlockState::Free | BlockState::Allocated => entry,
+        BlockState::IntendAllocate => FREE,
+        BlockState::IntendDeallocate => restated(entry, BlockState::Allocated),
+    }
+}
+
+impl Change {
+    /// The entry after the change.
+    pub fn of(self, entry: MapEntry) -> MapEntry
+        requires entry { IsEntry entry }
+        requires fits { spec.Fits self }
+        ensures value { result ≡ spec.changed self entry }
+        ensures entry { IsEntry result }
+    {
+        match self {
+            Change::Claim { place, owner } => MapEntry {
+                state: BlockState::IntendAllocate,
+                committed: false,
+                place: Some(place),
+                owner,
+            },
+            Change::Release => released(entry),
+            Change::SetBit => with_bit(entry),
+            Change::ClearBit => without_bit(entry),
+            Change::Finish => finished(entry),
+            Change::Undo => undone(entry),
+        }
+    }
+}

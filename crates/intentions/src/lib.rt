@@ -1,0 +1,17 @@
+//! Intentions: what a draft means to take and to give up, and the commit bit that carries it out.
+//! The layer above uses which entry each call changes and how, and that a crash leaves the map as it was or with that entry.
+#![tactic(auto)]
+
+mod bit;
+mod calls;
+mod change;
+mod entry;
+mod laws;
+#[cfg(test)]
+mod tests;
+
+pub use bit::{barrier, clear_bit, commit, copy_root};
+pub use calls::{finish, intend_claim, intend_release, undo};
+pub use change::Change;
+pub use entry::change_entry;
+pub use laws::{a_disk_keeps_to_courses, courses_hold, intentions_keep_the_frame, objects_settle};
