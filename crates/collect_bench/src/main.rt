@@ -1,0 +1,189 @@
+//! Collections for a clock to be held to: `collect_bench CYLINDERS OBJECTS COUNT` makes COUNT collections of a tree of
+//! OBJECTS objects, of which a tenth can't be reached, and prints what they did.
+#![tactic(auto)]
+
+mod disk;
+
+ghost use Rattle.std.specs.Prelude.{◌≡◌, ◌*◌, ◌≤◌, length, IfSome};
+ghost use Rattle.collector_steps.specs.Collecting.{volume_of};
+
+use cfs_base::{BlockNo, Kind, Puid};
+use collector_steps::{Collector, Phase};
+use cyl_alloc::Space;
+use disk::{Tree, id_of};
+use puid_space::Directory;
+use std::alloc::Global;
+use std::env;
+use std::process::ExitCode;
+
+/// A volume, the identifiers of its objects, and a collector.
+#[derive(Drop)]
+struct Volume {
+    disk: Tree,
+    space: Space,
+    names: Directory,
+    collector: Collector,
+    /// How many objects can be reached.
+    kept: u32,
+    /// What the last collection took.
+    gone: Vec<Puid>,
+    ghost size: { disk.cylinders ≡ length space.free },
+    ghost blocks: { volume_of collector ≡ 64 * length space.free },
+    ghost room: { names.room ≤ volume_of collector },
+}
+
+fn collector_for(alloc: Global, blocks: u32) -> Option<Collector>
+    requires { 1 ≤ blocks }
+    ensures { IfSome result (λ k. volume_of k ≡ blocks) }
+{
+    match Collector::new(alloc, blocks) {
+        Ok(collector) => Some(collector),
+        Err(_) => None,
+    }
+}
+
+/// No names, with room for those of so many blocks.
+fn names_for(alloc: Global, blocks: u32) -> Option<Directory>
+    ensures { IfSome result (λ names. names.room ≡ blocks) }
+{
+    let mut names = Directory::new(alloc);
+    match names.reserve(blocks) {
+        Ok(()) => Some(names),
+        Err(_) => None,
+    }
+}
+
+impl Volume {
+    /// None where the objects don't fit.
+    fn open(alloc: Global, cylinders: u32, objects: u32) -> Option<Volume>
+        requires some { 1 ≤ cylinders }
+        requires most { cylinders ≤ 65536 }
+    {
+        let kept = objects - objects / 10;
+        let mut disk = Tree::new(cylinders, objects, kept)?;
+        let space = Space::counted(alloc, &mut disk, cylinders).ok()?;
+        let collector = collector_for(alloc, 64 * cylinders)?;
+        let names = names_for(alloc, 64 * cylinders)?;
+        let mut volume = Volume {
+            disk,
+            space,
+            names,
+            collector,
+            kept,
+            gone: Vec::new(alloc),
+        };
+        for object in 0..objects {
+            let kind = volume.disk.kind_of(object);
+            volume.name(id_of(object), kind)?;
+        }
+        Some(volume)
+    }
+
+    fn name(&mut self, id: Puid, kind: Kind) -> Option<()> {
+        if id.block >= self.names.room() || self.names.has_root(id.block) {
+            return None;
+        }
+        self.names.add(id, kind);
+        Some(())
+    }
+
+    /// A whole collection, after which what it took is there again. Gives the number of its steps.
+    fn round(&mut self) -> Option<u32> {
+        if self.collector.phase() != Phase::Idle {
+            return None;
+        }
+        self.collector.begin(&[id_of(0)], &self.names).ok()?;
+        for steps in 1..u32::MAX {
+            if self.collector.phase() == Phase::Idle {
+                self.restore()?;
+                return Some(steps);
+            }
+            self.step(steps)?;
+        }
+        None
+    }
+
+    /// What was taken is there again.
+    fn restore(&mut self) -> Option<()> {
+        for n in 0..self.gone.len() {
+            let id = *self.gone.get(n)?;
+            self.name(id, Kind::Normal)?;
+            if id.block < self.names.room() {
+                self.space.took(BlockNo(id.block));
+            }
+        }
+        Some(())
+    }
+
+    fn step(&mut self, steps: u32) -> Option<()> {
+        match self.collector.phase() {
+            Phase::Idle => None,
+            Phase::Marking => self.mark(steps),
+            Phase::Inner { .. } => self
+                .collector
+                .sweep_inner(&mut self.disk, &mut self.space, &self.names)
+                .ok(),
+            Phase::Roots { .. } => self
+                .collector
+                .sweep_roots(&mut self.disk, &mut self.space, &self.names)
+                .ok(),
+            Phase::Swept => {
+                self.collector.end();
+                Some(())
+            }
+        }
+    }
+
+    /// With each index that is read, an object is opened.
+    fn mark(&mut self, steps: u32) -> Option<()> {
+        if self.collector.phase() != Phase::Marking {
+            return None;
+        }
+        if self.collector.has_rescue() {
+            return self.collector.take(&self.names).ok();
+        }
+        if self.collector.has_grey() {
+            self.collector.scan(&mut self.disk, &self.names).ok()?;
+            self.collector.reserve().ok()?;
+            self.collector
+                .rescue(None, id_of(steps.wrapping_mul(77_773) % self.kept.max(1)));
+            return Some(());
+        }
+        self.gone = self.collector.condemn(&mut self.names).into_vec();
+        Some(())
+    }
+}
+
+/// The three numbers that the program's words are.
+fn numbers(rt: &HostRuntime) -> Option<(u32, u32, u32)> {
+    let mut words = env::args(rt).ok()?.skip(1);
+    let cylinders = words.next()?.as_str().parse::<u32>().ok()?;
+    let objects = words.next()?.as_str().parse::<u32>().ok()?;
+    let count = words.next()?.as_str().parse::<u32>().ok()?;
+    Some((cylinders, objects, count))
+}
+
+fn run(rt: &HostRuntime, alloc: Global) -> Option<()> {
+    let (cylinders, objects, count) = numbers(rt)?;
+    if cylinders == 0 || cylinders > 65_536 {
+        return None;
+    }
+    let mut volume = Volume::open(alloc, cylinders, objects)?;
+    let mut steps = 0;
+    for _ in 0..count {
+        steps = u64::saturating_add(steps, u64::from(volume.round()?));
+    }
+    let gone = volume.gone.len();
+    let free = volume.space.free();
+    println!(rt;
+        "{count} collections, {steps} steps, {gone} objects taken by the last, {free} blocks Free"
+    ).ok()
+}
+
+fn main(rt: HostRuntime) -> ExitCode {
+    let alloc = rt.alloc();
+    match run(&rt, alloc) {
+        Some(()) => ExitCode::SUCCESS,
+        None => ExitCode::FAILURE,
+    }
+}

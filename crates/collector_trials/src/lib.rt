@@ -1,0 +1,14 @@
+//! The collector tried on small graphs: each interleaving of its steps with a request or two, beside the definitions
+//! written plainly. Nothing stands above this crate; its use is its tests.
+#![tactic(auto)]
+
+#[cfg(test)]
+mod graph;
+#[cfg(test)]
+mod judge;
+#[cfg(test)]
+mod run;
+#[cfg(test)]
+mod tests;
+#[cfg(test)]
+mod volume;
