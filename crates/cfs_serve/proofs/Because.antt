@@ -1,5 +1,5 @@
 -- What each cause that is told shows, and what each status says by it.
-use Rattle.std.proofs.Common.{◌≡◌, ◌⊎◌, inl, inr, ℕ, Bool, true, false, List, length, Option, Some, None, IsSome, IsNone, is_some, refl, ap, arith}
+use Rattle.std.proofs.Common.{◌≡◌, ◌⊎◌, inl, inr, ℕ, Bool, true, false, List, length, Option, Some, None, IsSome, IsNone, refl, arith}
 use Rattle.std.specs.List.{list_any}
 use Rattle.cfs_streams.specs.Writing.{Wrote}
 use Rattle.ufs_model.specs.declared.asked.Event.{Event}

@@ -1,5 +1,5 @@
 -- What `top` says of a run, from what the run came to.
-use Rattle.std.proofs.Common.{◌≡◌, ◌↔◌, inl, inr, ℕ, ◌+◌, ◌<◌, ◌≤◌, Bool, true, false, ◌&&◌, List, [], ◌∷◌, ◌++◌, length, map, filter, Option, Some, None, IsNone, IfSome, is_some, refl, sym, ap, ◌∙◌, arith, length-append}
+use Rattle.std.proofs.Common.{◌≡◌, ◌↔◌, inl, inr, ℕ, ◌+◌, ◌<◌, ◌≤◌, Bool, true, false, ◌&&◌, List, [], ◌∷◌, ◌++◌, length, map, filter, Option, Some, None, is_some, refl, sym, ap, ◌∙◌, arith, length-append}
 use Rattle.std.specs.List.{list_any, list_all}
 use Rattle.cfs_base.specs.Outside.{Intake, Supply}
 use Rattle.cfs_script.specs.Language.{built_forms}
@@ -7,16 +7,15 @@ use Rattle.cfs_streams.proofs.WriteLaws.{nothing}
 use Rattle.ufs_model.specs.declared.asked.Event.{Event}
 use Rattle.ufs_model.specs.declared.asked.Event.TheVariants as events
 use Rattle.ufs_model.specs.State.{State}
-use Rattle.ufs_model.specs.Run.{IsLegalRun, replay}
+use Rattle.ufs_model.specs.Run.{replay}
 use Rattle.ufs_model.specs.Script.{request_lines}
 use Rattle.ufs_model.specs.Turns.{is_turn_of, turns_in}
-use Rattle.ufs_model.specs.Printed.{printed_replies}
 use Rattle.cfs_serve.specs.Limits.{most_script, most_lines}
 use Rattle.cfs_serve.specs.declared.report.Counts.{Counts}
 use Rattle.cfs_serve.specs.declared.report.Cause.{Cause}
 use Rattle.cfs_serve.specs.declared.report.Cause.TheVariants as causes
 use Rattle.cfs_serve.specs.declared.report.Report.{Report}
-use Rattle.cfs_serve.specs.Session.{Replied, is_calm, wants_memory}
+use Rattle.cfs_serve.specs.Session.{wants_memory}
 use Rattle.cfs_serve.specs.declared.page.Page.{Page}
 use Rattle.cfs_serve.specs.Words.{Asked, Play, Shows, Serves, Nothing}
 use Rattle.cfs_serve.specs.Played.{IsPlayed, IsScript, IsCause, IsRunOf, spoiled_by}
@@ -89,6 +88,7 @@ of_nothing report report_after = (
     calm = refl;
     turns = tt;
     replied = tt;
+    broken = λ served. absurd (clash-sym served);
     words = ((λ is. refl), (λ is. refl));
     page = λ page. ((λ is. cc), (λ is. cc));
     counted = tt;
@@ -110,6 +110,7 @@ of_page shown report report_after = (
     calm = refl;
     turns = tt;
     replied = tt;
+    broken = λ served. absurd (clash-sym served);
     words = ((λ is. cc), (λ is. cc));
     page = λ page. ((λ is. cc), (λ is. cc));
     counted = tt;
@@ -137,6 +138,7 @@ module _ (play : Play) (source source_after : Supply) (sink report report_after 
       calm = refl;
       turns = λ served. absurd (clash-sym served);
       replied = (rw took (nothing sink), tt);
+      broken = λ served. absurd (clash-sym served);
       words = ((λ is. absurd (other is)), (λ is. cc));
       page = λ page. ((λ is. absurd (paged page is)), (λ is. cc));
       counted = tt;
@@ -254,6 +256,7 @@ module _ (play : Play) (source source_after : Supply) (sink sink_after report re
       calm = played.calm;
       turns = λ served. (rw took (from starved all played), tt);
       replied = (rw took played.replied, tt);
+      broken = λ served no. (rw (turns_are starved all played) (played.broken (sym took ∙ no)), tt);
       words = ((λ is. absurd (other is)), (λ is. cc));
       page = λ page. ((λ is. absurd (paged page is)), (λ is. cc));
       counted = counted starved all played;

@@ -103,6 +103,14 @@ breaks_off t old new line event turn was = record {
   room = omega (arith, was.room, turn.room, lines_on t old new line event false turn);
   replied = rw (text_on t old new line event false turn) (then_some t.sink old.sink new.sink (printed_replies 0 old.events) (printed 0 event) was.replied turn.replied);
   answered = λ wrong. cc;
+  broken = λ _. record {
+    before = old.events;
+    last = event;
+    mid = old.sink;
+    whole = turn.recorded;
+    wrote = was.replied;
+    failed = turn.replied;
+  };
 }
 
 -- no line is left
@@ -113,6 +121,7 @@ ends t h over was = record {
   room = omega (arith, was.room);
   replied = was.replied;
   answered = λ _. omega (arith, was.counted, ap length over);
+  broken = λ wrong. cc;
 }
 
 -- as a session begins

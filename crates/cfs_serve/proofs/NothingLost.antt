@@ -1,21 +1,19 @@
 -- All that a run comes to follows from what `top` says of it: its clauses together are no weaker than the steps of the run.
-use Rattle.std.proofs.Common.{◌≡◌, ◌⊎◌, ◌↔◌, inl, inr, ℕ, ◌+◌, Bool, true, false, cond, List, [], ◌∷◌, ◌++◌, length, filter, Option, Some, None, IsNone, IfSome, is_some, refl, sym, ap, ◌∙◌, arith, take_all, length-append}
+use Rattle.std.proofs.Common.{◌≡◌, ◌⊎◌, inl, inr, ℕ, ◌+◌, Bool, true, false, cond, List, [], ◌∷◌, ◌++◌, length, filter, Option, Some, None, is_some, refl, sym, ap, ◌∙◌, arith, take_all, length-append}
 use Rattle.std.specs.List.{list_any, list_all}
 use Rattle.cfs_base.specs.Outside.{Intake, Supply, Rose}
 use Rattle.cfs_script.specs.Language.{built_forms}
 use Rattle.cfs_streams.specs.Writing.{Wrote, WroteSome}
 use Rattle.ufs_model.specs.declared.asked.Event.{Event}
 use Rattle.ufs_model.specs.declared.asked.Event.TheVariants as events
-use Rattle.ufs_model.specs.State.{State}
-use Rattle.ufs_model.specs.Run.{IsLegalRun, replay}
+use Rattle.ufs_model.specs.Run.{replay}
 use Rattle.ufs_model.specs.Turns.{is_turn_of, turns_in}
-use Rattle.ufs_model.specs.Printed.{printed_replies}
 use Rattle.cfs_serve.specs.declared.report.Counts.{Counts}
 use Rattle.cfs_serve.specs.declared.report.Cause.{Cause}
 use Rattle.cfs_serve.specs.declared.report.Cause.TheVariants as causes
 use Rattle.cfs_serve.specs.declared.report.Report.{Report}
 use Rattle.cfs_serve.specs.Report.{report_text}
-use Rattle.cfs_serve.specs.Session.{Replied, is_calm, wants_memory}
+use Rattle.cfs_serve.specs.Session.{Replied, wants_memory}
 use Rattle.cfs_serve.specs.declared.page.Page.{Page}
 use Rattle.cfs_serve.specs.Words.{Asked, Play, Shows, Serves, Nothing}
 use Rattle.cfs_serve.specs.Played.{IsCause, IsRunOf, spoiled_by}
@@ -195,6 +193,7 @@ module _ (play : Play) (source source_after : Supply) (sink sink_after report re
             calm = said.did.calm;
             wanting = refl;
             replied = said.did.replied.0;
+            broken = λ no. (said.did.broken refl no).0;
             answered = λ is. one_more ∙ ap (λ n. n + 1) (from.answered is);
           };
           counted = one_more ∙ ap (λ n. n + 1) (sym replies);

@@ -53,5 +53,6 @@ module _ (forms : List Form) (seed : ℕ) (script : List ℕ) (sink : Intake) (h
     calm = rw (list_all-append is_calm h.events (events.Leave 0 None ∷ []), served.run.calm) refl;
     wanting = served.run.starved ∙ sym (list_any-append wants_memory h.events (events.Leave 0 None ∷ []) ∙ or-false (list_any wants_memory h.events));
     replied = rw (printed_replies-push h.events (events.Leave 0 None) ∙ append-nil (printed_replies 0 h.events)) served.replied;
+    broken = served.broken;
     answered = λ is. length-append h.events (events.Leave 0 None ∷ []) ∙ ap (λ n. n + 1) (served.answered is);
   }

@@ -16,7 +16,7 @@ use Rattle.cfs_serve.specs.declared.report.Cause.{Cause}
 use Rattle.cfs_serve.specs.declared.report.Cause.TheVariants as causes
 use Rattle.cfs_serve.specs.declared.report.Report.{Report}
 use Rattle.cfs_serve.specs.Words.{root_of}
-use Rattle.cfs_serve.specs.Session.{Replied, is_calm, wants_memory}
+use Rattle.cfs_serve.specs.Session.{BreaksOff, Replied, is_calm, wants_memory}
 
 -- A session of this seed and script was served: the trail, the objects of its last graph, whether memory was wanting, and
 -- whether the sink took all
@@ -34,6 +34,7 @@ pub record IsPlayed (forms : List Form) (seed : ℕ) (script : List ℕ) (sink a
   pub wanting : starved ≡ list_any wants_memory trail
   -- the sink has taken the replies, all or some of their beginning
   pub replied : Replied sink after (printed_replies 0 trail) all
+  pub broken : all ≡ false → BreaksOff 0 sink after turns
   pub answered : all ≡ true → length trail ≡ length (request_lines script) + 1
 
 -- ---- what is reported

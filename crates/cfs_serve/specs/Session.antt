@@ -66,6 +66,15 @@ abbrev pub Replied : Intake → Intake → List ℕ → Bool → Type 0
 Replied old new text true = Wrote old new text
 Replied old new text false = WroteSome old new text
 
+-- the sink took all replies but that of the last event, and failed within that one
+pub record BreaksOff (session : ℕ) (old new : Intake) (turns : List Event) : Type 0 where
+  pub before : List Event
+  pub last : Event
+  pub mid : Intake
+  pub whole : turns ≡ before ++ last ∷ []
+  pub wrote : Wrote old mid (printed_replies session before)
+  pub failed : WroteSome mid new (printed session last)
+
 -- a request was answered so, beside its line
 pub record Answers (old new : Session) (request : Request) (name : Option (List ℕ)) (reply : Reply) (written : Bool) : Type 0 where
   pub lines : new.lines ≡ old.lines
@@ -139,6 +148,7 @@ pub record IsServedSo (t : Terms) (h : Session) (all : Bool) : Type 0 where
   pub room : 1 ≤ h.room
   pub replied : Replied t.sink h.sink (printed_replies 0 h.events) all
   pub answered : all ≡ true → length h.events ≡ length (request_lines t.script)
+  pub broken : all ≡ false → BreaksOff 0 t.sink h.sink h.events
 
 -- the terms of a session on a new volume
 abbrev pub terms : List Form → ℕ → List ℕ → Intake → Terms

@@ -22,7 +22,7 @@ use Rattle.cfs_serve.specs.declared.report.Report.{Report}
 use Rattle.cfs_serve.specs.declared.page.Page.{Page}
 use Rattle.cfs_serve.specs.Pages.{page_text}
 use Rattle.cfs_serve.specs.Report.{report_text, status_of}
-use Rattle.cfs_serve.specs.Session.{Replied, is_calm, wants_memory}
+use Rattle.cfs_serve.specs.Session.{BreaksOff, Replied, is_calm, wants_memory}
 use Rattle.cfs_serve.specs.Whole.{HasPlaces}
 use Rattle.cfs_serve.specs.Words.{Asked, Shows, Nothing, IfServes, is_service, root_of}
 
@@ -238,6 +238,9 @@ pub record Did (asked : Asked) (old new : Outside) (told : Report) (trail : List
       IsServedFrom play.seed trail (took_all told.cause) session source) old new)
   -- the sink has taken the replies, all or some of their beginning
   pub replied : EachSink (λ session sink after. Replied sink after (printed_replies session trail) (took_all told.cause)) old new
+  -- a service whose sink failed ends with the reply in which it failed: no line after it was served
+  pub broken : WasServed told → took_all told.cause ≡ false
+      → EachSink (λ session sink after. BreaksOff session sink after (turns_in session trail)) old new
   -- it is told exactly that the words are of no form, or that this page was asked for
   pub words : (told.cause ≡ causes.Words) ↔ (asked ≡ Nothing)
   pub page : (page : Page) → (told.cause ≡ causes.Page page) ↔ (asked ≡ Shows page)

@@ -27,6 +27,8 @@ pub(crate) struct Session {
     trail: Trail,
     script: Vec<u8>,
     at: usize,
+    /// The request lines from there on.
+    left: usize,
     names: Names,
     /// One reply line. It has room for the longest.
     text: Vec<u8>,
@@ -58,7 +60,7 @@ impl Model for Session {
       starved = s.starved;
     } };
 
-    ghost invariant = { λ s. (s.at ≤ vec_len s.script) × (s.text.items ≡ []) × (REPLY_ROOM ≤ vec_capacity s.text) };
+    ghost invariant = { λ s. (s.at ≤ vec_len s.script) × (s.left ≡ length (request_lines (drop s.at s.script.items))) × (s.text.items ≡ []) × (REPLY_ROOM ≤ vec_capacity s.text) };
 }
 
 impl Session {
@@ -88,6 +90,7 @@ impl Session {
             trail,
             script,
             at: 0,
+            left: lines,
             names: Names::new(alloc, root),
             text,
             starved: false,
@@ -98,7 +101,7 @@ impl Session {
     fn has_line(&self) -> bool
         ensures { IsTrue result ↔ (0 < length self.now.lines) }
     {
-        next_line(&self.script[self.at..]).is_some()
+        self.left > 0
     }
 
     /// Serves the lines, one after the other, until none is left or the sink failed. Answers whether all replies were
@@ -128,6 +131,7 @@ impl Session {
             mut trail,
             script: _,
             at: _,
+            left: _,
             names: _,
             text: _,
             starved,
@@ -157,6 +161,7 @@ impl Session {
         let taken = next.taken;
         let heard = hear(alloc, next.line, &mut self.names);
         self.at += taken;
+        self.left -= 1;
         match heard {
             Heard::Ready { request, name } => self.answer(alloc, request, name, sink),
             Heard::Not(why) => self.tell(why, sink),

@@ -1,10 +1,6 @@
-use Rattle.std.proofs.Common.{◌≡◌, ℕ, sym, ◌∙◌}
 use Rattle.std.proofs.lemmas.List.{length-map}
 use Rattle.cfs_serve.specs.Words.{asked_by}
-use Rattle.cfs_serve.specs.Whole.{ended}
 use Rattle.cfs_serve.specs.Top.{before, after}
-use Rattle.cfs_serve.proofs.Because as why
-use Rattle.cfs_serve.proofs.Facts.{facts}
 use Rattle.cfs_serve.proofs.Saying.{said}
 use Rattle.cfs_serve.proofs.run.top.Goals as goal
 

@@ -21,7 +21,7 @@ returns g c = (
     starved = c.starved_by-self-inside.ensures c.args.request;
     replied =
         let text : c.as_slice.result.now ≡ reply_line c.ask-reply.result =
-        c.as_slice.ensures.value ∙ c.print_reply.ensures.line ∙ ap (λ old. old ++ reply_line c.ask-reply.result) c.self.invariant.1 in
+        c.as_slice.ensures.value ∙ c.print_reply.ensures.line ∙ ap (λ old. old ++ reply_line c.ask-reply.result) c.self.invariant.2 in
         rw c.is_ok-written.ensures.value (replied _ _ _ c.write_whole.result (rw text at c.write_whole.ensures));
   }),
 )
