@@ -15,7 +15,7 @@ use Rattle.cfs_serve.specs.Session.{Replied, wants_memory}
 use Rattle.cfs_serve.specs.declared.page.Page.{Page}
 use Rattle.cfs_serve.specs.Words.{Asked, Shows, Nothing, is_service}
 use Rattle.cfs_serve.specs.Whole.{ended}
-use Rattle.cfs_serve.specs.Top.{Outside, EachSource, EachSink, HadLeft, AreWithin, SomeRose, source_faults, sink_faults, IsQuiet, WritesReport, IsStatus, EndedWell, Showed, SinkFailed, SourceFailed, MemoryWanting, IsOver, LimitPassed}
+use Rattle.cfs_serve.specs.Top.{Outside, EachSource, EachSink, HadLeft, AreWithin, SomeRose, source_faults, sink_faults, NoCountRose, WritesReport, IsStatus, EndedWell, Showed, SinkFailed, SourceFailed, MemoryWanting, IsOver, LimitPassed}
 
 -- a service whose sinks took all
 pub record Served (trail : List Event) (old new : Outside) (counts : Option Counts) : Type 0 where
@@ -129,7 +129,7 @@ module _ (asked : Asked) (old new : Outside) (counts : Option Counts) (trail : L
   over causes.LongTotal false because scripts had past = inl refl
 
   pub complete : (cause : Cause) (written : Bool) → Because cause → Told cause written → is_service asked ≡ true → (scripts : List (List ℕ)) → HadLeft old scripts → AreWithin scripts
-      → IsQuiet old new → (ended written cause ≡ 0) ⊎ (ended written cause ≡ 7)
+      → NoCountRose old new → (ended written cause ≡ 0) ⊎ (ended written cause ≡ 7)
   complete causes.Nothing true because wrote is scripts had within quiet = inl refl
   complete causes.Memory true because wrote is scripts had within quiet = inr refl
   complete causes.Nothing false because wrote is scripts had within quiet = absurd (quiet.report wrote.failed)
@@ -147,7 +147,7 @@ module _ (asked : Asked) (old new : Outside) (counts : Option Counts) (trail : L
   complete (causes.Long n) written because wrote is scripts had within quiet = absurd (because.2 scripts had within)
   complete causes.LongTotal written because wrote is scripts had within quiet = absurd (because.2 scripts had within)
 
-pub shown : (page : Page) (old new : Outside) (text : List ℕ) (written : Bool) → Replied old.report new.report text written → IsQuiet old new → ended written (causes.Page page) ≡ 0
+pub shown : (page : Page) (old new : Outside) (text : List ℕ) (written : Bool) → Replied old.report new.report text written → NoCountRose old new → ended written (causes.Page page) ≡ 0
 shown page old new text true wrote quiet = refl
 shown page old new text false wrote quiet = absurd (quiet.report wrote.failed)
 

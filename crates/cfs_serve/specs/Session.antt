@@ -76,7 +76,7 @@ pub record BreaksOff (session : ℕ) (old new : Intake) (turns : List Event) : T
   pub failed : WroteSome mid new (printed session last)
 
 -- a request was answered so, beside its line
-pub record Answers (old new : Session) (request : Request) (name : Option (List ℕ)) (reply : Reply) (written : Bool) : Type 0 where
+pub record AnswersLine (old new : Session) (request : Request) (name : Option (List ℕ)) (reply : Reply) (written : Bool) : Type 0 where
   pub lines : new.lines ≡ old.lines
   pub step : next old.server.seed old.server.state (events.Ask 0 request reply) ≡ Some new.server.state
   pub calm : is_calm_reply reply ≡ true
@@ -89,7 +89,7 @@ pub record Answers (old new : Session) (request : Request) (name : Option (List 
   pub replied : Replied old.sink new.sink (reply_line reply) written
 
 -- it was told why a line is no request
-pub record Tells (old new : Session) (why : Unread) (written : Bool) : Type 0 where
+pub record SaysWhy (old new : Session) (why : Unread) (written : Bool) : Type 0 where
   pub lines : new.lines ≡ old.lines
   pub server : new.server ≡ old.server
   pub names : new.names ≡ old.names

@@ -67,7 +67,7 @@ abbrev pub sink_faults : Outside → List ℕ
 sink_faults o = map (λ s. s.faults) o.sinks
 
 -- no count rose
-pub record IsQuiet (old new : Outside) : Type 0 where
+pub record NoCountRose (old new : Outside) : Type 0 where
   pub sources : ¬ (SomeRose (source_faults old) (source_faults new))
   pub sinks : ¬ (SomeRose (sink_faults old) (sink_faults new))
   pub report : ¬ (Rose old.report.faults new.report.faults)
@@ -270,5 +270,5 @@ pub record Said (asked : Asked) (old new : Outside) (told : Report) (status : �
       → (status ≡ 9) ⊎ (told.cause ≡ causes.Memory) ⊎ (status ≡ 6)
   -- where no limit was passed and no count rose, a service gives 0 or 7; and a page gives 0
   pub complete : is_service asked ≡ true → (scripts : List (List ℕ)) → HadLeft old scripts → AreWithin scripts
-      → IsQuiet old new → (status ≡ 0) ⊎ (status ≡ 7)
-  pub shown : (page : Page) → asked ≡ Shows page → IsQuiet old new → status ≡ 0
+      → NoCountRose old new → (status ≡ 0) ⊎ (status ≡ 7)
+  pub shown : (page : Page) → asked ≡ Shows page → NoCountRose old new → status ≡ 0

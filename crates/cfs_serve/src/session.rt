@@ -8,7 +8,7 @@ ghost use Rattle.ufs_model.specs.declared.asked.Event.TheVariants as events;
 ghost use Rattle.ufs_model.specs.declared.asked.Request.{Request};
 ghost use Rattle.ufs_model.specs.declared.asked.Reply.{Reply};
 ghost use Rattle.cfs_serve.specs.Heard.{HasRoom};
-ghost use Rattle.cfs_serve.specs.Session.{Answers, IsServedSo, IsServing, Tells, TakesLine, Terms, terms, wants_memory};
+ghost use Rattle.cfs_serve.specs.Session.{AnswersLine, IsServedSo, IsServing, SaysWhy, TakesLine, Terms, terms, wants_memory};
 
 use crate::binding::bind_reply;
 use crate::hearing::{Heard, hear};
@@ -179,7 +179,7 @@ impl Session {
         requires room { 0 < self.old.trail.room }
         requires words { self.old.server.state.drawn < 4294967295 }
         requires name { HasRoom name self.old.names.room }
-        ensures { (reply : Reply) × Answers (beside self.old (K.intake sink.old)) (beside self.new (K.intake sink.new)) request name reply result }
+        ensures { (reply : Reply) × AnswersLine (beside self.old (K.intake sink.old)) (beside self.new (K.intake sink.new)) request name reply result }
     {
         let reply = self.plain.ask(alloc, 0, &request);
         self.starved = starved_by(&reply, self.starved);
@@ -198,7 +198,7 @@ impl Session {
     /// Tells why a line is no request.
     fn tell<K: Sink>(&mut self, why: Unread, sink: &mut K) -> bool
         requires { 0 < self.old.trail.room }
-        ensures { Tells (beside self.old (K.intake sink.old)) (beside self.new (K.intake sink.new)) why result }
+        ensures { SaysWhy (beside self.old (K.intake sink.old)) (beside self.new (K.intake sink.new)) why result }
     {
         self.starved = why == Unread::Memory || self.starved;
         print_unread(why, &mut self.text);
