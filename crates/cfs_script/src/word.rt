@@ -2,9 +2,9 @@
 ghost use Rattle.std.specs.Prelude.{◌≡◌, MatchOption};
 ghost use Rattle.std.specs.List.{list_all};
 ghost use Rattle.std.specs.Char.{is_ascii_digit};
-ghost use Rattle.ufs_model.specs.Spoken.{Bad, Is, Reading, byte_in, bytes_in, digits_in, grant_in, id_in, number_in, ref_in, ◌⊛◌};
+ghost use Rattle.ufs_model.specs.Spoken.{Bad, Is, Reading, byte_in, bytes_in, commit_in, digits_in, grant_in, id_in, kind_in, mode_in, number_in, ref_in, ◌⊛◌};
 ghost use Rattle.cfs_script.specs.NameTable.{names_of};
-ghost use Rattle.cfs_script.specs.Read.{Answers, commit_in, kind_in, mode_in};
+ghost use Rattle.cfs_script.specs.Read.{Answers};
 
 use crate::fault::ScriptFault;
 use crate::name::{is_id_digits, is_name};

@@ -1,7 +1,7 @@
 -- A leaf of an index as the disk has it, and as the model has it.
 use Rattle.std.proofs.Common.{◌≡◌, ◌≢◌, ◌⊎◌, inl, inr, ℕ, zero, suc, ◌+◌, ◌*◌, ◌/◌, ◌<◌, ◌≤◌, List, [], ◌∷◌, ◌++◌, length, take, drop, get_or, replicate, refl, sym, ◌∙◌, ap, subst, arith, Bool, true, false, cond, Option, Some, None, is_some, nat_le}
 use Rattle.std.specs.Prelude.{find, map, IfSome}
-use Rattle.std.specs.List.{filter_map}
+use Rattle.std.specs.List.{filter_map, range_with_len}
 use Rattle.std.proofs.lemmas.Bool.{cases_lt}
 use Rattle.std.proofs.lemmas.List.{take_at}
 use Rattle.cfs_base.specs.Disk.{Image, AreBlocks, block_at}
@@ -22,7 +22,7 @@ use Rattle.ufs_model.specs.declared.object.Object.{Object}
 use Rattle.ufs_model.specs.declared.object.Object.TheVariants as objects
 use Rattle.ufs_model.specs.declared.object.Index.{Index}
 use Rattle.ufs_model.specs.Graph.{Graph, object_at}
-use Rattle.ufs_model.specs.Numbers.{numbers, numbers_rise, has_number}
+use Rattle.ufs_model.specs.Numbers.{numbers_rise, has_number}
 use Rattle.ufs_model.specs.Object.{leaves_in}
 use Rattle.ufs_model.specs.State.{the_index}
 use Rattle.ufs_model.proofs.Rising.{in_filter, to_filter, in_numbers, to_numbers, numbers-rise, filter-rises}
@@ -54,7 +54,7 @@ at_some image (suc n) h = λ (e : suc n ≡ 0). absurd (omega (arith, e))
 
 record IsIndexRoot (root : roots.Root) (leaf : ℕ → Option Held) (i : Index) : Type 0 where
   kind : root.kind ≡ kinds.Index
-  slots : i.slots ≡ map (slot_in (file_bytes root leaf)) (numbers 0 (root.size / 8))
+  slots : i.slots ≡ map (slot_in (file_bytes root leaf)) (range_with_len 0 (root.size / 8))
   held_leaves : i.held ≡ held_in root leaf
 
 index_root : (root : roots.Root) (leaf : ℕ → Option Held) (i : Index) → object_with root leaf ≡ objects.Index i → IsIndexRoot root leaf i
@@ -88,17 +88,17 @@ module _ (image : Image) (blocks : AreBlocks image) (owner : ℕ) (content : Lis
   index_is = index_root root leaf_at i tree.object
 
   rising : numbers_rise i.held ≡ true
-  rising = subst (λ (ns : List ℕ). numbers_rise ns ≡ true) (sym index_is.held_leaves) (filter-rises (λ n. is_some (leaf_at n)) (numbers 0 count) (numbers-rise 0 count))
+  rising = subst (λ (ns : List ℕ). numbers_rise ns ≡ true) (sym index_is.held_leaves) (filter-rises (λ n. is_some (leaf_at n)) (range_with_len 0 count) (numbers-rise 0 count))
 
   in_held : (leaf : ℕ) → leaf_block image content leaf ≢ 0 → has_number leaf i.held ≡ true
   in_held leaf some =
       let here = held_some image (leaf_block image content leaf) some in
       subst (λ (ns : List ℕ). has_number leaf ns ≡ true) (sym index_is.held_leaves)
-      (to_filter (λ n. is_some (leaf_at n)) leaf (numbers 0 count) (ap is_some here) (to_numbers leaf 0 count (omega arith) (omega (arith, tree.within leaf (held image (leaf_block image content leaf)) here))))
+      (to_filter (λ n. is_some (leaf_at n)) leaf (range_with_len 0 count) (ap is_some here) (to_numbers leaf 0 count (omega arith) (omega (arith, tree.within leaf (held image (leaf_block image content leaf)) here))))
 
   of_held : (leaf : ℕ) → has_number leaf i.held ≡ true → (leaf_block image content leaf ≢ 0) × (leaf < 15360)
   of_held leaf h =
-      let parts = in_filter (λ n. is_some (leaf_at n)) leaf (numbers 0 count) (subst (λ (ns : List ℕ). has_number leaf ns ≡ true) index_is.held_leaves h) in
+      let parts = in_filter (λ n. is_some (leaf_at n)) leaf (range_with_len 0 count) (subst (λ (ns : List ℕ). has_number leaf ns ≡ true) index_is.held_leaves h) in
       let inside = in_numbers leaf 0 count parts.1 in
       (at_some image (leaf_block image content leaf) parts.0, omega (arith, inside.1, tree.spelled.good.1.size.limit))
 

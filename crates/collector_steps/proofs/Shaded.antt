@@ -2,7 +2,7 @@
 use Rattle.std.proofs.Common.{◌≡◌, ℕ, zero, suc, ◌+◌, ◌-◌, ◌<◌, List, [], ◌∷◌, ◌++◌, drop, get_or, length, refl, sym, ap, ◌∙◌, arith, Bool, true, false, cond, Option, Some, None, nat_lt, ◌&&◌, add-one}
 use Rattle.std.specs.Prelude.{map, option_to_list, IfSome}
 use Rattle.std.specs.Ordering.{is_eq}
-use Rattle.std.specs.List.{list_all, filter_map, cons_option}
+use Rattle.std.specs.List.{list_all, filter_map, cons_option, range_with_len}
 use Rattle.std.specs.Map.{keys_of}
 use Rattle.std.proofs.lemmas.Bool.{and_parts}
 use Rattle.std.proofs.lemmas.Bool.Decides.{nat_tests}
@@ -10,7 +10,6 @@ use Rattle.cfs_base.specs.declared.identifier.Puid.{Puid}
 use Rattle.cfs_base.specs.declared.kind.Kind.{Kind}
 use Rattle.ufs_model.specs.Identifier.{puid_cmp, same_puid, rises}
 use Rattle.ufs_model.proofs.Reached.{same_puid_is}
-use Rattle.ufs_model.specs.Numbers.{numbers}
 use Rattle.marking.specs.Colours.{Colours, all_shaded, shaded_in}
 use Rattle.puid_space.specs.Directory.{Listing, is_listing, kind_in, blocks_rise}
 use Rattle.vol_image.specs.Reading.{slot_in}
@@ -49,7 +48,7 @@ shaded_from names bytes slot c below =
     rw rest (here (slot_in bytes slot))
   where
     others : List Puid
-    others = filter_map (λ held. held) (map (slot_in bytes) (numbers (slot + 1) (64 - (slot + 1))))
+    others = filter_map (λ held. held) (map (slot_in bytes) (range_with_len (slot + 1) (64 - (slot + 1))))
 
     here : (held : Option Puid) → all_shaded names (cons_option held others) c ≡ all_shaded names others (all_shaded names (option_to_list held) c)
     here None = refl

@@ -2,14 +2,13 @@
 use Rattle.std.proofs.Common.{◌≡◌, ℕ, zero, suc, ◌+◌, ◌-◌, ◌*◌, ◌<◌, ◌≤◌, refl, sym, ap, ◌∙◌, arith, Bool, true, false, cond, ◌&&◌, ◌⊎◌, inl, inr, List, [], ◌∷◌, ◌++◌, length, get_or, take, drop, replicate, Option, Some, None, ◌==◌}
 use Rattle.std.specs.Prelude.{map, slice_range}
 use Rattle.std.specs.Int.{from_be_bytes, w32}
-use Rattle.std.specs.List.{filter_map, flat_map, cons_option}
+use Rattle.std.specs.List.{filter_map, flat_map, cons_option, range_with_len}
 use Rattle.std.proofs.lemmas.Bool.{cases_lt}
 use Rattle.std.proofs.lemmas.Bool.Decides.{nat_tests}
 use Rattle.std.proofs.lemmas.List.{get_or-drop, get_or-take, get_or_past, get_or_append_left, get_or-append-add, length-take, length-replicate, length-append}
 use Rattle.std.proofs.lemmas.List.FromFn.{get_or-map-range_with_len, length-map-range_with_len}
 use Rattle.cfs_base.specs.declared.identifier.Puid.{Puid}
 use Rattle.block_tree.specs.Pointers.{number_at}
-use Rattle.ufs_model.specs.Numbers.{numbers}
 use Rattle.vol_image.specs.Reading.{leaf_content, leaves_content, slot_in}
 use Rattle.vol_image.specs.Seen.{Held}
 use Rattle.collector_steps.specs.Scan.{ids_from}
@@ -63,17 +62,17 @@ empty_slot xs s zero_bytes = same_slot xs [] s 0 zero_bytes
 -- ---- leaves one after another
 
 -- a byte of one of them
-byte_in : (F : ℕ → List ℕ) → ((n : ℕ) → length (F n) ≡ 512) → (a count l j : ℕ) → l < count → j < 512 → get_or (flat_map F (numbers a count)) (512 * l + j) 0 ≡ get_or (F (a + l)) j 0
+byte_in : (F : ℕ → List ℕ) → ((n : ℕ) → length (F n) ≡ 512) → (a count l j : ℕ) → l < count → j < 512 → get_or (flat_map F (range_with_len a count)) (512 * l + j) 0 ≡ get_or (F (a + l)) j 0
 byte_in F each a zero l j less below = absurd (omega (arith, less))
 byte_in F each a (suc count) zero j less below =
     let at : 512 * 0 + j ≡ j = omega arith in
     let here : a + 0 ≡ a = omega arith in
-    rw (at, here) (get_or_append_left (F a) (flat_map F (numbers (a + 1) count)) 0 j (omega (arith, each a, below)))
+    rw (at, here) (get_or_append_left (F a) (flat_map F (range_with_len (a + 1) count)) 0 j (omega (arith, each a, below)))
 byte_in F each a (suc count) (suc l) j less below =
     let at : 512 * suc l + j ≡ length (F a) + (512 * l + j) = omega (arith, each a) in
     let next : a + 1 + l ≡ a + suc l = omega arith in
-    ap (λ (i : ℕ). get_or (F a ++ flat_map F (numbers (a + 1) count)) i 0) at
-    ∙ get_or-append-add (F a) (flat_map F (numbers (a + 1) count)) (512 * l + j) 0
+    ap (λ (i : ℕ). get_or (F a ++ flat_map F (range_with_len (a + 1) count)) i 0) at
+    ∙ get_or-append-add (F a) (flat_map F (range_with_len (a + 1) count)) (512 * l + j) 0
     ∙ byte_in F each (a + 1) count l j (omega (arith, less)) below
     ∙ ap (λ (n : ℕ). get_or (F n) j 0) next
 
@@ -93,12 +92,12 @@ same_ids (x ∷ xs) (y ∷ ys) same = rw (same 0) (ap (cons_option y) (same_ids 
 -- So many slots lie in so many leaves. Those of one leaf are those of its bytes, where the bytes past the last slot are 0.
 module _ (fill : ℕ) (leaf : ℕ → Option Held) (leaves slots l : ℕ) (inside : l < leaves) (few : slots ≤ 64 * leaves) (filled : (b : ℕ) → b < 512 → 8 * slots ≤ 512 * l + b → get_or (leaf_content fill (leaf l)) b 0 ≡ 0) where
   abbrev bytes : List ℕ
-  bytes = leaves_content fill leaf (numbers 0 leaves)
+  bytes = leaves_content fill leaf (range_with_len 0 leaves)
 
   abbrev content : List ℕ
   content = leaf_content fill (leaf l)
 
-  slot_at : (k : ℕ) → k < 64 → get_or (map (slot_in bytes) (numbers 0 slots)) (64 * l + k) None ≡ slot_in content k
+  slot_at : (k : ℕ) → k < 64 → get_or (map (slot_in bytes) (range_with_len 0 slots)) (64 * l + k) None ≡ slot_in content k
   slot_at k below = elim (cases_lt (64 * l + k) slots) [
     | inl less ↦
         get_or-map-range_with_len (slot_in bytes) 0 slots (64 * l + k) (64 * l + k) None less (omega arith)
@@ -106,20 +105,20 @@ module _ (fill : ℕ) (leaf : ℕ → Option Held) (leaves slots l : ℕ) (insid
         let at : 8 * (64 * l + k) + b ≡ 512 * l + (8 * k + b) = omega arith in
         ap (λ (i : ℕ). get_or bytes i 0) at ∙ byte_in (λ n. leaf_content fill (leaf n)) (λ n. length-leaf fill (leaf n)) 0 leaves l (8 * k + b) inside (omega (arith, below, few)) ∙ ap (λ (n : ℕ). get_or (leaf_content fill (leaf n)) (8 * k + b) 0) (omega arith))
     | inr past ↦
-        get_or_past (map (slot_in bytes) (numbers 0 slots)) (64 * l + k) None (omega (arith, past, length-map-range_with_len (slot_in bytes) 0 slots))
+        get_or_past (map (slot_in bytes) (range_with_len 0 slots)) (64 * l + k) None (omega (arith, past, length-map-range_with_len (slot_in bytes) 0 slots))
         ∙ sym (empty_slot content k (λ b few. filled (8 * k + b) (omega (arith, below, few)) (omega (arith, past))))
   ]
 
-  pub ids_of_leaf : filter_map (λ held. held) (take 64 (drop (64 * l) (map (slot_in bytes) (numbers 0 slots)))) ≡ ids_from content 0
+  pub ids_of_leaf : filter_map (λ held. held) (take 64 (drop (64 * l) (map (slot_in bytes) (range_with_len 0 slots)))) ≡ ids_from content 0
   unfolding ids_from
-  ids_of_leaf = same_ids (take 64 (drop (64 * l) all)) (map (slot_in content) (numbers 0 64)) (λ k. elim (cases_lt k 64) [
+  ids_of_leaf = same_ids (take 64 (drop (64 * l) all)) (map (slot_in content) (range_with_len 0 64)) (λ k. elim (cases_lt k 64) [
     | inl less ↦
         get_or-take 64 (drop (64 * l) all) k None less ∙ get_or-drop (64 * l) all k None ∙ slot_at k less
         ∙ sym (get_or-map-range_with_len (slot_in content) 0 64 k k None less (omega arith))
     | inr past ↦
         get_or_past (take 64 (drop (64 * l) all)) k None (omega (arith, past, length-take 64 (drop (64 * l) all)))
-        ∙ sym (get_or_past (map (slot_in content) (numbers 0 64)) k None (omega (arith, past, length-map-range_with_len (slot_in content) 0 64)))
+        ∙ sym (get_or_past (map (slot_in content) (range_with_len 0 64)) k None (omega (arith, past, length-map-range_with_len (slot_in content) 0 64)))
   ])
     where
       all : List (Option Puid)
-      all = map (slot_in bytes) (numbers 0 slots)
+      all = map (slot_in bytes) (range_with_len 0 slots)

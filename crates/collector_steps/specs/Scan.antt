@@ -1,6 +1,6 @@
 -- A leaf of an index as its bytes, a step of the scan, and why one is refused.
 use Rattle.std.specs.Prelude.{◌≡◌, ◌⊎◌, ℕ, ◌+◌, ◌-◌, ◌<◌, ◌≤◌, Bool, List, [], ◌∷◌, ◌++◌, ◌/◌, get_or, map, false, if◌then◌else◌, Option, Some, None}
-use Rattle.std.specs.List.{filter_map}
+use Rattle.std.specs.List.{filter_map, range_with_len}
 use Rattle.cfs_base.specs.Calls.{HasStopped}
 use Rattle.cfs_base.specs.Codes.{no_root, past_disk}
 use Rattle.cfs_base.specs.Disk.{Image, block_at}
@@ -20,7 +20,6 @@ use Rattle.block_tree.specs.declared.fault.TreeFault.TheVariants as faults
 use Rattle.block_tree.specs.Reads.{IsPast}
 use Rattle.block_tree.specs.Root.{IsRootBlock}
 use Rattle.block_tree.specs.Tree.{tree_of}
-use Rattle.ufs_model.specs.Numbers.{numbers}
 use Rattle.vol_image.specs.Reading.{slot_in}
 use Rattle.marking.specs.Colours.{Colours, all_shaded, moved}
 
@@ -28,7 +27,7 @@ use Rattle.marking.specs.Colours.{Colours, all_shaded, moved}
 
 -- the identifiers in the slots of a leaf with these bytes, from a slot on
 unfoldable pub ids_from : List ℕ → ℕ → List Puid
-ids_from bytes slot = filter_map (λ held. held) (map (slot_in bytes) (numbers slot (64 - slot)))
+ids_from bytes slot = filter_map (λ held. held) (map (slot_in bytes) (range_with_len slot (64 - slot)))
 
 -- where the reading goes on after a step
 abbrev pub next_cursor : HeldStep → Option ℕ

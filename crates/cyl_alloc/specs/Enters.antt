@@ -1,6 +1,6 @@
 -- The least-numbered Free block is entered in its map as something else: with one read, and one write.
 use Rattle.std.specs.Prelude.{◌≡◌, ℕ, ◌<◌, ◌↔◌, false, IsErr, IsTrue, IfErr, IfOk, OnOk, Result, Err, length, sum}
-use Rattle.cfs_base.specs.Calls.{MakesAtMost, OnlyReads}
+use Rattle.cfs_base.specs.Calls.{HasTried, MakesAtMost, OnlyReads}
 use Rattle.cfs_base.specs.Disk.{Image, Written}
 use Rattle.cfs_base.specs.Run.{Leaves, Tells, left_now}
 use Rattle.cfs_base.specs.declared.disk.Disk.{Ghosts}
@@ -25,6 +25,7 @@ pub record Enters {D : Type 0} (g : Ghosts D) (entry : MapEntry) (old new : D) (
   pub on_disk : IfOk result (λ block. block.0 < g.blocks old)
   pub whole : Tells g old → IfOk result (λ block. IsGoodMap (g.content old) block.0)
   pub told : OnOk result ((n : ℕ) → IsTrue (g.told old n) → IsTrue (g.told new n))
+  pub made : OnOk result (HasTried g old new)
   -- the counts are again those of the disk, with one block less in the cylinder
   pub counts : Tells g old → AreCounts (g.content old) before → OnOk result (AreCounts (g.content new) after)
   pub taken : IfOk result (λ block. after ≡ after_taking before block.0)

@@ -1,5 +1,5 @@
 //! The Free blocks of a volume.
-ghost use Rattle.std.specs.Prelude.{◌≡◌, ℕ, ◌+◌, ◌*◌, ◌/◌, ◌<◌, ◌≤◌, ◌↔◌, true, false, length, sum, IsTrue, IsErr, Err, IfOk, IfErr, OnOk};
+ghost use Rattle.std.specs.Prelude.{◌≡◌, ℕ, ◌+◌, ◌*◌, ◌/◌, ◌<◌, ◌≤◌, ◌↔◌, true, false, length, replicate, sum, IsTrue, IsErr, Err, IfOk, IfErr, OnOk};
 ghost use Rattle.cfs_base.specs.Calls.{OnlyReads, MakesAtMost};
 ghost use Rattle.cfs_base.specs.Disk.{Image, Written};
 ghost use Rattle.cfs_base.specs.Refusals.{had_tried, trouble_had_tried};
@@ -16,7 +16,7 @@ ghost use Rattle.cyl_alloc.specs.Space as spec;
 
 use crate::counts::Counts;
 use crate::maps::{read_map, write_entry};
-use cfs_base::{BlockNo, Damage, Disk, Need, Place, Refused, Trouble, code};
+use cfs_base::{BlockNo, Damage, Disk, Need, NoMemory, Place, Refused, Trouble, code};
 use cyl_map::{BlockState, Map, MapEntry};
 use std::alloc::Global;
 use std::marker::Model;
@@ -70,6 +70,16 @@ impl Space {
                 Err(trouble) => return Err(Refused::from(trouble)),
             }
         }
+        Ok(Space { counts })
+    }
+
+    /// No block is Free, before what the caller counts is given by `gave`.
+    pub fn none(alloc: Global, cylinders: u32) -> Result<Space, NoMemory>
+        requires some { 1 ≤ cylinders }
+        requires most { cylinders ≤ 65536 }
+        ensures none { IfOk result (λ space. space.free ≡ replicate cylinders 0) }
+    {
+        let counts = Counts::zeros(alloc, cylinders)?;
         Ok(Space { counts })
     }
 

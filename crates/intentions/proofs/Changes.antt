@@ -1,9 +1,11 @@
 -- An entry is read with its map, and the map is written with the entry changed.
 use Rattle.std.proofs.Common.{◌≡◌, ⊎_elim, ℕ, Ok, Err, IsTrue, List, set, Some, sym, ◌∙◌, ap, subst, arith}
+use Rattle.std.proofs.lemmas.Bool.{false≢true}
 use Rattle.std.proofs.lemmas.Option.{same_Some}
-use Rattle.std.specs.Prelude.{IfErr, OnErr, OnOk, Result, true}
+use Rattle.std.specs.Prelude.{IfErr, OnErr, OnOk, Result, true, false}
 use Rattle.cfs_base.specs.Calls.{HasStopped, HasTried, OnlyReads, MakesAtMost}
 use Rattle.cfs_base.specs.Disk.{Image, Nothing, Written}
+use Rattle.cfs_base.specs.Refusals.{trouble_had_tried}
 use Rattle.cfs_base.specs.Run.{IsSettled, Leaves, Tells, left_now}
 use Rattle.cfs_base.specs.declared.disk.Disk.{Ghosts}
 use Rattle.cfs_base.specs.declared.refusal.Trouble.{Trouble}
@@ -65,6 +67,7 @@ pub record Rewrites {D A : Type 0} (g : Ghosts D) (n : ℕ) (was now : MapEntry)
   pub told : OnOk result ((k : ℕ) → IsTrue (g.told read k) → IsTrue (g.told new k))
   pub images : Tells g old → Leaves g read new (Written (left_now g read) (map_of n) (map_with (g.content read) n now))
   pub refused : IfErr result (IsMapTrouble g old new n)
+  pub by : IfErr result (λ t. t ≡ trouble.Disk true)
   pub tried : HasTried g read new
   pub calls : MakesAtMost g 1 1 read new
 
@@ -78,6 +81,11 @@ all_ok (Err e) p = tt
 all_err : {A P : Type 0} (r : Result A Trouble) → P → IfErr r (λ t. t ≡ trouble.Disk true → P)
 all_err (Ok x) p = tt
 all_err (Err e) p = λ is. p
+
+-- a refusal in which a write was tried
+tried_err : {A : Type 0} (P : Type 0) (r : Result A Trouble) → IfErr r (λ t. t ≡ trouble.Disk true) → IfErr r (λ t. trouble_had_tried t ≡ false → P)
+tried_err P (Ok x) by = tt
+tried_err P (Err t) by = λ no. absurd (false≢true (sym no ∙ ap trouble_had_tried by))
 
 pub rewrites : {D A : Type 0} (g : Ghosts D) (n : ℕ) (f : MapEntry → MapEntry) (was : MapEntry) (old read new : D) (result : Result A Trouble) → Rewrites g n was (f was) old read new result → ChangesEntry g n f old new result
 rewrites g n f was old read new result is =
@@ -104,6 +112,7 @@ rewrites g n f was old read new result is =
       holds = λ graph e run here may. wider g old new (Frames (g.content old) graph) (λ c. Holds c graph) (leaves (Frame (g.content old) graph) e run.holds (keeps_frame g graph old run) here may)
           (λ c on. frames_hold (g.content old) c graph run.holds on);
       refused = is.refused;
+      unless_tried = tried_err (OnlyReads g 1 old new) result is.by;
       whole = all_ok result is.whole;
       whole_tried = all_err result is.whole;
       calls = calls;
@@ -135,6 +144,7 @@ rewrites_bit g n f was map old read new result reads here is_map whole written s
       leaves = λ w e fit run at may. wider g old new (λ c. c ≡ with_entry (g.content old) n (f e)) (IsOn w) (left run.tells e at)
           (λ c is. subst (IsOn w) (sym is) (on_entry w (g.content old) n e (f e) fit run.content at may));
       refused = stopped_bit result by stopped;
+      unless_tried = tried_err (OnlyReads g 1 old new) result by;
       whole = all_ok result whole;
       whole_tried = all_err result whole;
       calls = makes_then g old read new 1 3 4 0 3 3 (reads_make g old read 1 reads) calls (omega arith) (omega arith);

@@ -1,7 +1,8 @@
 -- What a call does that changes one entry, and why it ends.
-use Rattle.std.specs.Prelude.{◌≡◌, ℕ, true, IsTrue, IfErr, OnOk, Result, Some}
-use Rattle.cfs_base.specs.Calls.{HasStopped, HasTried, MakesAtMost}
+use Rattle.std.specs.Prelude.{◌≡◌, ℕ, true, false, IsTrue, IfErr, OnOk, Result, Some}
+use Rattle.cfs_base.specs.Calls.{HasStopped, HasTried, MakesAtMost, OnlyReads}
 use Rattle.cfs_base.specs.Disk.{Written}
+use Rattle.cfs_base.specs.Refusals.{trouble_had_tried}
 use Rattle.cfs_base.specs.Run.{IsSettled, Leaves, Tells, left_now}
 use Rattle.cfs_base.specs.declared.disk.Disk.{Ghosts}
 use Rattle.cfs_base.specs.declared.refusal.Trouble.{Trouble}
@@ -30,6 +31,7 @@ pub record ChangesEntry {D A : Type 0} (g : Ghosts D) (n : ℕ) (f : MapEntry �
   pub holds : (graph : Graph) (e : MapEntry) → Carries g graph old → entry_in (g.content old) n ≡ Some e → MayPut (Frame (g.content old) graph) n e (f e) → Leaves g old new (λ c. Holds c graph)
   -- a device call failed, or the map block was read and is none
   pub refused : IfErr result (IsMapTrouble g old new n)
+  pub unless_tried : IfErr result (λ t. trouble_had_tried t ≡ false → OnlyReads g 1 old new)
   -- no write is tried into a map block that is none
   pub whole : OnOk result (Tells g old → IsGoodMap (g.content old) n)
   pub whole_tried : IfErr result (λ t. t ≡ trouble.Disk true → Tells g old → IsGoodMap (g.content old) n)
@@ -47,6 +49,7 @@ pub record ChangesBit {D A : Type 0} (g : Ghosts D) (n : ℕ) (f : MapEntry → 
   pub keeps : (course : Course) (e : MapEntry) → IsCourse course → Keeps g course old → entry_in (g.content old) n ≡ Some e → MayPut course n e (f e) → OnOk result (Keeps g course new)
   pub leaves : (course : Course) (e : MapEntry) → IsCourse course → Keeps g course old → entry_in (g.content old) n ≡ Some e → MayPut course n e (f e) → Leaves g old new (IsOn course)
   pub refused : IfErr result (IsMapTrouble g old new n)
+  pub unless_tried : IfErr result (λ t. trouble_had_tried t ≡ false → OnlyReads g 1 old new)
   pub whole : OnOk result (Tells g old → IsGoodMap (g.content old) n)
   pub whole_tried : IfErr result (λ t. t ≡ trouble.Disk true → Tells g old → IsGoodMap (g.content old) n)
   pub calls : MakesAtMost g 4 3 old new

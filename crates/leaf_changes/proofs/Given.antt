@@ -1,6 +1,7 @@
 -- The object of a root and leaves, byte by byte or slot by slot.
 use Rattle.std.proofs.Common.{◌≡◌, ◌≢◌, ℕ, zero, suc, ◌+◌, ◌*◌, ◌/◌, ◌%◌, ◌<◌, List, [], ◌∷◌, length, get_or, slice_get, take, Option, None, refl, sym, ◌∙◌, ap, subst, arith}
 use Rattle.std.specs.Prelude.{map, unwrap_or}
+use Rattle.std.specs.List.{range_with_len}
 use Rattle.std.proofs.lemmas.List.{length-take, get_or-take, ext_get_or}
 use Rattle.cfs_base.specs.declared.identifier.Puid.{Puid}
 use Rattle.cfs_base.specs.declared.kind.Kind.{Kind}
@@ -12,7 +13,6 @@ use Rattle.ufs_model.specs.declared.object.Object.{Object}
 use Rattle.ufs_model.specs.declared.object.Object.TheVariants as objects
 use Rattle.ufs_model.specs.declared.object.File.{File}
 use Rattle.ufs_model.specs.declared.object.Index.{Index}
-use Rattle.ufs_model.specs.Numbers.{numbers}
 use Rattle.ufs_model.specs.Object.{leaves_in, size_of}
 use Rattle.vol_image.specs.Seen.{Held}
 use Rattle.vol_image.specs.Reading.{leaf_content, file_bytes, held_in, slot_in, object_with}
@@ -84,7 +84,7 @@ module _ (root : Root) (leaf : ℕ → Option Held) where
   -- ---- indices
 
   the_index : Index
-  the_index = record { slots = map (slot_in (file_bytes root leaf)) (numbers 0 (root.size / 8)); held = held_in root leaf }
+  the_index = record { slots = map (slot_in (file_bytes root leaf)) (range_with_len 0 (root.size / 8)); held = held_in root leaf }
 
   index_object : root.kind ≡ kinds.Index → object_with root leaf ≡ objects.Index the_index
   unfolding object_with the_index

@@ -1,10 +1,11 @@
 -- The leaves that an object holds, as a list of numbers that rise.
 use Rattle.std.proofs.Common.{◌≡◌, ◌⊎◌, inl, inr, ℕ, ◌+◌, ◌-◌, ◌/◌, ◌<◌, ◌≤◌, List, [], ◌∷◌, Bool, true, false, Option, Some, None, refl, sym, ◌∙◌, ap, subst, arith}
 use Rattle.std.specs.Prelude.{is_some}
+use Rattle.std.specs.List.{range_with_len}
 use Rattle.cfs_base.specs.declared.kind.Kind.{Kind}
 use Rattle.cfs_base.specs.declared.kind.Kind.TheVariants as kinds
 use Rattle.block_tree.specs.declared.root.Root.{Root}
-use Rattle.ufs_model.specs.Numbers.{numbers, has_number, numbers_rise, with_number, with_numbers}
+use Rattle.ufs_model.specs.Numbers.{has_number, numbers_rise, with_number, with_numbers}
 use Rattle.ufs_model.specs.Object.{leaves_in, touched, held_leaves}
 use Rattle.vol_image.specs.Seen.{Held}
 use Rattle.vol_image.specs.Reading.{held_in, object_with}
@@ -36,16 +37,16 @@ all-rise (n ∷ ns) ms up = with_number-rises n (with_numbers ns ms) (all-rise n
 
 module _ (root : Root) (leaf : ℕ → Option Held) where
   pub held-rise : numbers_rise (held_in root leaf) ≡ true
-  held-rise = filter-rises (λ n. is_some (leaf n)) (numbers 0 (leaves_in root.size)) (numbers-rise 0 (leaves_in root.size))
+  held-rise = filter-rises (λ n. is_some (leaf n)) (range_with_len 0 (leaves_in root.size)) (numbers-rise 0 (leaves_in root.size))
 
   pub in_held : (n : ℕ) → has_number n (held_in root leaf) ≡ true → (is_some (leaf n) ≡ true) × (n < leaves_in root.size)
   in_held n h =
-      let two = in_filter (λ n. is_some (leaf n)) n (numbers 0 (leaves_in root.size)) h in
+      let two = in_filter (λ n. is_some (leaf n)) n (range_with_len 0 (leaves_in root.size)) h in
       let row = in_numbers n 0 (leaves_in root.size) two.1 in
       (two.0, omega arith)
 
   pub to_held : (n : ℕ) → is_some (leaf n) ≡ true → n < leaves_in root.size → has_number n (held_in root leaf) ≡ true
-  to_held n is less = to_filter (λ n. is_some (leaf n)) n (numbers 0 (leaves_in root.size)) is (to_numbers n 0 (leaves_in root.size) (omega arith) (omega arith))
+  to_held n is less = to_filter (λ n. is_some (leaf n)) n (range_with_len 0 (leaves_in root.size)) is (to_numbers n 0 (leaves_in root.size) (omega arith) (omega arith))
 
   -- they are the numbers that rise and have the same members
   pub held_are : (ns : List ℕ) → numbers_rise ns ≡ true
@@ -81,5 +82,5 @@ in_touched offset count n h =
 pub to_touched : (offset count n : ℕ) → offset / 512 ≤ n → n < leaves_in (offset + count) → has_number n (touched offset count) ≡ true
 to_touched offset count n from below = to_numbers n (offset / 512) (leaves_in (offset + count) - offset / 512) from (omega arith)
 
-pub first_to_last : (offset count : ℕ) → 0 < count → touched offset count ≡ numbers (offset / 512) ((offset + count - 1) / 512 + 1 - offset / 512)
-first_to_last offset count some = ap (numbers (offset / 512)) (omega arith)
+pub first_to_last : (offset count : ℕ) → 0 < count → touched offset count ≡ range_with_len (offset / 512) ((offset + count - 1) / 512 + 1 - offset / 512)
+first_to_last offset count some = ap (range_with_len (offset / 512)) (omega arith)

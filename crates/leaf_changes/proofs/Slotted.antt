@@ -1,6 +1,7 @@
 -- A slot filled or emptied: its 8 bytes are written into its leaf, and give the index with this in the slot.
 use Rattle.std.proofs.Common.{◌≡◌, ◌≢◌, ◌⊎◌, inl, inr, ℕ, ◌+◌, ◌-◌, ◌*◌, ◌/◌, ◌%◌, ◌<◌, ◌≤◌, List, [], ◌∷◌, length, get_or, set, Option, Some, None, Bool, true, false, refl, sym, ◌∙◌, ap, subst, arith, length-set}
 use Rattle.std.specs.Prelude.{is_some, if◌then◌else◌}
+use Rattle.std.specs.List.{range_with_len}
 use Rattle.std.proofs.lemmas.Bool.{cases_lt, cases_eq}
 use Rattle.std.proofs.lemmas.Bool.Decides.{nat_tests}
 use Rattle.std.proofs.lemmas.Nat.{from_be_bytes-to_be_bytes_4}
@@ -11,7 +12,7 @@ use Rattle.block_tree.specs.declared.root.Root.{Root}
 use Rattle.block_tree.specs.Pointers.{number_at}
 use Rattle.ufs_model.specs.declared.object.Object.TheVariants as objects
 use Rattle.ufs_model.specs.declared.object.Index.{Index}
-use Rattle.ufs_model.specs.Numbers.{numbers, with_number, with_numbers}
+use Rattle.ufs_model.specs.Numbers.{with_number, with_numbers}
 use Rattle.ufs_model.specs.Object.{leaves_in, touched, filled, changed_object}
 use Rattle.ufs_model.specs.declared.change.Change.TheVariants.{Fill}
 use Rattle.vol_image.specs.Seen.{Held}
@@ -70,7 +71,7 @@ module _ (root : Root) (old new : ℕ → Option Held) (slot : ℕ) (what : Opti
       alone =
           let first : 8 * slot / 512 ≡ slot / 64 = omega arith in
           let one : leaves_in (8 * slot + length (slot_spelling what)) - 8 * slot / 512 ≡ 1 = omega (arith, length-spelling what) in
-          λ i. numbers (first i) (one i)
+          λ i. range_with_len (first i) (one i)
 
   as_many : is_some (old (slot / 64)) ≡ true → with_number (slot / 64) (held_in root old) ≡ held_in root old
   as_many was = same_numbers (with_number (slot / 64) (held_in root old)) (held_in root old) (with_number-rises (slot / 64) (held_in root old) (held-rise root old)) (held-rise root old)

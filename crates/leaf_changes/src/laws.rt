@@ -1,10 +1,11 @@
 //! What is proved of leaves and the objects that they give, as contracts. None of these calls does anything.
 ghost use Rattle.std.specs.Prelude.{◌≡◌, ◌≢◌, ◌↔◌, ◌⊎◌, ℕ, ◌+◌, ◌-◌, ◌*◌, ◌/◌, ◌%◌, ◌<◌, ◌≤◌, List, length, true, is_some, filter, nat_lt, slice_range, Option, Some, None};
+ghost use Rattle.std.specs.List.{range_with_len};
 ghost use Rattle.cfs_base.specs.declared.identifier.Puid.{Puid};
 ghost use Rattle.cfs_base.specs.declared.kind.FileKind.{FileKind};
 ghost use Rattle.cfs_base.specs.declared.kind.Kind.TheVariants as kinds;
 ghost use Rattle.block_tree.specs.declared.root.Root.{Root};
-ghost use Rattle.ufs_model.specs.Numbers.{numbers, has_number, with_number, with_numbers};
+ghost use Rattle.ufs_model.specs.Numbers.{has_number, with_number, with_numbers};
 ghost use Rattle.ufs_model.specs.Object.{held_leaves, leaves_in, touched, new_file, new_index, size_of, changed_object};
 ghost use Rattle.ufs_model.specs.declared.change.Change.TheVariants.{Fill, Overwrite, SetSize};
 ghost use Rattle.ufs_model.specs.declared.object.File.{File};
@@ -53,7 +54,7 @@ pub fn leaves_are_touched()
     ensures each { (offset count n : ℕ)
         → (has_number n (touched offset count) ≡ true) ↔ ((offset / 512 ≤ n) × (n < leaves_in (offset + count))) }
     ensures first_to_last { (offset count : ℕ) → 0 < count
-        → touched offset count ≡ numbers (offset / 512) ((offset + count - 1) / 512 + 1 - offset / 512) }
+        → touched offset count ≡ range_with_len (offset / 512) ((offset + count - 1) / 512 + 1 - offset / 512) }
     ensures leaves_in { (size n : ℕ) → (n < leaves_in size) ↔ (512 * n < size) }
     ensures whole { (size : ℕ) → size % 512 ≡ 0 → leaves_in size ≡ size / 512 }
     ensures begun { (size : ℕ) → size % 512 ≢ 0 → leaves_in size ≡ size / 512 + 1 }

@@ -3,4 +3,4 @@ pub mod Tables
 pub mod Opened
 pub mod Firsts
 pub mod Taken
-mod Graphs
+pub mod Graphs

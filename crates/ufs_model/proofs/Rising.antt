@@ -1,11 +1,11 @@
 -- Numbers that rise: two lists with the same members are one.
 use Rattle.std.proofs.Common.{◌≡◌, ◌⊎◌, inl, inr, ℕ, zero, suc, ◌+◌, ◌<◌, ◌≤◌, List, [], ◌∷◌, ◌++◌, Bool, true, false, cond, refl, sym, ◌∙◌, ap, subst, arith}
 use Rattle.std.specs.Prelude.{◌==◌, ◌||◌, ◌&&◌, nat_lt, map, filter}
-use Rattle.std.specs.List.{list_all}
+use Rattle.std.specs.List.{list_all, range_with_len}
 use Rattle.std.proofs.lemmas.Bool.{and_parts, and_from, or_cases, eq-eqb, eqb-true, lt-ltb, ltb-true, cases_order}
 use Rattle.std.proofs.lemmas.Bool.Decides.{nat_tests}
 use Rattle.std.proofs.lemmas.List.Folds.{list_all-append}
-use Rattle.ufs_model.specs.Numbers.{numbers, has_number, numbers_rise, with_number, with_numbers}
+use Rattle.ufs_model.specs.Numbers.{has_number, numbers_rise, with_number, with_numbers}
 
 -- ---- members
 
@@ -20,23 +20,23 @@ pub in_cons : (x n : ℕ) (ns : List ℕ) → has_number x (n ∷ ns) ≡ true �
 in_cons x n ns h = elim (or_cases (n == x) (has_number x ns) h) [ inl is ↦ inl (eqb-true n x is) | inr rest ↦ inr rest ]
 
 -- of numbers in a row
-pub in_numbers : (x a n : ℕ) → has_number x (numbers a n) ≡ true → (a ≤ x) × (x < a + n)
+pub in_numbers : (x a n : ℕ) → has_number x (range_with_len a n) ≡ true → (a ≤ x) × (x < a + n)
 in_numbers x a zero h = cc
-in_numbers x a (suc n) h = elim (in_cons x a (numbers (a + 1) n) h) [
+in_numbers x a (suc n) h = elim (in_cons x a (range_with_len (a + 1) n) h) [
   | inl is ↦ (omega arith, omega arith)
   | inr rest ↦ let two = in_numbers x (a + 1) n rest in (omega arith, omega arith)
 ]
 
-pub to_numbers : (x a n : ℕ) → a ≤ x → x < a + n → has_number x (numbers a n) ≡ true
+pub to_numbers : (x a n : ℕ) → a ≤ x → x < a + n → has_number x (range_with_len a n) ≡ true
 to_numbers x a zero from below = absurd (omega arith)
 to_numbers x a (suc n) from below = elim (cases_order a x) [
-  | inl is ↦ subst (λ (y : ℕ). has_number y (a ∷ numbers (a + 1) n) ≡ true) is (here a (numbers (a + 1) n))
-  | inr (inl past) ↦ later x a (numbers (a + 1) n) (to_numbers x (a + 1) n (omega arith) (omega arith))
+  | inl is ↦ subst (λ (y : ℕ). has_number y (a ∷ range_with_len (a + 1) n) ≡ true) is (here a (range_with_len (a + 1) n))
+  | inr (inl past) ↦ later x a (range_with_len (a + 1) n) (to_numbers x (a + 1) n (omega arith) (omega arith))
   | inr (inr under) ↦ absurd (omega arith)
 ]
 
 -- one more in the row
-pub numbers_more : (a n m : ℕ) → a + n ≡ m → numbers a (suc n) ≡ numbers a n ++ m ∷ []
+pub numbers_more : (a n m : ℕ) → a + n ≡ m → range_with_len a (suc n) ≡ range_with_len a n ++ m ∷ []
 numbers_more a zero m is = let same : a ≡ m = omega arith in ap (λ (x : ℕ). x ∷ []) same
 numbers_more a (suc n) m is = ap (λ rest. a ∷ rest) (numbers_more (a + 1) n m (omega arith))
 
@@ -154,9 +154,9 @@ pub all_withs : (P : ℕ → Bool) (ns ms : List ℕ) → list_all P ns ≡ true
 all_withs P [] ms new old = old
 all_withs P (n ∷ ns) ms new old = let two = and_parts (P n) (list_all P ns) new in all_with P n (with_numbers ns ms) two.0 (all_withs P ns ms two.1 old)
 
-pub all_numbers : (P : ℕ → Bool) (a n : ℕ) → ((x : ℕ) → a ≤ x → x < a + n → P x ≡ true) → list_all P (numbers a n) ≡ true
+pub all_numbers : (P : ℕ → Bool) (a n : ℕ) → ((x : ℕ) → a ≤ x → x < a + n → P x ≡ true) → list_all P (range_with_len a n) ≡ true
 all_numbers P a zero each = refl
-all_numbers P a (suc n) each = and_from (P a) (list_all P (numbers (a + 1) n)) (each a (omega arith) (omega arith)) (all_numbers P (a + 1) n (λ x from below. each x (omega arith) (omega arith)))
+all_numbers P a (suc n) each = and_from (P a) (list_all P (range_with_len (a + 1) n)) (each a (omega arith) (omega arith)) (all_numbers P (a + 1) n (λ x from below. each x (omega arith) (omega arith)))
 
 -- ---- what rises
 
@@ -171,9 +171,9 @@ pub all_above : (n : ℕ) (ns : List ℕ) → ((x : ℕ) → has_number x ns ≡
 all_above n [] each = refl
 all_above n (m ∷ ms) each = and_from (nat_lt n m) (list_all (nat_lt n) ms) (lt-ltb n m (each m (here m ms))) (all_above n ms (λ x h. each x (later x m ms h)))
 
-pub numbers-rise : (a n : ℕ) → numbers_rise (numbers a n) ≡ true
+pub numbers-rise : (a n : ℕ) → numbers_rise (range_with_len a n) ≡ true
 numbers-rise a zero = refl
-numbers-rise a (suc n) = and_from _ _ (all_above a (numbers (a + 1) n) (λ x h. let two = in_numbers x (a + 1) n h in omega arith)) (numbers-rise (a + 1) n)
+numbers-rise a (suc n) = and_from _ _ (all_above a (range_with_len (a + 1) n) (λ x h. let two = in_numbers x (a + 1) n h in omega arith)) (numbers-rise (a + 1) n)
 
 pub filter-rises : (P : ℕ → Bool) (ns : List ℕ) → numbers_rise ns ≡ true → numbers_rise (filter P ns) ≡ true
 filter-rises P [] up = refl

@@ -3,10 +3,6 @@ use Rattle.std.specs.Prelude.{ℕ, zero, suc, ◌+◌, ◌/◌, Bool, true, not,
 use Rattle.std.specs.List.{list_any, list_all, range_with_len}
 use Rattle.ufs_model.specs.Limits.{fan_out}
 
--- n numbers from a on
-abbrev pub numbers : ℕ → ℕ → List ℕ
-numbers = range_with_len
-
 abbrev pub has_number : ℕ → List ℕ → Bool
 has_number n ns = list_any (λ m. m == n) ns
 

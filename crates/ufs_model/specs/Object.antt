@@ -1,6 +1,6 @@
 -- Files and indices: what they hold, and how they are made and changed.
 use Rattle.std.specs.Prelude.{ℕ, zero, suc, ◌+◌, ◌-◌, ◌*◌, ◌/◌, ◌%◌, ◌<◌, ◌≤◌, Bool, true, not, ◌&&◌, ◌||◌, ◌==◌, nat_lt, nat_le, is_none, is_some, if◌then◌else◌, List, [], ◌∷◌, ◌++◌, length, filter, take, drop, replicate, slice_get, slice_set, Option, None, unwrap_or, IsTrue}
-use Rattle.std.specs.List.{list_all, sum_by}
+use Rattle.std.specs.List.{list_all, sum_by, range_with_len}
 use Rattle.cfs_base.specs.declared.identifier.Puid.{Puid}
 use Rattle.cfs_base.specs.declared.kind.FileKind.{FileKind}
 use Rattle.ufs_model.specs.Limits.{leaf_bytes, leaf_slots, most_bytes, most_slots}
@@ -10,7 +10,7 @@ use Rattle.ufs_model.specs.declared.object.Object.{Object}
 use Rattle.ufs_model.specs.declared.object.File.{File}
 use Rattle.ufs_model.specs.declared.object.Index.{Index}
 use Rattle.ufs_model.specs.declared.object.Object.TheVariants as objects
-use Rattle.ufs_model.specs.Numbers.{numbers, numbers_rise, has_number, with_number, with_numbers, parents, branches, lacking, shared, merged, within, first_level, next_levels}
+use Rattle.ufs_model.specs.Numbers.{numbers_rise, has_number, with_number, with_numbers, parents, branches, lacking, shared, merged, within, first_level, next_levels}
 
 -- ---- what an object holds: a root block, leaves, and inner blocks that lead to them
 
@@ -39,7 +39,7 @@ leaves_in size = (size + leaf_bytes - 1) / leaf_bytes
 
 -- the leaves with the bytes from offset to offset + count - 1
 abbrev pub touched : ℕ → ℕ → List ℕ
-touched offset count = numbers (offset / leaf_bytes) (leaves_in (offset + count) - offset / leaf_bytes)
+touched offset count = range_with_len (offset / leaf_bytes) (leaves_in (offset + count) - offset / leaf_bytes)
 
 abbrev pub leaf_of_slot : ℕ → ℕ
 leaf_of_slot slot = slot / leaf_slots

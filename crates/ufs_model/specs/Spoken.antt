@@ -105,13 +105,13 @@ ref_in names w =
 abbrev pub grant_in : Names → List ℕ → Reading Tuid
 grant_in names w = only_if (is_name w) (temporary (names.bound w))
 
-abbrev kind_in : List ℕ → Reading FileKind
+abbrev pub kind_in : List ℕ → Reading FileKind
 kind_in w = if is_word w (codes "normal") then Is kinds.Normal else if is_word w (codes "special") then Is kinds.Special else Bad
 
-abbrev mode_in : List ℕ → Reading Mode
+abbrev pub mode_in : List ℕ → Reading Mode
 mode_in w = if is_word w (codes "read") then Is modes.Reading else if is_word w (codes "write") then Is modes.Writing else Bad
 
-abbrev commit_in : List ℕ → Reading Bool
+abbrev pub commit_in : List ℕ → Reading Bool
 commit_in w = if is_word w (codes "commit") then Is true else if is_word w (codes "abort") then Is false else Bad
 
 -- ---- forms of lines

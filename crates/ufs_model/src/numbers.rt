@@ -1,6 +1,7 @@
-//! The numbers of the blocks that an object holds, level by level.
+//! The range_with_len of the blocks that an object holds, level by level.
 ghost use Rattle.std.specs.Prelude.{◌≡◌, ◌+◌, ◌<◌, ◌≤◌, [], ◌∷◌, IfOk, IfSome, IfNone, OnOk, OnErr, unwrap_or, insert, length, nat_le, nat_lt, filter};
-ghost use Rattle.ufs_model.specs.Numbers.{branches, has_number, lacking, merged, numbers, parents, shared, with_number, with_numbers, within};
+ghost use Rattle.std.specs.List.{range_with_len};
+ghost use Rattle.ufs_model.specs.Numbers.{branches, has_number, lacking, merged, parents, shared, with_number, with_numbers, within};
 
 use crate::limits::FAN_OUT;
 use std::alloc::{AllocError, Global};
@@ -36,7 +37,7 @@ impl Numbers {
     /// So many numbers in a row.
     pub fn row(alloc: Global, from: u64, count: u64) -> Result<Numbers, AllocError>
         requires { from + count < 18446744073709551616 }
-        ensures { IfOk result (λ row. row ≡ numbers from count) }
+        ensures { IfOk result (λ row. row ≡ range_with_len from count) }
     {
         let mut row = Vec::new(alloc);
         for number in from..from + count {

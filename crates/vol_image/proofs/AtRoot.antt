@@ -4,7 +4,7 @@ use Rattle.std.proofs.Math.Path.{fun_ext}
 use Rattle.std.proofs.lemmas.List.{drop-replicate, replicate-append-replicate}
 use Rattle.std.proofs.lemmas.Option.{none-some}
 use Rattle.std.specs.Prelude.{map, filter, is_some}
-use Rattle.std.specs.List.{flat_map}
+use Rattle.std.specs.List.{flat_map, range_with_len}
 use Rattle.std.specs.Int.{from_be_bytes, w32}
 use Rattle.cfs_base.specs.Disk.{Image, block_at}
 use Rattle.cfs_base.specs.declared.identifier.Puid.{Puid}
@@ -18,7 +18,6 @@ use Rattle.block_tree.specs.Root.{IsRootBlock}
 use Rattle.block_tree.specs.Tree.{levels_of, path_to, pointer, end_of}
 use Rattle.ufs_model.specs.declared.object.Object.{Object}
 use Rattle.ufs_model.specs.declared.object.Object.TheVariants as objects
-use Rattle.ufs_model.specs.Numbers.{numbers}
 use Rattle.ufs_model.specs.Object.{leaves_in, new_file, new_index}
 use Rattle.vol_image.specs.Part.{BelongsTo, part_at, is_committed}
 use Rattle.vol_image.specs.Seen.{Held, Tree, held_at, tree_in}
@@ -91,7 +90,7 @@ bare_reads image id root bare =
 
 -- ---- an index whose leaves hold zeros alone has empty slots alone
 
-pub length-numbers : (from n : ℕ) → length (numbers from n) ≡ n
+pub length-numbers : (from n : ℕ) → length (range_with_len from n) ≡ n
 length-numbers from zero = refl
 length-numbers from (suc n) = ap suc (length-numbers (from + 1) n)
 
@@ -118,17 +117,17 @@ zero_leaves w f (n ∷ ns) zeros =
     ap (λ (x : List ℕ). x ++ flat_map f ns) (zeros n) ∙ ap (λ (x : List ℕ). replicate w 0 ++ x) (zero_leaves w f ns zeros)
     ∙ replicate-append-replicate w (w * length ns) 0 ∙ ap (λ (n : ℕ). replicate n 0) (omega arith)
 
-empty_slots : (bytes : List ℕ) (m n : ℕ) → bytes ≡ replicate m 0 → map (slot_in bytes) (numbers 0 n) ≡ replicate n None
+empty_slots : (bytes : List ℕ) (m n : ℕ) → bytes ≡ replicate m 0 → map (slot_in bytes) (range_with_len 0 n) ≡ replicate n None
 empty_slots bytes m n is =
-    ap (λ (x : List ℕ). map (slot_in x) (numbers 0 n)) is ∙ all_empty (slot_in (replicate m 0)) (numbers 0 n) (empty_slot m) ∙ ap (λ (l : ℕ). replicate l None) (length-numbers 0 n)
+    ap (λ (x : List ℕ). map (slot_in x) (range_with_len 0 n)) is ∙ all_empty (slot_in (replicate m 0)) (range_with_len 0 n) (empty_slot m) ∙ ap (λ (l : ℕ). replicate l None) (length-numbers 0 n)
 
 pub empty_index : (word size : ℕ) (nodes : List ℕ) (leaf : ℕ → Option Held) → ((n : ℕ) → leaf_content 0 (leaf n) ≡ replicate 512 0)
     → object_with (record { kind = kinds.Index; fill = 0; word = word; size = size; nodes = nodes }) leaf
-    ≡ objects.Index (record { slots = replicate (size / 8) None; held = filter (λ n. is_some (leaf n)) (numbers 0 (leaves_in size)) })
+    ≡ objects.Index (record { slots = replicate (size / 8) None; held = filter (λ n. is_some (leaf n)) (range_with_len 0 (leaves_in size)) })
 unfolding object_with
 empty_index word size nodes leaf zeros =
-    ap (λ (s : List (Option Puid)). objects.Index (record { slots = s; held = filter (λ n. is_some (leaf n)) (numbers 0 (leaves_in size)) }))
-    (empty_slots _ _ (size / 8) (zero_leaves 512 (λ n. leaf_content 0 (leaf n)) (numbers 0 (leaves_in size)) zeros))
+    ap (λ (s : List (Option Puid)). objects.Index (record { slots = s; held = filter (λ n. is_some (leaf n)) (range_with_len 0 (leaves_in size)) }))
+    (empty_slots _ _ (size / 8) (zero_leaves 512 (λ n. leaf_content 0 (leaf n)) (range_with_len 0 (leaves_in size)) zeros))
 
 -- ---- new files and indices
 
@@ -152,7 +151,7 @@ module _ (root : roots.Root) where
       let many : 8 * slots / 8 ≡ slots = omega arith in
       ap bare_object (same_root kinds.Index 0 (8 * slots) kind fill size)
       ∙ empty_index root.word (8 * slots) root.nodes nothing (λ n. refl)
-      ∙ ap (λ (held : List ℕ). objects.Index (record { slots = replicate (8 * slots / 8) None; held = held })) (none_held (numbers 0 (leaves_in (8 * slots))))
+      ∙ ap (λ (held : List ℕ). objects.Index (record { slots = replicate (8 * slots / 8) None; held = held })) (none_held (range_with_len 0 (leaves_in (8 * slots))))
       ∙ ap (λ (n : ℕ). objects.Index (new_index n)) many
 
   pub bare_normal : root.kind ≡ kinds.Normal → root.size ≡ 0 → bare_object root ≡ objects.File (new_file file_kinds.Normal root.fill)

@@ -4,6 +4,7 @@ use Rattle.std.proofs.Math.Path.{fun_ext}
 use Rattle.std.proofs.lemmas.List.{get_or-set_same, get_or-set_other}
 use Rattle.std.proofs.lemmas.Option.{same_Some}
 use Rattle.std.specs.Prelude.{filter}
+use Rattle.std.specs.List.{range_with_len}
 use Rattle.cfs_base.specs.Disk.{Image, block_at}
 use Rattle.cfs_base.specs.declared.identifier.Puid.{Puid}
 use Rattle.cfs_base.specs.declared.kind.Place.TheVariants.{Root, ShadowRoot}
@@ -14,7 +15,6 @@ use Rattle.cyl_map.specs.Volume.{entry_in, with_entry}
 use Rattle.cyl_map.proofs.Volumes.{same_or_not, entry_in-with_entry_same, entry_in-with_entry_other, block_at-with_entry, length-with_entry, entry_in-set}
 use Rattle.ufs_model.specs.declared.object.Object.{Object}
 use Rattle.ufs_model.specs.Graph.{Graph, object_at, with_object}
-use Rattle.ufs_model.specs.Numbers.{numbers}
 use Rattle.vol_image.specs.Part.{IsTaken, SameAt, part_of, stands_for}
 use Rattle.vol_image.specs.Seen.{Held, Tree, tree_in}
 use Rattle.vol_image.specs.Reading.{IsTree}
@@ -88,7 +88,7 @@ module _ (a : Image) (g : Graph) (id : Puid) (was : Object) (e : MapEntry) (hold
         let shadow = shadow_taken a id.block s draft.stands in
         let below : s < 0 + length a = omega (arith, in_image a g holds s shadow.taken.is shadow.taken.here) in
         rw (entry_now, taken_part e.state true e.place e.owner real, length-with_entry a id.block (committed e))
-        (ap (λ (P : ℕ → Bool). filter P (numbers 0 (length a))) (fun_ext stands_same) ∙ one_passes (λ n. stands_for id.block (entry_in a n)) s draft.alone 0 (length a) draft.stands (omega arith) below)
+        (ap (λ (P : ℕ → Bool). filter P (range_with_len 0 (length a))) (fun_ext stands_same) ∙ one_passes (λ n. stands_for id.block (entry_in a n)) s draft.alone 0 (length a) draft.stands (omega arith) below)
 
     pub read_by : IsReadBy a (with_entry a id.block (committed e)) id.block s
     read_by = record { source_is = ap (first_or id.block) now_shadows; stands = stands_same; tree = draft_tree }

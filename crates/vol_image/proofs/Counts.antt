@@ -1,7 +1,7 @@
 -- The blocks of an object by the model are the blocks that its tree holds.
 use Rattle.std.proofs.Common.{◌≡◌, ◌≢◌, ℕ, zero, suc, ◌+◌, ◌*◌, ◌/◌, ◌%◌, ◌<◌, ◌≤◌, List, [], ◌∷◌, ◌++◌, length, take, Bool, true, Option, refl, sym, ◌∙◌, ap, subst, arith}
 use Rattle.std.specs.Prelude.{is_some, filter, map}
-use Rattle.std.specs.List.{sum_by}
+use Rattle.std.specs.List.{sum_by, range_with_len}
 use Rattle.std.proofs.Math.Nat.{div-lt_iff_lt-mul}
 use Rattle.std.proofs.lemmas.Nat.{div-mul-add, mod-mul-add}
 use Rattle.std.proofs.lemmas.List.{take_all, length-append}
@@ -15,7 +15,7 @@ use Rattle.block_tree.specs.Tree.{levels_of, width, path_to, tree_of}
 use Rattle.block_tree.proofs.Walks.{count_is}
 use Rattle.ufs_model.specs.declared.limits.TheConstants.{FAN_OUT}
 use Rattle.ufs_model.specs.declared.object.Object.{Object}
-use Rattle.ufs_model.specs.Numbers.{numbers, has_number, numbers_rise, parents, branches}
+use Rattle.ufs_model.specs.Numbers.{has_number, numbers_rise, parents, branches}
 use Rattle.ufs_model.specs.Object.{inner_levels, held_leaves, held_levels, blocks_of, leaves_in}
 use Rattle.vol_image.specs.Seen.{Held, Tree, tree_in}
 use Rattle.vol_image.specs.Reading.{IsTree, leaf_in, held_in, object_with}
@@ -57,19 +57,19 @@ abbrev stands : Tree → List Level → ℕ → Bool
 stands tree levels n = is_some (tree.below (path_to levels n))
 
 abbrev held_under : Tree → List Level → List ℕ
-held_under tree levels = filter (stands tree levels) (numbers 0 (width levels))
+held_under tree levels = filter (stands tree levels) (range_with_len 0 (width levels))
 
 to_under : (tree : Tree) (levels : List Level) (n : ℕ) → n < width levels → stands tree levels n ≡ true → has_number n (held_under tree levels) ≡ true
-to_under tree levels n less is = to_filter (stands tree levels) n (numbers 0 (width levels)) is (to_numbers n 0 (width levels) (omega arith) (omega arith))
+to_under tree levels n less is = to_filter (stands tree levels) n (range_with_len 0 (width levels)) is (to_numbers n 0 (width levels) (omega arith) (omega arith))
 
 in_under : (tree : Tree) (levels : List Level) (n : ℕ) → has_number n (held_under tree levels) ≡ true → (stands tree levels n ≡ true) × (n < width levels)
 in_under tree levels n h =
-    let two = in_filter (stands tree levels) n (numbers 0 (width levels)) h in
+    let two = in_filter (stands tree levels) n (range_with_len 0 (width levels)) h in
     let row = in_numbers n 0 (width levels) two.1 in
     (two.0, omega arith)
 
 under-rises : (tree : Tree) (levels : List Level) → numbers_rise (held_under tree levels) ≡ true
-under-rises tree levels = filter-rises (stands tree levels) (numbers 0 (width levels)) (numbers-rise 0 (width levels))
+under-rises tree levels = filter-rises (stands tree levels) (range_with_len 0 (width levels)) (numbers-rise 0 (width levels))
 
 -- the leaves that an object holds
 held_with : (root : Root) (leaf : ℕ → Option Held) → held_leaves (object_with root leaf) ≡ held_in root leaf
@@ -136,16 +136,16 @@ module _ (image : Image) (size owner : ℕ) (content : List ℕ) (root : Root) (
 
   leaves_held : held_leaves o ≡ held_under tree (levels_of content)
   leaves_held = ap held_leaves (sym fits.object) ∙ held_with root (leaf_in tree) ∙
-      same_numbers (held_in root (leaf_in tree)) (held_under tree (levels_of content)) (filter-rises leaf (numbers 0 (leaves_in root.size)) (numbers-rise 0 (leaves_in root.size))) (under-rises tree (levels_of content))
+      same_numbers (held_in root (leaf_in tree)) (held_under tree (levels_of content)) (filter-rises leaf (range_with_len 0 (leaves_in root.size)) (numbers-rise 0 (leaves_in root.size))) (under-rises tree (levels_of content))
       (λ x h.
-      let two = in_filter leaf x (numbers 0 (leaves_in root.size)) h in
+      let two = in_filter leaf x (range_with_len 0 (leaves_in root.size)) h in
       let row = in_numbers x 0 (leaves_in root.size) two.1 in
       to_under tree (levels_of content) x (let room = leaves_fit content root fits.spelled.good.1 in omega arith) two.0)
       (λ x h.
       let two = in_under tree (levels_of content) x h in
       let n = tree_of image content (path_to (levels_of content) x) in
       let less = fits.within x (held image n) (held_there image n (some_held image n two.0)) in
-      to_filter leaf x (numbers 0 (leaves_in root.size)) two.0 (to_numbers x 0 (leaves_in root.size) (omega arith) (omega arith)))
+      to_filter leaf x (range_with_len 0 (leaves_in root.size)) two.0 (to_numbers x 0 (leaves_in root.size) (omega arith) (omega arith)))
     where
       leaf : ℕ → Bool
       leaf = stands tree (levels_of content)

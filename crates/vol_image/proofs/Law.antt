@@ -2,12 +2,12 @@
 use Rattle.std.proofs.Common.{◌≡◌, inl, inr, ℕ, [], length, Bool, true, false, cond, Some, refl, sym, ◌∙◌, ap, arith}
 use Rattle.std.proofs.Math.Path.{fun_ext}
 use Rattle.std.specs.Prelude.{filter}
+use Rattle.std.specs.List.{range_with_len}
 use Rattle.cfs_base.specs.Disk.{Image, block_at}
 use Rattle.cfs_base.specs.declared.identifier.Puid.{Puid}
 use Rattle.cyl_map.specs.Volume.{entry_in}
 use Rattle.ufs_model.specs.declared.object.Object.{Object}
 use Rattle.ufs_model.specs.Graph.{Graph, object_at}
-use Rattle.ufs_model.specs.Numbers.{numbers}
 use Rattle.vol_image.specs.Part.{SameAt, part_at, is_committed, stands_for}
 use Rattle.vol_image.specs.Seen.{tree_in}
 use Rattle.vol_image.specs.Sight.{Sight, shadows, source, first_or, sight}
@@ -19,8 +19,8 @@ use Rattle.vol_image.proofs.Views.{same_tree}
 pub same_shadows : (a b : Image) (r : ℕ) → length b ≡ length a → part_at b r ≡ part_at a r → (is_committed (part_at a r) ≡ true → (n : ℕ) → stands_for r (entry_in b n) ≡ stands_for r (entry_in a n)) → shadows b r ≡ shadows a r
 unfolding shadows
 same_shadows a b r size same each =
-    rw (same, size) (elim (is_committed (part_at a r)) as (λ t. is_committed (part_at a r) ≡ t → cond t (filter (λ n. stands_for r (entry_in b n)) (numbers 0 (length a))) [] ≡ cond t (filter (λ n. stands_for r (entry_in a n)) (numbers 0 (length a))) []) [
-      | true ↦ λ bit. ap (λ (P : ℕ → Bool). filter P (numbers 0 (length a))) (fun_ext (each bit))
+    rw (same, size) (elim (is_committed (part_at a r)) as (λ t. is_committed (part_at a r) ≡ t → cond t (filter (λ n. stands_for r (entry_in b n)) (range_with_len 0 (length a))) [] ≡ cond t (filter (λ n. stands_for r (entry_in a n)) (range_with_len 0 (length a))) []) [
+      | true ↦ λ bit. ap (λ (P : ℕ → Bool). filter P (range_with_len 0 (length a))) (fun_ext (each bit))
       | false ↦ λ bit. refl
     ] refl)
 

@@ -3,6 +3,7 @@ use Rattle.std.proofs.Common.{◌≡◌, ◌≢◌, ◌⊎◌, inl, inr, ℕ, �
 use Rattle.std.proofs.lemmas.Bool.Decides.{nat_tests}
 use Rattle.std.proofs.lemmas.Option.{same_Some}
 use Rattle.std.specs.Prelude.{filter}
+use Rattle.std.specs.List.{range_with_len}
 use Rattle.cfs_base.specs.Disk.{Image, block_at}
 use Rattle.cfs_base.specs.declared.identifier.Puid.{Puid}
 use Rattle.cfs_base.specs.declared.kind.Place.{Place}
@@ -17,7 +18,6 @@ use Rattle.cyl_map.specs.Volume.{entry_in}
 use Rattle.cyl_map.proofs.Volumes.{map_in_image}
 use Rattle.ufs_model.specs.declared.object.Object.{Object}
 use Rattle.ufs_model.specs.Graph.{Graph}
-use Rattle.ufs_model.specs.Numbers.{numbers}
 use Rattle.vol_image.specs.Part.{IsTaken, Part, part_in, part_of, part_at, BelongsTo, is_committed, is_fixed, stands_for}
 use Rattle.vol_image.specs.Seen.{Held, tree_in, place_at, place_from}
 use Rattle.vol_image.specs.Reading.{IsTree}
@@ -118,9 +118,9 @@ first_filtered P r (x ∷ xs) = elim (P x) as (λ b. P x ≡ b → (first_or r (
 -- an object is read by its root or by a shadow root that stands for it
 pub source_is : (image : Image) (r : ℕ) → (source image r ≡ r) ⊎ (stands_for r (entry_in image (source image r)) ≡ true)
 unfolding shadows
-source_is image r = elim (is_committed (part_at image r)) as (λ b. (first_or r (cond b (filter (λ n. stands_for r (entry_in image n)) (numbers 0 (length image))) []) ≡ r)
-    ⊎ (stands_for r (entry_in image (first_or r (cond b (filter (λ n. stands_for r (entry_in image n)) (numbers 0 (length image))) []))) ≡ true)) [
-      | true ↦ first_filtered (λ n. stands_for r (entry_in image n)) r (numbers 0 (length image))
+source_is image r = elim (is_committed (part_at image r)) as (λ b. (first_or r (cond b (filter (λ n. stands_for r (entry_in image n)) (range_with_len 0 (length image))) []) ≡ r)
+    ⊎ (stands_for r (entry_in image (first_or r (cond b (filter (λ n. stands_for r (entry_in image n)) (range_with_len 0 (length image))) []))) ≡ true)) [
+      | true ↦ first_filtered (λ n. stands_for r (entry_in image n)) r (range_with_len 0 (length image))
       | false ↦ inl refl
     ]
 

@@ -2,6 +2,7 @@
 use Rattle.std.proofs.Common.{◌≡◌, ◌≢◌, inl, inr, ℕ, ◌<◌, ◌≤◌, List, [], length, set, true, false, cond, Some, refl, sym, ◌∙◌, ap, subst, arith}
 use Rattle.std.proofs.lemmas.List.{get_or-set_same}
 use Rattle.std.specs.Prelude.{filter}
+use Rattle.std.specs.List.{range_with_len}
 use Rattle.cfs_base.specs.Disk.{Image, block_at}
 use Rattle.cfs_base.specs.declared.identifier.Puid.{Puid}
 use Rattle.cfs_base.specs.declared.kind.Place.TheVariants.{Root}
@@ -11,7 +12,6 @@ use Rattle.cyl_map.specs.Volume.{entry_in, with_entry}
 use Rattle.cyl_map.proofs.Volumes.{same_or_not, entry_in-with_entry_same, entry_in-with_entry_other, block_at-with_entry}
 use Rattle.ufs_model.specs.declared.object.Object.{Object}
 use Rattle.ufs_model.specs.Graph.{Graph, object_at, with_object}
-use Rattle.ufs_model.specs.Numbers.{numbers}
 use Rattle.vol_image.specs.Part.{BelongsTo, OwnsItself, part_of, part_at, is_committed, is_fixed, stands_for}
 use Rattle.vol_image.specs.Seen.{Held, Tree, tree_in}
 use Rattle.vol_image.specs.Reading.{IsTree}
@@ -29,7 +29,7 @@ use Rattle.vol_image.proofs.Changes.{others, hold_others, object_put}
 
 few_shadows : (b : Image) (r s : ℕ) → ((n : ℕ) → stands_for r (entry_in b n) ≡ true → n ≡ s) → length (shadows b r) ≤ 1
 unfolding shadows
-few_shadows b r s only = elim (is_committed (part_at b r)) as (λ t. length (cond t (filter (λ n. stands_for r (entry_in b n)) (numbers 0 (length b))) []) ≤ 1) [
+few_shadows b r s only = elim (is_committed (part_at b r)) as (λ t. length (cond t (filter (λ n. stands_for r (entry_in b n)) (range_with_len 0 (length b))) []) ≤ 1) [
   | true ↦ one_at_most (λ n. stands_for r (entry_in b n)) s only 0 (length b)
   | false ↦ omega arith
 ]

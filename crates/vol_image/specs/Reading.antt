@@ -1,6 +1,6 @@
 -- The object that a tree gives, and when a tree is one.
 use Rattle.std.specs.Prelude.{◌≡◌, ℕ, ◌+◌, ◌*◌, ◌/◌, ◌<◌, ◌≤◌, ◌==◌, ◌&&◌, if◌then◌else◌, is_some, IsTrue, List, [], ◌∷◌, ◌++◌, length, take, replicate, get_or, map, filter, Option, Some, None}
-use Rattle.std.specs.List.{flat_map}
+use Rattle.std.specs.List.{flat_map, range_with_len}
 use Rattle.cfs_base.specs.declared.identifier.Puid.{Puid}
 use Rattle.cfs_base.specs.declared.kind.Kind.TheVariants as kinds
 use Rattle.cfs_base.specs.declared.kind.FileKind.{FileKind}
@@ -11,7 +11,6 @@ use Rattle.block_tree.specs.Root.{IsRootBlock}
 use Rattle.block_tree.specs.Tree.{levels_of, path_to}
 use Rattle.ufs_model.specs.declared.object.Object.{Object}
 use Rattle.ufs_model.specs.declared.object.Object.TheVariants as objects
-use Rattle.ufs_model.specs.Numbers.{numbers}
 use Rattle.ufs_model.specs.Object.{leaves_in}
 use Rattle.vol_image.specs.Part.{BelongsTo}
 use Rattle.vol_image.specs.Seen.{Held, Tree, place_at}
@@ -38,10 +37,10 @@ slot_in bytes s =
     else Some (record { block = number_at bytes (2 * s); word = number_at bytes (2 * s + 1) })
 
 abbrev pub held_in : Root → (ℕ → Option Held) → List ℕ
-held_in root leaf = filter (λ n. is_some (leaf n)) (numbers 0 (leaves_in root.size))
+held_in root leaf = filter (λ n. is_some (leaf n)) (range_with_len 0 (leaves_in root.size))
 
 abbrev pub file_bytes : Root → (ℕ → Option Held) → List ℕ
-file_bytes root leaf = leaves_content root.fill leaf (numbers 0 (leaves_in root.size))
+file_bytes root leaf = leaves_content root.fill leaf (range_with_len 0 (leaves_in root.size))
 
 abbrev file_with : FileKind → Root → (ℕ → Option Held) → Object
 file_with kind root leaf = objects.File (record { kind = kind; fill = root.fill; bytes = take root.size (file_bytes root leaf); held = held_in root leaf })
@@ -51,7 +50,7 @@ unfoldable pub object_with : Root → (ℕ → Option Held) → Object
 object_with root leaf = elim root.kind [
   | kinds.Normal ↦ file_with file_kinds.Normal root leaf
   | kinds.Special ↦ file_with file_kinds.Special root leaf
-  | kinds.Index ↦ objects.Index (record { slots = map (slot_in (file_bytes root leaf)) (numbers 0 (root.size / 8)); held = held_in root leaf })
+  | kinds.Index ↦ objects.Index (record { slots = map (slot_in (file_bytes root leaf)) (range_with_len 0 (root.size / 8)); held = held_in root leaf })
 ]
 
 -- what a root reads as where nothing stands below it

@@ -1,14 +1,14 @@
 -- All that an image shows of one object.
 use Rattle.std.specs.Prelude.{ℕ, if◌then◌else◌, List, [], ◌∷◌, length, filter, Option}
+use Rattle.std.specs.List.{range_with_len}
 use Rattle.cfs_base.specs.Disk.{Image, block_at}
-use Rattle.ufs_model.specs.Numbers.{numbers}
 use Rattle.cyl_map.specs.Volume.{entry_in}
 use Rattle.vol_image.specs.Part.{Part, part_at, is_committed, stands_for}
 use Rattle.vol_image.specs.Seen.{Tree, tree_in}
 
 -- the shadow roots that stand for an object, where its commit bit does
 unfoldable pub shadows : Image → ℕ → List ℕ
-shadows image r = if is_committed (part_at image r) then filter (λ n. stands_for r (entry_in image n)) (numbers 0 (length image)) else []
+shadows image r = if is_committed (part_at image r) then filter (λ n. stands_for r (entry_in image n)) (range_with_len 0 (length image)) else []
 
 abbrev pub first_or : ℕ → List ℕ → ℕ
 first_or r [] = r

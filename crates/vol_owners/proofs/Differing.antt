@@ -1,6 +1,7 @@
 -- Fresh blocks of a draft are those whose pointers differ from the object's own.
 use Rattle.std.proofs.Common.{◌≡◌, ◌≢◌, inl, inr, ℕ, zero, suc, ◌-◌, ◌<◌, List, [], length, get_or, take, Bool, true, false, ◌==◌, Some, refl, sym, ◌∙◌, ap, arith}
 use Rattle.std.specs.Prelude.{filter, is_some}
+use Rattle.std.specs.List.{range_with_len}
 use Rattle.std.proofs.Math.Path.{fun_ext}
 use Rattle.std.proofs.lemmas.Bool.{and_left, and_parts, both_ways, cases_Bool, eq-eqb, ne_eqb}
 use Rattle.cfs_base.specs.Disk.{Image, block_at}
@@ -12,7 +13,6 @@ use Rattle.cyl_map.specs.declared.entry.MapEntry.{MapEntry}
 use Rattle.cyl_map.specs.Volume.{entry_in}
 use Rattle.ufs_model.specs.declared.object.Object.{Object}
 use Rattle.ufs_model.specs.Graph.{Graph, object_at}
-use Rattle.ufs_model.specs.Numbers.{numbers}
 use Rattle.vol_image.specs.Seen.{Held, Tree, held_at, tree_in}
 use Rattle.vol_image.specs.Sight.{first_or, sight, source}
 use Rattle.vol_image.specs.Sound.{Holds}
@@ -87,7 +87,7 @@ module _ (image : Image) (g : Graph) (holds : Holds image g) (id : Puid) (o : Ob
 
   pub differing_are_fresh : (depth : ℕ) → standing_at (is_meant_for image id.block) (tree_in image (content_of d)) depth ≡ differing_at image own (content_of d) depth
   differing_are_fresh depth =
-      ap (λ (P : ℕ → Bool). filter P (numbers 0 (width (take depth (levels_of (content_of d)))))) (fun_ext (λ k. differs_is_meant (path_to (take depth (levels_of (content_of d))) k)))
+      ap (λ (P : ℕ → Bool). filter P (range_with_len 0 (width (take depth (levels_of (content_of d)))))) (fun_ext (λ k. differs_is_meant (path_to (take depth (levels_of (content_of d))) k)))
 
 -- the blocks so many levels up from the leaves
 level_up : (test : ℕ → Bool) (tree : Tree) (n k : ℕ) → k < n → get_or (levels_standing test tree n) k [] ≡ standing_at test tree (n - k)

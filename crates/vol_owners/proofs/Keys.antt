@@ -124,32 +124,41 @@ block_there g x o at = among (ids_of g) (sym (is_there-ids g x) ∙ there_from g
 
 -- ---- blocks of all objects
 
-abbrev owned_of : (BlockState → Bool) → Image → List (Puid × Object) → ℕ → Bool
-owned_of test image es n = is_placed test (entry_in image n) && has_block es (owner_of (entry_in image n))
+abbrev owned_of : (ℕ → Bool) → Image → List (Puid × Object) → ℕ → Bool
+owned_of P image es n = P n && has_block es (owner_of (entry_in image n))
 
--- the blocks with an owner in a graph, in such a state, object by object
-pub owned_sum : (test : BlockState → Bool) (image : Image) (g : Graph) → Holds image g → rises (ids_of g) ≡ true
-    → count_in (λ n. is_placed test (entry_in image n) && has_block g.objects (owner_of (entry_in image n))) 0 (length image) ≡ sum_by (λ e. count_of test image e.0.block) g.objects
-owned_sum test image g holds up = at g.objects (blocks_apart image g holds up)
+-- of the blocks that pass a test those with this owner
+abbrev pub count_owned : (ℕ → Bool) → Image → ℕ → ℕ
+count_owned P image r = count_in (λ n. P n && (r == owner_of (entry_in image n))) 0 (length image)
+
+-- the blocks with an owner in a graph that pass a test, object by object
+pub owned_sum_by : (P : ℕ → Bool) (image : Image) (g : Graph) → Holds image g → rises (ids_of g) ≡ true
+    → count_in (λ n. P n && has_block g.objects (owner_of (entry_in image n))) 0 (length image) ≡ sum_by (λ e. count_owned P image e.0.block) g.objects
+owned_sum_by P image g holds up = at g.objects (blocks_apart image g holds up)
   where
     one_or : (p b c : Bool) → (b ≡ true → c ≡ false) → one_of (p && (b || c)) ≡ one_of (p && b) + one_of (p && c)
     one_or false b c apart = refl
     one_or true false c apart = omega arith
     one_or true true c apart = rw (apart refl) refl
 
-    at : (es : List (Puid × Object)) → BlocksApart es → count_in (owned_of test image es) 0 (length image) ≡ sum_by (λ e. count_of test image e.0.block) es
-    at [] apart = run_zeros (λ n. one_of (owned_of test image [] n)) 0 (length image) (λ n. none (is_placed test (entry_in image n)))
+    at : (es : List (Puid × Object)) → BlocksApart es → count_in (owned_of P image es) 0 (length image) ≡ sum_by (λ e. count_owned P image e.0.block) es
+    at [] apart = run_zeros (λ n. one_of (owned_of P image [] n)) 0 (length image) (λ n. none (P n))
       where
         none : (p : Bool) → one_of (p && false) ≡ 0
         none true = refl
         none false = refl
     at (e ∷ es) apart =
-        let split : count_in (owned_of test image (e ∷ es)) 0 (length image) ≡ count_of test image e.0.block + count_in (owned_of test image es) 0 (length image) =
-        sum_each (λ n. one_of (owned_of test image (e ∷ es) n)) (λ n. one_of (is_of test e.0.block (entry_in image n)) + one_of (owned_of test image es n)) (range_with_len 0 (length image))
-        (λ n. one_or (is_placed test (entry_in image n)) (e.0.block == owner_of (entry_in image n)) (has_block es (owner_of (entry_in image n)))
+        let split : count_in (owned_of P image (e ∷ es)) 0 (length image) ≡ count_owned P image e.0.block + count_in (owned_of P image es) 0 (length image) =
+        sum_each (λ n. one_of (owned_of P image (e ∷ es) n)) (λ n. one_of (P n && (e.0.block == owner_of (entry_in image n))) + one_of (owned_of P image es n)) (range_with_len 0 (length image))
+        (λ n. one_or (P n) (e.0.block == owner_of (entry_in image n)) (has_block es (owner_of (entry_in image n)))
         (λ is. subst (λ (b : ℕ). has_block es b ≡ false) (eqb-true e.0.block (owner_of (entry_in image n)) is) apart.0))
-        ∙ sum_both (λ n. one_of (is_of test e.0.block (entry_in image n))) (λ n. one_of (owned_of test image es n)) (range_with_len 0 (length image)) in
-        omega (arith, split, at es apart.1, sum_by-cons (λ (x : Puid × Object). count_of test image x.0.block) e es)
+        ∙ sum_both (λ n. one_of (P n && (e.0.block == owner_of (entry_in image n)))) (λ n. one_of (owned_of P image es n)) (range_with_len 0 (length image)) in
+        omega (arith, split, at es apart.1, sum_by-cons (λ (x : Puid × Object). count_owned P image x.0.block) e es)
+
+-- the same of those in some state
+pub owned_sum : (test : BlockState → Bool) (image : Image) (g : Graph) → Holds image g → rises (ids_of g) ≡ true
+    → count_in (λ n. is_placed test (entry_in image n) && has_block g.objects (owner_of (entry_in image n))) 0 (length image) ≡ sum_by (λ e. count_of test image e.0.block) g.objects
+owned_sum test image g holds up = owned_sum_by (λ n. is_placed test (entry_in image n)) image g holds up
 
 -- ---- drafts, object by object
 

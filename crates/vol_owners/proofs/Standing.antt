@@ -1,7 +1,7 @@
 -- The blocks that stand in a tree and pass a test, as a list of different numbers.
 use Rattle.std.proofs.Common.{◌≡◌, inl, inr, ℕ, zero, suc, ◌+◌, ◌*◌, ◌%◌, ◌<◌, ◌≤◌, List, [], ◌∷◌, ◌++◌, length, take, Bool, true, Option, Some, None, refl, sym, ◌∙◌, ap, subst, arith, length-append}
 use Rattle.std.specs.Prelude.{map, filter, is_some}
-use Rattle.std.specs.List.{sum_by}
+use Rattle.std.specs.List.{sum_by, range_with_len}
 use Rattle.std.proofs.Math.Path.{fun_ext}
 use Rattle.std.proofs.lemmas.Bool.{or_cases, or_left, or_right, cases_lt}
 use Rattle.std.proofs.lemmas.Nat.{div-mul-add, mod-mul-add}
@@ -12,7 +12,7 @@ use Rattle.block_tree.specs.declared.root.Root.{Root}
 use Rattle.block_tree.specs.Pointers.{Level}
 use Rattle.block_tree.specs.Tree.{levels_of, width, path_to, tree_of}
 use Rattle.ufs_model.specs.declared.object.Object.{Object}
-use Rattle.ufs_model.specs.Numbers.{numbers, has_number}
+use Rattle.ufs_model.specs.Numbers.{has_number}
 use Rattle.vol_image.specs.Seen.{Held, Tree, tree_in}
 use Rattle.vol_image.specs.Reading.{IsTree}
 use Rattle.vol_image.specs.Count.{held_at_depth, levels_held}
@@ -95,7 +95,7 @@ pub levels_all : (tree : Tree) (d : ℕ) → levels_standing (λ n. true) tree d
 levels_all tree zero = refl
 levels_all tree (suc d) =
     let same : standing_at (λ n. true) tree (suc d) ≡ held_at_depth tree (suc d) =
-    ap (λ (P : ℕ → Bool). filter P (numbers 0 (width (take (suc d) (levels_of tree.root))))) (fun_ext (λ k. any (tree.below (path_to (take (suc d) (levels_of tree.root)) k)))) in
+    ap (λ (P : ℕ → Bool). filter P (range_with_len 0 (width (take (suc d) (levels_of tree.root))))) (fun_ext (λ k. any (tree.below (path_to (take (suc d) (levels_of tree.root)) k)))) in
     λ i. same i ∷ levels_all tree d i
   where
     any : (o : Option Held) → passes (λ n. true) o ≡ is_some o
@@ -127,7 +127,7 @@ module _ (image : Image) (size owner : ℕ) (content : List ℕ) (root : Root) (
 
   listed : (d k : ℕ) → has_number k (standing_at test tree d) ≡ true → IsListed d k
   listed d k h =
-      let two = in_filter (λ k. passes test (tree.below (path d k))) k (numbers 0 (width (take d (levels_of content)))) h in
+      let two = in_filter (λ k. passes test (tree.below (path d k))) k (range_with_len 0 (width (take d (levels_of content)))) h in
       let row = in_numbers k 0 (width (take d (levels_of content))) two.1 in
       at (tree.below (path d k)) refl two.0 (omega arith)
     where
@@ -157,7 +157,7 @@ module _ (image : Image) (size owner : ℕ) (content : List ℕ) (root : Root) (
       let passed : passes test (tree.below (path d k)) ≡ true = ap (passes test) found ∙ ap test s.stands.is ∙ s.passed in
       subst (λ (m : ℕ). has_number m (blocks_at test tree d) ≡ true) (ap block_in found ∙ s.stands.is)
       (to_map (λ k. block_in (tree.below (path d k))) k (standing_at test tree d)
-      (to_filter (λ k. passes test (tree.below (path d k))) k (numbers 0 (width (take d (levels_of content)))) passed (to_numbers k 0 (width (take d (levels_of content))) (omega arith) (omega (arith, again.0)))))
+      (to_filter (λ k. passes test (tree.below (path d k))) k (range_with_len 0 (width (take d (levels_of content)))) passed (to_numbers k 0 (width (take d (levels_of content))) (omega arith) (omega (arith, again.0)))))
 
   in_down : (d n : ℕ) → d ≤ length (levels_of content) → has_number n (blocks_down test tree d) ≡ true → (k : ℕ) × (k ≤ d) × StandsAt test tree k n
   in_down zero n few h = cc
@@ -183,7 +183,7 @@ module _ (image : Image) (size owner : ℕ) (content : List ℕ) (root : Root) (
   down_differ (suc d) few =
       append_differ (blocks_at test tree (suc d)) (blocks_down test tree d)
       (map_differ (λ k. block_in (tree.below (path (suc d) k))) (standing_at test tree (suc d))
-      (rising_differ (standing_at test tree (suc d)) (filter-rises (λ k. passes test (tree.below (path (suc d) k))) (numbers 0 (width (take (suc d) (levels_of content)))) (numbers-rise 0 (width (take (suc d) (levels_of content)))))) names)
+      (rising_differ (standing_at test tree (suc d)) (filter-rises (λ k. passes test (tree.below (path (suc d) k))) (range_with_len 0 (width (take (suc d) (levels_of content)))) (numbers-rise 0 (width (take (suc d) (levels_of content)))))) names)
       (down_differ d (omega arith))
       (λ n here lower. let rest = in_down d n (omega arith) lower in let same = one_stand (suc d) rest.0 n (at_depth (suc d) n few here) rest.2 in omega (arith, same, rest.1))
     where

@@ -1,7 +1,7 @@
 -- Each block of an image has one use, and its entry says which: Free, fixed, of the tree of one object, of one draft,
 -- or of an object that is gone.
 use Rattle.std.specs.Prelude.{◌≡◌, ◌⊎◌, ℕ, zero, suc, Bool, true, false, not, ◌&&◌, ◌==◌, List, [], ◌∷◌, ◌++◌, length, take, get_or, filter, Option, Some, None, option_to_list}
-use Rattle.std.specs.List.{list_all}
+use Rattle.std.specs.List.{list_all, range_with_len}
 use Rattle.cfs_base.specs.Disk.{Image, block_at}
 use Rattle.cfs_base.specs.declared.identifier.Puid.{Puid}
 use Rattle.block_tree.specs.declared.root.Root as roots
@@ -13,7 +13,7 @@ use Rattle.ufs_model.specs.declared.object.Draft.{Draft}
 use Rattle.ufs_model.specs.declared.object.Object.{Object}
 use Rattle.ufs_model.specs.Identifier.{same_puid}
 use Rattle.ufs_model.specs.Graph.{Graph, object_at, is_there}
-use Rattle.ufs_model.specs.Numbers.{numbers, has_number}
+use Rattle.ufs_model.specs.Numbers.{has_number}
 use Rattle.vol_image.specs.Part.{part_at, is_committed, is_fixed, stands_for}
 use Rattle.vol_image.specs.Seen.{Held, Tree, tree_in}
 use Rattle.vol_image.specs.Reading.{IsTree}
@@ -46,7 +46,7 @@ passes test (Some h) = test h.block
 -- so many levels below a root of this content the numbers of those paths that pass a test
 abbrev pub numbers_at : (List ℕ → Bool) → List ℕ → ℕ → List ℕ
 numbers_at test root d =
-    filter (λ k. test (path_to (take d (levels_of root)) k)) (numbers 0 (width (take d (levels_of root))))
+    filter (λ k. test (path_to (take d (levels_of root)) k)) (range_with_len 0 (width (take d (levels_of root))))
 
 -- of the blocks so many levels below the root those that pass a test; and level by level, from this depth up
 abbrev pub standing_at : (ℕ → Bool) → Tree → ℕ → List ℕ

@@ -1,6 +1,7 @@
 -- Single damages of the volume after the stored run: each image has the fault that its line of the table says.
 use Rattle.std.proofs.Common.{◌≡◌, ◌≢◌, inr, ℕ, ◌*◌, false, List, [], ◌∷◌, ◌++◌, length, take, replicate, get_or, set, Option, Some, None, refl, sym, ◌∙◌, ap, subst, arith}
 use Rattle.std.specs.Prelude.{map, slice_get}
+use Rattle.std.specs.List.{range_with_len}
 use Rattle.std.proofs.lemmas.Option.{none-some}
 use Rattle.cfs_base.specs.Disk.{Image, block_at}
 use Rattle.cfs_base.specs.declared.identifier.Puid.{Puid}
@@ -18,7 +19,6 @@ use Rattle.cyl_map.specs.Reading.{entry_of}
 use Rattle.cyl_map.specs.Volume.{entry_in, with_bytes, with_entry}
 use Rattle.ufs_model.specs.declared.object.Object.TheVariants as objects
 use Rattle.ufs_model.specs.declared.object.Index.{Index}
-use Rattle.ufs_model.specs.Numbers.{numbers}
 use Rattle.vol_image.specs.Part.{Part, part_at, is_committed, BelongsTo}
 use Rattle.vol_image.specs.Seen.{Tree, tree_in}
 use Rattle.vol_image.specs.Reading.{leaf_in, slot_in, object_with}
@@ -146,7 +146,7 @@ abbrev other_leaf : List ℕ
 other_leaf = set leaf_block 7 0xa1
 
 abbrev other_index : Index
-other_index = record { slots = map (slot_in (take 512 (other_leaf ++ replicate 512 0) ++ [])) (numbers 0 64); held = 0 ∷ [] }
+other_index = record { slots = map (slot_in (take 512 (other_leaf ++ replicate 512 0) ++ [])) (range_with_len 0 64); held = 0 ∷ [] }
 
 abbrev other_a : Puid
 other_a = record { block = 3; word = 0x903df1a1 }

@@ -1,7 +1,7 @@
 -- The worked volume with a draft has its accounts: 56 Free blocks.
 use Rattle.std.proofs.Common.{◌≡◌, ◌⊎◌, inl, inr, ℕ, zero, suc, ◌||◌, ◌&&◌, cond, List, [], ◌∷◌, length, get_or, take, Bool, true, false, Option, Some, None, refl, sym, ◌∙◌, ap, subst, arith}
 use Rattle.std.specs.Prelude.{filter, is_some}
-use Rattle.std.specs.List.{list_all}
+use Rattle.std.specs.List.{list_all, range_with_len}
 use Rattle.std.proofs.Math.Path.{fun_ext}
 use Rattle.std.proofs.lemmas.Option.{same_Some}
 use Rattle.std.proofs.lemmas.Bool.{and_parts, both_ways, false_from_ne_true}
@@ -19,7 +19,6 @@ use Rattle.ufs_model.specs.declared.object.Object.TheVariants as objects
 use Rattle.ufs_model.specs.Graph.{has_block, is_there}
 use Rattle.ufs_model.specs.Identifier.{same_puid}
 use Rattle.ufs_model.specs.Object.{new_index}
-use Rattle.ufs_model.specs.Numbers.{numbers}
 use Rattle.vol_image.specs.Part.{stands_for}
 use Rattle.vol_image.specs.Seen.{tree_in}
 use Rattle.vol_image.specs.Reading.{IsTree}
@@ -104,8 +103,8 @@ changed =
 -- of the blocks in its tree none stands
 none_standing : (test : ℕ → Bool) (d : ℕ) → standing_at test (tree_in drafted_image a_block) d ≡ []
 none_standing test d =
-    ap (λ (P : ℕ → Bool). filter P (numbers 0 (width (take d (levels_of a_block))))) (fun_ext (λ k. ap (passes test) (below_none drafted_image a_block 120 a_pointers (path_to (take d (levels_of a_block)) k))))
-    ∙ none (numbers 0 (width (take d (levels_of a_block))))
+    ap (λ (P : ℕ → Bool). filter P (range_with_len 0 (width (take d (levels_of a_block))))) (fun_ext (λ k. ap (passes test) (below_none drafted_image a_block 120 a_pointers (path_to (take d (levels_of a_block)) k))))
+    ∙ none (range_with_len 0 (width (take d (levels_of a_block))))
   where
     none : (ns : List ℕ) → filter (λ n. false) ns ≡ []
     none [] = refl

@@ -1,6 +1,6 @@
 -- A volume that is sound but for its room: a has 54 leaves, and 3 blocks are left.
 use Rattle.std.proofs.Common.{◌≡◌, ◌+◌, true, false, length, drop, replicate, Option, Some, refl, ap, arith, []}
-use Rattle.std.specs.List.{list_all}
+use Rattle.std.specs.List.{list_all, range_with_len}
 use Rattle.cfs_base.specs.Disk.{Image, block_at}
 use Rattle.cfs_base.specs.declared.kind.Place.TheVariants as places
 use Rattle.cyl_map.specs.declared.entry.MapEntry.{MapEntry}
@@ -9,7 +9,6 @@ use Rattle.cyl_map.specs.Reading.{entry_of}
 use Rattle.cyl_map.specs.Volume.{entry_in, with_bytes, with_entry}
 use Rattle.ufs_model.specs.declared.object.Object.TheVariants as objects
 use Rattle.ufs_model.specs.Graph.{referred}
-use Rattle.ufs_model.specs.Numbers.{numbers}
 use Rattle.vol_image.specs.Part.{part_at, part_of, is_committed, reserved}
 use Rattle.vol_image.specs.Sight.{sight}
 use Rattle.vol_image.specs.Sound.{ReadsAs, LeavesFour, graph_blocks}
@@ -52,7 +51,7 @@ record HasEntries (image : Image) : Type 0 where
   label : entry_in image 1 ≡ Some reserved
   object : entry_in image 3 ≡ Some (entry_of_block places.Root 3)
   node : entry_in image 6 ≡ Some (entry_of_block (places.Node 0) 3)
-  leaves : list_all (λ k. is_leaf k (part_at image (7 + k))) (numbers 0 54) ≡ true
+  leaves : list_all (λ k. is_leaf k (part_at image (7 + k))) (range_with_len 0 54) ≡ true
 
 entries : HasEntries full_image
 unfolding full_image dead_end worked_image worked_maps zero_block with_entry with_bytes spelling entry_in entry_of
@@ -78,7 +77,7 @@ full_reads = reads_by_root full_image a full_block full_root (objects.Index full
 
 no_slot : referred (objects.Index full_index) ≡ []
 unfolding full_index
-no_slot = refers_to_none 3456 (numbers 0 54)
+no_slot = refers_to_none 3456 (range_with_len 0 54)
 
 -- ---- its room
 

@@ -1,7 +1,7 @@
 -- The tree of a where it has 54 leaves of zeros.
 use Rattle.std.proofs.Common.{◌≡◌, ◌⊎◌, inl, inr, ℕ, zero, suc, ◌+◌, ◌/◌, ◌%◌, ◌<◌, ◌==◌, ◌&&◌, Bool, true, false, List, [], ◌∷◌, ◌++◌, length, get_or, set, drop, replicate, Option, Some, None, refl, sym, ◌∙◌, ap, subst, arith, take}
 use Rattle.std.specs.Prelude.{is_some, IsTrue, filter}
-use Rattle.std.specs.List.{list_all}
+use Rattle.std.specs.List.{list_all, range_with_len}
 use Rattle.std.proofs.lemmas.Bool.{and_parts}
 use Rattle.std.proofs.lemmas.Bool.Decides.{nat_tests}
 use Rattle.std.proofs.lemmas.List.{get_or-drop, get_or-replicate}
@@ -18,7 +18,6 @@ use Rattle.block_tree.specs.Tree.{levels_of, path_to, pointer, end_of}
 use Rattle.cyl_map.specs.Volume.{entry_in}
 use Rattle.ufs_model.specs.declared.object.Object.TheVariants as objects
 use Rattle.ufs_model.specs.declared.object.Index as indices
-use Rattle.ufs_model.specs.Numbers.{numbers}
 use Rattle.vol_image.specs.Part.{Part, part_at, BelongsTo}
 use Rattle.vol_image.specs.Seen.{Held, held_at, Tree, tree_in, place_at}
 use Rattle.vol_image.specs.Reading.{IsTree, leaf_in, leaf_content, object_with}
@@ -53,13 +52,13 @@ root_pointers : pointers_of node_pointers full_block ≡ 6 ∷ replicate 119 0
 unfolding a_block pointers_of
 root_pointers = refl
 
-leaf_numbers : pointers_of leaf_pointers full_node ≡ numbers 7 54 ++ replicate 74 0
+leaf_numbers : pointers_of leaf_pointers full_node ≡ range_with_len 7 54 ++ replicate 74 0
 unfolding full_node pointers_of
 leaf_numbers = refl
 
 -- 3456 empty slots, and 54 leaves
 unfoldable pub full_index : indices.Index
-full_index = record { slots = replicate 3456 None; held = numbers 0 54 }
+full_index = record { slots = replicate 3456 None; held = range_with_len 0 54 }
 
 -- ---- the entries of the leaves
 
@@ -99,7 +98,7 @@ pub record HasLeaves (image : Image) : Type 0 where
   pub node : block_at image 6 ≡ full_node
   pub node_entry : entry_in image 6 ≡ Some (entry_of_block (places.Node 0) 3)
   pub zeros : drop 7 image ≡ replicate 57 zero_block
-  pub entries : list_all (λ k. is_leaf k (part_at image (7 + k))) (numbers 0 54) ≡ true
+  pub entries : list_all (λ k. is_leaf k (part_at image (7 + k))) (range_with_len 0 54) ≡ true
 
 some_held : (image : Image) (n : ℕ) → 0 < n → held_at image n ≡ Some (held image n)
 some_held image zero more = absurd (omega arith)
@@ -109,7 +108,7 @@ module _ (image : Image) (has : HasLeaves image) where
   abbrev tree : Tree
   tree = tree_in image full_block
 
-  pointer_is : (k : ℕ) → pointer leaf_pointers (block_at image 6) k ≡ get_or (numbers 7 54 ++ replicate 74 0) k 0
+  pointer_is : (k : ℕ) → pointer leaf_pointers (block_at image 6) k ≡ get_or (range_with_len 7 54 ++ replicate 74 0) k 0
   pointer_is k = ap (λ (x : List ℕ). get_or (pointers_of leaf_pointers x) k 0) has.node ∙ ap (λ (x : List ℕ). get_or x k 0) leaf_numbers
 
   -- what stands below the root
@@ -160,7 +159,7 @@ module _ (image : Image) (has : HasLeaves image) where
       at None is = refl
       at (Some h) is = let two = which leaf h is in ap (λ (x : List ℕ). take 512 (x ++ replicate 512 0)) (ap (λ (x : Held). x.content) two.1 ∙ zero_there leaf two.0 ∙ zeros_are)
 
-  held_are : filter (λ n. is_some (leaf_in tree n)) (numbers 0 54) ≡ numbers 0 54
+  held_are : filter (λ n. is_some (leaf_in tree n)) (range_with_len 0 54) ≡ range_with_len 0 54
   held_are = filter_numbers (λ n. is_some (leaf_in tree n)) 0 54 (λ k below. ap is_some (ap (λ (n : ℕ). leaf_in tree n) (omega arith) ∙ ap tree.below (leaf_path k below) ∙ path_there k below))
 
   object : object_with full_root (leaf_in tree) ≡ objects.Index full_index

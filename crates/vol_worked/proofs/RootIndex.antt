@@ -1,6 +1,7 @@
 -- The root index of the stored run: how it is read, and that a is reached through it.
 use Rattle.std.proofs.Common.{◌≡◌, ℕ, false, List, [], ◌∷◌, ◌++◌, length, take, replicate, Option, Some, refl, sym, ◌∙◌, ap, subst, arith}
 use Rattle.std.specs.Prelude.{is_some, map, filter}
+use Rattle.std.specs.List.{range_with_len}
 use Rattle.cfs_base.specs.Disk.{Image, block_at}
 use Rattle.cfs_base.specs.declared.identifier.Puid.{Puid}
 use Rattle.cfs_base.specs.declared.kind.Place.TheVariants as places
@@ -11,7 +12,6 @@ use Rattle.block_tree.specs.Tree.{levels_of, path_to}
 use Rattle.cyl_map.specs.Volume.{entry_in}
 use Rattle.ufs_model.specs.declared.object.Object.{Object}
 use Rattle.ufs_model.specs.declared.object.Object.TheVariants as objects
-use Rattle.ufs_model.specs.Numbers.{numbers}
 use Rattle.vol_image.specs.Part.{part_at, is_committed}
 use Rattle.vol_image.specs.Seen.{Held, Tree, tree_in}
 use Rattle.vol_image.specs.Reading.{IsTree, leaf_in, leaf_content, slot_in, object_with}
@@ -57,13 +57,13 @@ leaves_here image node = ap (pointers_of leaf_pointers) node ∙ node_pointers_a
 
 -- an index of 64 slots, with the content of this leaf
 abbrev index_from : Option Held → Object
-index_from o = objects.Index (record { slots = map (slot_in (leaf_content 0 o ++ [])) (numbers 0 64); held = filter (λ n. is_some o) (0 ∷ []) })
+index_from o = objects.Index (record { slots = map (slot_in (leaf_content 0 o ++ [])) (range_with_len 0 64); held = filter (λ n. is_some o) (0 ∷ []) })
 
 index_by_leaf : (leaf : ℕ → Option Held) → object_with root_root leaf ≡ index_from (leaf 0)
 unfolding object_with
 index_by_leaf leaf = refl
 
-slots_here : map (slot_in (take 512 (leaf_block ++ replicate 512 0) ++ [])) (numbers 0 64) ≡ root_slots.slots
+slots_here : map (slot_in (take 512 (leaf_block ++ replicate 512 0) ++ [])) (range_with_len 0 64) ≡ root_slots.slots
 unfolding leaf_block
 slots_here = refl
 
@@ -73,10 +73,10 @@ first_leaf image node = first_below image root_block 4 119 3 127 root_pointers (
 
 -- the object, whatever the leaf holds
 pub reads_leaf : (image : Image) (content : List ℕ) → block_at image 4 ≡ content → block_at image 5 ≡ node_block
-    → object_with root_root (leaf_in (tree_in image root_block)) ≡ objects.Index (record { slots = map (slot_in (take 512 (content ++ replicate 512 0) ++ [])) (numbers 0 64); held = 0 ∷ [] })
+    → object_with root_root (leaf_in (tree_in image root_block)) ≡ objects.Index (record { slots = map (slot_in (take 512 (content ++ replicate 512 0) ++ [])) (range_with_len 0 64); held = 0 ∷ [] })
 reads_leaf image content leaf node =
     index_by_leaf (leaf_in (tree_in image root_block)) ∙ ap index_from (first_leaf image node)
-    ∙ ap (λ (c : List ℕ). objects.Index (record { slots = map (slot_in (take 512 (c ++ replicate 512 0) ++ [])) (numbers 0 64); held = 0 ∷ [] })) leaf
+    ∙ ap (λ (c : List ℕ). objects.Index (record { slots = map (slot_in (take 512 (c ++ replicate 512 0) ++ [])) (range_with_len 0 64); held = 0 ∷ [] })) leaf
 
 pub reads_root_slots : (image : Image) → block_at image 4 ≡ leaf_block → block_at image 5 ≡ node_block → object_with root_root (leaf_in (tree_in image root_block)) ≡ objects.Index root_slots
 reads_root_slots image leaf node = reads_leaf image leaf_block leaf node ∙ ap (λ (s : List (Option Puid)). objects.Index (record { slots = s; held = 0 ∷ [] })) slots_here

@@ -1,6 +1,6 @@
 -- The volume after the stored run has its accounts: one object of three blocks, one of one, and 58 Free blocks.
 use Rattle.std.proofs.Common.{◌≡◌, ◌⊎◌, inl, inr, ℕ, zero, suc, ◌+◌, List, [], ◌∷◌, length, Bool, true, false, cond, not, Option, Some, None, refl, sym, ◌∙◌, ap, subst, arith}
-use Rattle.std.specs.List.{list_all}
+use Rattle.std.specs.List.{list_all, range_with_len}
 use Rattle.std.proofs.lemmas.Bool.{and_left, and_parts, both_ways, false_from_ne_true, not-true}
 use Rattle.cfs_base.specs.Disk.{block_at}
 use Rattle.cfs_base.specs.declared.identifier.Puid.{Puid}
@@ -16,7 +16,6 @@ use Rattle.cyl_map.specs.Volume.{entry_in, with_entry, with_bytes, is_free_entry
 use Rattle.ufs_model.specs.declared.object.Object.{Object}
 use Rattle.ufs_model.specs.declared.object.Object.TheVariants as objects
 use Rattle.ufs_model.specs.Object.{new_index}
-use Rattle.ufs_model.specs.Numbers.{numbers}
 use Rattle.ufs_model.specs.Graph.{has_block, object_at}
 use Rattle.ufs_model.specs.Identifier.{same_puid}
 use Rattle.vol_image.specs.Part.{is_fixed, part_of, is_committed, reserved}
@@ -53,7 +52,7 @@ pub data Use : ℕ → Option MapEntry → Type 0 where
   TheNode : Use 5 (Some (entry_of_block (places.Node 0) 2))
   Nobodys : (n : ℕ) (e : MapEntry) → is_free_entry (Some e) ≡ true → Use n (Some e)
 
-free_behind : list_all (λ k. is_free_entry (entry_in worked_image (k + 6))) (numbers 0 58) ≡ true
+free_behind : list_all (λ k. is_free_entry (entry_in worked_image (k + 6))) (range_with_len 0 58) ≡ true
 unfolding worked_image worked_maps zero_block with_entry with_bytes spelling entry_in entry_of
 free_behind = refl
 

@@ -1,7 +1,7 @@
 -- The root index with a in its first slot, and nothing beside: the graph is closed, and an image that has both objects holds it.
 use Rattle.std.proofs.Common.{◌≡◌, ◌⊎◌, inl, inr, ℕ, zero, suc, ◌+◌, ◌<◌, ◌==◌, Bool, true, false, cond, List, [], ◌∷◌, ◌++◌, length, Option, Some, None, refl, sym, ◌∙◌, ap, arith}
 use Rattle.std.specs.Prelude.{is_some, map}
-use Rattle.std.specs.List.{list_all}
+use Rattle.std.specs.List.{list_all, range_with_len}
 use Rattle.std.proofs.lemmas.Bool.{and_parts, or_cases}
 use Rattle.std.proofs.lemmas.Bool.Decides.{nat_tests}
 use Rattle.std.proofs.lemmas.Option.{same_Some}
@@ -16,7 +16,6 @@ use Rattle.ufs_model.specs.declared.object.Object.{Object}
 use Rattle.ufs_model.specs.declared.object.Object.TheVariants as objects
 use Rattle.ufs_model.specs.Identifier.{is_among, same_puid}
 use Rattle.ufs_model.specs.Graph.{object_at, is_there, referred, graph_pairs, has_pair}
-use Rattle.ufs_model.specs.Numbers.{numbers}
 use Rattle.ufs_model.specs.Reach.{reached, rooted}
 use Rattle.vol_image.specs.Part.{RootsOwnThemselves, is_fixed, reserved}
 use Rattle.vol_image.specs.Sight.{sight}
@@ -57,12 +56,12 @@ module _ (o : Object) (leaf : referred o ≡ []) where
 
 -- ---- tests of all entries of one cylinder
 
-in_numbers : (P : ℕ → Bool) (from n k : ℕ) → list_all P (numbers from n) ≡ true → k < n → P (from + k) ≡ true
+in_numbers : (P : ℕ → Bool) (from n k : ℕ) → list_all P (range_with_len from n) ≡ true → k < n → P (from + k) ≡ true
 in_numbers P from zero k all below = absurd (omega arith)
-in_numbers P from (suc n) zero all below = ap P (omega arith) ∙ (and_parts (P from) (list_all P (numbers (from + 1) n)) all).0
-in_numbers P from (suc n) (suc k) all below = ap P (omega arith) ∙ in_numbers P (from + 1) n k (and_parts (P from) (list_all P (numbers (from + 1) n)) all).1 (omega arith)
+in_numbers P from (suc n) zero all below = ap P (omega arith) ∙ (and_parts (P from) (list_all P (range_with_len (from + 1) n)) all).0
+in_numbers P from (suc n) (suc k) all below = ap P (omega arith) ∙ in_numbers P (from + 1) n k (and_parts (P from) (list_all P (range_with_len (from + 1) n)) all).1 (omega arith)
 
-pub each_below : (P : ℕ → Bool) (n k : ℕ) → list_all P (numbers 0 n) ≡ true → k < n → P k ≡ true
+pub each_below : (P : ℕ → Bool) (n k : ℕ) → list_all P (range_with_len 0 n) ≡ true → k < n → P k ≡ true
 each_below P n k all below = ap P (omega arith) ∙ in_numbers P 0 n k all below
 
 abbrev owns_place : ℕ → ℕ → Option Place → Bool
@@ -78,7 +77,7 @@ is_good n None = false
 is_good n (Some e) = owns_place n e.owner e.place
 
 abbrev pub are_good : Image → Bool
-are_good image = list_all (λ n. is_good n (entry_in image n)) (numbers 0 64)
+are_good image = list_all (λ n. is_good n (entry_in image n)) (range_with_len 0 64)
 
 good_is_entry : (n : ℕ) (e : Option MapEntry) → is_good n e ≡ true → is_some e ≡ true
 good_is_entry n None good = cc

@@ -1,13 +1,12 @@
 -- The volume after the stored run with single damages: each image differs from it in what its line says, and in nothing else.
 use Rattle.std.specs.Prelude.{ℕ, zero, suc, ◌+◌, true, false, List, [], ◌∷◌, ◌++◌, replicate, set, Some}
-use Rattle.std.specs.List.{flat_map}
+use Rattle.std.specs.List.{flat_map, range_with_len}
 use Rattle.std.specs.Int.{to_be_bytes, w32}
 use Rattle.cfs_base.specs.Disk.{Image, block_at}
 use Rattle.cfs_base.specs.declared.kind.Place.TheVariants.{Root, ShadowRoot, Node, Leaf}
 use Rattle.cyl_map.specs.declared.state.BlockState.TheVariants.{Allocated, IntendAllocate}
 use Rattle.cyl_map.specs.declared.entry.MapEntry.{MapEntry}
 use Rattle.cyl_map.specs.Volume.{with_bytes, with_entry}
-use Rattle.ufs_model.specs.Numbers.{numbers}
 use Rattle.vol_worked.specs.Worked.{worked_image, a_block, entry_of_block, free_entry}
 
 -- a byte of a block of the volume is another
@@ -71,7 +70,7 @@ with_leaves image (suc n) = with_entry (with_leaves image n) (n + 7) (entry_of_b
 
 -- leaf pointers 0 to 53 are 7 to 60
 unfoldable pub full_node : List ℕ
-full_node = flat_map (to_be_bytes w32) (numbers 7 54) ++ replicate 296 0
+full_node = flat_map (to_be_bytes w32) (range_with_len 7 54) ++ replicate 296 0
 
 -- block 3: node pointer 0 is 6, size 27,648, which is 6c00; block 6: leaf pointers 0 to 53 are 7 to 60; entries 6 to 60 fit
 unfoldable pub full_image : Image

@@ -24,6 +24,7 @@ returns-in-Err-clause-changes g c =
       images = λ tells. subst (λ (e : MapEntry). Leaves g.D.Disk read new (Written (left_now g.D.Disk read) (map_of n) (map_with (g.D.Disk.content read) n e))) c.of-now.ensures.value
           (c.put_entry.ensures.images (subst (λ (i : Image). IsMapOf i n c.in_ok-found.found.map) (sym reads.content) (c.in_ok-found.ensures.map tells)));
       refused = refused_after_reads g.D.Disk old read new 1 n _ reads c.in-Err.ensures.refused;
+      by = c.in-Err.ensures.tried;
       tried = c.put_entry.ensures.made;
       calls = c.put_entry.ensures.calls;
     })
@@ -46,6 +47,7 @@ returns-in-Ok-clause-changes g c =
       images = λ tells. subst (λ (e : MapEntry). Leaves g.D.Disk read new (Written (left_now g.D.Disk read) (map_of n) (map_with (g.D.Disk.content read) n e))) value
           (c.put_entry.ensures.images (subst (λ (i : Image). IsMapOf i n c.in_ok-found.found.map) (sym reads.content) (c.in_ok-found.ensures.map tells)));
       refused = tt;
+      by = tt;
       tried = c.put_entry.ensures.made;
       calls = c.put_entry.ensures.calls;
     })

@@ -1,5 +1,6 @@
 use Rattle.std.proofs.Common.{◌∙◌, ap, sym, subst, rules}
 use Rattle.cfs_base.specs.Disk.{Image}
+use Rattle.cfs_base.proofs.Calls.{reads_make, then_tried}
 use Rattle.cyl_map.specs.Volume.{is_free_entry, with_entry}
 use Rattle.cyl_alloc.specs.Maps.{IsMapOf}
 use Rattle.cyl_alloc.specs.Space.{entered}
@@ -14,6 +15,7 @@ returns-in-Ok-write_entry g c = record {
     on_disk = search rules;
     whole = search rules;
     told = search rules;
+    made = then_tried g.D.Disk c.args.disk.now c.least.new.disk c.write_entry.new.disk 1 0 (reads_make g.D.Disk c.args.disk.now c.least.new.disk 1 c.in-Ok.ensures.reads) c.in-Ok-write_entry.ensures.made;
     counts = λ tells counts.
         let image = g.D.Disk.content c.args.disk.now in
         let n = c.in-Ok.found.block in

@@ -1,6 +1,6 @@
+use Rattle.std.specs.List.{range_with_len}
 use Rattle.std.proofs.Common.{◌≡◌, ◌-◌}
-use Rattle.ufs_model.specs.Numbers.{numbers}
 use Rattle.ufs_model.proofs.numbers.Numbers.row.Given as goal
 
 abbrev pub invariant-loop-number : goal.invariant-loop-number
-invariant-loop-number l = l.row.items ≡ numbers l.from (l.number - l.from)
+invariant-loop-number l = l.row.items ≡ range_with_len l.from (l.number - l.from)
