@@ -6,7 +6,7 @@ use cfs_base::{Block, BlockNo, Disk, Failed, Kind, Puid};
 /// How many objects an index refers to.
 const FAN: u64 = 64;
 
-/// A disk of a volume whose objects are a tree: object k refers to the objects from 64 k + 1 to 64 k + 64, as far as they
+/// A disk of a sound volume whose objects are a tree: object k refers to the objects from 64 k + 1 to 64 k + 64, as far as they
 /// are among the kept. The others are referred to by none. It tells nothing, and keeps nothing of what is written.
 #[derive(Drop)]
 pub struct Tree {
@@ -27,6 +27,11 @@ enum Content {
     Leaf { index: u64 },
     Free,
 }
+
+/// What the label begins with: its magic, and the version.
+const MAGIC: u32 = 0x4346_5331;
+
+const VERSION: u32 = 1;
 
 /// The first half of a map's entry of a block that no object has, of a root, of node 0 and of leaf 0.
 const RESERVED: u32 = 0x0100_0000;
@@ -135,6 +140,16 @@ impl Tree {
         map
     }
 
+    /// Object 0 is the root.
+    fn label(&self) -> Block {
+        let mut label = Block::zero();
+        label.put_u32(0, MAGIC);
+        label.put_u32(4, VERSION);
+        label.put_u32(8, self.cylinders);
+        label.put_u64(12, id_of(0).number());
+        label
+    }
+
     fn root(&self, object: u64) -> Block {
         let mut root = Block::zero();
         root.put_u16(0, 0x0100);
@@ -199,6 +214,7 @@ impl Disk for Tree {
     fn read(&mut self, at: BlockNo, into: &mut Block) -> Result<(), Failed> {
         self.calls = self.calls.saturating_add(1);
         *into = match self.content(at.0) {
+            Content::Reserved if at.0 == 1 => self.label(),
             Content::Reserved => self.map(at.0 / 64),
             Content::Root { object } => self.root(object),
             Content::Node { index } => self.node(index),

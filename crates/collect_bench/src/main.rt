@@ -1,5 +1,6 @@
 //! Collections for a clock to be held to: `collect_bench CYLINDERS OBJECTS COUNT` makes COUNT collections of a tree of
-//! OBJECTS objects, of which a tenth can't be reached, and prints what they did.
+//! OBJECTS objects, of which a tenth can't be reached, and prints what they did. Where COUNT is 0 it opens the volume, as
+//! after a crash, and all its objects can be reached.
 #![tactic(auto)]
 
 mod disk;
@@ -7,7 +8,8 @@ mod disk;
 ghost use Rattle.std.specs.Prelude.{◌≡◌, ◌*◌, ◌≤◌, length, IfSome};
 ghost use Rattle.collector_steps.specs.Collecting.{volume_of};
 
-use cfs_base::{BlockNo, Kind, Puid};
+use cfs_base::{BlockNo, Disk, Kind, Puid};
+use cfs_recover::recover;
 use collector_steps::{Collector, Phase};
 use cyl_alloc::Space;
 use disk::{Tree, id_of};
@@ -154,6 +156,16 @@ impl Volume {
     }
 }
 
+/// Opens a volume, and prints what it has.
+fn open(rt: &HostRuntime, alloc: Global, cylinders: u32, objects: u32) -> Option<()>
+    requires { cylinders ≤ 65536 }
+{
+    let mut disk = Tree::new(cylinders, objects, objects)?;
+    let opened = recover(alloc, &mut disk).ok()?;
+    let (found, free, calls) = (opened.names.len(), opened.space.free(), disk.calls());
+    println!(rt; "{found} objects opened by {calls} device calls, {free} blocks Free").ok()
+}
+
 /// The three numbers that the program's words are.
 fn numbers(rt: &HostRuntime) -> Option<(u32, u32, u32)> {
     let mut words = env::args(rt).ok()?.skip(1);
@@ -167,6 +179,9 @@ fn run(rt: &HostRuntime, alloc: Global) -> Option<()> {
     let (cylinders, objects, count) = numbers(rt)?;
     if cylinders == 0 || cylinders > 65_536 {
         return None;
+    }
+    if count == 0 {
+        return open(rt, alloc, cylinders, objects);
     }
     let mut volume = Volume::open(alloc, cylinders, objects)?;
     let mut steps = 0;

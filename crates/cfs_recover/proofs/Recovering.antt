@@ -1,0 +1,200 @@
+-- From what a survey knows of a volume to what recovery makes of it.
+use Rattle.std.proofs.Common.{◌≡◌, ◌⊎◌, inl, inr, ℕ, ◌+◌, ◌*◌, ◌/◌, ◌%◌, ◌<◌, Bool, true, false, List, [], length, get_or, Some, refl, sym, ◌∙◌, ap, subst, arith}
+use Rattle.std.proofs.lemmas.Bool.Decides.{nat_tests}
+use Rattle.std.proofs.lemmas.Option.{slice_get_within}
+use Rattle.cfs_base.specs.Disk.{Image, block_at}
+use Rattle.cfs_base.specs.Run.{IsSettled}
+use Rattle.cfs_base.specs.declared.disk.Disk.{Ghosts}
+use Rattle.cfs_base.specs.declared.identifier.Puid.{Puid}
+use Rattle.cfs_base.specs.declared.kind.Kind.{Kind}
+use Rattle.block_tree.specs.Root.{IsRootBlock}
+use Rattle.cyl_map.specs.declared.entry.MapEntry.{MapEntry}
+use Rattle.cyl_map.specs.Volume.{entry_in, map_of}
+use Rattle.cyl_map.proofs.Maps.{entries_read}
+use Rattle.cyl_alloc.specs.Space.{AreCounts, free_in_cylinder}
+use Rattle.cyl_alloc.proofs.Entries.{free_count}
+use Rattle.ufs_model.specs.declared.object.Object.{Object}
+use Rattle.ufs_model.specs.Graph.{Graph, object_at}
+use Rattle.ufs_model.proofs.Graphs.{object_there}
+use Rattle.vol_image.specs.Fault.{shown_tree}
+use Rattle.vol_image.specs.Part.{is_fixed}
+use Rattle.vol_image.specs.Seen.{Tree, tree_in}
+use Rattle.vol_image.specs.Sight.{source}
+use Rattle.vol_image.specs.Sound.{Holds, IsSoundAs}
+use Rattle.vol_image.proofs.Carries.{carries_settled}
+use Rattle.vol_image.proofs.Parts.{in_image}
+use Rattle.vol_image.proofs.Unique.{one_root_index}
+use Rattle.vol_owners.specs.Account.{Accounts, IsSwept, StandsIn}
+use Rattle.cfs_recover.specs.Copies.{HasCopy}
+use Rattle.cfs_recover.specs.Found.{lists}
+use Rattle.cfs_recover.specs.Keeps.{AreAllCopies, Leads}
+use Rattle.cfs_recover.specs.Recovered.{IsClean, IsRecovered}
+use Rattle.cfs_recover.specs.Stored.{AreMapsOf}
+use Rattle.cfs_recover.specs.Survey.{IsIn, IsSurvey}
+use Rattle.cfs_recover.specs.Tidy.{AreCopied, AreTidied, CopiesRoots, IsHeldIn, IsTidied, IsTidying, Tidies, tidied}
+use Rattle.cfs_recover.specs.declared.found.Walk.{Walk}
+use Rattle.cfs_recover.specs.declared.survey.Survey.{Survey}
+use Rattle.cfs_recover.proofs.Accounted.{tidied_accounts, tidied_is_clean, tidied_is_swept}
+use Rattle.cfs_recover.proofs.InMemory.{entry_is}
+use Rattle.cfs_recover.proofs.Keepings.{leads_as, leads_then}
+use Rattle.cfs_recover.proofs.Listings.{listed}
+use Rattle.cfs_recover.proofs.Noting.{listed_there, there_listed}
+use Rattle.cfs_recover.proofs.Tidyings.{apart, copied_tree, copies_hold, tidies_sound, copies_sound}
+
+map_fixed : (j : ℕ) → is_fixed (64 * j) ≡ true
+map_fixed j = grind (arith, nat_tests)
+
+-- a place moves along an equation of trees
+stands_on : (one two : Tree) (n : ℕ) → one ≡ two → StandsIn one n → StandsIn two n
+stands_on one two n same s = record { path = s.path; held = s.held; there = ap (λ (t : Tree). t.below s.path) (sym same) ∙ s.there; is = s.is }
+
+module _ (a : Image) (s : Survey) (is : IsSurvey a s) where
+  abbrev graph : Graph
+  graph = is.whole.graph
+
+  abbrev w : Walk
+  w = s.walked.walk
+
+  holds : Holds a graph
+  holds = is.whole.sound.holds
+
+  -- ---- the roots
+
+  there_lists : (id : Puid) (o : Object) → object_at graph id ≡ Some o → lists w id ≡ true
+  there_lists id o at = ap (λ (n : List (Puid × Kind)). listed n id) is.whole.names ∙ listed_there graph id o at
+
+  lists_there : (id : Puid) → lists w id ≡ true → (o : Object) × (object_at graph id ≡ Some o)
+  lists_there id listing = object_there graph id (there_listed graph id (sym (ap (λ (n : List (Puid × Kind)). listed n id) is.whole.names) ∙ listing))
+
+  pub all_copies : AreAllCopies a graph s.walked.copies.items
+  all_copies = record {
+    each = λ k c at.
+        let l = is.walked.copies.listed k c at in
+        let f = is.walked.walk.found l.0 l.1 l.2 in
+        let there = lists_there f.id f.listed in
+        let block : c.block ≡ f.id.block = sym l.3 ∙ f.block in
+        record { id = f.id; object = there.0; there = there.1; block = block; spelled = subst (λ (n : ℕ). IsRootBlock (block_at a (source a n)) c.root) block (is.walked.copies.each k c at) };
+    all = λ id o at.
+        let l = is.walked.walk.listed id (there_lists id o at) in
+        elim (is.walked.copies.all l.0 l.1 (slice_get_within w.found.items l.0 l.1 l.2) l.2) [
+          | inl own ↦ inl (subst (λ (n : ℕ). source a n ≡ n) l.3 own)
+          | inr has ↦ inr (subst (λ (n : ℕ). HasCopy s.walked.copies.items n) l.3 has)
+        ];
+  }
+
+  -- ---- the maps, once the roots are copied
+
+  module _ (b : Image) (roots : CopiesRoots a graph b) (copied : AreCopied b graph) where
+    holds_b : Holds b graph
+    holds_b = copies_hold a graph b holds roots
+
+    pub maps_b : AreMapsOf b s.grounds.maps.items
+    maps_b = record {
+      size = roots.size ∙ is.maps.size;
+      map = is.maps.map;
+      spelled = λ j less. apart a graph b holds roots (64 * j) (map_fixed j) ∙ is.maps.spelled j less;
+    }
+
+    tree_b : (id : Puid) (o : Object) → object_at graph id ≡ Some o → tree_in b (block_at b id.block) ≡ shown_tree a id.block
+    tree_b id o at = ap (tree_in b) (sym (copied id o at)) ∙ copied_tree a graph b holds roots id o at
+
+    abbrev marks : ℕ → Bool
+    marks n = get_or w.held.items n false
+
+    in_b : (n : ℕ) → IsIn a graph n → IsHeldIn b graph n
+    in_b n i = record {
+      id = i.id;
+      object = i.object;
+      there = i.there;
+      here = elim i.here [
+        | inl root ↦ inl root
+        | inr inner ↦ inr (stands_on (shown_tree a i.id.block) (tree_in b (block_at b i.id.block)) n (sym (tree_b i.id i.object i.there)) inner)
+      ];
+    }
+
+    from_b : (n : ℕ) (id : Puid) (o : Object) → object_at graph id ≡ Some o → (n ≡ id.block) ⊎ StandsIn (tree_in b (block_at b id.block)) n → marks n ≡ true
+    from_b n id o at here = is.whole.all n (record {
+      id = id;
+      object = o;
+      there = at;
+      here = elim here [
+        | inl root ↦ inl root
+        | inr inner ↦ inr (stands_on (tree_in b (block_at b id.block)) (shown_tree a id.block) n (tree_b id o at) inner)
+      ];
+    })
+
+    pub tidying : IsTidying b graph w.held.items
+    tidying = record {
+      holds = holds_b;
+      copied = copied;
+      marked = record {
+        root = λ id o at. from_b id.block id o at (inl refl);
+        inner = λ id o path h at v. from_b h.block id o at (inr (record { path = path; held = h; there = v; is = refl }));
+      };
+    }
+
+    -- ---- and once these are tidied
+
+    module _ (c : Image) (tidies : Tidies b graph c) (free : List ℕ) (done : AreTidied c s.grounds.maps.items w.held.items free (length s.grounds.maps.items)) where
+      entries : (n : ℕ) (e : MapEntry) → entry_in b n ≡ Some e → entry_in c n ≡ Some (tidied (is_fixed n) (marks n) e)
+      unfolding entry_in
+      entries n e here =
+          let below = in_image b graph holds_b n e here in
+          let less : n / 64 < length s.grounds.maps.items = omega (arith, maps_b.size, below) in
+          let t = done (n / 64) less in
+          let whole : 64 * (n / 64) + n % 64 ≡ n = omega arith in
+          entries_read (block_at c (map_of n)) t.tidy t.tidied.whole t.spelled (n % 64) (omega arith)
+          ∙ t.tidied.entries (n % 64) e (omega arith) (sym (entry_is b s.grounds.maps.items maps_b n below) ∙ here)
+          ∙ (λ i. Some (tidied (is_fixed (whole i)) (marks (whole i)) e))
+
+      is_tidied : IsTidied b graph marks c
+      is_tidied = record { entries = entries; only = λ n is_held. in_b n (is.whole.held n is_held); all = from_b }
+
+      counts : length free ≡ length s.grounds.maps.items → AreCounts c (record { free = free })
+      counts size = record {
+        size = omega (arith, tidies.size, maps_b.size, size);
+        each = λ j less.
+            let t = done j (omega (arith, less, size)) in
+            let at : map_of (64 * j) ≡ 64 * j = omega arith in
+            t.free ∙ free_count c (64 * j) t.tidy (record { is_map = t.tidied.whole; spelled = ap (block_at c) at ∙ t.spelled }) ∙ ap (free_in_cylinder c) (omega arith);
+      }
+
+      sound_c : IsSoundAs c graph
+      sound_c = tidies_sound b graph c (copies_sound a graph b is.whole.sound roots) copied tidies
+
+      label_is : block_at c 1 ≡ block_at a 1
+      label_is = tidies.content 1 (omega arith) ∙ apart a graph b holds roots 1 refl
+
+      pub recovers : {D : Type 0} (g : Ghosts D) (d : D) → IsSettled g d → g.content d ≡ c → length c ≡ g.blocks d → length free ≡ length s.grounds.maps.items
+          → IsRecovered g a d s.grounds.label w.names (record { free = free })
+      recovers g d settled same sized size =
+          let sound = subst (λ (i : Image). IsSoundAs i graph) (sym same) sound_c in
+          let clean = tidied_is_clean b c graph marks holds_b copied tidies is_tidied in
+          record {
+            graph = graph;
+            was = is.whole.sound;
+            sound = sound;
+            settled = settled;
+            clean = subst (λ (i : Image). IsClean i graph) (sym same) clean;
+            labelled = record { is_label = is.grounds.has.is_label; spelled = ap (λ (i : Image). block_at i 1) same ∙ label_is ∙ is.grounds.has.spelled };
+            root = one_root_index (length a) graph.root s.grounds.label.root (block_at a 1) holds.label
+                (record { label = s.grounds.label; is_label = is.grounds.has.is_label; spelled = is.grounds.has.spelled; size_is = is.grounds.size; root_is = refl });
+            size = omega (arith, is.grounds.size, roots.size, tidies.size, sized);
+            named = is.whole.names;
+            room = omega (arith, is.walked.walk.room, roots.size, tidies.size, sized);
+            carries = carries_settled g graph d settled sound.holds;
+            account = subst (λ (i : Image). Accounts i graph []) (sym same) (tidied_accounts b c graph marks holds_b copied tidies is_tidied);
+            swept = subst (λ (i : Image). IsSwept i graph) (sym same) (tidied_is_swept b c graph marks holds_b copied tidies is_tidied);
+            counts = subst (λ (i : Image). AreCounts i (record { free = free })) (sym same) (counts size);
+            ordered = is.whole.ordered;
+          }
+
+    -- ---- images on the way: while the maps are written
+    pub tidies_lead : {D : Type 0} (g : Ghosts D) (start mid new : D) → Leads g (CopiesRoots a graph) start mid → Leads g (Tidies b graph) mid new → Leads g (λ c. IsSoundAs c graph) start new
+    tidies_lead g start mid new first second = leads_then g (λ c. IsSoundAs c graph) start mid new (Tidies b graph)
+        (leads_as g (CopiesRoots a graph) (λ c. IsSoundAs c graph) start mid (λ c were. copies_sound a graph c is.whole.sound were) first) second
+        (λ c were. tidies_sound b graph c (copies_sound a graph b is.whole.sound roots) copied were)
+
+  -- while the roots are
+  pub roots_lead : {D : Type 0} (g : Ghosts D) (start now : D) → Leads g (CopiesRoots a graph) start now → Leads g (λ c. IsSoundAs c graph) start now
+  roots_lead g start now = leads_as g (CopiesRoots a graph) (λ c. IsSoundAs c graph) start now (λ c were. copies_sound a graph c is.whole.sound were)

@@ -1,0 +1,76 @@
+-- To what an object refers whose leaves were checked: to what was noted.
+use Rattle.std.proofs.Common.{◌≡◌, ◌≢◌, inl, inr, ℕ, suc, ◌+◌, ◌-◌, ◌*◌, ◌/◌, ◌%◌, ◌<◌, true, List, [], ◌∷◌, length, take, replicate, Option, Some, None, refl, sym, ◌∙◌, ap, subst, arith}
+use Rattle.std.specs.Prelude.{slice_get, unwrap_or}
+use Rattle.std.specs.Int.{from_be_bytes, w32}
+use Rattle.std.specs.List.{filter_map}
+use Rattle.std.proofs.lemmas.Bool.{or_cases}
+use Rattle.std.proofs.lemmas.List.{drop-replicate, take-replicate}
+use Rattle.std.proofs.lemmas.Option.{none-some}
+use Rattle.cfs_base.specs.Disk.{Image, block_at}
+use Rattle.cfs_base.specs.declared.identifier.Puid.{Puid}
+use Rattle.cfs_base.specs.declared.kind.Kind.{Kind}
+use Rattle.cfs_base.specs.declared.kind.Kind.TheVariants as kinds
+use Rattle.block_tree.specs.declared.root.Root.{Root}
+use Rattle.block_tree.specs.Pointers.{number_at}
+use Rattle.block_tree.specs.Root.{IsRootBlock}
+use Rattle.ufs_model.specs.declared.object.Object.{Object}
+use Rattle.ufs_model.specs.Graph.{referred}
+use Rattle.ufs_model.specs.Identifier.{is_among, same_puid}
+use Rattle.ufs_model.proofs.Reached.{same_puid_is}
+use Rattle.vol_image.specs.Reading.{leaf_content, leaf_in, object_with, slot_in}
+use Rattle.vol_image.specs.Seen.{Held, tree_in}
+use Rattle.leaf_changes.proofs.Contents.{content_is}
+use Rattle.leaf_changes.proofs.Given.{index_to_leaves, some_file, some_index}
+use Rattle.cfs_recover.specs.Found.{IsNoted}
+use Rattle.cfs_recover.specs.Walk.{AreGoodNodes}
+use Rattle.cfs_recover.specs.declared.found.Walk.{Walk}
+use Rattle.cfs_recover.proofs.Good.{leaf_checked}
+
+-- an absent leaf of an index has empty slots
+zero_number : (k : ℕ) → k < 128 → number_at (replicate 512 0) k ≡ 0
+zero_number k small =
+    ap (λ (bytes : List ℕ). from_be_bytes w32 (take 4 bytes)) (drop-replicate (4 * k) 512 0)
+    ∙ ap (from_be_bytes w32) (take-replicate 4 (512 - 4 * k) 0 (omega arith))
+
+no_slot : (s : ℕ) (x : Puid) → s < 64 → slot_in (replicate 512 0) s ≡ Some x → ⊥
+no_slot s x small is = none-some x (sym (rw (zero_number (2 * s) (omega arith), zero_number (2 * s + 1) (omega arith)) refl) ∙ is)
+
+-- what a list of slots refers to stands in one
+in_slots : (slots : List (Option Puid)) (x : Puid) → is_among x (filter_map (λ slot. slot) slots) ≡ true → (s : ℕ) × (s < length slots) × (unwrap_or (slice_get slots s) None ≡ Some x)
+in_slots [] x among = cc
+in_slots (None ∷ slots) x among = let rest = in_slots slots x among in (suc rest.0, omega (arith, rest.1), rest.2)
+in_slots (Some y ∷ slots) x among = elim (or_cases (same_puid x y) (is_among x (filter_map (λ slot. slot) slots)) among) [
+  | inl same ↦ (0, omega arith, ap Some (sym (same_puid_is x y same)))
+  | inr later ↦ let rest = in_slots slots x later in (suc rest.0, omega (arith, rest.1), rest.2)
+]
+
+module _ (image : Image) (owner from : ℕ) (root : Root) (w : Walk) (spelled : IsRootBlock (block_at image from) root) (nodes : AreGoodNodes image owner root w from 120)
+    (whole : (n : ℕ) → n < length image → length (block_at image n) ≡ 512) where
+  abbrev leaf : ℕ → Option Held
+  leaf = leaf_in (tree_in image (block_at image from))
+
+  in_leaf : (x : Puid) (l s : ℕ) (o : Option Held) → leaf l ≡ o → root.kind ≡ kinds.Index → s < 64 → 512 * l + 8 * s < root.size → slot_in (leaf_content root.fill o) s ≡ Some x → IsNoted w x
+  in_leaf x l s None at index small within is = absurd (no_slot s x small (subst (λ (fill : ℕ). slot_in (replicate 512 fill) s ≡ Some x) (spelled.good.1.fill index) is))
+  in_leaf x l s (Some h) at index small within is =
+      let good = leaf_checked image owner from root w spelled nodes l h at in
+      let bytes : leaf_content root.fill (Some h) ≡ block_at image h.block = content_is root.fill (Some h) (block_at image h.block) (ap Some good.1) (whole h.block good.0.on_disk) in
+      good.0.noted index s x (small, within, sym (ap (λ (c : List ℕ). slot_in c s) bytes) ∙ is)
+
+  -- to what the object refers was noted
+  pub refers_noted : (x : Puid) → is_among x (referred (object_with root leaf)) ≡ true → IsNoted w x
+  refers_noted x among = at root.kind refl
+    where
+      at_index : root.kind ≡ kinds.Index → IsNoted w x
+      at_index index =
+          let here = some_index root leaf index in
+          let gives = index_to_leaves root leaf here.0 here.1 in
+          let at = in_slots here.0.slots x (sym (ap (λ (o : Object). is_among x (referred o)) here.1) ∙ among) in
+          in_leaf x (at.0 / 64) (at.0 % 64) (leaf (at.0 / 64)) refl index (omega arith) (omega (arith, at.1, gives.size)) (sym (gives.slots at.0 (omega (arith, at.1, gives.size))) ∙ at.2)
+
+      at_file : root.kind ≢ kinds.Index → IsNoted w x
+      at_file other = let here = some_file root leaf other in let no = sym (ap (λ (o : Object). is_among x (referred o)) here.1) ∙ among in cc
+
+      at : (kind : Kind) → root.kind ≡ kind → IsNoted w x
+      at kinds.Normal is = at_file (λ (index : root.kind ≡ kinds.Index). let no = sym is ∙ index in cc)
+      at kinds.Special is = at_file (λ (index : root.kind ≡ kinds.Index). let no = sym is ∙ index in cc)
+      at kinds.Index is = at_index is

@@ -1,0 +1,39 @@
+-- The table of the shadow roots that stand.
+use Rattle.std.proofs.Common.{◌≡◌, ◌≢◌, ℕ, zero, suc, ◌<◌, Bool, true, false, cond, List, ◌∷◌, length, set, get_or, replicate, refl, sym, ◌∙◌, ap, arith}
+use Rattle.std.specs.Prelude.{map, ◌==◌}
+use Rattle.std.proofs.lemmas.Bool.{ne_eqb}
+use Rattle.std.proofs.lemmas.Bool.Decides.{nat_tests}
+use Rattle.std.proofs.lemmas.Grind.{get_or_default_zero}
+use Rattle.std.proofs.lemmas.List.{map-set}
+use Rattle.std.proofs.Math.ListN as lists
+use Rattle.cfs_recover.specs.Standing.{Shadow, shadow_of, one_more}
+use Rattle.cfs_recover.specs.declared.standing.Shadow.TheVariants.{None, One, Several}
+
+pub none_stand : (n : ℕ) → map shadow_of (replicate n 0) ≡ replicate n None
+none_stand zero = refl
+none_stand (suc n) = ap (λ (rest : List Shadow). None ∷ rest) (none_stand n)
+
+pub noted : (of : List ℕ) (r n : ℕ) → map shadow_of (set of r n) ≡ set (map shadow_of of) r (shadow_of n)
+noted of r n = map-set shadow_of of r n
+
+-- ---- one more stands for r, for which a number says what stood
+
+says_one : (s : ℕ) → 0 < s → s < 4294967295 → shadow_of s ≡ One s
+says_one s some few = grind (arith, nat_tests)
+
+several : (n s : ℕ) → n ≢ 0 → one_more (shadow_of n) s ≡ Several
+several n s some = rw (ne_eqb n 0 some) (at (n == 4294967295))
+  where
+    at : (b : Bool) → one_more (cond b Several (One n)) s ≡ Several
+    at true = refl
+    at false = refl
+
+module _ (of : List ℕ) (r n s : ℕ) (inside : r < length of) (value : n ≡ get_or of r n) where
+  says : get_or (map shadow_of of) r None ≡ shadow_of n
+  says = lists.get_or-map shadow_of of r 0 ∙ ap shadow_of (sym (value ∙ get_or_default_zero of r n inside))
+
+  pub the_first : n ≡ 0 → 0 < s → s < 4294967295 → shadow_of s ≡ one_more (get_or (map shadow_of of) r None) s
+  the_first none some few = says_one s some few ∙ sym (ap (λ (t : Shadow). one_more t s) (says ∙ ap shadow_of none))
+
+  pub one_more_stands : n ≢ 0 → shadow_of 4294967295 ≡ one_more (get_or (map shadow_of of) r None) s
+  one_more_stands some = sym (ap (λ (t : Shadow). one_more t s) says ∙ several n s some)

@@ -1,0 +1,50 @@
+use Rattle.std.proofs.Common.{◌≡◌, inl, inr, ℕ, true, false, List, [], refl, sym, ◌∙◌, ap, subst, arith, rules}
+use Rattle.std.specs.Prelude.{is_some}
+use Rattle.cfs_base.specs.declared.identifier.Puid.{Puid}
+use Rattle.cfs_base.specs.declared.kind.Kind.{Kind}
+use Rattle.cfs_base.specs.declared.kind.Kind.TheVariants as kinds
+use Rattle.vol_image.specs.Fault.{NamesNothing}
+use Rattle.cfs_recover.specs.Found as spec
+use Rattle.cfs_recover.specs.Sized.{IsSized}
+use Rattle.cfs_recover.proofs.Named.{named_nothing}
+use Rattle.cfs_recover.proofs.Noting.{add_grows, add_walk, clash_walk, sized_push}
+use Rattle.cfs_recover.proofs.Listings.{listed, listed_new}
+use Rattle.cfs_recover.proofs.Refused.{told_err}
+use Rattle.cfs_recover.proofs.found.Walk.note.Goals as goal
+
+pub returns-in_err-check_slot-clause-told : goal.returns-in_err-check_slot-clause-told
+returns-in_err-check_slot-clause-told c image done walk named =
+    let nothing : NamesNothing image c.args.id = elim c.in_err-check_slot.ensures.1 [
+      | inl none ↦ inl none
+      | inr past ↦ inr (inl (omega (arith, past, c.room.ensures.room, walk.room)))
+    ] in
+    told_err _ _ _ _ c.from_residual.ensures.1 (subst (spec.IsFault image) (sym c.in_err-check_slot.ensures.0) (named_nothing image c.args.id c.args.by named nothing))
+
+pub returns-then-has_root-clause-told : goal.returns-then-has_root-clause-told
+returns-then-has_root-clause-told c image done walk named =
+    let none : is_some c.kind.result ≡ false = search rules in
+    clash_walk image c.args.self.now _ c.args.id c.args.by refl refl refl refl done walk named (ap is_some (sym c.kind.ensures) ∙ none) (sym c.if-has_root.ensures)
+
+pub invariant_of-self-2 : goal.invariant_of-self-2
+invariant_of-self-2 c =
+    record {
+      sized = sized_push _ c.args.self.now.found.items _ c.args.self.now.held.items _
+          (subst (λ (room : ℕ). IsSized room c.args.self.now.found.items c.args.self.now.held.items) (sym c.add.ensures.room) c.args.self.now.sized)
+          (omega (arith, c.in_ok-check_slot.ensures.1, c.room.ensures.room, c.add.ensures.room)) c.in_ok-push.ensures.items;
+    }
+
+pub returns-clause-told : goal.returns-clause-told
+returns-clause-told c image done walk named =
+    let names = c.add.ensures.named in
+    let room = c.add.ensures.room in
+    add_walk image c.args.self.now _ c.args.id c.args.by (λ i. record { named = names i; room = room i }) c.in_ok-push.ensures.items refl refl done walk named c.in_ok-check_slot.ensures.0 (sym c.if-has_root.ensures)
+
+pub returns-clause-noted : goal.returns-clause-noted
+returns-clause-noted c =
+    inl (subst (λ (n : List (Puid × Kind)). listed n c.args.id ≡ true) (sym c.add.ensures.named) (listed_new c.args.self.now.names.named c.args.id kinds.Index))
+
+pub returns-clause-grows : goal.returns-clause-grows
+returns-clause-grows c =
+    let names = c.add.ensures.named in
+    let room = c.add.ensures.room in
+    add_grows [] c.args.self.now _ c.args.id c.args.by (λ i. record { named = names i; room = room i }) c.in_ok-push.ensures.items refl refl

@@ -1,0 +1,49 @@
+use Rattle.std.proofs.Common.{sym, subst}
+use Rattle.cyl_alloc.specs.Space.{Kept}
+use Rattle.puid_space.specs.Directory.{Listing}
+use Rattle.vol_image.specs.Sound.{IsSoundAs}
+use Rattle.vol_label.specs.declared.label.Label.{Label}
+use Rattle.cfs_recover.specs.Recovered.{IsRecovered}
+use Rattle.cfs_recover.proofs.Opening.{leads_reads, settled_reads, stores_content}
+use Rattle.cfs_recover.proofs.recovery.open_settled.Goals as goal
+
+pub returns-in_err-tidy_volume-clause-unsound : goal.returns-in_err-tidy_volume-clause-unsound
+returns-in_err-tidy_volume-clause-unsound g c tells none =
+    let d = c.args.disk.now in
+    let survey = c.in_ok-survey.ensures.told (g.D.Disk.content d) (stores_content g.D.Disk d tells (g.met.D.Disk.sized d tells.honest) (g.met.D.Disk.of_blocks d tells.honest)) in
+    absurd (none (survey.whole.graph, survey.whole.sound))
+
+pub returns-clause-unsound : goal.returns-clause-unsound
+returns-clause-unsound g c tells none =
+    let d = c.args.disk.now in
+    let survey = c.in_ok-survey.ensures.told (g.D.Disk.content d) (stores_content g.D.Disk d tells (g.met.D.Disk.sized d tells.honest) (g.met.D.Disk.of_blocks d tells.honest)) in
+    absurd (none (survey.whole.graph, survey.whole.sound))
+
+pub returns-in_err-tidy_volume-clause-leads : goal.returns-in_err-tidy_volume-clause-leads
+returns-in_err-tidy_volume-clause-leads g c read settled sound =
+    let d = c.args.disk.now in
+    let reads = c.in_ok-survey.ensures.reads in
+    let survey = c.in_ok-survey.ensures.told (g.D.Disk.content d) (stores_content g.D.Disk d settled.tells (g.met.D.Disk.sized d settled.tells.honest) (g.met.D.Disk.of_blocks d settled.tells.honest)) in
+    leads_reads g.D.Disk d c.survey_volume.new.disk _ reads (λ i. IsSoundAs i read) c.tidy_volume.new.disk
+    (c.in_err-tidy_volume.ensures.leads (g.D.Disk.content d) read (settled_reads g.D.Disk d c.survey_volume.new.disk _ reads settled) reads.content survey sound)
+
+pub returns-clause-leads : goal.returns-clause-leads
+returns-clause-leads g c read settled sound =
+    let d = c.args.disk.now in
+    let reads = c.in_ok-survey.ensures.reads in
+    let survey = c.in_ok-survey.ensures.told (g.D.Disk.content d) (stores_content g.D.Disk d settled.tells (g.met.D.Disk.sized d settled.tells.honest) (g.met.D.Disk.of_blocks d settled.tells.honest)) in
+    leads_reads g.D.Disk d c.survey_volume.new.disk _ reads (λ i. IsSoundAs i read) c.tidy_volume.new.disk
+    (c.in_ok-tidy_volume.ensures.leads (g.D.Disk.content d) read (settled_reads g.D.Disk d c.survey_volume.new.disk _ reads settled) reads.content survey sound)
+
+pub returns-clause-opened : goal.returns-clause-opened
+returns-clause-opened g c settled =
+    let d = c.args.disk.now in
+    let new = c.tidy_volume.new.disk in
+    let reads = c.in_ok-survey.ensures.reads in
+    let a = g.D.Disk.content d in
+    let survey = c.in_ok-survey.ensures.told a (stores_content g.D.Disk d settled.tells (g.met.D.Disk.sized d settled.tells.honest) (g.met.D.Disk.of_blocks d settled.tells.honest)) in
+    let done = c.in_ok-tidy_volume.ensures.recovered a (settled_reads g.D.Disk d c.survey_volume.new.disk _ reads settled) reads.content survey in
+    let is = c.hand_over.ensures in
+    subst (λ (label : Label). IsRecovered g.D.Disk a new label c.hand_over.result.names c.hand_over.result.space) (sym is.label)
+    (subst (λ (names : Listing). IsRecovered g.D.Disk a new c.in_ok-survey.survey.grounds.label names c.hand_over.result.space) (sym is.names)
+    (subst (λ (space : Kept). IsRecovered g.D.Disk a new c.in_ok-survey.survey.grounds.label c.in_ok-survey.survey.walked.walk.names space) (sym is.space) done))

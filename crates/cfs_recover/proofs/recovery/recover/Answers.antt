@@ -1,0 +1,39 @@
+use Rattle.std.proofs.Common.{◌≡◌, ◌⊎◌, inl, inr, sym, subst}
+use Rattle.cfs_base.specs.Disk.{Image}
+use Rattle.vol_image.specs.Sound.{IsSoundAs}
+use Rattle.cfs_recover.specs.Grounds.{IsOpenFault}
+use Rattle.cfs_recover.specs.declared.fault.RecoverFault.TheVariants as faults
+use Rattle.cfs_recover.proofs.Opening.{err_as, untouched_then}
+use Rattle.cfs_recover.proofs.Refused.{sound_refused}
+use Rattle.cfs_recover.proofs.recovery.recover.Goals as goal
+
+pub returns-in_err-flush-clause-images : goal.returns-in_err-flush-clause-images
+returns-in_err-flush-clause-images g c honest graph sound =
+    inl (record { failed = c.in_err-flush.ensures.cause; untouched = c.in_err-flush.ensures.untouched; calls = c.in_err-flush.ensures.one_call; tries = c.in_err-flush.ensures.one_try })
+
+pub returns-clause-images : goal.returns-clause-images
+returns-clause-images g c honest graph sound =
+    let was = c.in_ok-flush.ensures.untouched in
+    let settled = c.in_ok-flush.ensures.settled honest in
+    let leads = c.open_settled.ensures.leads graph settled (subst (λ (i : Image). IsSoundAs i graph) (sym was.content) sound) in
+    inr (c.flush.new.disk, record { settled = settled; untouched = was; calls = c.in_ok-flush.ensures.one_call; tries = c.in_ok-flush.ensures.one_try }, leads.leaves)
+
+pub returns-clause-reading : goal.returns-clause-reading
+returns-clause-reading g c honest graph sound =
+    let was = c.in_ok-flush.ensures.untouched in
+    (c.open_settled.ensures.leads graph (c.in_ok-flush.ensures.settled honest) (subst (λ (i : Image). IsSoundAs i graph) (sym was.content) sound)).content
+
+pub returns-clause-free : goal.returns-clause-free
+returns-clause-free g c honest sound =
+    let was = c.in_ok-flush.ensures.untouched in
+    let settled = c.in_ok-flush.ensures.settled honest in
+    let mid = g.D.Disk.content c.flush.new.disk in
+    err_as (IsOpenFault mid) (λ e. (e ≡ faults.Disk) ⊎ (e ≡ faults.Memory)) c.open_settled.result
+    (λ e fault. sound_refused mid sound.0 (subst (λ (i : Image). IsSoundAs i sound.0) (sym was.content) sound.1) e fault) (c.open_settled.ensures.refused settled.tells)
+
+pub returns-clause-unsound : goal.returns-clause-unsound
+returns-clause-unsound g c honest none =
+    let was = c.in_ok-flush.ensures.untouched in
+    let settled = c.in_ok-flush.ensures.settled honest in
+    untouched_then g.D.Disk c.args.disk.now c.flush.new.disk c.open_settled.new.disk was
+    (c.open_settled.ensures.unsound settled.tells (λ sound. none (sound.0, subst (λ (i : Image). IsSoundAs i sound.0) was.content sound.1)))

@@ -1,0 +1,46 @@
+-- A run of writes, every image of which has one property.
+use Rattle.std.specs.Prelude.{◌≡◌, ◌⊎◌, ◌<◌, ℕ, slice_get, Some, List}
+use Rattle.cfs_base.specs.Disk.{Image, block_at}
+use Rattle.cfs_base.specs.Run.{Leaves, Tells, left_now}
+use Rattle.cfs_base.specs.declared.disk.Disk.{Ghosts}
+use Rattle.cfs_base.specs.declared.identifier.Puid.{Puid}
+use Rattle.block_tree.specs.Root.{IsRootBlock}
+use Rattle.ufs_model.specs.declared.object.Object.{Object}
+use Rattle.ufs_model.specs.Graph.{Graph, object_at}
+use Rattle.vol_image.specs.Sight.{source}
+use Rattle.cfs_recover.specs.Copies.{HasCopy}
+use Rattle.cfs_recover.specs.declared.copies.Copied.{Copied}
+
+-- A run from `start` has come to `now`, be it that its last call failed: the content has P, and so has whatever a crash
+-- left on the way.
+pub record Leads {D : Type 0} (g : Ghosts D) (P : Image → Type 0) (start now : D) : Type 0 where
+  pub content : P (g.content now)
+  pub leaves : Leaves g start now P
+
+-- A run from `start` has come to `now` with no failure: the content has P, and so has whatever a crash leaves now or left
+-- on the way.
+pub record Keeps {D : Type 0} (g : Ghosts D) (P : Image → Type 0) (start now : D) : Type 0 where
+  pub tells : Tells g now
+  pub content : P (g.content now)
+  pub here : (c : Image) → left_now g now c → P c
+  pub leaves : Leaves g start now P
+
+-- the root by which an object of the graph is read, for its root block
+pub record IsCopyOf (a : Image) (g : Graph) (c : Copied) : Type 0 where
+  pub id : Puid
+  pub object : Object
+  pub there : object_at g id ≡ Some object
+  pub block : c.block ≡ id.block
+  pub spelled : IsRootBlock (block_at a (source a id.block)) c.root
+
+abbrev pub AreCopiesOf : Image → Graph → List Copied → Type 0
+AreCopiesOf a g copies = (k : ℕ) (c : Copied) → slice_get copies k ≡ Some c → IsCopyOf a g c
+
+-- of these copies so many are written
+abbrev pub AreWritten : Image → List Copied → Image → ℕ → Type 0
+AreWritten a copies b done = (k : ℕ) (c : Copied) → k < done → slice_get copies k ≡ Some c → block_at b c.block ≡ block_at a (source a c.block)
+
+-- each object that isn't read by its own block has its copy among them
+pub record AreAllCopies (a : Image) (g : Graph) (copies : List Copied) : Type 0 where
+  pub each : AreCopiesOf a g copies
+  pub all : (id : Puid) (o : Object) → object_at g id ≡ Some o → (source a id.block ≡ id.block) ⊎ HasCopy copies id.block

@@ -1,0 +1,14 @@
+pub mod Stored
+pub mod Standing
+pub mod Entries
+pub mod Checks
+pub mod Refusals
+pub mod Sized
+pub mod Found
+pub mod Walk
+pub mod Copies
+pub mod Grounds
+pub mod Survey
+pub mod Tidy
+pub mod Keeps
+pub mod Recovered

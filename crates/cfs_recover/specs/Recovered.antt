@@ -1,0 +1,72 @@
+-- What recovery makes of a volume.
+use Rattle.std.specs.Prelude.{◌≡◌, ◌⊎◌, ℕ, ◌*◌, true, false, [], Some}
+use Rattle.cfs_base.specs.Calls.{HasFailed}
+use Rattle.cfs_base.specs.Disk.{Image, Nothing}
+use Rattle.cfs_base.specs.Outside.{count_after}
+use Rattle.cfs_base.specs.Run.{IsSettled, Leaves}
+use Rattle.cfs_base.specs.declared.disk.Disk.{Ghosts}
+use Rattle.cyl_map.specs.declared.entry.MapEntry.{MapEntry}
+use Rattle.cyl_map.specs.declared.state.BlockState.TheVariants.{Allocated}
+use Rattle.cyl_map.specs.Volume.{entry_in}
+use Rattle.cyl_alloc.specs.Space.{AreCounts, Kept, free_entry}
+use Rattle.puid_space.specs.Directory.{Listing}
+use Rattle.puid_space.specs.Kinds.{kinds_of}
+use Rattle.ufs_model.specs.Graph.{Graph, ids_of}
+use Rattle.ufs_model.specs.Identifier.{rises}
+use Rattle.vol_image.specs.Fault.{HasLabel}
+use Rattle.vol_image.specs.Part.{is_fixed}
+use Rattle.vol_image.specs.Run.{Carries}
+use Rattle.vol_image.specs.Sound.{IsSoundAs}
+use Rattle.vol_label.specs.declared.label.Label.{Label}
+use Rattle.vol_owners.specs.Account.{Accounts, IsSwept}
+use Rattle.cfs_recover.specs.Survey.{IsIn}
+
+-- Beside the maps and the label exactly the blocks of the objects aren't Free. They are Allocated, and no commit bit stands.
+pub record IsClean (image : Image) (graph : Graph) : Type 0 where
+  pub free : (n : ℕ) (e : MapEntry) → entry_in image n ≡ Some e → is_fixed n ≡ false → ¬ IsIn image graph n → e ≡ free_entry
+  pub held : (n : ℕ) (e : MapEntry) → entry_in image n ≡ Some e → IsIn image graph n → (e.state ≡ Allocated) × (e.committed ≡ false)
+
+-- The disk holds a volume that reads as image `before` did, with nothing but its objects. The label is the volume's, the
+-- names are its identifiers with their kinds, and the space has its counts. The last five are what a store needs that is
+-- opened on the disk with no draft.
+pub record IsRecovered {D : Type 0} (g : Ghosts D) (before : Image) (d : D) (label : Label) (names : Listing) (space : Kept) : Type 0 where
+  pub graph : Graph
+  pub was : IsSoundAs before graph
+  pub sound : IsSoundAs (g.content d) graph
+  pub settled : IsSettled g d
+  pub clean : IsClean (g.content d) graph
+  pub labelled : HasLabel (g.content d) label
+  pub root : graph.root ≡ label.root
+  pub size : 64 * label.cylinders ≡ g.blocks d
+  pub named : names.named ≡ kinds_of graph
+  pub room : names.room ≡ g.blocks d
+  pub carries : Carries g graph d
+  pub account : Accounts (g.content d) graph []
+  pub swept : IsSwept (g.content d) graph
+  pub counts : AreCounts (g.content d) space
+  pub ordered : rises (ids_of graph) ≡ true
+
+-- nothing was written
+pub record IsUntouched {D : Type 0} (g : Ghosts D) (old new : D) : Type 0 where
+  pub content : g.content new ≡ g.content old
+  pub images : Leaves g old new Nothing
+
+-- ---- images on the way
+
+-- one call was made, a barrier, and it was done: nothing waits
+pub record HasFlushed {D : Type 0} (g : Ghosts D) (old new : D) : Type 0 where
+  pub settled : IsSettled g new
+  pub untouched : IsUntouched g old new
+  pub calls : g.calls new ≡ count_after (g.calls old)
+  pub tries : g.tries new ≡ count_after (g.tries old)
+
+-- one call was made, a barrier, and it failed
+pub record HasNotFlushed {D : Type 0} (g : Ghosts D) (old new : D) : Type 0 where
+  pub failed : HasFailed g old new
+  pub untouched : IsUntouched g old new
+  pub calls : g.calls new ≡ count_after (g.calls old)
+  pub tries : g.tries new ≡ count_after (g.tries old)
+
+-- The first call is a barrier. Where that was done, whatever a crash left since, or leaves now, has P.
+abbrev pub LeavesSinceBarrier : {D : Type 0} → Ghosts D → D → D → (Image → Type 0) → Type 0
+LeavesSinceBarrier {D} g old new P = HasNotFlushed g old new ⊎ ((mid : D) × HasFlushed g old mid × Leaves g mid new P)

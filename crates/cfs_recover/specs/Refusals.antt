@@ -1,0 +1,22 @@
+-- Why a part of recovery is refused.
+use Rattle.cfs_base.specs.Calls.{HasFailed}
+use Rattle.cfs_base.specs.declared.disk.Disk.{Ghosts}
+use Rattle.cfs_base.specs.declared.refusal.Damage.{Damage}
+use Rattle.cfs_recover.specs.declared.fault.RecoverFault.{RecoverFault}
+use Rattle.cfs_recover.specs.declared.fault.RecoverFault.TheVariants as faults
+
+-- where it says that a device call failed, one did
+abbrev pub IsCaused : {D : Type 0} → Ghosts D → D → D → RecoverFault → Type 0
+IsCaused g old new faults.Disk = HasFailed g old new
+IsCaused g old new faults.NotVolume = Unit {0}
+IsCaused g old new (faults.Version found) = Unit {0}
+IsCaused g old new (faults.Damaged d) = Unit {0}
+IsCaused g old new faults.Memory = Unit {0}
+
+-- it names a damage of which this is so, or says nothing of the volume: a device call failed, or want of memory
+abbrev pub IsDamage : (Damage → Type 0) → RecoverFault → Type 0
+IsDamage P faults.Disk = Unit {0}
+IsDamage P faults.NotVolume = ⊥
+IsDamage P (faults.Version found) = ⊥
+IsDamage P (faults.Damaged d) = P d
+IsDamage P faults.Memory = Unit {0}

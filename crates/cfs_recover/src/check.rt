@@ -1,0 +1,28 @@
+//! A volume checked, with reads alone.
+ghost use Rattle.std.specs.Prelude.{◌≡◌, ◌⊎◌, ◌+◌, ◌*◌, IfErr, OnOk};
+ghost use Rattle.cfs_base.specs.Calls.{OnlyReads};
+ghost use Rattle.cfs_base.specs.Run.{Tells};
+ghost use Rattle.vol_image.specs.Sound.{IsSound};
+ghost use Rattle.cfs_recover.specs.Grounds.{IsOpenFault};
+ghost use Rattle.cfs_recover.specs.Refusals.{IsCaused};
+
+use crate::fault::RecoverFault;
+use crate::survey::survey_volume;
+use cfs_base::Disk;
+use std::alloc::Global;
+
+/// Whether a disk holds a sound volume: all tests that recovery makes before it writes. Reads the label, each map, each
+/// root, shadow root that stands, node and leaf of an index that is reached once, and of a file the leaf in which it ends.
+/// Refused for the first fault that is found, for a device call that failed, or for want of memory.
+pub fn check_volume<D: Disk>(alloc: Global, disk: &mut D) -> Result<(), RecoverFault>
+    ensures sound { Tells D.Disk disk.old → OnOk result (IsSound (D.content disk.old)) }
+    ensures refused { Tells D.Disk disk.old → IfErr result (IsOpenFault (D.content disk.old)) }
+    // A sound volume is refused for nothing else.
+    ensures free { Tells D.Disk disk.old → IsSound (D.content disk.old)
+        → IfErr result (λ e. (e ≡ RecoverFault.Disk) ⊎ (e ≡ RecoverFault.Memory)) }
+    ensures cause { IfErr result (IsCaused D.Disk disk.old disk.new) }
+    ensures reads { OnlyReads D.Disk (1 + 15483 * D.blocks disk.old) disk.old disk.new }
+{
+    survey_volume(alloc, disk)?;
+    Ok(())
+}

@@ -1,0 +1,144 @@
+//! What a walk over the objects of a volume has found.
+ghost use Rattle.cfs_recover.specs.Sized.{IsSized};
+
+use crate::fault::RecoverFault;
+use crate::slot::check_slot;
+use cfs_base::{Block, Kind, NoMemory, Puid};
+use leaf_changes::slot_at;
+use puid_space::Directory;
+use std::alloc::Global;
+
+/// A root block that was found: the identifier that names it stands in the block `by`.
+#[derive(Clone, Copy, Debug, PartialEq, Eq)]
+pub(crate) struct Found {
+    pub block: u32,
+    pub by: u32,
+}
+
+/// What a walk over the objects of a volume has found.
+#[derive(Debug, Drop)]
+pub(crate) struct Walk {
+    /// The identifiers that were found, at most one for each root block. Until an object is read it is listed as an index.
+    pub names: Directory,
+    /// Their root blocks, in the order in which they were found.
+    pub found: Vec<Found>,
+    /// Of each block whether an object that was read holds it.
+    pub held: Vec<bool>,
+    /// The block that names an identifier with the root block, but not the word, of one that was found.
+    pub clash: Option<u32>,
+    ghost sized: { IsSized names.room found.items held.items },
+}
+
+impl Walk {
+    ghost use Rattle.std.specs.Prelude.{◌≡◌, ◌≢◌, ℕ, ◌+◌, ◌<◌, [], true, false, None, IfErr, IfOk, MatchResult, OnOk, replicate};
+    ghost use Rattle.cfs_base.specs.Disk.{Image};
+    ghost use Rattle.cfs_base.specs.declared.identifier.Puid.{Puid};
+    ghost use Rattle.ufs_model.specs.declared.object.Object.{Object};
+    ghost use Rattle.puid_space.specs.Kinds.{kind_of};
+    ghost use Rattle.cfs_recover.specs.Found as spec;
+    ghost use Rattle.cfs_recover.specs.Refusals.{IsDamage};
+
+    /// Nothing was found. Takes the memory for a volume of so many blocks.
+    pub fn new(alloc: Global, blocks: u32) -> Result<Walk, NoMemory>
+        ensures room { IfOk result (λ walk. walk.names.room ≡ blocks) }
+        ensures names { IfOk result (λ walk. walk.names.named ≡ []) }
+        ensures found { IfOk result (λ walk. walk.found.items ≡ []) }
+        ensures held { IfOk result (λ walk. walk.held.items ≡ replicate blocks false) }
+        ensures clash { IfOk result (λ walk. walk.clash ≡ None) }
+    {
+        let mut names = Directory::new(alloc);
+        names.reserve(blocks)?;
+        let found = Vec::with_capacity(alloc, blocks as usize)?;
+        let held = vec![in alloc; false; blocks as usize]?;
+        Ok(Walk {
+            names,
+            found,
+            held,
+            clash: None,
+        })
+    }
+
+    /// Whether an identifier is listed. It is then the only one with its root block.
+    pub fn lists(&self, id: Puid) -> bool
+        ensures lists { result ≡ spec.lists self.now id }
+        ensures alone { result ≡ true → (other : Puid) → spec.lists self.now other ≡ true → other.block ≡ id.block
+            → other ≡ id }
+    {
+        id.block < self.names.room() && self.names.kind(id).is_some()
+    }
+
+    /// Notes an identifier that the block `by` names. Refused with code 6 of that block, where the identifier's is none.
+    pub fn note(&mut self, id: Puid, by: u32) -> Result<(), RecoverFault>
+        ensures told { (image : Image) (done : ℕ) → spec.IsWalk image self.old done → spec.IsNamed image id by
+            → MatchResult result (λ _. spec.IsWalk image self.new done) (IsDamage (spec.IsFault image)) }
+        ensures noted { OnOk result (spec.IsNoted self.new id) }
+        ensures grows { OnOk result (spec.Grows self.old self.new) }
+        ensures no_call { IfErr result (λ e. e ≢ RecoverFault.Disk) }
+    {
+        check_slot(self.names.room(), id, by)?;
+        if self.names.kind(id).is_some() {
+            return Ok(());
+        }
+        if self.names.has_root(id.block) {
+            self.clash = Some(by);
+            return Ok(());
+        }
+        self.found.push(Found {
+            block: id.block,
+            by,
+        })?;
+        self.names.add(id, Kind::Index);
+        Ok(())
+    }
+
+    /// Notes the identifiers in a leaf of an index of this size, which stands in the block `by`.
+    pub fn note_slots(
+        &mut self,
+        content: &Block,
+        size: u64,
+        leaf: u32,
+        by: u32,
+    ) -> Result<(), RecoverFault>
+        ensures told { (image : Image) (done : ℕ) → spec.IsWalk image self.old done
+            → spec.AreNamed image content.now size leaf by
+            → MatchResult result (λ _. spec.IsWalk image self.new done) (IsDamage (spec.IsFault image)) }
+        ensures noted { OnOk result (spec.AreNoted self.new content.now size leaf) }
+        ensures grows { OnOk result (spec.Grows self.old self.new) }
+        ensures no_call { IfErr result (λ e. e ≢ RecoverFault.Disk) }
+    {
+        for slot in 0..64usize {
+            if 512 * leaf as u64 + 8 * slot as u64 >= size {
+                break;
+            }
+            if let Some(id) = slot_at(content, slot) {
+                self.note(id, by)?;
+            }
+        }
+        Ok(())
+    }
+
+    /// Notes that an object holds a block.
+    pub fn hold(&mut self, block: u32)
+        requires { block < self.old.names.room }
+        ensures told { (image : Image) (done : ℕ) → spec.IsWalk image self.old done → spec.IsKept image block
+            → spec.IsWalk image self.new done }
+        ensures held { spec.holds self.new block ≡ true }
+        ensures grows { spec.Grows self.old self.new }
+    {
+        self.held[block as usize] = true;
+    }
+
+    /// Notes of what kind an object is that was read.
+    pub fn learn(&mut self, id: Puid, kind: Kind)
+        requires { spec.lists self.old id ≡ true }
+        ensures told { (image : Image) (done : ℕ) (o : Object) → spec.IsWalk image self.old done
+            → spec.IsNext self.old.found.items done id.block → kind_of o ≡ kind → spec.IsTaken image self.old id o
+            → spec.IsWalk image self.new (done + 1) }
+        ensures grows { spec.Grows self.old self.new }
+    {
+        let room = self.names.room();
+        prove!(id.block < room);
+        self.names.remove(id);
+        self.names.add(id, kind);
+    }
+}

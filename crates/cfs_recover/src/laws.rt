@@ -1,0 +1,40 @@
+//! What is proved of what recovery writes, as contracts. None of these calls does anything.
+ghost use Rattle.std.specs.Prelude.{◌≡◌, ℕ, Bool, ◌*◌, ◌<◌, List, [], length, set, Some};
+ghost use Rattle.cfs_base.specs.Disk.{Image, block_at};
+ghost use Rattle.cfs_base.specs.declared.identifier.Puid.{Puid};
+ghost use Rattle.cyl_map.specs.Volume.{entry_in};
+ghost use Rattle.cyl_map.specs.declared.entry.MapEntry.{MapEntry};
+ghost use Rattle.ufs_model.specs.Graph.{Graph, object_at};
+ghost use Rattle.ufs_model.specs.declared.object.Object.{Object};
+ghost use Rattle.vol_image.specs.Part.{is_fixed};
+ghost use Rattle.vol_image.specs.Sight.{source};
+ghost use Rattle.vol_image.specs.Sound.{Holds, IsSoundAs};
+ghost use Rattle.vol_owners.specs.Account.{Accounts, IsSwept};
+ghost use Rattle.cfs_recover.specs.Tidy.{AreCopied, AreMarked, CopiesRoots, IsTidied, IsTidy, IsTidyMap, Tidies, tidied};
+
+/// Roots may be copied in any order: whichever are, the image reads the same.
+pub fn copies_keep_the_reading()
+    ensures sound { (a b : Image) (g : Graph) → IsSoundAs a g → CopiesRoots a g b → IsSoundAs b g }
+    ensures begin { (a : Image) (g : Graph) → CopiesRoots a g a }
+    ensures write { (a c : Image) (g : Graph) (id : Puid) (o : Object) → CopiesRoots a g c → object_at g id ≡ Some o
+        → id.block < length c → CopiesRoots a g (set c id.block (block_at a (source a id.block))) }
+{}
+
+/// Once each root has the content by which its object is read, the maps may be tidied in any order.
+pub fn tidying_keeps_the_reading()
+    ensures sound { (a b : Image) (g : Graph) → IsSoundAs a g → AreCopied a g → Tidies a g b → IsSoundAs b g }
+    ensures begin { (a : Image) (g : Graph) → Holds a g → Tidies a g a }
+    ensures write { (a c : Image) (g : Graph) (j : ℕ) (block : List ℕ) → Tidies a g c → 64 * j < length c
+        → IsTidyMap a g j block → Tidies a g (set c (64 * j) block) }
+    // What is held becomes Allocated, and all else but the maps and the label Free.
+    ensures entries { (a : Image) (g : Graph) (held : ℕ → Bool) → Holds a g → AreCopied a g → AreMarked a g held
+        → (n : ℕ) (e : MapEntry) → entry_in a n ≡ Some e → IsTidy a g n (tidied (is_fixed n) (held n) e) }
+{}
+
+/// A tidied volume has nothing but its objects, each exactly its blocks.
+pub fn tidied_volumes_have_their_objects_alone()
+    ensures accounts { (a b : Image) (g : Graph) (held : ℕ → Bool) → Holds a g → AreCopied a g → Tidies a g b
+        → IsTidied a g held b → Accounts b g [] }
+    ensures swept { (a b : Image) (g : Graph) (held : ℕ → Bool) → Holds a g → AreCopied a g → Tidies a g b
+        → IsTidied a g held b → IsSwept b g }
+{}

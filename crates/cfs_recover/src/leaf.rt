@@ -1,0 +1,57 @@
+//! A leaf of an object.
+ghost use Rattle.std.specs.Prelude.{◌≡◌, ◌≢◌, ◌+◌, ◌*◌, ◌<◌, ◌≤◌, false, get_or, IfSome, IfNone, MatchResult};
+ghost use Rattle.cfs_base.specs.Codes as codes;
+ghost use Rattle.cfs_base.specs.declared.kind.Kind.TheVariants as kinds;
+ghost use Rattle.ufs_model.specs.Object.{leaves_in};
+ghost use Rattle.cfs_recover.specs.Checks.{IsFilled, IsNotFilled};
+ghost use Rattle.cfs_recover.specs.Entries.{damage};
+
+use block_tree::Root;
+use cfs_base::{Block, Damage, Kind, code};
+
+/// Whether the leaf with this number begins below the size. Refused with code 8 of its block.
+pub fn check_leaf(root: &Root, leaf: u32, block: u32) -> Result<(), Damage>
+    ensures { MatchResult result (λ _. leaf < leaves_in root.now.size)
+        (λ d. (d ≡ damage block codes.late_leaf) × (leaves_in root.now.size ≤ leaf)) }
+{
+    if root.size <= 512 * leaf as u64 {
+        return Err(Damage {
+            block,
+            code: code::LATE_LEAF,
+        });
+    }
+    Ok(())
+}
+
+/// Whether the content of the leaf with this number matters: its slots, or its bytes past the size.
+pub fn is_read(root: &Root, leaf: u32) -> bool
+    ensures { result ≡ false → (root.now.kind ≢ kinds.Index) × (512 * leaf + 512 ≤ root.now.size) }
+{
+    root.kind == Kind::Index || root.size < 512 * leaf as u64 + 512
+}
+
+/// The first byte of a leaf past the size that isn't the fill byte.
+fn first_late_byte(root: &Root, leaf: u32, content: &Block) -> Option<u64>
+    ensures late { IfSome result (λ i. (i < 512) × (root.now.size ≤ 512 * leaf + i)
+        × (get_or content.now i 0 ≢ root.now.fill)) }
+    ensures none { IfNone result (IsFilled root.now leaf content.now) }
+{
+    let bytes = content.bytes();
+    let end = root.size.saturating_sub(512 * leaf as u64);
+    (end..512).find(|i| bytes[*i as usize] != root.fill)
+}
+
+/// Whether all bytes of the leaf with this number that are past the size are the fill byte. Refused with code 9 of its
+/// block.
+pub fn check_rest(root: &Root, leaf: u32, block: u32, content: &Block) -> Result<(), Damage>
+    ensures { MatchResult result (λ _. IsFilled root.now leaf content.now)
+        (λ d. (d ≡ damage block codes.late_byte) × IsNotFilled root.now leaf content.now) }
+{
+    match first_late_byte(root, leaf, content) {
+        None => Ok(()),
+        Some(_) => Err(Damage {
+            block,
+            code: code::LATE_BYTE,
+        }),
+    }
+}

@@ -1,0 +1,41 @@
+//! Opening a volume that a crash left: all tests of a sound image, and then its recovery.
+//! The layer above uses that `recover` is Ok exactly where the image is sound, that the volume then reads as before and has
+//! nothing but what it reads as, and that recovery may be stopped anywhere and begun again.
+#![tactic(auto)]
+
+mod check;
+mod copies;
+mod entry;
+mod fault;
+mod found;
+mod head;
+pub mod laws;
+mod leaf;
+mod maps;
+mod node;
+mod recovery;
+#[cfg(test)]
+mod recovery_tests;
+mod slot;
+mod spot;
+mod standing;
+mod survey;
+#[cfg(test)]
+mod tests;
+mod tidy;
+mod walk;
+mod walk_leaf;
+mod walk_node;
+mod walk_object;
+mod writes;
+
+pub use check::check_volume;
+pub use entry::{check_entry, entry_at};
+pub use fault::RecoverFault;
+pub use head::{Head, check_root, check_root_index, check_shadow, read_head};
+pub use leaf::{check_leaf, check_rest, is_read};
+pub use node::check_node;
+pub use recovery::{Recovered, recover};
+pub use slot::check_slot;
+pub use spot::{Spot, check_spot};
+pub use standing::{Shadow, Standing};

@@ -1,0 +1,108 @@
+//! A volume opened: what a crash left of it is told apart from damage, and tidied.
+ghost use Rattle.std.specs.Prelude.{◌≡◌, ◌≢◌, ◌⊎◌, ◌+◌, ◌*◌, length, replicate, IsTrue, IfErr, IfOk, OnErr, OnOk};
+ghost use Rattle.cfs_base.specs.Calls.{HasFailed, MakesAtMost};
+ghost use Rattle.cfs_base.specs.Disk.{Image};
+ghost use Rattle.cfs_base.specs.Run.{IsSettled, Tells};
+ghost use Rattle.ufs_model.specs.Graph.{Graph};
+ghost use Rattle.vol_image.specs.Sound.{IsSound, IsSoundAs};
+ghost use Rattle.cfs_recover.specs.Grounds.{IsOpenFault};
+ghost use Rattle.cfs_recover.specs.Keeps.{Leads};
+ghost use Rattle.cfs_recover.specs.Recovered.{IsRecovered, IsUntouched, LeavesSinceBarrier};
+ghost use Rattle.cfs_recover.specs.Refusals.{IsCaused};
+ghost use Rattle.cfs_recover.specs.Survey.{Fits, IsSurvey};
+
+use crate::fault::RecoverFault;
+use crate::survey::{Survey, survey_volume};
+use crate::tidy::tidy_maps;
+use crate::writes::{copy_roots, flush};
+use cfs_base::{Disk, Failed};
+use cyl_alloc::Space;
+use puid_space::Directory;
+use std::alloc::Global;
+use vol_label::Label;
+
+/// A volume that was opened: its label, the identifiers of its objects with their kinds, and how many of its blocks are
+/// Free.
+#[derive(Debug, Drop)]
+pub struct Recovered {
+    pub label: Label,
+    pub names: Directory,
+    pub space: Space,
+}
+
+/// Copies the roots and tidies the maps of a volume that was surveyed, and counts what is Free.
+fn tidy_volume<D: Disk>(disk: &mut D, survey: &Survey, space: &mut Space) -> Result<(), Failed>
+    requires fits { Fits (D.blocks disk.old) survey.now }
+    requires none { space.old.free ≡ replicate (length survey.now.grounds.maps.items) 0 }
+    ensures recovered { (a : Image) → IsSettled D.Disk disk.old → D.content disk.old ≡ a → IsSurvey a survey.now
+        → OnOk result (IsRecovered D.Disk a disk.new survey.now.grounds.label survey.now.walked.walk.names space.new) }
+    ensures leads { (a : Image) (g : Graph) → IsSettled D.Disk disk.old → D.content disk.old ≡ a → IsSurvey a survey.now
+        → IsSoundAs a g → Leads D.Disk (λ c. IsSoundAs c g) disk.old disk.new }
+    ensures cause { OnErr result (HasFailed D.Disk disk.old disk.new) }
+    ensures calls { MakesAtMost D.Disk (2 * D.blocks disk.old + 2) (2 * D.blocks disk.old + 2) disk.old disk.new }
+{
+    copy_roots(disk, &survey.walked.copies)?;
+    tidy_maps(disk, &survey.grounds.maps, &survey.walked.walk.held, space)?;
+    Ok(())
+}
+
+/// What was surveyed, without what only recovery needs.
+fn hand_over(survey: Survey, space: Space) -> Recovered
+    ensures label { result.label ≡ survey.grounds.label }
+    ensures names { result.names ≡ survey.walked.walk.names }
+    ensures space { result.space ≡ space }
+{
+    let label = survey.grounds.label;
+    let walked = survey.walked;
+    let walk = walked.walk;
+    let names = walk.names;
+    Recovered {
+        label,
+        names,
+        space,
+    }
+}
+
+/// Opens the volume on a disk of which no write waits.
+fn open_settled<D: Disk>(alloc: Global, disk: &mut D) -> Result<Recovered, RecoverFault>
+    ensures opened { IsSettled D.Disk disk.old → IfOk result (λ r.
+        IsRecovered D.Disk (D.content disk.old) disk.new r.label r.names r.space) }
+    ensures refused { Tells D.Disk disk.old → IfErr result (IsOpenFault (D.content disk.old)) }
+    ensures untouched { IfErr result (λ e. e ≢ RecoverFault.Disk → IsUntouched D.Disk disk.old disk.new) }
+    ensures unsound { Tells D.Disk disk.old → ¬ IsSound (D.content disk.old) → IsUntouched D.Disk disk.old disk.new }
+    ensures leads { (g : Graph) → IsSettled D.Disk disk.old → IsSoundAs (D.content disk.old) g
+        → Leads D.Disk (λ c. IsSoundAs c g) disk.old disk.new }
+    ensures cause { IfErr result (IsCaused D.Disk disk.old disk.new) }
+    ensures calls { MakesAtMost D.Disk (15485 * D.blocks disk.old + 3) (2 * D.blocks disk.old + 2) disk.old disk.new }
+{
+    let survey = survey_volume(alloc, disk)?;
+    let mut space = Space::none(alloc, survey.grounds.maps.len() as u32)?;
+    tidy_volume(disk, &survey, &mut space)?;
+    Ok(hand_over(survey, space))
+}
+
+/// Opens the volume on a disk that a crash left. Makes a barrier, and all tests; then writes to the root block of each
+/// object the root by which it is read, where that stands elsewhere, and makes a barrier; then writes each map that isn't
+/// that of the objects alone, and makes a barrier. It may be stopped anywhere and begun again. Refused for the first fault
+/// that is found, for a device call that failed, or for want of memory.
+pub fn recover<D: Disk>(alloc: Global, disk: &mut D) -> Result<Recovered, RecoverFault>
+    ensures opened { IsTrue (D.honest disk.old) → IfOk result (λ r.
+        IsRecovered D.Disk (D.content disk.old) disk.new r.label r.names r.space) }
+    ensures refused { IsTrue (D.honest disk.old) → IfErr result (IsOpenFault (D.content disk.old)) }
+    // A sound volume is refused for nothing else.
+    ensures free { IsTrue (D.honest disk.old) → IsSound (D.content disk.old)
+        → IfErr result (λ e. (e ≡ RecoverFault.Disk) ⊎ (e ≡ RecoverFault.Memory)) }
+    // Nothing was written where it is refused for another reason than a device call, or the volume isn't sound.
+    ensures untouched { IfErr result (λ e. e ≢ RecoverFault.Disk → IsUntouched D.Disk disk.old disk.new) }
+    ensures unsound { IsTrue (D.honest disk.old) → ¬ IsSound (D.content disk.old) → IsUntouched D.Disk disk.old disk.new }
+    // A sound volume reads as it did, on the disk and in each image since the first barrier, Ok or not.
+    ensures reading { IsTrue (D.honest disk.old) → (g : Graph) → IsSoundAs (D.content disk.old) g
+        → IsSoundAs (D.content disk.new) g }
+    ensures images { IsTrue (D.honest disk.old) → (g : Graph) → IsSoundAs (D.content disk.old) g
+        → LeavesSinceBarrier D.Disk disk.old disk.new (λ c. IsSoundAs c g) }
+    ensures cause { IfErr result (IsCaused D.Disk disk.old disk.new) }
+    ensures calls { MakesAtMost D.Disk (15485 * D.blocks disk.old + 4) (2 * D.blocks disk.old + 3) disk.old disk.new }
+{
+    flush(disk)?;
+    open_settled(alloc, disk)
+}

@@ -1,0 +1,126 @@
+//! One object of a volume that is walked.
+ghost use Rattle.std.specs.Prelude.{◌≡◌, ◌+◌, ◌*◌, ◌<◌, ℕ, true, length, slice_get, Some, IfErr, IfOk, MatchResult, OnOk};
+ghost use Rattle.cfs_base.specs.Calls.{OnlyReads};
+ghost use Rattle.cfs_base.specs.Codes as codes;
+ghost use Rattle.cfs_base.specs.Disk.{Image};
+ghost use Rattle.vol_image.specs.Fault.{HasLabel};
+ghost use Rattle.vol_label.specs.declared.label.Label.{Label};
+ghost use Rattle.cfs_recover.specs.Checks.{HasRootSlots};
+ghost use Rattle.cfs_recover.specs.Entries.{AreStanding, damage};
+ghost use Rattle.cfs_recover.specs.Found.{Grows, IsFault, IsFound, lists};
+ghost use Rattle.cfs_recover.specs.Refusals.{IsCaused, IsDamage};
+ghost use Rattle.cfs_recover.specs.Stored.{AreMapsOf, Stores};
+ghost use Rattle.cfs_recover.specs.Walk.{IsCopy, IsOpened, IsOwn, Walks, id_of};
+ghost use Rattle.cfs_recover.specs.declared.found.Walk as walks;
+
+use crate::fault::RecoverFault;
+use crate::found::{Found, Walk};
+use crate::head::{Head, check_root, check_root_index, read_block, read_head};
+use crate::spot::{Spot, check_spot};
+use crate::standing::Standing;
+use crate::walk_node::walk_nodes;
+use block_tree::Root;
+use cfs_base::{Damage, Disk, Place, Puid, code};
+use cyl_map::Map;
+
+/// The root block of the root index.
+const ROOT_BLOCK: u32 = 2;
+
+/// Reads the root block of an item of the list: the root that it holds, if that has the word of the identifier that is
+/// listed.
+fn own_root<D: Disk>(disk: &mut D, walk: &Walk, item: Found) -> Result<Root, RecoverFault>
+    requires { item.block < D.blocks disk.old }
+    ensures told { (image : Image) → Stores D.Disk disk.old image → IsFound image walk.now item
+        → MatchResult result (IsOwn image item) (IsDamage (IsFault image)) }
+    ensures listed { IfOk result (λ own. lists walk.now (id_of item own) ≡ true) }
+    ensures cause { IfErr result (IsCaused D.Disk disk.old disk.new) }
+    ensures reads { OnlyReads D.Disk 1 disk.old disk.new }
+{
+    let content = read_block(disk, item.block)?;
+    let own = check_root(item.block, &content)?;
+    let id = Puid {
+        block: item.block,
+        word: own.word,
+    };
+    if !walk.lists(id) {
+        return Err(RecoverFault::Damaged(Damage {
+            block: item.by,
+            code: code::NAMES_NOTHING,
+        }));
+    }
+    Ok(own)
+}
+
+/// Whether the root index, where this is its root block, is an index of 64 slots.
+fn check_sort(block: u32, root: &Root) -> Result<(), Damage>
+    ensures { MatchResult result (λ _. block ≡ 2 → HasRootSlots root.now)
+        (λ d. (d ≡ damage 2 codes.names_nothing) × (block ≡ 2) × ¬ HasRootSlots root.now) }
+{
+    if block != ROOT_BLOCK {
+        return Ok(());
+    }
+    check_root_index(root)
+}
+
+/// Reads the root by which an object is read whose own root is this one, with at most one read.
+fn open_object<D: Disk>(
+    disk: &mut D,
+    maps: &[Map],
+    standing: &Standing,
+    item: Found,
+    own: &Root,
+) -> Result<Head, RecoverFault>
+    requires on_disk { item.block < D.blocks disk.old }
+    requires maps { D.blocks disk.old ≡ 64 * length maps.now }
+    requires standing { D.blocks disk.old ≡ length standing.now }
+    ensures told { (image : Image) (label : Label) → Stores D.Disk disk.old image → AreMapsOf image maps.now
+        → AreStanding image (length image) standing.now → HasLabel image label → IsOwn image item own.now
+        → MatchResult result (IsOpened image (id_of item own.now)) (IsDamage (IsFault image)) }
+    ensures cause { IfErr result (IsCaused D.Disk disk.old disk.new) }
+    ensures reads { OnlyReads D.Disk 1 disk.old disk.new }
+{
+    let head = read_head(disk, maps, standing, item.block, own)?;
+    check_sort(item.block, &head.root)?;
+    let spot = Spot {
+        holder: item.by,
+        block: item.block,
+        owner: item.block,
+        place: Place::Root,
+    };
+    check_spot(maps, spot)?;
+    Ok(head)
+}
+
+/// Checks the next object of the list, each of its blocks with at most one read, and notes them and what they name. Gives
+/// the root by which it is read.
+pub(crate) fn walk_object<D: Disk>(
+    disk: &mut D,
+    maps: &[Map],
+    standing: &Standing,
+    walk: &mut Walk,
+    item: Found,
+) -> Result<Head, RecoverFault>
+    requires on_disk { item.block < D.blocks disk.old }
+    requires room { D.blocks disk.old ≡ walk.old.names.room }
+    requires maps { D.blocks disk.old ≡ 64 * length maps.now }
+    requires standing { D.blocks disk.old ≡ length standing.now }
+    ensures told { (image : Image) (label : Label) (done : ℕ) → Walks D.Disk disk.old image maps.now walk.old done
+        → AreStanding image (length image) standing.now → HasLabel image label
+        → slice_get walk.old.found.items done ≡ Some item
+        → MatchResult result (λ head. Walks D.Disk disk.new image maps.now walk.new (done + 1)
+        × IsCopy image item.block head) (IsDamage (IsFault image)) }
+    ensures grows { OnOk result (Grows walk.old walk.new) }
+    ensures cause { IfErr result (IsCaused D.Disk disk.old disk.new) }
+    ensures reads { OnlyReads D.Disk 15482 disk.old disk.new }
+{
+    let own = own_root(disk, walk, item)?;
+    let head = open_object(disk, maps, standing, item, &own)?;
+    walk.hold(item.block);
+    walk_nodes(disk, maps, walk, item.block, &head.root, head.from)?;
+    let id = Puid {
+        block: item.block,
+        word: own.word,
+    };
+    walk.learn(id, head.root.kind);
+    Ok(head)
+}
