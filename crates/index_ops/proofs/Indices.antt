@@ -1,0 +1,109 @@
+-- An index that the store has, as it is read.
+use Rattle.std.proofs.Common.{◌≡◌, ◌≢◌, ℕ, zero, suc, ◌/◌, ◌%◌, ◌<◌, false, List, length, Some, refl, sym, ◌∙◌, ap, subst, arith}
+use Rattle.cfs_base.specs.Calls.{OnlyReads}
+use Rattle.cfs_base.specs.Disk.{AreBlocks, Image, block_at}
+use Rattle.cfs_base.specs.Run.{Tells}
+use Rattle.cfs_base.specs.declared.disk.Disk.{Ghosts}
+use Rattle.cfs_base.specs.declared.identifier.Puid.{Puid}
+use Rattle.cfs_base.specs.declared.refusal.Damage.{Damage}
+use Rattle.cfs_base.specs.declared.refusal.Trouble.{Trouble}
+use Rattle.cfs_base.specs.declared.refusal.Trouble.TheVariants as trouble
+use Rattle.cfs_base.proofs.Calls.{failed_after, tells_on}
+use Rattle.block_tree.specs.Reads.{IsFault, IsPast}
+use Rattle.block_tree.specs.declared.fault.TreeFault.{TreeFault}
+use Rattle.block_tree.specs.declared.fault.TreeFault.TheVariants as faults
+use Rattle.block_tree.specs.Root.{IsRootBlock, root_spelling}
+use Rattle.block_tree.specs.Tree.{PastAbove, bytes_in, leaf_block, levels_of, path_to, tree_of}
+use Rattle.block_tree.specs.declared.root.Root.{Root}
+use Rattle.cyl_alloc.specs.Space.{Kept}
+use Rattle.index_ops.specs.Causes.{Far, FarLeaf, FarNode, IsBadSlot, IsFarLeaf, IsFollowTrouble, IsLeafTrouble, IsRootTrouble, IsSlotTrouble, NoRoot, far_from}
+use Rattle.intentions.specs.Store.{StoreHas}
+use Rattle.leaf_changes.specs.Gives.{GivesIndex}
+use Rattle.leaf_changes.proofs.Contents.{content_is}
+use Rattle.leaf_changes.proofs.Given.{index_to_leaves}
+use Rattle.special_files.specs.Drafting.{node_of}
+use Rattle.special_files.specs.Refusal.{is_damage}
+use Rattle.special_files.proofs.Begun.{own_root, own_tree}
+use Rattle.ufs_model.specs.declared.object.Index.{Index}
+use Rattle.ufs_model.specs.declared.object.Object.TheVariants as objects
+use Rattle.ufs_model.specs.Graph.{Graph, object_at}
+use Rattle.ufs_model.specs.Object.{slot_of}
+use Rattle.vol_image.specs.Reading.{IsTree, leaf_content, leaf_in, slot_in}
+use Rattle.vol_image.specs.Seen.{held_at, tree_in}
+use Rattle.vol_image.proofs.Views.{held}
+use Rattle.vol_owners.specs.Account.{Opened}
+
+-- what a pointer leads to, read
+block_content : (image : Image) (fill v : ℕ) → AreBlocks image → (v ≢ 0 → v < length image) → leaf_content fill (held_at image v) ≡ bytes_in image fill v
+block_content image fill zero blocks below = refl
+block_content image fill (suc v) blocks below = content_is fill (held_at image (suc v)) (block_at image (suc v)) refl (blocks (suc v) (below (λ none. cc))).long
+
+module _ {D : Type 0} (g : Ghosts D) (graph : Graph) (ds : List Opened) (d : D) (space : Kept) (id : Puid) (i : Index) (store : StoreHas g graph ds d space) (at : object_at graph id ≡ Some (objects.Index i)) where
+  abbrev image : Image
+  image = g.content d
+
+  module _ (root : Root) (is : IsRootBlock (block_at image id.block) root) where
+    tree : IsTree (length image) id.block (tree_in image (root_spelling root)) root (objects.Index i)
+    tree = own_tree image (length image) id root (objects.Index i) (store.account.objects id (objects.Index i) at) (store.account.holds.objects id (objects.Index i) at) is
+
+    gives : GivesIndex root (leaf_in (tree_in image (root_spelling root))) i
+    gives = index_to_leaves root (leaf_in (tree_in image (root_spelling root))) i tree.object
+
+    pub slots_are : root.size / 8 ≡ length i.slots
+    slots_are = sym gives.size
+
+    -- no pointer leads past the disk
+    near : (path : List ℕ) (block : ℕ) → tree_of image (root_spelling root) path ≡ block → ¬ IsPast (length image) block
+    near path zero leads past = past.0 refl
+    near path (suc v) leads past = omega (arith, tree.on_disk path (held image (suc v)) (ap (held_at image) leads), past.1)
+
+    below : (leaf : ℕ) → leaf_block image (root_spelling root) leaf ≢ 0 → leaf_block image (root_spelling root) leaf < length image
+    below leaf some = by (leaf_block image (root_spelling root) leaf) refl some
+      where
+        by : (v : ℕ) → leaf_block image (root_spelling root) leaf ≡ v → v ≢ 0 → v < length image
+        by zero leads other = absurd (other refl)
+        by (suc v) leads other = tree.on_disk (path_to (levels_of (root_spelling root)) leaf) (held image (suc v)) (ap (held_at image) leads)
+
+    pub slot_is : AreBlocks image → (slot : ℕ) → slot < length i.slots → slot_in (bytes_in image root.fill (leaf_block image (root_spelling root) (slot / 64))) (slot % 64) ≡ slot_of i slot
+    slot_is blocks slot inside =
+        ap (λ (c : List ℕ). slot_in c (slot % 64)) (sym (block_content image root.fill (leaf_block image (root_spelling root) (slot / 64)) blocks (below (slot / 64))))
+        ∙ sym (gives.slots slot (omega (arith, inside, gives.size)))
+
+    far_not : (leaf : ℕ) (damage : Damage) → ¬ IsFarLeaf image (length image) id.block root leaf damage
+    far_not leaf damage (FarNode code block past above) = near above.0 past above.4 above.5
+    far_not leaf damage (FarLeaf code block past) = near (path_to (levels_of (root_spelling root)) leaf) (leaf_block image (root_spelling root) leaf) refl past
+
+  -- so no damage is met
+  pub root_sound : (new : D) (t : Trouble) → IsRootTrouble g id.block d new t → is_damage t ≡ false
+  root_sound new (trouble.Disk tried) is = refl
+  root_sound new (trouble.Damaged damage) is =
+      let own = own_root image graph store.account.holds id (objects.Index i) at in
+      absurd ((is store.carries.tells).none own.0 own.1)
+
+  pub slot_sound : g.blocks d ≡ length image → (slot : ℕ) (new : D) (t : Trouble) → IsSlotTrouble g id.block slot d new t → is_damage t ≡ false
+  slot_sound size slot new (trouble.Disk tried) is = refl
+  slot_sound size slot new (trouble.Damaged damage) is = absurd (by (is store.carries.tells))
+    where
+      by : ¬ IsBadSlot image (g.blocks d) id.block slot damage
+      by (NoRoot bad) = let own = own_root image graph store.account.holds id (objects.Index i) at in bad.none own.0 own.1
+      by (Far root there far) = far_not root there (slot / 64) damage (subst (λ (n : ℕ). IsFarLeaf image n id.block root (slot / 64) damage) size far)
+
+-- ---- a trouble of a later call is one of the whole
+
+module _ {D : Type 0} (g : Ghosts D) (n at : ℕ) (old mid new : D) (reads : OnlyReads g n old mid) where
+  -- a leaf that was followed after its pointer was found
+  pub leaf_after : (root : Root) (leaf block : ℕ) (t : Trouble) → (Tells g old → block ≡ leaf_block (g.content old) (root_spelling root) leaf) → IsFollowTrouble g (node_of root (leaf / 128)) block mid new t → IsLeafTrouble g at root leaf old new t
+  leaf_after root leaf block (trouble.Disk tried) is bad = (bad.0, failed_after g old mid new n reads bad.1)
+  leaf_after root leaf block (trouble.Damaged damage) is bad = λ tells. FarLeaf (ap (λ (x : Damage). x.code) bad.0) (ap (λ (x : Damage). x.block) bad.0)
+      (subst (λ (b : ℕ). IsPast (g.blocks old) b) (is tells) (subst (λ (size : ℕ). IsPast size block) reads.same.size bad.1))
+
+  -- a slot of an index whose root was read
+  pub slot_after_root : (slot : ℕ) (root : Root) (t : Trouble) → (Tells g old → IsRootBlock (block_at (g.content old) at) root) → IsLeafTrouble g at root (slot / 64) mid new t → IsSlotTrouble g at slot old new t
+  slot_after_root slot root (trouble.Disk tried) is bad = (bad.0, failed_after g old mid new n reads bad.1)
+  slot_after_root slot root (trouble.Damaged damage) is bad = λ tells. Far root (is tells)
+      (subst (λ (c : Image). IsFarLeaf c (g.blocks old) at root (slot / 64) damage) reads.content (subst (λ (size : ℕ). IsFarLeaf (g.content mid) size at root (slot / 64) damage) reads.same.size (bad (tells_on g old mid new n reads tells))))
+
+-- the root's pointer to a leaf's node leads past the disk
+pub far_node : {D : Type 0} (g : Ghosts D) (at : ℕ) (old new : D) (root : Root) (leaf : ℕ) (fault : TreeFault) (block : ℕ) → fault ≡ faults.BadPointer block → IsFault g old new (PastAbove (g.content old) (g.blocks old) (root_spelling root) leaf) fault
+    → IsLeafTrouble g at root leaf old new (far_from at)
+far_node g at old new root leaf fault block is bad = λ tells. FarNode refl refl block ((subst (IsFault g old new (PastAbove (g.content old) (g.blocks old) (root_spelling root) leaf)) is bad).1 tells)

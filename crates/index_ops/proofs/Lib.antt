@@ -1,0 +1,2 @@
+mod Indices
+mod Putting

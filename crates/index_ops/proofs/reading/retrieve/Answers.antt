@@ -1,0 +1,34 @@
+use Rattle.std.proofs.Common.{ℕ, ◌/◌, ◌%◌, sym, ◌∙◌, ap, subst, List}
+use Rattle.cfs_base.specs.Disk.{Image, block_at}
+use Rattle.cfs_base.proofs.Calls.{tells_on}
+use Rattle.block_tree.specs.Root.{IsRootBlock, root_spelling}
+use Rattle.block_tree.specs.Tree.{bytes_in, leaf_block}
+use Rattle.index_ops.specs.Causes.{IsRootTrouble, IsSlotTrouble}
+use Rattle.index_ops.proofs.Indices.{root_sound, slot_after_root, slot_is, slot_sound}
+use Rattle.vol_image.specs.Reading.{slot_in}
+use Rattle.index_ops.proofs.reading.retrieve.Goals as goal
+
+pub returns-in-Err-clause-sound : goal.returns-in-Err-clause-sound
+returns-in-Err-clause-sound g c = λ graph ds space id i store root at.
+    root_sound g.D.Disk graph ds c.args.disk.now space id i store at c.read_root.new.disk c.in-Err.trouble
+    (subst (λ (n : ℕ). IsRootTrouble g.D.Disk n c.args.disk.now c.read_root.new.disk c.in-Err.trouble) (sym root) c.in-Err.ensures.refused)
+
+pub returns-in-Ok-read_leaf-clause-slot : goal.returns-in-Ok-read_leaf-clause-slot
+returns-in-Ok-read_leaf-clause-slot g c = λ graph ds space id i store root at inside.
+    let d0 = c.args.disk.now in
+    let reads = c.read_root.ensures.reads in
+    let tells = store.carries.tells in
+    let is = subst (λ (n : ℕ). IsRootBlock (block_at (g.D.Disk.content d0) n) c.in-Ok.root) (sym root) (c.in-Ok.ensures.root tells) in
+    let bytes = c.in-Ok-read_leaf.ensures.bytes (tells_on g.D.Disk d0 c.read_root.new.disk c.read_root.new.disk 1 reads tells)
+    ∙ ap (λ (a : Image). bytes_in a c.in-Ok.root.fill (leaf_block a (root_spelling c.in-Ok.root) (c.args.slot / 64))) reads.content in
+    c.slot_at.ensures ∙ ap (λ (b : List ℕ). slot_in b (c.args.slot % 64)) bytes
+    ∙ slot_is g.D.Disk graph ds d0 space id i store at c.in-Ok.root is (g.met.D.Disk.of_blocks d0 tells.honest) c.args.slot inside
+
+pub returns-in-Err-read_leaf-clause-refused : goal.returns-in-Err-read_leaf-clause-refused
+returns-in-Err-read_leaf-clause-refused g c =
+    slot_after_root g.D.Disk 1 c.args.index.0 c.args.disk.now c.read_root.new.disk c.read_leaf.new.disk c.read_root.ensures.reads c.args.slot c.in-Ok.root c.in-Err-read_leaf.trouble c.in-Ok.ensures.root c.in-Err-read_leaf.ensures.refused
+
+pub returns-in-Err-read_leaf-clause-sound : goal.returns-in-Err-read_leaf-clause-sound
+returns-in-Err-read_leaf-clause-sound g c = λ graph ds space id i store root at.
+    slot_sound g.D.Disk graph ds c.args.disk.now space id i store at (sym (g.met.D.Disk.sized c.args.disk.now store.carries.tells.honest)) c.args.slot c.read_leaf.new.disk c.in-Err-read_leaf.trouble
+    (subst (λ (n : ℕ). IsSlotTrouble g.D.Disk n c.args.slot c.args.disk.now c.read_leaf.new.disk c.in-Err-read_leaf.trouble) (sym root) (returns-in-Err-read_leaf-clause-refused g c))

@@ -1,0 +1,55 @@
+-- Why an index can't be read.
+use Rattle.std.specs.Prelude.{◌≡◌, ℕ, ◌/◌, false}
+use Rattle.cfs_base.specs.Calls.{HasFailed}
+use Rattle.cfs_base.specs.Codes.{no_root, past_disk}
+use Rattle.cfs_base.specs.Disk.{Image, block_at}
+use Rattle.cfs_base.specs.Run.{Tells}
+use Rattle.cfs_base.specs.declared.disk.Disk.{Ghosts}
+use Rattle.cfs_base.specs.declared.refusal.Damage.{Damage}
+use Rattle.cfs_base.specs.declared.refusal.Trouble.{Trouble}
+use Rattle.cfs_base.specs.declared.refusal.Trouble.TheVariants as trouble
+use Rattle.block_tree.specs.Reads.{IsPast}
+use Rattle.block_tree.specs.Root.{IsRootBlock, root_spelling}
+use Rattle.block_tree.specs.Tree.{PastAbove, leaf_block}
+use Rattle.block_tree.specs.declared.root.Root.{Root}
+use Rattle.special_files.specs.Drafting.{node_of}
+
+-- a pointer of this block leads past the disk
+abbrev pub far_from : ℕ → Trouble
+far_from holder = trouble.Damaged (record { block = holder; code = past_disk })
+
+-- ---- what is wrong with the block that is named
+
+-- it is no root block
+pub record IsNoRoot (image : Image) (at : ℕ) (damage : Damage) : Type 0 where
+  pub code : damage.code ≡ no_root
+  pub block : damage.block ≡ at
+  pub none : (root : Root) → ¬ IsRootBlock (block_at image at) root
+
+-- on a disk of this size a pointer on the way to a leaf of this root leads past the end: the root's, or its node's
+pub data IsFarLeaf (image : Image) (size at : ℕ) (root : Root) (leaf : ℕ) (damage : Damage) : Type 0 where
+  FarNode : damage.code ≡ past_disk → damage.block ≡ at → (block : ℕ) → PastAbove image size (root_spelling root) leaf block → IsFarLeaf image size at root leaf damage
+  FarLeaf : damage.code ≡ past_disk → damage.block ≡ node_of root (leaf / 128) → IsPast size (leaf_block image (root_spelling root) leaf) → IsFarLeaf image size at root leaf damage
+
+-- the one or the other, for a slot of the index at this block
+pub data IsBadSlot (image : Image) (size at slot : ℕ) (damage : Damage) : Type 0 where
+  NoRoot : IsNoRoot image at damage → IsBadSlot image size at slot damage
+  Far : (root : Root) → IsRootBlock (block_at image at) root → IsFarLeaf image size at root (slot / 64) damage → IsBadSlot image size at slot damage
+
+-- ---- why a call ends: a device call failed, or the disk tells what is wrong
+
+abbrev pub IsRootTrouble : {D : Type 0} → Ghosts D → ℕ → D → D → Trouble → Type 0
+IsRootTrouble g at old new (trouble.Disk tried) = (tried ≡ false) × HasFailed g old new
+IsRootTrouble g at old new (trouble.Damaged damage) = Tells g old → IsNoRoot (g.content old) at damage
+
+abbrev pub IsFollowTrouble : {D : Type 0} → Ghosts D → (holder block : ℕ) → D → D → Trouble → Type 0
+IsFollowTrouble g holder block old new (trouble.Disk tried) = (tried ≡ false) × HasFailed g old new
+IsFollowTrouble g holder block old new (trouble.Damaged damage) = (damage ≡ record { block = holder; code = past_disk }) × IsPast (g.blocks old) block
+
+abbrev pub IsLeafTrouble : {D : Type 0} → Ghosts D → ℕ → Root → ℕ → D → D → Trouble → Type 0
+IsLeafTrouble g at root leaf old new (trouble.Disk tried) = (tried ≡ false) × HasFailed g old new
+IsLeafTrouble g at root leaf old new (trouble.Damaged damage) = Tells g old → IsFarLeaf (g.content old) (g.blocks old) at root leaf damage
+
+abbrev pub IsSlotTrouble : {D : Type 0} → Ghosts D → (at slot : ℕ) → D → D → Trouble → Type 0
+IsSlotTrouble g at slot old new (trouble.Disk tried) = (tried ≡ false) × HasFailed g old new
+IsSlotTrouble g at slot old new (trouble.Damaged damage) = Tells g old → IsBadSlot (g.content old) (g.blocks old) at slot damage

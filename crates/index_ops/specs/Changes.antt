@@ -1,0 +1,87 @@
+-- An index changed as one commit.
+use Rattle.std.specs.Prelude.{◌≡◌, ◌⊎◌, ℕ, ◌+◌, ◌*◌, ◌<◌, false, List, [], length, Option, IfErr, OnErr, OnOk, IsTrue, Result, Some, true}
+use Rattle.cfs_base.specs.Calls.{HasStopped, MakesAtMost, OnlyReads}
+use Rattle.cfs_base.specs.Codes.{no_root}
+use Rattle.cfs_base.specs.Disk.{Nothing, block_at}
+use Rattle.cfs_base.specs.Run.{IsSettled, Leaves, Tells}
+use Rattle.cfs_base.specs.declared.disk.Disk.{Ghosts}
+use Rattle.cfs_base.specs.declared.identifier.Puid.{Puid}
+use Rattle.cfs_base.specs.declared.refusal.Damage.{Damage}
+use Rattle.cfs_base.specs.declared.refusal.Refused.{Refused}
+use Rattle.cfs_base.specs.declared.refusal.Refused.TheVariants as refusals
+use Rattle.block_tree.specs.Root.{IsRootBlock}
+use Rattle.block_tree.specs.declared.root.Root.{Root}
+use Rattle.cyl_alloc.specs.Space.{Kept}
+use Rattle.intentions.specs.Store.{StoreHas}
+use Rattle.special_files.specs.Committing.{IsOldOrNew}
+use Rattle.special_files.specs.Refusal.{IsDamage, is_damaged}
+use Rattle.ufs_model.specs.Graph.{Graph, object_at, with_object}
+use Rattle.ufs_model.specs.Object.{filled}
+use Rattle.ufs_model.specs.declared.object.Index.{Index}
+use Rattle.ufs_model.specs.declared.object.Object.{Object}
+use Rattle.ufs_model.specs.declared.object.Object.TheVariants as objects
+use Rattle.vol_owners.specs.Account.{Opened, drafts_of}
+use Rattle.vol_owners.specs.Change.{ChangesOnly, of_owner}
+
+-- the store has this index at the block, no draft of it, and the slot is one of it
+pub record HasSlot {D : Type 0} (g : Ghosts D) (graph : Graph) (ds : List Opened) (d : D) (space : Kept) (at : ℕ) (id : Puid) (i : Index) (slot : ℕ) : Type 0 where
+  pub store : StoreHas g graph ds d space
+  pub root : id.block ≡ at
+  pub there : object_at graph id ≡ Some (objects.Index i)
+  pub shut : drafts_of ds id ≡ []
+  pub inside : slot < length i.slots
+
+-- the index with this in the slot
+abbrev pub index_with : Index → ℕ → Option Puid → Object
+index_with i slot what = objects.Index (filled i slot what)
+
+-- The object is this one now. No write waits, and nothing changed but blocks of the object or such as were Free.
+pub record Changes {D : Type 0} (g : Ghosts D) (graph : Graph) (ds : List Opened) (id : Puid) (o : Object) (old new : D) (space : Kept) : Type 0 where
+  pub store : StoreHas g (with_object graph id o) ds new space
+  pub settled : IsSettled g new
+  pub only : ChangesOnly (λ entry. of_owner id.block entry) (g.content old) (g.content new)
+
+-- what waited is durable now, and the content is as it was
+pub record Settles {D : Type 0} (g : Ghosts D) (old new : D) (result : Result (Unit {0}) Refused) : Type 0 where
+  pub content : g.content new ≡ g.content old
+  pub told : (n : ℕ) → IsTrue (g.told old n) → IsTrue (g.told new n)
+  pub settled : Tells g old → OnOk result (IsSettled g new)
+  pub images : Leaves g old new Nothing
+  pub refused : IfErr result (λ e. e ≡ refusals.Disk true)
+  pub stopped : OnErr result (HasStopped g true old new)
+  pub calls : MakesAtMost g 1 1 old new
+
+-- ---- why it is refused
+
+-- the refusal that it has no such slot
+abbrev pub short_at : ℕ → Refused
+short_at at = refusals.Damaged (record { block = at; code = no_root })
+
+-- the root at this block has no such slot
+pub record IsShort {D : Type 0} (g : Ghosts D) (at slot : ℕ) (old : D) (damage : Damage) : Type 0 where
+  pub code : damage.code ≡ no_root
+  pub block : damage.block ≡ at
+  pub short : Tells g old → (root : Root) → IsRootBlock (block_at (g.content old) at) root → root.size < 8 * slot + 8
+
+-- want of memory, a device call failed, or a block that was read is damaged
+abbrev pub IsIndexRefusal : {D : Type 0} → Ghosts D → (at slot : ℕ) → D → D → Kept → Refused → Type 0
+IsIndexRefusal g at slot old new kept (refusals.Full need) = ⊥
+IsIndexRefusal g at slot old new kept (refusals.Disk tried) = HasStopped g tried old new
+IsIndexRefusal g at slot old new kept (refusals.Damaged damage) = IsDamage g at old new kept damage ⊎ IsShort g at slot old damage
+IsIndexRefusal g at slot old new kept refusals.Memory = Unit {0}
+
+-- A slot of the index at a block gets this, as one commit.
+pub record PutsSlot {D : Type 0} (g : Ghosts D) (at slot : ℕ) (what : Option Puid) (old new : D) (before after : Kept) (result : Result (Unit {0}) Refused) : Type 0 where
+  pub done : (graph : Graph) (ds : List Opened) (id : Puid) (i : Index) → HasSlot g graph ds old before at id i slot
+      → OnOk result (Changes g graph ds id (index_with i slot what) old new after)
+  pub leaves : (graph : Graph) (ds : List Opened) (id : Puid) (i : Index) → HasSlot g graph ds old before at id i slot
+      → Leaves g old new (IsOldOrNew graph id (index_with i slot what))
+  -- no damage where the disk holds the index
+  pub sound : (graph : Graph) (ds : List Opened) (id : Puid) (i : Index) → HasSlot g graph ds old before at id i slot
+      → IfErr result (λ e. is_damaged e ≡ false)
+  pub refused : IfErr result (IsIndexRefusal g at slot old new after)
+  -- memory is taken first, and before a write or barrier is tried all is as it was
+  pub memory : IfErr result (λ e. e ≡ refusals.Memory → (after ≡ before) × OnlyReads g 9 old new)
+  pub untried : IfErr result (λ e. e ≡ refusals.Disk false → (after ≡ before) × OnlyReads g 9 old new)
+  pub cylinders : length after.free ≡ length before.free
+  pub calls : MakesAtMost g 93200 46500 old new

@@ -1,0 +1,143 @@
+//! An index, read.
+ghost use Rattle.std.specs.Prelude.{◌≡◌, ◌≢◌, ◌*◌, ◌/◌, ◌<◌, ◌≤◌, ℕ, List, false, length, Some, IfErr, IfOk, OnOk};
+ghost use Rattle.block_tree.specs.Reads.{IsPast};
+ghost use Rattle.block_tree.specs.Root.{IsRootBlock, root_spelling};
+ghost use Rattle.block_tree.specs.Tree.{bytes_in, leaf_block};
+ghost use Rattle.block_tree.specs.declared.root.Root as roots;
+ghost use Rattle.cfs_base.specs.Calls.{OnlyReads};
+ghost use Rattle.cfs_base.specs.Codes.{past_disk};
+ghost use Rattle.cfs_base.specs.Disk.{block_at};
+ghost use Rattle.cfs_base.specs.Run.{Tells};
+ghost use Rattle.cfs_base.specs.declared.identifier.Puid as puids;
+ghost use Rattle.cyl_alloc.specs.Space.{Kept};
+ghost use Rattle.index_ops.specs.Causes as causes;
+ghost use Rattle.intentions.specs.Store.{StoreHas};
+ghost use Rattle.special_files.specs.Refusal.{is_damage};
+ghost use Rattle.ufs_model.specs.Graph.{Graph, object_at};
+ghost use Rattle.ufs_model.specs.Object.{slot_of};
+ghost use Rattle.ufs_model.specs.declared.object.Index.{Index};
+ghost use Rattle.ufs_model.specs.declared.object.Object.TheVariants as objects;
+ghost use Rattle.vol_owners.specs.Account.{Opened};
+
+use block_tree::{LEAF_LIMIT, Root, TreeFault, leaf_at, node_of};
+use cfs_base::{Block, BlockNo, Damage, Disk, Puid, Trouble, code};
+use leaf_changes::slot_at;
+
+/// A pointer of this block leads past the disk.
+fn far(holder: u32) -> Trouble
+    ensures { result ≡ causes.far_from holder }
+{
+    Trouble::Damaged(Damage {
+        block: holder,
+        code: code::PAST_DISK,
+    })
+}
+
+/// Reads the root of an index.
+pub(crate) fn read_root<D: Disk>(disk: &mut D, index: BlockNo) -> Result<Root, Trouble>
+    requires { index.0 < D.blocks disk.old }
+    ensures root { Tells D.Disk disk.old → IfOk result (IsRootBlock (block_at (D.content disk.old) index.0)) }
+    ensures limit { IfOk result (λ root. root.size ≤ 7864320) }
+    ensures refused { IfErr result (causes.IsRootTrouble D.Disk index.0 disk.old disk.new) }
+    ensures reads { OnlyReads D.Disk 1 disk.old disk.new }
+{
+    let mut content = Block::zero();
+    let Ok(()) = disk.read(index, &mut content) else {
+        return Err(Trouble::Disk { tried: false });
+    };
+    match Root::decode(&content) {
+        Ok(root) => Ok(root),
+        Err(_) => Err(Trouble::Damaged(Damage {
+            block: index.0,
+            code: code::NO_ROOT,
+        })),
+    }
+}
+
+/// Reads the block to which a pointer of this holder leads: fill bytes where it leads nowhere.
+fn follow<D: Disk>(disk: &mut D, holder: u32, block: u32, fill: u8) -> Result<Block, Trouble>
+    ensures content { Tells D.Disk disk.old → IfOk result (λ content. content ≡ bytes_in (D.content disk.old) fill block) }
+    ensures refused { IfErr result (causes.IsFollowTrouble D.Disk holder block disk.old disk.new) }
+    ensures reads { OnlyReads D.Disk 1 disk.old disk.new }
+{
+    let mut content = Block::of([fill; 512]);
+    if block == 0 {
+        return Ok(content);
+    }
+    if block >= disk.blocks() {
+        return Err(far(holder));
+    }
+    match disk.read(BlockNo(block), &mut content) {
+        Ok(()) => Ok(content),
+        Err(_) => Err(Trouble::Disk { tried: false }),
+    }
+}
+
+/// Reads a leaf of the index with this root.
+fn read_leaf<D: Disk>(
+    disk: &mut D,
+    index: BlockNo,
+    root: &Root,
+    leaf: u32,
+) -> Result<Block, Trouble>
+    requires { leaf < LEAF_LIMIT }
+    ensures bytes { Tells D.Disk disk.old → IfOk result (λ content.
+        content ≡ bytes_in (D.content disk.old) root.now.fill (leaf_block (D.content disk.old) (root_spelling root.now) leaf)) }
+    ensures refused { IfErr result (causes.IsLeafTrouble D.Disk index.0 root.now leaf disk.old disk.new) }
+    ensures reads { OnlyReads D.Disk 2 disk.old disk.new }
+{
+    match leaf_at(disk, root, leaf) {
+        Ok(block) => follow(disk, root.nodes[node_of(leaf) as usize], block, root.fill),
+        Err(TreeFault::Disk) => Err(Trouble::Disk { tried: false }),
+        Err(TreeFault::BadPointer { .. }) => Err(far(index.0)),
+    }
+}
+
+/// How many slots the index at a block has. `Damaged` names the block, with code 3, which is no root block.
+pub fn slots<D: Disk>(disk: &mut D, index: BlockNo) -> Result<u64, Trouble>
+    requires { index.0 < D.blocks disk.old }
+    ensures count { (graph : Graph) (ds : List Opened) (space : Kept) (id : puids.Puid) (i : Index)
+        → StoreHas D.Disk graph ds disk.old space → id.block ≡ index.0 → object_at graph id ≡ Some (objects.Index i)
+        → IfOk result (λ count. count ≡ length i.slots) }
+    ensures most { IfOk result (λ count. count ≤ 983040) }
+    ensures refused { IfErr result (causes.IsRootTrouble D.Disk index.0 disk.old disk.new) }
+    // No damage where the disk holds the index.
+    ensures sound { (graph : Graph) (ds : List Opened) (space : Kept) (id : puids.Puid) (i : Index)
+        → StoreHas D.Disk graph ds disk.old space → id.block ≡ index.0 → object_at graph id ≡ Some (objects.Index i)
+        → IfErr result (λ trouble. is_damage trouble ≡ false) }
+    ensures store { (graph : Graph) (ds : List Opened) (space : Kept) → StoreHas D.Disk graph ds disk.old space
+        → StoreHas D.Disk graph ds disk.new space }
+    ensures reads { OnlyReads D.Disk 1 disk.old disk.new }
+{
+    match read_root(disk, index) {
+        Ok(root) => Ok(root.size / 8),
+        Err(trouble) => Err(trouble),
+    }
+}
+
+/// What a slot of the index at a block holds: None where it is empty. The slot is one of the index. `Damaged` names the
+/// block, with code 3, which is no root block, or the root block or a node, with code 4, where the pointer to the slot's
+/// leaf leads past the disk.
+pub fn retrieve<D: Disk>(disk: &mut D, index: BlockNo, slot: u64) -> Result<Option<Puid>, Trouble>
+    requires on_disk { index.0 < D.blocks disk.old }
+    requires few { slot < 983040 }
+    ensures slot { (graph : Graph) (ds : List Opened) (space : Kept) (id : puids.Puid) (i : Index)
+        → StoreHas D.Disk graph ds disk.old space → id.block ≡ index.0 → object_at graph id ≡ Some (objects.Index i)
+        → slot < length i.slots → IfOk result (λ what. what ≡ slot_of i slot) }
+    ensures refused { IfErr result (causes.IsSlotTrouble D.Disk index.0 slot disk.old disk.new) }
+    ensures sound { (graph : Graph) (ds : List Opened) (space : Kept) (id : puids.Puid) (i : Index)
+        → StoreHas D.Disk graph ds disk.old space → id.block ≡ index.0 → object_at graph id ≡ Some (objects.Index i)
+        → IfErr result (λ trouble. is_damage trouble ≡ false) }
+    ensures store { (graph : Graph) (ds : List Opened) (space : Kept) → StoreHas D.Disk graph ds disk.old space
+        → StoreHas D.Disk graph ds disk.new space }
+    ensures reads { OnlyReads D.Disk 3 disk.old disk.new }
+{
+    let root = match read_root(disk, index) {
+        Ok(root) => root,
+        Err(trouble) => return Err(trouble),
+    };
+    match read_leaf(disk, index, &root, (slot / 64) as u32) {
+        Ok(content) => Ok(slot_at(&content, (slot % 64) as usize)),
+        Err(trouble) => Err(trouble),
+    }
+}

@@ -1,0 +1,125 @@
+-- How many blocks a write takes, told by the pointers of the file.
+use Rattle.std.proofs.Common.{◌≡◌, ◌≢◌, inl, inr, ℕ, zero, suc, ◌+◌, ◌-◌, ◌*◌, ◌/◌, ◌%◌, ◌<◌, ◌≤◌, Bool, true, false, length, get_or, refl, sym, ◌∙◌, ap, subst, arith}
+use Rattle.std.specs.Prelude.{◌==◌, count_by, is_some, map, not}
+use Rattle.std.specs.List.{range_with_len}
+use Rattle.std.proofs.Math.Path.{fun_ext}
+use Rattle.std.proofs.lemmas.Bool.{cases_lt, ne_eqb}
+use Rattle.std.proofs.lemmas.List.Sums.{length-filter}
+use Rattle.cfs_base.specs.Disk.{Image}
+use Rattle.cfs_base.specs.declared.identifier.Puid.{Puid}
+use Rattle.block_tree.specs.declared.root.Root as roots
+use Rattle.block_tree.specs.Root.{IsRootBlock, root_spelling}
+use Rattle.leaf_changes.specs.Gives.{GivesFile}
+use Rattle.leaf_changes.proofs.Given.{file_to_leaves}
+use Rattle.leaf_changes.proofs.HeldNumbers.{held_each, in_touched, to_touched}
+use Rattle.ufs_model.specs.Numbers.{branches, has_number, lacking, missing, parents}
+use Rattle.ufs_model.specs.Object.{held_levels, leaves_in, touched}
+use Rattle.ufs_model.specs.declared.object.File.{File}
+use Rattle.ufs_model.specs.declared.object.Object.TheVariants as objects
+use Rattle.ufs_model.proofs.Rising.{in_map, in_numbers, in_withs, numbers-rise, same_numbers, to_map, to_numbers, to_withs, with_numbers-rise}
+use Rattle.vol_image.specs.Seen.{held_at}
+use Rattle.vol_image.proofs.Paths.{held_some, some_held}
+use Rattle.normal_files.specs.Laid.{IsRooted, leaf_of, leaves_of, node_of, object_of}
+use Rattle.normal_files.specs.Nodes.{leaves_at}
+use Rattle.normal_files.proofs.Trees.{leaf_stands, zeros}
+
+-- two tests that hold together are one
+same_test : (a b : Bool) → (a ≡ true → b ≡ true) → (b ≡ true → a ≡ true) → a ≡ b
+same_test true true forth back = refl
+same_test true false forth back = sym (forth refl)
+same_test false true forth back = back refl
+same_test false false forth back = refl
+
+-- the nodes of the touched leaves
+pub touched_nodes : (offset count : ℕ) → 0 < count → parents (touched offset count) ≡ range_with_len (offset / 512 / 128) ((offset + count - 1) / 512 / 128 + 1 - offset / 512 / 128)
+touched_nodes offset count some = same_numbers (parents (touched offset count)) (range_with_len first many) (with_numbers-rise (map (λ n. n / 128) (touched offset count))) (numbers-rise first many) forth back
+  where
+    first : ℕ
+    first = offset / 512 / 128
+
+    many : ℕ
+    many = (offset + count - 1) / 512 / 128 + 1 - offset / 512 / 128
+
+    forth : (x : ℕ) → has_number x (parents (touched offset count)) ≡ true → has_number x (range_with_len first many) ≡ true
+    forth x h =
+        let of = in_map (λ n. n / 128) x (touched offset count) (in_withs x (map (λ n. n / 128) (touched offset count)) h) in
+        let here = in_touched offset count of.0 of.1 in
+        to_numbers x first many (omega (arith, here.0, of.2)) (omega (arith, here.0, here.1, of.2, some))
+
+    leaf_in : (x : ℕ) → first ≤ x → x < first + many → (n : ℕ) × (offset / 512 ≤ n) × (n < leaves_in (offset + count)) × (n / 128 ≡ x)
+    leaf_in x from to = elim (cases_lt (offset / 512) (128 * x)) [
+      | inl less ↦ (128 * x, omega (arith, less), omega (arith, to, some), omega arith)
+      | inr more ↦ (offset / 512, omega arith, omega (arith, some), omega (arith, more, from))
+    ]
+
+    back : (x : ℕ) → has_number x (range_with_len first many) ≡ true → has_number x (parents (touched offset count)) ≡ true
+    back x h =
+        let row = in_numbers x first many h in
+        let n = leaf_in x row.0 row.1 in
+        to_withs x (map (λ m. m / 128) (touched offset count)) (subst (λ (y : ℕ). has_number y (map (λ m. m / 128) (touched offset count)) ≡ true) n.3 (to_map (λ m. m / 128) n.0 (touched offset count) (to_touched offset count n.0 n.1 n.2)))
+
+module _ (a : Image) (id : Puid) (f : File) (root : roots.Root) (rooted : IsRooted a id root) (same : object_of a root ≡ objects.File f) where
+  abbrev pub absent_leaf : ℕ → Bool
+  absent_leaf l = not (is_some (leaves_of a root l))
+
+  abbrev pub absent_node : ℕ → Bool
+  absent_node n = node_of root n == 0
+
+  gives : GivesFile root (leaves_of a root) f
+  gives = file_to_leaves root (leaves_of a root) f same
+
+  is_root : IsRootBlock (root_spelling root) root
+  is_root = record { good = rooted.laid.good; spelled = refl }
+
+  held_is : (l : ℕ) → has_number l f.held ≡ is_some (leaves_of a root l)
+  held_is l = ap (has_number l) gives.held ∙ held_each root (leaves_of a root) l (rooted.laid.fit.within l)
+
+  pub some_is : (n k : ℕ) → k < 128 → is_some (leaves_of a root (128 * n + k)) ≡ is_some (held_at a (leaf_of a root n k))
+  some_is n k small = ap is_some (leaf_stands a (root_spelling root) root is_root n k small)
+
+  no_node : (n k : ℕ) → node_of root n ≡ 0 → leaf_of a root n k ≡ 0
+  no_node n k none = ap (λ (p : ℕ). get_or (leaves_at a p) k 0) none ∙ zeros 128 k
+
+  node_held : (n : ℕ) → has_number n (parents f.held) ≡ not (absent_node n)
+  node_held n = same_test (has_number n (parents f.held)) (not (absent_node n)) forth back
+    where
+      real : (p : ℕ) → p ≢ 0 → not (p == 0) ≡ true
+      real p some = ap not (ne_eqb p 0 some)
+
+      unreal : (p : ℕ) → not (p == 0) ≡ true → p ≢ 0
+      unreal zero h = cc
+      unreal (suc p) h = λ none. cc
+
+      forth : has_number n (parents f.held) ≡ true → not (absent_node n) ≡ true
+      forth h =
+          let of = in_map (λ m. m / 128) n f.held (in_withs n (map (λ m. m / 128) f.held) h) in
+          let l = of.0 in
+          let k = l % 128 in
+          let at : 128 * n + k ≡ l = omega (arith, of.2) in
+          let small : k < 128 = omega arith in
+          let there : is_some (held_at a (leaf_of a root n k)) ≡ true = sym (some_is n k small) ∙ ap (λ (m : ℕ). is_some (leaves_of a root m)) at ∙ sym (held_is l) ∙ of.1 in
+          real (node_of root n) (λ none. some_held a (leaf_of a root n k) there (no_node n k none))
+
+      back : not (absent_node n) ≡ true → has_number n (parents f.held) ≡ true
+      back h =
+          let to = rooted.laid.leads n (unreal (node_of root n) h) in
+          let l = 128 * n + to.0 in
+          let up : l / 128 ≡ n = omega (arith, to.1) in
+          let held : has_number l f.held ≡ true = held_is l ∙ some_is n to.0 to.1 ∙ held_some a (leaf_of a root n to.0) to.2 in
+          to_withs n (map (λ m. m / 128) f.held) (subst (λ (y : ℕ). has_number y (map (λ m. m / 128) f.held) ≡ true) up (to_map (λ m. m / 128) l f.held held))
+
+  -- the model's need of a write: the touched leaves that are absent, and their nodes that are
+  pub need_is : (offset count : ℕ) → 0 < count → missing (branches 1 (touched offset count)) (held_levels (objects.File f))
+      ≡ count_by absent_leaf (touched offset count) + count_by absent_node (range_with_len (offset / 512 / 128) ((offset + count - 1) / 512 / 128 + 1 - offset / 512 / 128))
+  need_is offset count some =
+      let leaves : length (lacking (touched offset count) f.held) ≡ count_by absent_leaf (touched offset count) =
+      length-filter (λ n. not (has_number n f.held)) (touched offset count) ∙ ap (λ (P : ℕ → Bool). count_by P (touched offset count)) (fun_ext (λ n. ap not (held_is n))) in
+      let nodes : length (lacking (parents (touched offset count)) (parents f.held)) ≡ count_by absent_node (range_with_len (offset / 512 / 128) ((offset + count - 1) / 512 / 128 + 1 - offset / 512 / 128)) =
+      length-filter (λ n. not (has_number n (parents f.held))) (parents (touched offset count))
+      ∙ ap (λ (P : ℕ → Bool). count_by P (parents (touched offset count))) (fun_ext (λ n. ap not (node_held n) ∙ twice (absent_node n)))
+      ∙ ap (count_by absent_node) (touched_nodes offset count some) in
+      omega (arith, leaves, nodes)
+    where
+      twice : (b : Bool) → not (not b) ≡ b
+      twice true = refl
+      twice false = refl

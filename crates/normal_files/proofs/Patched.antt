@@ -1,0 +1,186 @@
+-- A file of which some leaves have their new bytes is between the old file and the new.
+use Rattle.std.proofs.Common.{◌≡◌, ◌≢◌, ◌⊎◌, inl, inr, ℕ, ◌+◌, ◌*◌, ◌/◌, ◌<◌, ◌≤◌, Bool, true, false, List, length, Option, Some, None, refl, sym, ◌∙◌, ap, subst, arith}
+use Rattle.std.specs.Prelude.{◌&&◌, nat_le, nat_lt}
+use Rattle.std.proofs.lemmas.Bool.{cases_lt}
+use Rattle.std.proofs.lemmas.Bool.Decides.{nat_tests}
+use Rattle.cfs_base.specs.Disk.{AreBlocks, Image, block_at}
+use Rattle.cfs_base.specs.declared.identifier.Puid.{Puid}
+use Rattle.cfs_base.specs.declared.kind.Kind.TheVariants as kinds
+use Rattle.cfs_base.specs.declared.kind.FileKind.{FileKind}
+use Rattle.cfs_base.specs.declared.kind.FileKind.TheVariants as file_kinds
+use Rattle.block_tree.specs.declared.root.Root as roots
+use Rattle.block_tree.specs.Root.{root_spelling}
+use Rattle.block_tree.specs.Tree.{levels_of, path_to, tree_of}
+use Rattle.leaf_changes.specs.Bytes.{patched}
+use Rattle.leaf_changes.specs.Gives.{GivesFile, kind_of}
+use Rattle.leaf_changes.specs.Leaves.{LeavesFit, Writes, bytes_held}
+use Rattle.leaf_changes.proofs.Between.{between, leaf_of, mixed_fit}
+use Rattle.leaf_changes.proofs.Contents.{content_is, length-leaf_content}
+use Rattle.leaf_changes.proofs.Given.{file_to_leaves, same_kind, some_file}
+use Rattle.leaf_changes.proofs.Overlays.{laid_outside, length-overlaid, over_early, over_past}
+use Rattle.leaf_changes.proofs.Written.{writes_fit, writes_object}
+use Rattle.ufs_model.specs.declared.object.File.{File}
+use Rattle.ufs_model.specs.declared.object.Object.TheVariants as objects
+use Rattle.ufs_model.specs.Graph.{Graph, object_at, with_object}
+use Rattle.ufs_model.specs.Object.{changed_object, leaves_in, written}
+use Rattle.ufs_model.specs.declared.change.Change.TheVariants.{Overwrite}
+use Rattle.vol_image.specs.Reading.{leaf_content}
+use Rattle.vol_image.specs.Seen.{Held}
+use Rattle.vol_image.specs.Sound.{Holds}
+use Rattle.vol_image.specs.Survives.{leaf_of_file}
+use Rattle.vol_image.proofs.Views.{held, held_is}
+use Rattle.normal_files.specs.Among.{IsAmong, IsEither}
+use Rattle.normal_files.specs.Laid.{IsRooted, leaves_of, object_of}
+use Rattle.normal_files.specs.Standing.{IsPartly}
+use Rattle.normal_files.proofs.Laid.{tree_of_laid}
+use Rattle.normal_files.proofs.Among.{among_holds, leaf_either}
+
+pub no_index : (k : FileKind) → kind_of k ≢ kinds.Index
+no_index file_kinds.Normal same = cc
+no_index file_kinds.Special same = cc
+
+-- ---- the leaves once all is written
+
+module _ (fill offset : ℕ) (bytes : List ℕ) (old : ℕ → Option Held) (whole : (l : ℕ) (h : Held) → old l ≡ Some h → length h.content ≡ 512) where
+  abbrev before : ℕ → List ℕ
+  before l = leaf_content fill (old l)
+
+  abbrev after : ℕ → List ℕ
+  after l = patched l offset bytes (before l)
+
+  abbrev is_touched : ℕ → Bool
+  is_touched l = nat_le (offset / 512) l && nat_lt l (leaves_in (offset + length bytes))
+
+  rewritten : Bool → List ℕ → Option Held → Option Held
+  rewritten touched content (Some h) = Some (record h { content = content })
+  rewritten true content None = Some (record { block = 0; part = None; content = content })
+  rewritten false content None = None
+
+  pub next : ℕ → Option Held
+  next l = rewritten (is_touched l) (after l) (old l)
+
+  -- a leaf that isn't touched stays
+  pub untouched : (l : ℕ) → (l < offset / 512) ⊎ (leaves_in (offset + length bytes) ≤ l) → after l ≡ before l
+  untouched l out = laid_outside (512 * l) (before l) offset bytes (λ k small. elim out [
+    | inl early ↦ over_early offset bytes (512 * l + k) _ (omega (arith, length-leaf_content fill (old l)))
+    | inr late ↦ over_past offset bytes (512 * l + k) _ (omega (arith, length-leaf_content fill (old l)))
+  ])
+
+  not_touched : (l : ℕ) → (l < offset / 512) ⊎ (leaves_in (offset + length bytes) ≤ l) → is_touched l ≡ false
+  not_touched l (inl early) = grind (arith, nat_tests)
+  not_touched l (inr late) = grind (arith, nat_tests)
+
+  pub touched_is : (l : ℕ) → offset / 512 ≤ l → l < leaves_in (offset + length bytes) → is_touched l ≡ true
+  touched_is l from to = grind (arith, nat_tests)
+
+  pub next_held : (l : ℕ) (h : Held) → old l ≡ Some h → bytes_held (next l) ≡ Some (after l)
+  unfolding next rewritten
+  next_held l h is = ap (λ o. bytes_held (rewritten (is_touched l) (after l) o)) is
+
+  pub next_touched : (l : ℕ) → is_touched l ≡ true → bytes_held (next l) ≡ Some (after l)
+  unfolding next rewritten
+  next_touched l is = by (old l)
+    where
+      by : (o : Option Held) → bytes_held (rewritten (is_touched l) (after l) o) ≡ Some (after l)
+      by None = ap (λ (b : Bool). bytes_held (rewritten b (after l) None)) is
+      by (Some h) = refl
+
+  pub next_untouched : (l : ℕ) → (l < offset / 512) ⊎ (leaves_in (offset + length bytes) ≤ l) → bytes_held (next l) ≡ bytes_held (old l)
+  unfolding next rewritten
+  next_untouched l out = by (old l) refl
+    where
+      by : (o : Option Held) → old l ≡ o → bytes_held (rewritten (is_touched l) (after l) o) ≡ bytes_held o
+      by None is = ap (λ (b : Bool). bytes_held (rewritten b (after l) None)) (not_touched l out)
+      by (Some h) is = ap Some (untouched l out ∙ content_is fill (old l) h.content (ap bytes_held is) (whole l h is))
+
+  pub next_writes : Writes fill offset bytes old next
+  next_writes = record {
+    before = λ l early. next_untouched l (inl early);
+    here = λ l from to. next_touched l (touched_is l from to);
+    after = λ l late. next_untouched l (inr late);
+  }
+
+  pub next_content : (l : ℕ) → leaf_content fill (next l) ≡ after l
+  unfolding next rewritten
+  next_content l = by (old l) refl (is_touched l) refl
+    where
+      long : length (after l) ≡ 512
+      long = length-overlaid (512 * l) (before l) offset bytes ∙ length-leaf_content fill (old l)
+
+      by : (o : Option Held) → old l ≡ o → (t : Bool) → is_touched l ≡ t → leaf_content fill (rewritten t (after l) o) ≡ after l
+      by (Some h) is t same = content_is fill (Some (record h { content = after l })) (after l) refl long
+      by None is true same = content_is fill (Some (record { block = 0; part = None; content = after l })) (after l) refl long
+      by None is false same = ap (leaf_content fill) (sym is) ∙ sym (untouched l (elim (cases_lt l (offset / 512)) [
+        | inl early ↦ inl early
+        | inr from ↦ elim (cases_lt l (leaves_in (offset + length bytes))) [ inl to ↦ absurd (let no : true ≡ false = sym (touched_is l from to) ∙ same in cc) | inr late ↦ inr late ]
+      ]))
+
+-- ---- an image of a write
+
+module _ (a : Image) (graph : Graph) (id : Puid) (f : File) (holds : Holds a graph) (at : object_at graph id ≡ Some (objects.File f)) (root : roots.Root) (rooted : IsRooted a id root) (same : object_of a root ≡ objects.File f)
+    (blocks : AreBlocks a) where
+  pub gives : GivesFile root (leaves_of a root) f
+  gives = file_to_leaves root (leaves_of a root) f same
+
+  pub a_file : root.kind ≢ kinds.Index
+  a_file index = no_index f.kind (sym gives.kind ∙ index)
+
+  pub whole : (l : ℕ) (h : Held) → leaves_of a root l ≡ Some h → length h.content ≡ 512
+  whole l h is =
+      let path = path_to (levels_of (root_spelling root)) l in
+      let tree = tree_of_laid a (root_spelling root) root (record { good = rooted.laid.good; spelled = refl }) id.block refl rooted.laid in
+      let two = held_is a (tree_of a (root_spelling root) path) h is in
+      let below = subst (λ (x : Held). x.block < length a) two.0 (tree.on_disk path h is) in
+      subst (λ (x : Held). length x.content ≡ 512) (sym two.0) (blocks (tree_of a (root_spelling root) path) below).long
+
+  module _ (offset : ℕ) (bytes : List ℕ) (inside : offset + length bytes ≤ length f.bytes) where
+    abbrev last : ℕ → Option Held
+    last = next root.fill offset bytes (leaves_of a root) whole
+
+    fits : offset + length bytes ≤ root.size
+    fits = omega (arith, inside, gives.size)
+
+    pub last_fit : LeavesFit root last
+    last_fit = writes_fit root (leaves_of a root) last offset bytes rooted.laid.fit (next_writes root.fill offset bytes (leaves_of a root) whole) fits
+
+    last_gives : GivesFile root last (written f offset bytes)
+    last_gives = file_to_leaves root last (written f offset bytes)
+        (writes_object root (leaves_of a root) last offset bytes rooted.laid.fit (next_writes root.fill offset bytes (leaves_of a root) whole) fits a_file ∙ ap (λ o. changed_object (Overwrite offset bytes) o) same)
+
+    pub old_leaf : (l : ℕ) → leaf_of_file f l ≡ leaf_content root.fill (leaves_of a root l)
+    old_leaf = leaf_of root (leaves_of a root) f rooted.laid.fit gives
+
+    pub new_leaf : (l : ℕ) → leaf_of_file (written f offset bytes) l ≡ patched l offset bytes (leaf_content root.fill (leaves_of a root l))
+    new_leaf l = leaf_of root last (written f offset bytes) last_fit last_gives l ∙ next_content root.fill offset bytes (leaves_of a root) whole l
+
+    module _ (c : Image) (among : IsAmong a graph id root (IsEither a root offset bytes) c) where
+      cases : (l : ℕ) → ((leaves_of c root l ≡ None) × (leaves_of a root l ≡ None)) ⊎ ((x : ℕ) × (leaves_of a root l ≡ Some (held a x)) × (leaves_of c root l ≡ Some (held c x)) × IsEither a root offset bytes l (block_at c x))
+      cases = leaf_either a graph id (objects.File f) holds at root rooted (IsEither a root offset bytes) c among
+
+      pub partly_fit : LeavesFit root (leaves_of c root)
+      partly_fit = mixed_fit root root root (leaves_of a root) last (leaves_of c root) rooted.laid.fit last_fit (omega arith) refl (record { kind = refl; fill = refl; size = refl }) (λ l. elim (cases l) [
+        | inl none ↦ inl (ap bytes_held none.0 ∙ sym (ap bytes_held none.1))
+        | inr some ↦ elim some.3 [
+          | inl was ↦ inl (ap bytes_held some.2 ∙ ap Some (was ∙ content_is root.fill (leaves_of a root l) (block_at a some.0) (ap bytes_held some.1) (whole l (held a some.0) some.1)) ∙ sym (ap bytes_held some.1))
+          | inr now ↦ inr (ap bytes_held some.2 ∙ ap Some now ∙ sym (next_held root.fill offset bytes (leaves_of a root) whole l (held a some.0) some.1))
+        ]
+      ])
+
+      content_of : (l : ℕ) → (leaf_content root.fill (leaves_of c root l) ≡ leaf_of_file f l) ⊎ (leaf_content root.fill (leaves_of c root l) ≡ leaf_of_file (written f offset bytes) l)
+      content_of l = elim (cases l) [
+        | inl none ↦ inl (ap (leaf_content root.fill) (none.0 ∙ sym none.1) ∙ sym (old_leaf l))
+        | inr some ↦ elim some.3 [
+          | inl was ↦ inl (content_is root.fill (leaves_of c root l) _ (ap bytes_held some.2 ∙ ap Some was) (length-leaf_content root.fill (leaves_of a root l)) ∙ sym (old_leaf l))
+          | inr now ↦ inr (content_is root.fill (leaves_of c root l) _ (ap bytes_held some.2 ∙ ap Some now)
+              (length-overlaid (512 * l) (leaf_content root.fill (leaves_of a root l)) offset bytes ∙ length-leaf_content root.fill (leaves_of a root l)) ∙ sym (new_leaf l))
+        ]
+      ]
+
+      pub partly_written : IsPartly c graph id f (written f offset bytes)
+      partly_written =
+          let some = some_file root (leaves_of c root) a_file in
+          let now = file_to_leaves root (leaves_of c root) some.0 some.1 in (
+            some.0,
+            subst (λ o. Holds c (with_object graph id o)) some.1 (among_holds a graph id (objects.File f) holds at root rooted (IsEither a root offset bytes) c among partly_fit),
+            between root (leaves_of c root) some.0 partly_fit now f (written f offset bytes) (same_kind some.0.kind f.kind root.kind now.kind gives.kind) (sym gives.fill) (inl (sym gives.size)) content_of,
+          )

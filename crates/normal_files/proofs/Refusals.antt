@@ -1,0 +1,55 @@
+-- One refusal told as another.
+use Rattle.std.proofs.Common.{◌≡◌, ◌+◌, ℕ, Ok, Err, false, refl, sym, subst, arith}
+use Rattle.std.specs.Prelude.{IfErr, Result}
+use Rattle.std.specs.Result.{IsErrAnd}
+use Rattle.cfs_base.specs.Calls.{OnlyReads}
+use Rattle.cfs_base.specs.Run.{Tells}
+use Rattle.cfs_base.proofs.Calls.{reads_then, stopped_after_reads, tells_on}
+use Rattle.cfs_base.specs.declared.disk.Disk.{Ghosts}
+use Rattle.cfs_base.specs.declared.refusal.Damage.{Damage}
+use Rattle.cfs_base.specs.declared.refusal.Trouble.{Trouble}
+use Rattle.cfs_base.specs.declared.refusal.Trouble.TheVariants as trouble
+use Rattle.cfs_base.specs.Disk.{Image}
+use Rattle.block_tree.specs.Pointers.{leaf_pointers}
+use Rattle.normal_files.specs.Refusal.{FarNode, FarRoot, IsDamage, IsFar, IsTrouble, NoRoot, is_damage}
+use Rattle.normal_files.specs.Steps.{HasStoppedBy}
+
+-- what a `?` makes of a trouble
+pub passed : {A : Type 0} (P : Trouble → Type 0) (r : Result A Trouble) (t : Trouble) → IsErrAnd r (λ e. e ≡ t) → P t → IfErr r P
+passed P (Ok x) t is p = tt
+passed P (Err e) t is p = subst P (sym is) p
+
+-- ---- after calls that only read
+
+module _ {D : Type 0} (g : Ghosts D) (at : ℕ) (old mid new : D) where
+  damage_since : (n : ℕ) (damage : Damage) → OnlyReads g n old mid → IsDamage g at mid damage → IsDamage g at old damage
+  damage_since n damage reads (NoRoot code block why) = NoRoot code block (λ tells root. rw (← reads.content) (why (tells_on g old mid new n reads tells) root))
+  damage_since n damage reads (FarRoot code block) = FarRoot code block
+  damage_since n damage reads (FarNode code why) =
+      FarNode code (λ tells. subst (λ (i : Image). IsFar (g.blocks old) i leaf_pointers damage.block) reads.content
+      (subst (λ (size : ℕ). IsFar size (g.content mid) leaf_pointers damage.block) reads.same.size (why (tells_on g old mid new n reads tells))))
+
+  pub trouble_after_reads : (n : ℕ) (t : Trouble) → OnlyReads g n old mid → IsTrouble g at mid new t → IsTrouble g at old new t
+  trouble_after_reads n (trouble.Disk tried) reads is = stopped_after_reads g old mid new n tried reads is
+  trouble_after_reads n (trouble.Damaged damage) reads is = damage_since n damage reads is
+
+-- one read more
+pub reads_one : {D : Type 0} {n : ℕ} (g : Ghosts D) (old mid new : D) → OnlyReads g n old mid → OnlyReads g 1 mid new → OnlyReads g (n + 1) old new
+reads_one {n = n} g old mid new first last = reads_then g old mid new n 1 (n + 1) first last (omega arith)
+
+pub tells_after : {D : Type 0} {n : ℕ} (g : Ghosts D) (old mid : D) → OnlyReads g n old mid → Tells g old → Tells g mid
+tells_after {n = n} g old mid reads tells = tells_on g old mid mid n reads tells
+
+-- ---- a device call failed
+
+pub stopped_is : {D : Type 0} (g : Ghosts D) (at : ℕ) (old new : D) (t : Trouble) → HasStoppedBy g old new t → IsTrouble g at old new t
+stopped_is g at old new (trouble.Disk tried) is = is
+stopped_is g at old new (trouble.Damaged damage) is = absurd is
+
+pub stopped_undamaged : {D : Type 0} (g : Ghosts D) (old new : D) (t : Trouble) → HasStoppedBy g old new t → is_damage t ≡ false
+stopped_undamaged g old new (trouble.Disk tried) is = refl
+stopped_undamaged g old new (trouble.Damaged damage) is = absurd is
+
+pub stopped_later : {D : Type 0} {n : ℕ} (g : Ghosts D) (old mid new : D) (t : Trouble) → OnlyReads g n old mid → HasStoppedBy g mid new t → HasStoppedBy g old new t
+stopped_later {n = n} g old mid new (trouble.Disk tried) reads is = stopped_after_reads g old mid new n tried reads is
+stopped_later g old mid new (trouble.Damaged damage) reads is = absurd is

@@ -1,0 +1,88 @@
+-- A tree of nodes and leaves: what stands at each path, as the pointers say.
+use Rattle.std.proofs.Common.{◌≡◌, ◌≢◌, inl, inr, ℕ, zero, suc, ◌+◌, ◌*◌, ◌/◌, ◌%◌, ◌<◌, ◌≤◌, List, [], ◌∷◌, get_or, refl, sym, ◌∙◌, ap, subst, arith}
+use Rattle.std.specs.Prelude.{replicate, slice_index}
+use Rattle.std.proofs.lemmas.Bool.{cases_eq, cases_lt}
+use Rattle.std.proofs.lemmas.List.{get_or-replicate, get_or_past, length-replicate}
+use Rattle.std.proofs.lemmas.List.FromFn.{length-map-range_with_len}
+use Rattle.cfs_base.specs.Disk.{Image, block_at}
+use Rattle.block_tree.specs.declared.root.Root as roots
+use Rattle.block_tree.specs.Pointers.{leaf_pointers, node_pointers, number_at, numbers_from, pointers_of}
+use Rattle.block_tree.specs.Root.{IsRootBlock}
+use Rattle.block_tree.specs.Tree.{end_of, pointer, tree_of}
+use Rattle.block_tree.proofs.Spellings.{nodes_of}
+use Rattle.block_tree.proofs.Trees.{leaf_is, node_block, path_is}
+use Rattle.ufs_model.specs.declared.object.Object.{Object}
+use Rattle.vol_image.specs.Reading.{IsTree, leaf_in}
+use Rattle.vol_image.specs.Seen.{held_at, tree_in}
+use Rattle.vol_image.proofs.Paths.{held_there}
+use Rattle.vol_image.proofs.Views.{held}
+use Rattle.normal_files.specs.Nodes.{IsNear, LeadTo, leaves_at}
+
+pub zeros : (n k : ℕ) → get_or (replicate {A = ℕ} n 0) k 0 ≡ 0
+zeros n k = elim (cases_lt k n) [ inl below ↦ get_or-replicate n k 0 0 below | inr past ↦ get_or_past (replicate n 0) k 0 (omega (arith, past, length-replicate {A = ℕ} n 0)) ]
+
+pub leaves_there : (image : Image) (block : ℕ) → block ≢ 0 → leaves_at image block ≡ pointers_of leaf_pointers (block_at image block)
+leaves_there image zero some = absurd (some refl)
+leaves_there image (suc n) some = refl
+
+-- the leaf pointers of a node are those of the tree; an absent node has none
+pub pointed : (image : Image) (p k : ℕ) → end_of image (leaf_pointers ∷ []) p (k ∷ []) ≡ get_or (leaves_at image p) k 0
+pointed image zero k = sym (zeros 128 k)
+pointed image (suc p) k = refl
+
+-- a node has 128 pointers
+pub none_past : (image : Image) (p k : ℕ) → 128 ≤ k → get_or (leaves_at image p) k 0 ≡ 0
+unfolding pointers_of
+none_past image zero k past = zeros 128 k
+none_past image (suc p) k past = get_or_past (numbers_from (block_at image (suc p)) 0 128) k 0 (omega (arith, past, length-map-range_with_len (λ (j : ℕ). number_at (block_at image (suc p)) (0 + j)) 0 128))
+
+module _ (image : Image) (content : List ℕ) (root : roots.Root) (is : IsRootBlock content root) where
+  pub node_pointer : (n : ℕ) → pointer node_pointers content n ≡ slice_index root.nodes n
+  node_pointer n = ap (λ (c : List ℕ). pointer node_pointers c n) is.spelled ∙ ap (λ (ns : List ℕ). get_or ns n 0) (sym (nodes_of root is.good.0))
+
+  pub node_at : (n : ℕ) → tree_of image content (n ∷ []) ≡ slice_index root.nodes n
+  node_at n = node_block image content n ∙ node_pointer n
+
+  pub leaf_at : (n k : ℕ) → k < 128 → tree_of image content (n ∷ k ∷ []) ≡ get_or (leaves_at image (slice_index root.nodes n)) k 0
+  leaf_at n k small =
+      let l = 128 * n + k in
+      let high : n ≡ l / 128 = omega arith in
+      let low : k ≡ l % 128 = omega arith in
+      ap (λ (m : ℕ). tree_of image content (m ∷ k ∷ [])) high ∙ ap (λ (m : ℕ). tree_of image content (l / 128 ∷ m ∷ [])) low
+      ∙ ap (tree_of image content) (sym (path_is content l)) ∙ leaf_is image content l
+      ∙ ap (λ (p : ℕ). end_of image (leaf_pointers ∷ []) p (l % 128 ∷ [])) (ap (pointer node_pointers content) (sym high) ∙ node_pointer n)
+      ∙ ap (λ (m : ℕ). end_of image (leaf_pointers ∷ []) (slice_index root.nodes n) (m ∷ [])) (sym low) ∙ pointed image (slice_index root.nodes n) k
+
+  -- a leaf stands where its node points
+  pub leaf_stands : (n k : ℕ) → k < 128 → leaf_in (tree_in image content) (128 * n + k) ≡ held_at image (get_or (leaves_at image (slice_index root.nodes n)) k 0)
+  leaf_stands n k small =
+      let l = 128 * n + k in
+      let high : l / 128 ≡ n = omega arith in
+      let low : l % 128 ≡ k = omega arith in
+      ap (λ (p : List ℕ). held_at image (tree_of image content p)) (path_is content l)
+      ∙ ap (λ (m : ℕ). held_at image (tree_of image content (m ∷ l % 128 ∷ []))) high ∙ ap (λ (m : ℕ). held_at image (tree_of image content (n ∷ m ∷ []))) low
+      ∙ ap (held_at image) (leaf_at n k small)
+
+  pub leads : (n : ℕ) (leaves : List ℕ) → leaves ≡ leaves_at image (slice_index root.nodes n) → LeadTo image leaves n (leaf_in (tree_in image content))
+  leads n leaves same k small = leaf_stands n k small ∙ ap (λ (ns : List ℕ). held_at image (get_or ns k 0)) (sym same)
+
+  -- all of a tree is on the disk
+  module _ (size owner : ℕ) (r : roots.Root) (o : Object) (tree : IsTree size owner (tree_in image content) r o) (some : 0 < size) where
+    on_disk : (p : List ℕ) → tree_of image content p < size
+    on_disk p = elim (cases_eq (tree_of image content p) 0) [
+      | inl none ↦ omega (arith, none)
+      | inr real ↦ tree.on_disk p (held image (tree_of image content p)) (held_there image (tree_of image content p) real)
+    ]
+
+    pub near : (n : ℕ) → IsNear size image (slice_index root.nodes n)
+    near n = record {
+      here = subst (λ (b : ℕ). b < size) (node_at n) (on_disk (n ∷ []));
+      leaves = λ k. elim (cases_lt k 128) [
+        | inl small ↦ subst (λ (b : ℕ). b < size) (leaf_at n k small) (on_disk (n ∷ k ∷ []))
+        | inr past ↦ omega (arith, none_past image (slice_index root.nodes n) k past, some)
+      ];
+    }
+
+-- a node that is absent leads nowhere
+pub near_none : (size : ℕ) (image : Image) → 0 < size → IsNear size image 0
+near_none size image some = record { here = some; leaves = λ k. omega (arith, zeros 128 k, some) }

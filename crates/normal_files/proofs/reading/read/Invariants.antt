@@ -1,0 +1,17 @@
+use Rattle.std.proofs.Common.{◌≡◌, ◌+◌, ◌*◌, ◌-◌, ◌/◌, length}
+use Rattle.std.specs.Prelude.{min}
+use Rattle.cfs_base.specs.Calls.{OnlyReads}
+use Rattle.cfs_base.specs.Disk.{block_at}
+use Rattle.cfs_base.specs.Run.{Tells}
+use Rattle.leaf_changes.specs.Leaves.{IsReadTo}
+use Rattle.ufs_model.specs.Object.{leaves_in}
+use Rattle.vol_image.specs.Reading.{leaf_in}
+use Rattle.vol_image.specs.Seen.{tree_in}
+use Rattle.normal_files.proofs.reading.read.Given as goal
+
+abbrev pub invariant-loop-number : goal.invariant-loop-number
+invariant-loop-number g l = record {
+  long : length l.into ≡ length l.initial.into;
+  reads : OnlyReads g.D.Disk (1 + (l.number - l.offset / 512 / 128) + (min (leaves_in (l.offset + length l.initial.into)) (128 * l.number) - l.offset / 512)) l.fn.disk l.disk;
+  read : Tells g.D.Disk l.fn.disk → let image = g.D.Disk.content l.fn.disk in IsReadTo (128 * l.number) l.root.fill (leaf_in (tree_in image (block_at image l.at.0))) l.offset l.into;
+}

@@ -1,0 +1,14 @@
+pub mod Nodes
+pub mod Refusal
+pub mod Standing
+pub mod Touched
+pub mod Laid
+pub mod Among
+pub mod Steps
+pub mod Parts
+pub mod Grows
+pub mod Takes
+pub mod Ends
+pub mod Links
+pub mod Writes
+pub mod WriteRefusal

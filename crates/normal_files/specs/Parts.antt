@@ -1,0 +1,34 @@
+-- The leaves that bytes touch in one node.
+use Rattle.std.specs.Prelude.{◌≡◌, ℕ, ◌+◌, ◌-◌, ◌*◌, ◌%◌, ◌<◌, ◌≤◌, Bool, ◌==◌, ◌&&◌, nat_lt, if◌then◌else◌, List, length, get_or, filter}
+use Rattle.std.specs.List.{All, range_with_len}
+use Rattle.cfs_base.specs.Disk.{Image}
+use Rattle.block_tree.specs.declared.root.Root as roots
+use Rattle.normal_files.specs.Laid.{node_of}
+use Rattle.normal_files.specs.Nodes.{leaves_at}
+use Rattle.normal_files.specs.declared.part.Part.{Part}
+
+-- all that is known of them on any disk
+pub record IsReadPart (size : ℕ) (part : Part) : Type 0 where
+  pub number : part.number < 120
+  pub from : 128 * part.number ≤ part.leaves.from
+  pub to : part.leaves.to ≤ 128 * part.number + 128
+  pub some : part.leaves.from ≤ part.leaves.to
+  pub own : All (λ leaf. leaf < size) part.own.leaves
+  pub count : length part.own.leaves ≡ 128
+
+-- the node that was read is the root's, where any of its leaves is touched
+pub record IsPart (image : Image) (root : roots.Root) (part : Part) : Type 0 where
+  pub own : part.leaves.from < part.leaves.to → part.own.leaves ≡ leaves_at image (node_of root part.number)
+
+-- of these leaves those whose pointers lead nowhere
+abbrev pub absent_in : (leaves : List ℕ) → ℕ → Bool
+absent_in leaves l = get_or leaves (l % 128) 0 == 0
+
+abbrev pub lacking_to : (leaves : List ℕ) → (from to : ℕ) → ℕ
+lacking_to leaves from to = length (filter (absent_in leaves) (range_with_len from (to - from)))
+
+-- how many blocks the touched leaves of a part take, and their node
+abbrev pub part_need : roots.Root → Part → ℕ
+part_need root part =
+    lacking_to part.own.leaves part.leaves.from part.leaves.to
+    + (if nat_lt part.leaves.from part.leaves.to && (node_of root part.number == 0) then 1 else 0)

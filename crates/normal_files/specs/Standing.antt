@@ -1,0 +1,22 @@
+-- A file as it stands on a disk.
+use Rattle.std.specs.Prelude.{ℕ, length}
+use Rattle.cfs_base.specs.Disk.{Image, block_at}
+use Rattle.cfs_base.specs.declared.identifier.Puid.{Puid}
+use Rattle.block_tree.specs.declared.root.Root as roots
+use Rattle.ufs_model.specs.declared.object.File.{File}
+use Rattle.ufs_model.specs.declared.object.Object.TheVariants as objects
+use Rattle.ufs_model.specs.Graph.{Graph, with_object}
+use Rattle.vol_image.specs.Reading.{IsTree}
+use Rattle.vol_image.specs.Seen.{tree_in}
+use Rattle.vol_image.specs.Sound.{Holds}
+use Rattle.vol_image.specs.Survives.{IsBetween}
+
+-- the root at a block gives this file
+pub record IsFileAt (image : Image) (at : ℕ) (f : File) : Type 0 where
+  pub owner : ℕ
+  pub root : roots.Root
+  pub tree : IsTree (length image) owner (tree_in image (block_at image at)) root (objects.File f)
+
+-- the image holds all other objects, and of this file each leaf and the size are old or new
+abbrev pub IsPartly : Image → Graph → Puid → (old new : File) → Type 0
+IsPartly image graph id old new = (f : File) × Holds image (with_object graph id (objects.File f)) × IsBetween old new f

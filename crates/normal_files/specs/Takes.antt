@@ -1,0 +1,141 @@
+-- Blocks that a write takes for leaves which were absent, and for their node.
+use Rattle.std.specs.Prelude.{◌≡◌, ◌≢◌, ◌⊎◌, ◌==◌, ◌&&◌, if◌then◌else◌, ℕ, ◌+◌, ◌*◌, ◌/◌, ◌%◌, ◌<◌, ◌≤◌, Bool, true, false, List, length, get_or, replicate, set, Some, Result, Ok, Err}
+use Rattle.cfs_base.specs.Disk.{Image, block_at}
+use Rattle.cfs_base.specs.Run.{Leaves}
+use Rattle.cfs_base.specs.declared.disk.Disk.{Ghosts}
+use Rattle.cfs_base.specs.declared.identifier.BlockNo.{BlockNo}
+use Rattle.cfs_base.specs.declared.identifier.Puid.{Puid}
+use Rattle.cfs_base.specs.declared.kind.Place.{Place}
+use Rattle.cfs_base.specs.declared.kind.Place.TheVariants.{Leaf, Node}
+use Rattle.cfs_base.specs.declared.refusal.Refused.{Refused}
+use Rattle.block_tree.specs.declared.root.Root as roots
+use Rattle.cyl_alloc.specs.Enters.{Enters}
+use Rattle.cyl_alloc.specs.Space.{IsLeastFree, Kept, allocated}
+use Rattle.cyl_map.specs.Volume.{entry_in, is_free_in, with_entry}
+use Rattle.leaf_changes.specs.Bytes.{patched}
+use Rattle.ufs_model.specs.declared.object.File.{File}
+use Rattle.ufs_model.specs.Graph.{Graph}
+use Rattle.normal_files.specs.Among.{IsAmong, IsEither}
+use Rattle.normal_files.specs.Nodes.{leaves_at}
+use Rattle.normal_files.specs.Steps.{IsAmid, Starts}
+use Rattle.normal_files.specs.declared.next.Next.{Next}
+use Rattle.normal_files.specs.declared.part.Part.{Part}
+
+-- a block that was Free in image a is an owner's in image c
+pub record IsNew (a c : Image) (owner : ℕ) (place : Place) (block : ℕ) : Type 0 where
+  pub free : is_free_in a block ≡ true
+  pub no_map : block % 64 ≢ 0
+  pub below : block < length c
+  pub entry : entry_in c block ≡ Some (allocated place owner)
+
+-- what wasn't Free stays
+pub record KeepsTaken (a c : Image) : Type 0 where
+  pub size : length c ≡ length a
+  pub entries : (m : ℕ) → is_free_in a m ≡ false → entry_in c m ≡ entry_in a m
+  pub contents : (m : ℕ) → m % 64 ≢ 0 → is_free_in a m ≡ false → block_at c m ≡ block_at a m
+
+-- what is Free was Free
+abbrev pub FreesNone : Image → Image → Type 0
+FreesNone a c = (m : ℕ) → is_free_in c m ≡ true → is_free_in a m ≡ true
+
+-- ---- one leaf
+
+-- where the node has this block already nothing is done; else the least-numbered Free block becomes it
+pub data GetsNode {D : Type 0} (g : Ghosts D) (n owner : ℕ) (held : Bool) (block : ℕ) (old new : D) (before after : Kept) (result : Result BlockNo Refused) : Type 0 where
+  Had : held ≡ true → new ≡ old → after ≡ before → result ≡ Ok (record { 0 = block }) → GetsNode g n owner held block old new before after result
+  Claims : held ≡ false → Enters g (allocated (Node n) owner) old new before after result → GetsNode g n owner held block old new before after result
+
+-- From image a to image c the leaf got block x, with this content, and its node block y. Each is the least-numbered Free block.
+pub record TakesLeaf (a c : Image) (owner leaf : ℕ) (held : Bool) (block x y : ℕ) (content : List ℕ) : Type 0 where
+  pub least_x : IsLeastFree a x
+  pub least_y : held ≡ false → IsLeastFree (with_entry a x (allocated (Leaf leaf) owner)) y
+  pub x_new : IsNew a c owner (Leaf leaf) x
+  pub x_content : block_at c x ≡ content
+  pub y_new : held ≡ false → IsNew a c owner (Node (leaf / 128)) y
+  pub y_kept : held ≡ true → y ≡ block
+  pub keeps : KeepsTaken a c
+  pub rest : (m : ℕ) → m ≢ x → (held ≡ false → m ≢ y) → entry_in c m ≡ entry_in a m
+
+-- ---- the touched leaves of one node
+
+-- the content of a leaf that was absent
+abbrev pub fresh_content : (fill leaf offset : ℕ) → (bytes : List ℕ) → List ℕ
+fresh_content fill leaf offset bytes = patched leaf offset bytes (replicate 512 fill)
+
+-- the k-th leaf of a part was absent, and is one of those that are taken up to one
+pub record IsTakenTo (part : Part) (upto k : ℕ) : Type 0 where
+  pub small : k < 128
+  pub from : part.leaves.from ≤ 128 * part.number + k
+  pub to : 128 * part.number + k < upto
+  pub absent : get_or part.own.leaves k 0 ≡ 0
+
+-- whether the node has a block: it had one, or one was taken
+abbrev pub is_held : (had : ℕ) → Next → Bool
+is_held had next = if had == 0 then next.grown else true
+
+-- with one leaf more
+abbrev pub with_taken : Next → (k x y : ℕ) → Next
+with_taken next k x y = record { block = y; node = record { leaves = set next.node.leaves k x }; grown = true }
+
+-- a block is a leaf's that was taken, or the node's
+abbrev pub IsOneOf : Part → (had upto : ℕ) → Next → ℕ → Type 0
+IsOneOf part had upto next m =
+    ((k : ℕ) × IsTakenTo part upto k × (m ≡ get_or next.node.leaves k 0)) ⊎ ((had ≡ 0) × (next.grown ≡ true) × (m ≡ next.block))
+
+-- From image a to image c the absent leaves of a part up to one were taken, and are written; `had` is the node's old block.
+pub record HasTaken (a c : Image) (owner fill offset : ℕ) (bytes : List ℕ) (part : Part) (had upto : ℕ) (next : Next) : Type 0 where
+  pub count : length next.node.leaves ≡ 128
+  pub others : (k : ℕ) → (IsTakenTo part upto k → ⊥) → get_or next.node.leaves k 0 ≡ get_or part.own.leaves k 0
+  pub leaves : (k : ℕ) → IsTakenTo part upto k → IsNew a c owner (Leaf (128 * part.number + k)) (get_or next.node.leaves k 0)
+  pub contents : (k : ℕ) → IsTakenTo part upto k → block_at c (get_or next.node.leaves k 0) ≡ fresh_content fill (128 * part.number + k) offset bytes
+  pub node_had : had ≢ 0 → next.block ≡ had
+  pub node_new : had ≡ 0 → next.grown ≡ true → IsNew a c owner (Node part.number) next.block
+  pub none : next.grown ≡ false → (k : ℕ) → IsTakenTo part upto k → ⊥
+  pub some : next.grown ≡ true → (k : ℕ) × IsTakenTo part upto k
+  pub keeps : KeepsTaken a c
+  pub rest : (m : ℕ) → (entry_in c m ≡ entry_in a m) ⊎ IsOneOf part had upto next m
+
+-- the new node is written too
+abbrev pub IsWhole : Image → (had : ℕ) → Next → Type 0
+IsWhole c had next = had ≡ 0 → next.grown ≡ true → leaves_at c next.block ≡ next.node.leaves
+
+-- how many blocks a leaf takes, with its node where that isn't held
+abbrev pub leaf_takes : Bool → ℕ
+leaf_takes held = if held then 1 else 2
+
+-- of these one for the node, once a leaf of it was taken
+abbrev pub node_takes : (had : ℕ) → (grown : Bool) → ℕ
+node_takes had grown = if had == 0 && grown then 1 else 0
+
+-- a call that takes a part is refused
+abbrev pub stop : Refused → Result Next Refused
+stop e = Err e
+
+-- ---- runs
+
+-- A disk on the way through a write of the file of an owner, in which a block is Free only where it was at the start.
+pub record MayTake {D : Type 0} (g : Ghosts D) (graph : Graph) (id : Puid) (f : File) (root : roots.Root) (offset : ℕ) (bytes : List ℕ) (last : ℕ) (start now : D) (kept : Kept) (owner : ℕ) : Type 0 where
+  pub starts : Starts g graph id f root start
+  pub here : id.block ≡ owner
+  pub amid : IsAmid g graph id root offset bytes last start now kept
+  pub frees : FreesNone (g.content start) (g.content now)
+
+-- from such a disk the leaves of a part up to one were taken
+pub record TakesTo {D : Type 0} (g : Ghosts D) (owner fill offset : ℕ) (bytes : List ℕ) (part : Part) (had upto : ℕ) (old new : D) (before after : Kept) (next : Next) : Type 0 where
+  pub on : (graph : Graph) (id : Puid) (f : File) (root : roots.Root) (last : ℕ) (start : D) → MayTake g graph id f root offset bytes last start old before owner
+      → IsAmid g graph id root offset bytes last start new after × HasTaken (g.content old) (g.content new) owner fill offset bytes part had upto next
+
+-- done or not, a crash leaves what a write may leave
+pub record StaysAmid {D : Type 0} (g : Ghosts D) (owner offset : ℕ) (bytes : List ℕ) (old new : D) (before : Kept) : Type 0 where
+  pub leaves : (graph : Graph) (id : Puid) (f : File) (root : roots.Root) (last : ℕ) (start : D) → MayTake g graph id f root offset bytes last start old before owner
+      → Leaves g start new (IsAmong (g.content start) graph id root (IsEither (g.content start) root offset bytes))
+
+-- ---- both parts
+
+-- from image a to image c the leaves of two parts were taken, first of the low one, and their new nodes are written
+pub record TakesBoth (a c : Image) (owner fill offset : ℕ) (bytes : List ℕ) (low : Part) (low_had : ℕ) (low_next : Next) (high : Part) (high_had : ℕ) (high_next : Next) : Type 0 where
+  pub mid : Image
+  pub low_has : HasTaken a mid owner fill offset bytes low low_had low.leaves.to low_next
+  pub low_whole : IsWhole mid low_had low_next
+  pub high_has : HasTaken mid c owner fill offset bytes high high_had high.leaves.to high_next
+  pub high_whole : IsWhole c high_had high_next

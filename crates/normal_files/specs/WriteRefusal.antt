@@ -1,0 +1,40 @@
+-- Why a write is refused.
+use Rattle.std.specs.Prelude.{◌≡◌, ◌⊎◌, ℕ, ◌+◌, ◌<◌, Bool, true, false, if◌then◌else◌, sum}
+use Rattle.cfs_base.specs.Calls.{HasStopped}
+use Rattle.cfs_base.specs.declared.disk.Disk.{Ghosts}
+use Rattle.cfs_base.specs.declared.refusal.Refused.{Refused}
+use Rattle.cfs_base.specs.declared.refusal.Refused.TheVariants as refusals
+use Rattle.cyl_alloc.specs.Space.{Kept}
+use Rattle.ufs_model.specs.declared.object.File.{File}
+use Rattle.ufs_model.specs.declared.object.Object.TheVariants as objects
+use Rattle.ufs_model.specs.Numbers.{branches, missing}
+use Rattle.ufs_model.specs.Object.{held_levels, touched}
+use Rattle.normal_files.specs.Ends.{IsNoSpace}
+use Rattle.normal_files.specs.Refusal.{IsDamage}
+
+-- too few blocks are Free beside the floor, a device call failed, or a block that was read is damaged
+abbrev pub IsWriteRefusal : {D : Type 0} → Ghosts D → (at floor : ℕ) → D → D → (before after : Kept) → Refused → Type 0
+IsWriteRefusal g at floor old new before after (refusals.Full need) = (need.free ≡ sum before.free) × (sum before.free < need.need + floor)
+IsWriteRefusal g at floor old new before after (refusals.Disk tried) = HasStopped g tried old new
+IsWriteRefusal g at floor old new before after (refusals.Damaged damage) = IsDamage g at old damage ⊎ IsNoSpace g old new after damage
+IsWriteRefusal g at floor old new before after refusals.Memory = ⊥
+
+-- nothing was tried, and no damage met
+abbrev pub is_untried : Refused → Bool
+is_untried (refusals.Full need) = true
+is_untried (refusals.Disk tried) = if tried then false else true
+is_untried (refusals.Damaged damage) = false
+is_untried refusals.Memory = true
+
+-- ---- how many blocks a write takes
+
+-- one for each leaf that it touches and that isn't held, and one for each of their nodes that isn't
+abbrev pub needs : File → (offset count : ℕ) → ℕ
+needs f offset count = missing (branches 1 (touched offset count)) (held_levels (objects.File f))
+
+-- where the refusal is Full it tells this need
+abbrev pub TellsNeed : ℕ → Refused → Type 0
+TellsNeed n (refusals.Full need) = need.need ≡ n
+TellsNeed n (refusals.Disk tried) = Unit {0}
+TellsNeed n (refusals.Damaged damage) = Unit {0}
+TellsNeed n refusals.Memory = Unit {0}

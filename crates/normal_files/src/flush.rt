@@ -1,0 +1,24 @@
+//! Writes made to outlast a crash.
+ghost use Rattle.std.specs.Prelude.{◌≡◌, ℕ, IfErr, IsTrue, OnOk};
+ghost use Rattle.cfs_base.specs.Calls.{HasTried, MakesAtMost};
+ghost use Rattle.cfs_base.specs.Disk.{Nothing};
+ghost use Rattle.cfs_base.specs.Run.{IsSettled, Leaves as LeavesOf};
+ghost use Rattle.normal_files.specs.Steps.{HasStoppedBy};
+
+use cfs_base::{Disk, Trouble};
+
+/// Makes what was written outlast a crash.
+pub(crate) fn flush<D: Disk>(disk: &mut D) -> Result<(), Trouble>
+    ensures settled { OnOk result (IsTrue (D.honest disk.old) → IsSettled D.Disk disk.new) }
+    ensures content { D.content disk.new ≡ D.content disk.old }
+    ensures told { (n : ℕ) → IsTrue (D.told disk.old n) → IsTrue (D.told disk.new n) }
+    ensures images { LeavesOf D.Disk disk.old disk.new Nothing }
+    ensures tried { HasTried D.Disk disk.old disk.new }
+    ensures stopped { IfErr result (HasStoppedBy D.Disk disk.old disk.new) }
+    ensures calls { MakesAtMost D.Disk 1 1 disk.old disk.new }
+{
+    match disk.barrier() {
+        Ok(()) => Ok(()),
+        Err(_) => Err(Trouble::Disk { tried: true }),
+    }
+}

@@ -1,0 +1,72 @@
+//! Pointers to the leaves that were taken.
+ghost use Rattle.std.specs.Prelude.{◌≡◌, ◌<◌, true, false, set, IfErr, IfOk, OnOk};
+ghost use Rattle.cfs_base.specs.Calls.{HasTried, MakesAtMost};
+ghost use Rattle.cfs_base.specs.Run.{IsSettled, Leaves as LeavesOf};
+ghost use Rattle.normal_files.specs.Links.{linked_image, linked_root};
+ghost use Rattle.normal_files.specs.Steps.{HasStoppedBy};
+
+use crate::flush::flush;
+use crate::next::Next;
+use crate::put::{after, write_block};
+use block_tree::Root;
+use cfs_base::{Block, BlockNo, Disk, Trouble};
+
+/// Writes a block, and makes it outlast a crash.
+fn write_through<D: Disk>(disk: &mut D, block: u32, content: &Block) -> Result<(), Trouble>
+    requires { block < D.blocks disk.old }
+    ensures done { IsSettled D.Disk disk.old → OnOk result ((D.content disk.new ≡ set (D.content disk.old) block content.now)
+        × IsSettled D.Disk disk.new) }
+    ensures images { IsSettled D.Disk disk.old
+        → LeavesOf D.Disk disk.old disk.new (λ c. c ≡ set (D.content disk.old) block content.now) }
+    ensures tried { OnOk result (HasTried D.Disk disk.old disk.new) }
+    ensures stopped { IfErr result (HasStoppedBy D.Disk disk.old disk.new) }
+    ensures calls { MakesAtMost D.Disk 2 2 disk.old disk.new }
+{
+    match write_block(disk, block, content) {
+        Ok(()) => {}
+        Err(trouble) => return Err(trouble),
+    }
+    match flush(disk) {
+        Ok(()) => Ok(()),
+        Err(trouble) => Err(after(true, trouble)),
+    }
+}
+
+/// Leads to the leaves of a node that were taken: it is written, or the root leads to it where it is new. Gives the root.
+pub(crate) fn link<D: Disk>(
+    disk: &mut D,
+    at: BlockNo,
+    root: &Root,
+    number: u32,
+    next: &Next,
+) -> Result<Root, Trouble>
+    requires at { at.0 < D.blocks disk.old }
+    requires number { number < 120 }
+    requires near { next.now.grown ≡ true → next.now.block < D.blocks disk.old }
+    ensures root { IfOk result (λ r. r ≡ linked_root root.now number next.now) }
+    ensures done { IsSettled D.Disk disk.old
+        → OnOk result ((D.content disk.new ≡ linked_image (D.content disk.old) at.0 root.now number next.now)
+        × IsSettled D.Disk disk.new) }
+    ensures images { IsSettled D.Disk disk.old
+        → LeavesOf D.Disk disk.old disk.new (λ c. c ≡ linked_image (D.content disk.old) at.0 root.now number next.now) }
+    ensures tried { next.now.grown ≡ true → OnOk result (HasTried D.Disk disk.old disk.new) }
+    ensures none { next.now.grown ≡ false → disk.new ≡ disk.old }
+    ensures stopped { IfErr result (HasStoppedBy D.Disk disk.old disk.new) }
+    ensures calls { MakesAtMost D.Disk 2 2 disk.old disk.new }
+{
+    if !next.grown {
+        return Ok(*root);
+    }
+    if root.nodes[number as usize] != 0 {
+        return match write_through(disk, next.block, &next.node.encode()) {
+            Ok(()) => Ok(*root),
+            Err(trouble) => Err(trouble),
+        };
+    }
+    let mut led = *root;
+    led.nodes[number as usize] = next.block;
+    match write_through(disk, at.0, &led.encode()) {
+        Ok(()) => Ok(led),
+        Err(trouble) => Err(trouble),
+    }
+}

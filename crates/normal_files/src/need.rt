@@ -1,0 +1,38 @@
+//! How many blocks a write takes.
+ghost use Rattle.std.specs.Prelude.{◌≡◌, ◌+◌, ◌<◌, ◌≤◌, ◌-◌};
+ghost use Rattle.normal_files.specs.Parts as spec;
+
+use crate::part::Part;
+use block_tree::Root;
+
+impl Part {
+    /// How many of the leaves are not held.
+    pub fn lacking(&self) -> u32
+        requires { self.now.leaves.from ≤ self.now.leaves.to }
+        ensures count { result ≡ spec.lacking_to self.now.own.leaves self.now.leaves.from self.now.leaves.to }
+        ensures most { result ≤ self.now.leaves.to - self.now.leaves.from }
+    {
+        let mut count = 0;
+        for leaf in self.leaves.from..self.leaves.to {
+            if self.own.leaves[(leaf % 128) as usize] == 0 {
+                count += 1;
+            }
+        }
+        count
+    }
+
+    /// How many blocks they take: one for each leaf that is not held, and one for the node where it isn't.
+    pub fn need(&self, root: &Root) -> u32
+        requires number { self.now.number < 120 }
+        requires some { self.now.leaves.from ≤ self.now.leaves.to }
+        requires to { self.now.leaves.to ≤ 15360 }
+        ensures count { result ≡ spec.part_need root.now self.now }
+        ensures most { result ≤ self.now.leaves.to - self.now.leaves.from + 1 }
+    {
+        let lacking = self.lacking();
+        if self.leaves.from < self.leaves.to && root.nodes[self.number as usize] == 0 {
+            return lacking + 1;
+        }
+        lacking
+    }
+}

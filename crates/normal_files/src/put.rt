@@ -1,0 +1,164 @@
+//! Leaves that are held, written in place.
+ghost use Rattle.std.specs.Prelude.{◌≡◌, ◌≢◌, ◌<◌, ◌≤◌, ◌+◌, ◌*◌, ◌/◌, ◌-◌, ℕ, false, true, length, is_ok, IsTrue, IfErr, IfOk, OnOk};
+ghost use Rattle.cfs_base.specs.Calls.{HasTried, MakesAtMost, OnlyReads};
+ghost use Rattle.cfs_base.specs.Disk.{block_at};
+ghost use Rattle.cfs_base.specs.Refusals.{trouble_had_tried};
+ghost use Rattle.cfs_base.specs.Run.{Tells};
+ghost use Rattle.leaf_changes.specs.Bytes.{patched as patched_with};
+ghost use Rattle.normal_files.specs.Parts.{IsReadPart};
+ghost use Rattle.normal_files.specs.Touched.{partly_below};
+ghost use Rattle.ufs_model.specs.Object.{leaves_in};
+ghost use Rattle.normal_files.specs.Steps.{Ends, Goes, HasStoppedBy, WritesBlock, told_after};
+
+use crate::nodes::read_leaf;
+use crate::part::Part;
+use cfs_base::{Block, BlockNo, Disk, Trouble};
+use leaf_changes::patch_leaf;
+
+/// Writes a block.
+pub(crate) fn write_block<D: Disk>(disk: &mut D, block: u32, content: &Block) -> Result<(), Trouble>
+    requires { block < D.blocks disk.old }
+    ensures { WritesBlock D.Disk 1 block content.now disk.old disk.new result }
+{
+    match disk.write(BlockNo(block), content) {
+        Ok(()) => Ok(()),
+        Err(_) => Err(Trouble::Disk { tried: true }),
+    }
+}
+
+/// A leaf with the bytes that are written into it. It is read only where they leave some of it.
+fn patched<D: Disk>(
+    disk: &mut D,
+    block: u32,
+    leaf: u32,
+    offset: u64,
+    bytes: &[u8],
+) -> Result<Block, Trouble>
+    requires on_disk { block < D.blocks disk.old }
+    requires some { block ≢ 0 }
+    requires leaf { leaf < 15360 }
+    requires inside { offset + length bytes.now ≤ 7864320 }
+    requires first { offset / 512 ≤ leaf }
+    requires last { leaf < leaves_in (offset + length bytes.now) }
+    ensures content { Tells D.Disk disk.old → length (block_at (D.content disk.old) block) ≡ 512
+        → IfOk result (λ content. content ≡ patched_with leaf offset bytes.now (block_at (D.content disk.old) block)) }
+    ensures refused { IfErr result (HasStoppedBy D.Disk disk.old disk.new) }
+    ensures untried { IfErr result (λ trouble. trouble_had_tried trouble ≡ false) }
+    ensures few { D.calls disk.new + partly_below offset (length bytes.now) leaf
+        ≤ D.calls disk.old + partly_below offset (length bytes.now) (leaf + 1) }
+    ensures reads { OnlyReads D.Disk 1 disk.old disk.new }
+{
+    let from = 512 * leaf as u64;
+    if offset <= from && from + 512 <= offset + bytes.len() as u64 {
+        let mut content = Block::zero();
+        patch_leaf(&mut content, leaf, offset, bytes);
+        return Ok(content);
+    }
+    let mut content = read_leaf(disk, block, 0)?;
+    patch_leaf(&mut content, leaf, offset, bytes);
+    Ok(content)
+}
+
+/// Writes bytes into a held leaf.
+fn put_leaf<D: Disk>(
+    disk: &mut D,
+    block: u32,
+    leaf: u32,
+    offset: u64,
+    bytes: &[u8],
+) -> Result<(), Trouble>
+    requires on_disk { block < D.blocks disk.old }
+    requires some { block ≢ 0 }
+    requires leaf { leaf < 15360 }
+    requires inside { offset + length bytes.now ≤ 7864320 }
+    requires first { offset / 512 ≤ leaf }
+    requires last { leaf < leaves_in (offset + length bytes.now) }
+    ensures put { Tells D.Disk disk.old → length (block_at (D.content disk.old) block) ≡ 512
+        → WritesBlock D.Disk 2 block (patched_with leaf offset bytes.now (block_at (D.content disk.old) block))
+        disk.old disk.new result }
+    ensures told { OnOk result ((b : ℕ) → IsTrue (D.told disk.old b) → IsTrue (D.told disk.new b)) }
+    ensures tried { OnOk result (HasTried D.Disk disk.old disk.new) }
+    ensures refused { IfErr result (HasStoppedBy D.Disk disk.old disk.new) }
+    ensures few { D.calls disk.new + partly_below offset (length bytes.now) leaf
+        ≤ D.calls disk.old + partly_below offset (length bytes.now) (leaf + 1) + 1 }
+    ensures calls { MakesAtMost D.Disk 2 1 disk.old disk.new }
+{
+    let content = patched(disk, block, leaf, offset, bytes)?;
+    write_block(disk, block, &content)
+}
+
+/// The same trouble of a call that may have tried a write before.
+pub(crate) fn after(tried: bool, trouble: Trouble) -> Trouble
+    ensures { result ≡ told_after tried trouble }
+{
+    if tried { trouble.after_try() } else { trouble }
+}
+
+impl Part {
+    /// Writes bytes into one of the leaves, where it is held. Gives whether a write was tried by now.
+    fn put_one<D: Disk>(
+        &self,
+        disk: &mut D,
+        leaf: u32,
+        offset: u64,
+        bytes: &[u8],
+        tried: bool,
+    ) -> Result<bool, Trouble>
+        requires read { IsReadPart (D.blocks disk.old) self.now }
+        requires from { self.now.leaves.from ≤ leaf }
+        requires to { leaf < self.now.leaves.to }
+        requires inside { offset + length bytes.now ≤ 7864320 }
+        requires first { offset / 512 ≤ self.now.leaves.from }
+        requires last { self.now.leaves.to ≤ leaves_in (offset + length bytes.now) }
+        ensures goes { Goes D.Disk offset bytes.now leaf (leaf + 1) self.now disk.old disk.new (is_ok result) }
+        ensures told { OnOk result ((b : ℕ) → IsTrue (D.told disk.old b) → IsTrue (D.told disk.new b)) }
+        ensures ends { Ends D.Disk 2 1 tried disk.old disk.new result }
+        ensures calls { MakesAtMost D.Disk 2 1 disk.old disk.new }
+        ensures few { D.calls disk.new + partly_below offset (length bytes.now) leaf
+            ≤ D.calls disk.old + partly_below offset (length bytes.now) (leaf + 1) + 1 }
+    {
+        let block = self.own.leaves[(leaf % 128) as usize];
+        if block == 0 {
+            return Ok(tried);
+        }
+        match put_leaf(disk, block, leaf, offset, bytes) {
+            Ok(()) => Ok(true),
+            Err(trouble) => Err(after(tried, trouble)),
+        }
+    }
+
+    /// Writes bytes into each of the leaves that is held.
+    pub fn put<D: Disk>(
+        &self,
+        disk: &mut D,
+        offset: u64,
+        bytes: &[u8],
+        tried: bool,
+    ) -> Result<bool, Trouble>
+        requires read { IsReadPart (D.blocks disk.old) self.now }
+        requires inside { offset + length bytes.now ≤ 7864320 }
+        requires first { offset / 512 ≤ self.now.leaves.from }
+        requires last { self.now.leaves.to ≤ leaves_in (offset + length bytes.now) }
+        ensures goes { Goes D.Disk offset bytes.now self.now.leaves.from self.now.leaves.to self.now
+            disk.old disk.new (is_ok result) }
+        ensures told { OnOk result ((b : ℕ) → IsTrue (D.told disk.old b) → IsTrue (D.told disk.new b)) }
+        ensures ends { Ends D.Disk (2 * (self.now.leaves.to - self.now.leaves.from))
+            (self.now.leaves.to - self.now.leaves.from) tried disk.old disk.new result }
+        // one write a held leaf, and one read where it is written in part
+        ensures few { D.calls disk.new + partly_below offset (length bytes.now) self.now.leaves.from
+            ≤ D.calls disk.old + (self.now.leaves.to - self.now.leaves.from)
+            + partly_below offset (length bytes.now) self.now.leaves.to }
+        ensures makes { MakesAtMost D.Disk (2 * (self.now.leaves.to - self.now.leaves.from))
+            (self.now.leaves.to - self.now.leaves.from) disk.old disk.new }
+        ensures size { D.blocks disk.new ≡ D.blocks disk.old }
+    {
+        let mut by_now = tried;
+        for leaf in self.leaves.from..self.leaves.to {
+            match self.put_one(disk, leaf, offset, bytes, by_now) {
+                Ok(now) => by_now = now,
+                Err(trouble) => return Err(trouble),
+            }
+        }
+        Ok(by_now)
+    }
+}

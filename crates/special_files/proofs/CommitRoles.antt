@@ -1,0 +1,118 @@
+-- What a commit leaves of the blocks of an object.
+use Rattle.std.proofs.Common.{◌≡◌, ◌⊎◌, inl, inr, ⊎_elim, ℕ, true, false, [], ◌∷◌, length, Option, Some, None, refl, sym, ◌∙◌, ap, subst}
+use Rattle.std.proofs.lemmas.Bool.{and_from, and_parts, both_ways, false_from_ne_true}
+use Rattle.cfs_base.specs.Disk.{Image, block_at}
+use Rattle.cyl_map.specs.declared.state.BlockState.{BlockState}
+use Rattle.cyl_map.specs.declared.state.BlockState.TheVariants.{Free, Allocated, IntendAllocate, IntendDeallocate}
+use Rattle.cyl_map.specs.declared.entry.MapEntry.{MapEntry}
+use Rattle.cyl_map.specs.Volume.{AreMaps, entry_in, is_free_in}
+use Rattle.ufs_model.specs.Numbers.{has_number}
+use Rattle.vol_image.specs.Frame.{IsBlockOf}
+use Rattle.vol_image.specs.Part.{RootsOwnThemselves, is_committed, is_fixed, part_at}
+use Rattle.vol_image.specs.Seen.{Tree, tree_in}
+use Rattle.vol_image.specs.Sight.{first_or, sight}
+use Rattle.vol_image.proofs.AtRoot.{no_shadows}
+use Rattle.vol_image.proofs.Rising.{here}
+use Rattle.vol_owners.specs.Account.{HasItsBlocks, StandsIn, is_meant_for}
+use Rattle.vol_owners.specs.Change.{ChangesOnly, IsOpenTo, of_owner}
+use Rattle.vol_owners.specs.Owner.{is_had, is_leaving, is_meant, is_of, is_placed, is_taken}
+use Rattle.vol_owners.proofs.Entries.{free_unowned, had_not_meant, had_or_meant, of_taken, owner_is}
+
+-- the block is the root with this number, or stands in this tree
+abbrev pub Stands : ℕ → Tree → ℕ → Type 0
+Stands r tree m = (m ≡ r) ⊎ StandsIn tree m
+
+-- what becomes of block m from image a to b: it stays, and if the object has it, it stands in the new tree; the object has it now, or it is Free now
+pub data Role (a b : Image) (r : ℕ) (tree : Tree) (m : ℕ) : Type 0 where
+  Same : entry_in b m ≡ entry_in a m → is_meant_for a r m ≡ false → (is_of is_had r (entry_in a m) ≡ true → Stands r tree m) → Role a b r tree m
+  Now : is_of is_taken r (entry_in a m) ≡ true → is_of is_had r (entry_in b m) ≡ true → Stands r tree m → Role a b r tree m
+  Gone : is_of is_taken r (entry_in a m) ≡ true → is_free_in b m ≡ true → ¬ Stands r tree m → Role a b r tree m
+
+-- a block of the owner is open to changes of it
+pub owner_open : (r : ℕ) (entry : Option MapEntry) → is_of is_taken r entry ≡ true → IsOpenTo (λ e. of_owner r e) entry
+owner_open r entry is =
+    let two = and_parts (is_placed is_taken entry) _ is in
+    inr (two.0, and_from _ _ two.0 (subst (λ (n : ℕ). has_number n (r ∷ []) ≡ true) (owner_is is_taken r entry is) (here r [])))
+
+had_not_leaving : (r : ℕ) (entry : Option MapEntry) → is_of is_had r entry ≡ true → is_of is_leaving r entry ≡ false
+had_not_leaving r None h = cc
+had_not_leaving r (Some e) h = at e.state h
+  where
+    at : (s : BlockState) → is_of is_had r (Some (record e { state = s })) ≡ true → is_of is_leaving r (Some (record e { state = s })) ≡ false
+    at Free q = refl
+    at Allocated q = refl
+    at IntendAllocate q = refl
+    at IntendDeallocate q = cc
+
+-- an object without its commit bit has its root and what stands in its tree
+module _ (b : Image) (r : ℕ) (no_bit : is_committed (part_at b r) ≡ false) where
+  pub block_stands : (m : ℕ) → IsBlockOf b r m → Stands r (tree_in b (block_at b r)) m
+  unfolding sight
+  block_stands m (inl is) = inl is
+  block_stands m (inr (inl is)) = inl (is ∙ ap (first_or r) (no_shadows b r no_bit))
+  block_stands m (inr (inr (path, h, there, is))) = inr (record { path = path; held = h; there = ap (λ (n : ℕ). (tree_in b (block_at b n)).below path) (sym (ap (first_or r) (no_shadows b r no_bit))) ∙ there; is = is })
+
+  pub stands_block : (m : ℕ) → Stands r (tree_in b (block_at b r)) m → IsBlockOf b r m
+  unfolding sight
+  stands_block m (inl is) = inl is
+  stands_block m (inr at) = inr (inr (at.path, at.held, ap (λ (n : ℕ). (tree_in b (block_at b n)).below at.path) (ap (first_or r) (no_shadows b r no_bit)) ∙ at.there, at.is))
+
+module _ (a b : Image) (r : ℕ) (tree : Tree) (has : HasItsBlocks a r) (role : (m : ℕ) → Role a b r tree m) where
+  module _ (no_bit : is_committed (part_at b r) ≡ false) (tree_now : tree_in b (block_at b r) ≡ tree) (tree_taken : (m : ℕ) → StandsIn tree m → is_of is_taken r (entry_in a m) ≡ true) where
+    stands_taken : (m : ℕ) → Stands r tree m → is_of is_taken r (entry_in a m) ≡ true
+    stands_taken m (inl is) = subst (λ (n : ℕ). is_of is_taken r (entry_in a n) ≡ true) (sym is) (of_taken is_had refl r (entry_in a r) (has.each r (inl refl)))
+    stands_taken m (inr at) = tree_taken m at
+
+    each : (m : ℕ) → Role a b r tree m → Stands r tree m → is_of is_had r (entry_in b m) ≡ true
+    each m (Same same none stays) stands = ap (is_of is_had r) same ∙ ⊎_elim (λ had. had) (λ meant. absurd (both_ways _ none meant)) (had_or_meant r (entry_in a m) (stands_taken m stands) (has.none_leaves m))
+    each m (Now was is at) stands = is
+    each m (Gone was free none) stands = absurd (none stands)
+
+    no_other : (m : ℕ) → Role a b r tree m → is_of is_had r (entry_in b m) ≡ true → Stands r tree m
+    no_other m (Same same none stays) had = stays (ap (is_of is_had r) (sym same) ∙ had)
+    no_other m (Now was is at) had = at
+    no_other m (Gone was free none) had = absurd (both_ways _ (free_unowned is_had refl r (entry_in b m) free) had)
+
+    none_leaves : (m : ℕ) → Role a b r tree m → is_of is_leaving r (entry_in b m) ≡ false
+    none_leaves m (Same same none stays) = ap (is_of is_leaving r) same ∙ has.none_leaves m
+    none_leaves m (Now was is at) = had_not_leaving r (entry_in b m) is
+    none_leaves m (Gone was free none) = free_unowned is_leaving refl r (entry_in b m) free
+
+    pub now_has : HasItsBlocks b r
+    now_has = record {
+      no_bit = no_bit;
+      each = λ m block. each m (role m) (subst (λ (t : Tree). Stands r t m) tree_now (block_stands b r no_bit m block));
+      no_other = λ m had. stands_block b r no_bit m (subst (λ (t : Tree). Stands r t m) (sym tree_now) (no_other m (role m) had));
+      none_leaves = λ m. none_leaves m (role m);
+    }
+
+  meant_none : (m : ℕ) → Role a b r tree m → is_meant_for b r m ≡ false
+  meant_none m (Same same none stays) = ap (is_of is_meant r) same ∙ none
+  meant_none m (Now was is at) = false_from_ne_true _ (λ meant. both_ways _ (had_not_meant r (entry_in b m) is) (and_parts _ _ meant).0)
+  meant_none m (Gone was free none) = free_unowned is_meant refl r (entry_in b m) free
+
+  pub none_meant : (m : ℕ) → is_meant_for b r m ≡ false
+  none_meant m = meant_none m (role m)
+
+  entry_open : (m : ℕ) → Role a b r tree m → (entry_in b m ≡ entry_in a m) ⊎ (IsOpenTo (λ e. of_owner r e) (entry_in a m) × IsOpenTo (λ e. of_owner r e) (entry_in b m))
+  entry_open m (Same same none stays) = inl same
+  entry_open m (Now was is at) = inr (owner_open r (entry_in a m) was, owner_open r (entry_in b m) (of_taken is_had refl r (entry_in b m) is))
+  entry_open m (Gone was free none) = inr (owner_open r (entry_in a m) was, inl free)
+
+  module _ (size : length b ≡ length a) (maps : AreMaps b) (own : RootsOwnThemselves b) (label : block_at b 1 ≡ block_at a 1) (apart : (m : ℕ) → is_fixed m ≡ true → is_of is_taken r (entry_in a m) ≡ false)
+      (blocks : (m : ℕ) → is_fixed m ≡ false → (block_at b m ≡ block_at a m) ⊎ (m ≡ r)) where
+    fixed : (m : ℕ) → Role a b r tree m → is_fixed m ≡ true → entry_in b m ≡ entry_in a m
+    fixed m (Same same none stays) is = same
+    fixed m (Now was now at) is = absurd (both_ways _ (apart m is) was)
+    fixed m (Gone was free none) is = absurd (both_ways _ (apart m is) was)
+
+    pub only_owner : ChangesOnly (λ e. of_owner r e) a b
+    only_owner = record {
+      size = size;
+      maps = maps;
+      own = own;
+      label = label;
+      fixed = λ m is. fixed m (role m) is;
+      entries = λ m. entry_open m (role m);
+      contents = λ m is. ⊎_elim (λ same. inl same) (λ root. inr (owner_open r (entry_in a m) (subst (λ (n : ℕ). is_of is_taken r (entry_in a n) ≡ true) (sym root) (of_taken is_had refl r (entry_in a r) (has.each r (inl refl)))))) (blocks m is);
+    }

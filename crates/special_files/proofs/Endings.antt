@@ -1,0 +1,147 @@
+-- How calls end that are made one after another.
+use Rattle.std.proofs.Common.{◌≡◌, ◌⊎◌, inl, inr, ℕ, zero, suc, ◌+◌, ◌-◌, ◌/◌, ◌≤◌, true, false, IsTrue, Ok, Err, List, [], ◌∷◌, length, get_or, set, refl, sym, ◌∙◌, ap, subst, arith}
+use Rattle.std.specs.Prelude.{Result, sum}
+use Rattle.std.proofs.lemmas.List.Sums.{sum_by-cons}
+use Rattle.cfs_base.specs.Calls.{HasTried, MakesAtMost, OnlyReads}
+use Rattle.cfs_base.specs.Disk.{Image}
+use Rattle.cfs_base.specs.Run.{Tells}
+use Rattle.cfs_base.specs.Refusals.{after_try, had_tried, trouble_after_try}
+use Rattle.cfs_base.specs.declared.disk.Disk.{Ghosts}
+use Rattle.cfs_base.specs.declared.identifier.BlockNo.{BlockNo}
+use Rattle.cfs_base.specs.declared.refusal.Refused.{Refused}
+use Rattle.cfs_base.specs.declared.refusal.Refused.TheVariants as refusals
+use Rattle.cfs_base.specs.declared.refusal.Trouble.{Trouble}
+use Rattle.cfs_base.specs.declared.refusal.Trouble.TheVariants as trouble
+use Rattle.cfs_base.proofs.Calls.{makes_then, reads_within, stopped_after_try}
+use Rattle.cfs_base.proofs.Runs.{still_tells}
+use Rattle.cyl_map.specs.declared.entry.MapEntry.{MapEntry}
+use Rattle.cyl_alloc.specs.Enters.{Enters}
+use Rattle.cyl_alloc.specs.Refusals.{IsFindRefusal}
+use Rattle.cfs_base.specs.declared.kind.Place.TheVariants.{Node}
+use Rattle.cyl_alloc.specs.Space.{AreCounts, IsBadMap, Kept, after_taking, intended}
+use Rattle.special_files.specs.Calls.{Claims, GetsNode, Had, WritesBlock}
+use Rattle.special_files.specs.Drafting.{Drafting, is_fresh_node, one_unless}
+use Rattle.special_files.specs.Ends.{Ends}
+use Rattle.special_files.specs.Refusal.{IsDamage, IsRefusal, IsTrouble, NoMap, OtherCount}
+use Rattle.special_files.proofs.Refusals.{damage_since}
+
+-- ---- after a call that tried something
+
+module _ {D : Type 0} (g : Ghosts D) (at floor : ℕ) (d0 d1 d2 : D) (kept : Kept) (n t : ℕ) (calls : MakesAtMost g n t d0 d1) (tried : HasTried g d0 d1) (told : (b : ℕ) → IsTrue (g.told d0 b) → IsTrue (g.told d1 b)) where
+  on : Tells g d0 → Tells g d1
+  on tells = still_tells g tells told calls.same
+
+  pub refused_after_try : (e : Refused) → IsRefusal g at floor d1 d2 kept e → IsRefusal g at floor d0 d2 kept (after_try e)
+  refused_after_try (refusals.Full need) is = is
+  refused_after_try (refusals.Disk was) is = stopped_after_try g d0 d1 d2 n t was calls tried is
+  refused_after_try (refusals.Damaged damage) is = damage_since g at d0 d1 d2 kept damage on is
+  refused_after_try refusals.Memory is = is
+
+  pub trouble_after_tried : (e : Trouble) → IsTrouble g at d1 d2 kept e → IsTrouble g at d0 d2 kept (trouble_after_try e)
+  trouble_after_tried (trouble.Disk was) is = stopped_after_try g d0 d1 d2 n t was calls tried is
+  trouble_after_tried (trouble.Damaged damage) is = damage_since g at d0 d1 d2 kept damage on is
+
+pub not_untried : (e : Refused) → after_try e ≡ refusals.Disk false → ⊥
+not_untried (refusals.Full need) same = cc
+not_untried (refusals.Disk was) same = cc
+not_untried (refusals.Damaged damage) same = cc
+not_untried refusals.Memory same = cc
+
+module _ {D A B : Type 0} (g : Ghosts D) (at floor : ℕ) (d0 d1 d2 : D) (k0 k1 k2 : Kept) where
+  -- done, and then refused or done
+  pub ends_then_err : (x : A) (e : Refused) (n t k m s j : ℕ) → Ends g at floor n t k d0 d1 k0 k1 (Ok x) → HasTried g d0 d1 → Ends {A = B} g at floor m s j d1 d2 k1 k2 (Err e)
+      → (most tries blocks : ℕ) → n + m ≤ most → t + s ≤ tries → k + j ≤ blocks → Ends {A = B} g at floor most tries blocks d0 d2 k0 k2 (Err (after_try e))
+  ends_then_err x e n t k m s j first tried then most tries blocks calls lt lk = record {
+    told = tt;
+    refused = refused_after_try g at floor d0 d1 d2 k2 n t first.calls tried first.told e then.refused;
+    untried = λ same. absurd (not_untried e same);
+    cylinders = then.cylinders ∙ first.cylinders;
+    takes = omega (arith, first.takes, then.takes, lk);
+    calls = makes_then g d0 d1 d2 n m most t s tries first.calls then.calls calls lt;
+  }
+
+  pub ends_then_ok : (x : A) (y : B) (n t k m s j : ℕ) → Ends g at floor n t k d0 d1 k0 k1 (Ok x) → Ends g at floor m s j d1 d2 k1 k2 (Ok y)
+      → (most tries blocks : ℕ) → n + m ≤ most → t + s ≤ tries → k + j ≤ blocks → Ends g at floor most tries blocks d0 d2 k0 k2 (Ok y)
+  ends_then_ok x y n t k m s j first then most tries blocks calls lt lk = record {
+    told = λ b was. then.told b (first.told b was);
+    refused = tt;
+    untried = tt;
+    cylinders = then.cylinders ∙ first.cylinders;
+    takes = omega (arith, first.takes, then.takes, lk);
+    calls = makes_then g d0 d1 d2 n m most t s tries first.calls then.calls calls lt;
+  }
+
+-- a refusal is one of any call
+pub ends_err : {D A B : Type 0} (g : Ghosts D) (at floor n t k : ℕ) (old new : D) (before after : Kept) (e : Refused) → Ends {A = A} g at floor n t k old new before after (Err e) → Ends {A = B} g at floor n t k old new before after (Err e)
+ends_err g at floor n t k old new before after e is = record { told = tt; refused = is.refused; untried = is.untried; cylinders = is.cylinders; takes = is.takes; calls = is.calls }
+
+-- ---- the least Free block entered
+
+abbrev itself : ℕ → ℕ
+itself n = n
+
+one_less : (xs : List ℕ) (i : ℕ) → sum xs ≤ sum (set xs i (get_or xs i 0 - 1)) + 1
+one_less [] i = omega arith
+one_less (x ∷ xs) zero = omega (arith, sum_by-cons itself x xs, sum_by-cons itself (x - 1) xs)
+one_less (x ∷ xs) (suc i) = omega (arith, sum_by-cons itself x xs, sum_by-cons itself x (set xs i (get_or xs i 0 - 1)), one_less xs i)
+
+sum_taken : (kept : Kept) (n : ℕ) → sum kept.free ≤ sum (after_taking kept n).free + 1
+sum_taken kept n = one_less kept.free (n / 64)
+
+pub enters_ends : {D : Type 0} (g : Ghosts D) (at floor : ℕ) (old new : D) (before after : Kept) (e : MapEntry) (result : Result BlockNo Refused) → Enters g e old new before after result → Ends g at floor 2 1 1 old new before after result
+enters_ends g at floor old new before after e (Ok x) is = record {
+  told = is.told;
+  refused = tt;
+  untried = tt;
+  cylinders = is.cylinders;
+  takes = subst (λ (k : Kept). sum before.free ≤ sum k.free + 1) (sym is.taken) (sum_taken before x.0);
+  calls = is.calls;
+}
+enters_ends g at floor old new before after e (Err x) is = record {
+  told = tt;
+  refused = why x is.refused is.unless_tried (is.kept refl);
+  untried = λ same. (is.kept refl, reads_within g old new 1 2 (omega arith) (is.unless_tried (ap had_tried same)));
+  cylinders = is.cylinders;
+  takes = omega (arith, ap (λ (k : Kept). sum k.free) (is.kept refl));
+  calls = is.calls;
+}
+  where
+    why : (x : Refused) → IsFindRefusal g old new before x → (had_tried x ≡ false → OnlyReads g 1 old new) → after ≡ before → IsRefusal g at floor old new after x
+    why (refusals.Full need) is only same = omega (arith, is.0, is.1)
+    why (refusals.Disk tried) is only same = is
+    why (refusals.Damaged damage) is only same = by is.why
+      where
+        content : g.content new ≡ g.content old
+        content = (only refl).content
+
+        by : ((damage.code ≡ 2) × (Tells g old → IsBadMap (g.content old) damage.block)) ⊎ ((damage.code ≡ 12) × (Tells g old → ¬ AreCounts (g.content old) before)) → IsDamage g at old new after damage
+        by (inl (code, bad)) = NoMap code (omega (arith, is.on_disk, (only refl).same.size)) (λ tells. subst (λ (c : Image). IsBadMap c damage.block) (sym content) (bad tells))
+        by (inr (code, other)) = OtherCount code (λ tells. subst (λ (k : Kept). ¬ AreCounts (g.content new) k) (sym same) (subst (λ (c : Image). ¬ AreCounts c before) (sym content) (other tells)))
+    why refusals.Memory is only same = absurd is
+
+pub makes_none : {D : Type 0} (g : Ghosts D) (d : D) (n t : ℕ) → MakesAtMost g n t d d
+makes_none g d n t = record { later = omega arith; keeps = λ at c before was. was; same = record { size = refl; honesty = refl; telling = refl }; faults = omega arith; calls = omega arith; tries = omega arith; no_fewer = omega arith }
+
+-- the node's block got
+pub gets_ends : {D : Type 0} (g : Ghosts D) (n floor : ℕ) (old new : D) (before after : Kept) (drafting : Drafting) (result : Result BlockNo Refused) → GetsNode g n old new before after drafting result
+    → Ends g drafting.at floor 2 1 (one_unless (is_fresh_node drafting n)) old new before after result
+gets_ends g n floor old new before after drafting result (Had fresh same kept is) = subst (Ends g drafting.at floor 2 1 (one_unless (is_fresh_node drafting n)) old new before after) (sym is) (record {
+  told = λ b is. subst (λ (d : _). IsTrue (g.told d b)) (sym same) is;
+  refused = tt;
+  untried = tt;
+  cylinders = ap (λ (k : Kept). length k.free) kept;
+  takes = omega (arith, ap (λ (k : Kept). sum k.free) kept);
+  calls = subst (λ (d : _). MakesAtMost g 2 1 old d) (sym same) (makes_none g old 2 1);
+})
+gets_ends g n floor old new before after drafting result (Claims stale enters) =
+    subst (λ (k : ℕ). Ends g drafting.at floor 2 1 k old new before after result) (ap one_unless (sym stale)) (enters_ends g drafting.at floor old new before after (intended (Node n) drafting.at) result enters)
+
+-- ---- a block written
+
+module _ {D : Type 0} (g : Ghosts D) (at floor : ℕ) (old new : D) (kept : Kept) (n : ℕ) (block : List ℕ) where
+  pub write_done : WritesBlock g n block old new (Ok (tt {0})) → Ends {A = Unit {0}} g at floor 1 1 0 old new kept kept (Ok tt)
+  write_done is = record { told = is.told; refused = tt; untried = tt; cylinders = refl; takes = omega arith; calls = is.calls }
+
+  pub write_ends : (result : Result (Unit {0}) Refused) → WritesBlock g n block old new result → Ends g at floor 1 1 0 old new kept kept result
+  write_ends (Ok x) is = write_done is
+  write_ends (Err e) is = record { told = tt; refused = subst (IsRefusal g at floor old new kept) (sym is.refused) is.stopped; untried = λ same. (let no : refusals.Disk true ≡ refusals.Disk false = sym is.refused ∙ same in cc); cylinders = refl; takes = omega arith; calls = is.calls }

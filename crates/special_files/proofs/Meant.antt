@@ -1,0 +1,131 @@
+-- What the entry of a block says that is meant for an object, and what may be written there.
+use Rattle.std.proofs.Common.{◌≡◌, ◌≢◌, inl, inr, ℕ, ◌*◌, ◌%◌, Bool, true, List, [], ◌∷◌, set, Option, Some, None, refl, sym, ◌∙◌, ap, subst}
+use Rattle.std.specs.Prelude.{◌&&◌, ◌==◌, count_by, is_some}
+use Rattle.std.specs.List.{range_with_len}
+use Rattle.std.proofs.lemmas.Bool.{and_from, and_parts, both_ways, eqb-true}
+use Rattle.std.proofs.Math.ListN.{length-set}
+use Rattle.std.proofs.Math.Path.{fun_ext}
+use Rattle.cfs_base.specs.Disk.{Image}
+use Rattle.cfs_base.specs.declared.identifier.Puid.{Puid}
+use Rattle.cfs_base.specs.declared.kind.Place.{Place}
+use Rattle.cfs_base.specs.declared.kind.Place.TheVariants.{Root}
+use Rattle.cyl_map.specs.Entry.{IsEntry}
+use Rattle.cyl_map.specs.declared.entry.MapEntry.{MapEntry}
+use Rattle.cyl_map.specs.declared.state.BlockState.{BlockState}
+use Rattle.cyl_map.specs.declared.state.BlockState.TheVariants.{Allocated, Free, IntendAllocate, IntendDeallocate}
+use Rattle.cyl_map.specs.Volume.{entry_in, is_free_entry, is_free_in, with_entry}
+use Rattle.cyl_map.proofs.Volumes.{entry_in-set}
+use Rattle.cyl_alloc.specs.Space.{AreCounts, Kept, free_in_cylinder}
+use Rattle.ufs_model.specs.declared.object.Object.{Object}
+use Rattle.ufs_model.specs.Graph.{Graph, object_at}
+use Rattle.ufs_model.specs.Numbers.{has_number}
+use Rattle.vol_image.specs.Part.{IsTaken}
+use Rattle.vol_image.specs.Frame.{Frames, IsLoose, StandsForNone}
+use Rattle.vol_image.specs.Sound.{Holds}
+use Rattle.vol_image.proofs.AtRest.{rest_loose}
+use Rattle.vol_image.proofs.Claims.{loose_entry}
+use Rattle.vol_image.proofs.Parts.{free_is_loose, taken_apart}
+use Rattle.vol_image.proofs.Rising.{here}
+use Rattle.vol_image.proofs.Steps.{frames_begin, frames_content}
+use Rattle.vol_owners.specs.Account.{Accounts, HasItsBlocks, Opened, is_meant_for}
+use Rattle.vol_owners.specs.Change.{ChangesOnly, IsOpenTo, of_draft}
+use Rattle.vol_owners.specs.Owner.{is_had, is_leaving, is_meant, is_of, is_taken}
+use Rattle.vol_owners.proofs.Changes.{changes_content, changes_entry}
+use Rattle.vol_owners.proofs.Differing.{at_rest}
+use Rattle.vol_owners.proofs.Entries.{the_entry}
+use Rattle.vol_owners.proofs.Kept.{blocks_kept, frames_others}
+use Rattle.vol_owners.proofs.Owners.{drafts_miss}
+
+-- ---- entries
+
+state_meant : (s : BlockState) → is_meant s ≡ true → s ≡ IntendAllocate
+state_meant Free h = cc
+state_meant Allocated h = cc
+state_meant IntendAllocate h = refl
+state_meant IntendDeallocate h = cc
+
+some_place : (p : Option Place) → is_some p ≡ true → p ≢ None
+some_place None h = cc
+some_place (Some p) h = λ none. cc
+
+pub record IsMeant (image : Image) (r n : ℕ) : Type 0 where
+  pub taken : IsTaken image n r
+  pub state : taken.is.state ≡ IntendAllocate
+
+pub meant_is : (image : Image) (r n : ℕ) → is_meant_for image r n ≡ true → IsMeant image r n
+meant_is image r n meant =
+    let e = the_entry is_meant r (entry_in image n) meant in
+    let both = and_parts (is_meant e.0.state && is_some e.0.place) (r == e.0.owner) (sym (ap (is_of is_meant r) e.1) ∙ meant) in
+    let two = and_parts (is_meant e.0.state) (is_some e.0.place) both.0 in
+    let state = state_meant e.0.state two.0 in
+    record {
+      taken = record { is = e.0; here = e.1; taken = λ free. (let clash : IntendAllocate ≡ Free = sym state ∙ free in cc); placed = some_place e.0.place two.1; owned = sym (eqb-true r e.0.owner both.1) };
+      state = state;
+    }
+
+pub free_is : (image : Image) (n : ℕ) → is_free_in image n ≡ true → (e : MapEntry) × (entry_in image n ≡ Some e) × (e.state ≡ Free)
+free_is image n free = by (entry_in image n) refl free
+  where
+    state : (s : BlockState) → (e : MapEntry) → e.state ≡ s → is_free_entry (Some e) ≡ true → e.state ≡ Free
+    state Free e is h = is
+    state Allocated e is h = (let no = sym (ap (λ (t : BlockState). is_free_entry (Some (record e { state = t }))) is) ∙ h in cc)
+    state IntendAllocate e is h = (let no = sym (ap (λ (t : BlockState). is_free_entry (Some (record e { state = t }))) is) ∙ h in cc)
+    state IntendDeallocate e is h = (let no = sym (ap (λ (t : BlockState). is_free_entry (Some (record e { state = t }))) is) ∙ h in cc)
+
+    by : (o : Option MapEntry) → entry_in image n ≡ o → is_free_entry o ≡ true → (e : MapEntry) × (entry_in image n ≡ Some e) × (e.state ≡ Free)
+    by None is h = cc
+    by (Some e) is h = (e, is, state e.state e refl h)
+
+-- what a draft means is open to its steps
+pub meant_open : (r : ℕ) (entry : Option MapEntry) → is_of is_meant r entry ≡ true → IsOpenTo (λ e. of_draft r e) entry
+meant_open r None meant = cc
+meant_open r (Some e) meant =
+    let both = and_parts (is_meant e.state && is_some e.place) (r == e.owner) meant in
+    let two = and_parts (is_meant e.state) (is_some e.place) both.0 in
+    inr (and_from _ _ (ap is_taken (state_meant e.state two.0)) two.1, and_from _ _ both.0 (subst (λ (n : ℕ). has_number n (r ∷ []) ≡ true) (eqb-true r e.owner both.1) (here r [])))
+
+-- ---- contents of blocks that have entries of their own elsewhere
+
+pub counts_content : (image : Image) (kept : Kept) (n : ℕ) (block : List ℕ) → n % 64 ≢ 0 → AreCounts image kept → AreCounts (set image n block) kept
+unfolding free_in_cylinder
+counts_content image kept n block no_map counts =
+    let same : is_free_in (set image n block) ≡ is_free_in image = fun_ext (λ m. ap is_free_entry (entry_in-set image n block m no_map)) in
+    record { size = length-set image n block ∙ counts.size; each = λ j below. counts.each j below ∙ ap (λ (P : ℕ → Bool). count_by P (range_with_len (64 * j) 64)) (sym same) }
+
+-- ---- what may be written while a draft is changed
+
+module _ (a b : Image) (g : Graph) (ds : List Opened) (id : Puid) (o : Object) (had : Accounts a g ds) (at : object_at g id ≡ Some o) (only : ChangesOnly (λ e. of_draft id.block e) a b) where
+  pub still_has : (x : Puid) (p : Object) → object_at g x ≡ Some p → HasItsBlocks b x.block
+  still_has x p there = blocks_kept (λ e. of_draft id.block e) a b g ds had only x p there (drafts_miss is_had refl (id.block ∷ []) x.block) (drafts_miss is_leaving refl (id.block ∷ []) x.block)
+
+  pub still_framed : Frames a g b
+  still_framed = frames_others (λ e. of_draft id.block e) a b g ds had only g (λ x p there. (there, drafts_miss is_had refl (id.block ∷ []) x.block))
+
+  -- no commit bit stands, so no shadow root is looked at
+  pub no_shadow : (e : MapEntry) → StandsForNone b g e
+  no_shadow e x p there bit = absurd (both_ways _ (still_has x p there).no_bit bit)
+
+  module _ (holds : Holds b g) where
+    pub meant_loose : (n : ℕ) → is_meant_for b id.block n ≡ true → IsLoose b g n
+    meant_loose n meant =
+        let is = meant_is b id.block n meant in
+        rest_loose b g id.block n holds (at_rest b id.block (still_has id o at)) is.taken (λ held. (let clash : IntendAllocate ≡ Allocated = sym is.state ∙ held in cc))
+
+    pub meant_written : (n : ℕ) (block : List ℕ) → is_meant_for b id.block n ≡ true → Frames b g (set b n block)
+    meant_written n block meant = frames_content b g b n block (frames_begin b g holds) (meant_loose n meant)
+
+    pub meant_changes : (n : ℕ) (block : List ℕ) → is_meant_for b id.block n ≡ true → ChangesOnly (λ e. of_draft id.block e) b (set b n block)
+    meant_changes n block meant =
+        changes_content (λ e. of_draft id.block e) b n block holds.maps holds.own (taken_apart b g holds n id.block (meant_is b id.block n meant).taken) (meant_open id.block (entry_in b n) meant)
+
+    module _ (n : ℕ) (e : MapEntry) (free : is_free_in b n ≡ true) (is : IsEntry e) (place : e.place ≢ Some Root) where
+      pub claim_framed : Frames b g (with_entry b n e)
+      claim_framed =
+          let was = free_is b n free in
+          loose_entry b g b n e was.0 holds (frames_begin b g holds) (free_is_loose b g holds n was.0 was.1 was.2) was.1 is (λ root. absurd (place root)) (no_shadow e) (no_shadow was.0)
+
+      pub claim_changes : is_of is_meant id.block (Some e) ≡ true → ChangesOnly (λ e. of_draft id.block e) b (with_entry b n e)
+      claim_changes meant =
+          let was = free_is b n free in
+          changes_entry (λ e. of_draft id.block e) b n e was.0 holds.maps holds.own (free_is_loose b g holds n was.0 was.1 was.2).apart was.1 is (λ root. absurd (place root))
+          (inl (sym (ap is_free_entry was.1) ∙ free)) (meant_open id.block (Some e) meant)

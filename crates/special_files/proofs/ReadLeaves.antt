@@ -1,0 +1,127 @@
+-- What is read of a draft's leaves.
+use Rattle.std.proofs.Common.{◌≡◌, ℕ, zero, suc, Ok, Err, ◌+◌, ◌-◌, ◌*◌, ◌/◌, ◌%◌, ◌<◌, ◌≤◌, List, [], ◌∷◌, length, Some, refl, sym, ◌∙◌, ap, subst, arith}
+use Rattle.std.specs.Prelude.{IfOk, Result, slice_index, slice_range}
+use Rattle.cfs_base.specs.Calls.{OnlyReads}
+use Rattle.cfs_base.proofs.Calls.{reads_then, tells_on}
+use Rattle.leaf_changes.specs.Bytes.{with_leaf}
+use Rattle.leaf_changes.specs.Leaves.{IsReadTo}
+use Rattle.leaf_changes.proofs.Given.{file_to_leaves}
+use Rattle.leaf_changes.proofs.Overlays.{length-overlaid}
+use Rattle.leaf_changes.proofs.ReadParts.{read_all, read_more}
+use Rattle.ufs_model.specs.Object.{leaves_in}
+use Rattle.ufs_model.specs.declared.object.File.{File}
+use Rattle.ufs_model.specs.declared.object.Object.TheVariants as objects
+use Rattle.cfs_base.specs.Disk.{AreBlocks, Image, block_at}
+use Rattle.cfs_base.specs.Run.{Tells}
+use Rattle.cfs_base.specs.declared.disk.Disk.{Ghosts}
+use Rattle.cfs_base.specs.declared.identifier.Puid.{Puid}
+use Rattle.block_tree.specs.declared.root.Root as roots
+use Rattle.block_tree.specs.Root.{Fits, root_spelling}
+use Rattle.block_tree.specs.Tree.{bytes_in, tree_of}
+use Rattle.block_tree.proofs.Trees.{path_is}
+use Rattle.cyl_alloc.specs.Space.{Kept}
+use Rattle.ufs_model.specs.declared.object.Draft as models
+use Rattle.ufs_model.specs.declared.object.Object.{Object}
+use Rattle.ufs_model.specs.Graph.{Graph, object_at}
+use Rattle.vol_image.specs.Reading.{IsTree, leaf_content}
+use Rattle.vol_image.specs.Seen.{held_at, tree_in}
+use Rattle.vol_image.proofs.Views.{held}
+use Rattle.vol_owners.specs.Account.{HasDraft, Opened}
+use Rattle.leaf_changes.proofs.Contents.{content_is}
+use Rattle.intentions.specs.Store.{StoreHas}
+use Rattle.special_files.specs.Drafting.{Drafting, IsOpen, node_of, opened_as}
+use Rattle.special_files.specs.Leaves.{leaves_of}
+use Rattle.special_files.specs.Nodes.{IsNear, IsRead, IsSafe, leaves_at}
+use Rattle.special_files.specs.declared.node.NodeRead.{NodeRead}
+use Rattle.special_files.proofs.Fresh.{length-leaves, read_leaf_is}
+use Rattle.special_files.proofs.PutStore.{the_draft}
+use Rattle.special_files.proofs.Trees.{node_at}
+
+-- what a pointer leads to, read
+block_content : (image : Image) (fill v : ℕ) → AreBlocks image → v < length image → leaf_content fill (held_at image v) ≡ bytes_in image fill v
+block_content image fill zero blocks below = refl
+block_content image fill (suc v) blocks below = content_is fill (held_at image (suc v)) (block_at image (suc v)) refl (blocks (suc v) below).long
+
+leaf_there : (image : Image) (root : roots.Root) (leaf : ℕ) → leaves_of image root leaf ≡ held_at image (tree_of image (root_spelling root) (leaf / 128 ∷ leaf % 128 ∷ []))
+leaf_there image root leaf = ap (λ (p : List ℕ). (tree_in image (root_spelling root)).below p) (path_is (root_spelling root) leaf)
+
+pub leaf_read_is : (image : Image) (drafting : Drafting) (read : NodeRead) (leaf : ℕ) → AreBlocks image → Fits drafting.root → IsRead image drafting read → read.number ≡ leaf / 128 → leaf < 15360
+    → slice_index read.node.leaves (leaf % 128) < length image → bytes_in image drafting.root.fill (slice_index read.node.leaves (leaf % 128)) ≡ leaf_content drafting.root.fill (leaves_of image drafting.root leaf)
+leaf_read_is image drafting read leaf blocks fits is number most below =
+    let v = slice_index read.node.leaves (leaf % 128) in
+    let node = is (omega (arith, number, most)) ∙ ap (λ (n : ℕ). leaves_at image (node_of drafting.root n)) number in
+    let there : tree_of image (root_spelling drafting.root) (leaf / 128 ∷ leaf % 128 ∷ []) ≡ v = read_leaf_is image drafting.root fits (leaf / 128) (leaf % 128) read.node.leaves node in
+    sym (block_content image drafting.root.fill v blocks below) ∙ ap (leaf_content drafting.root.fill) (sym (leaf_there image drafting.root leaf ∙ ap (held_at image) there))
+
+pub leaf_below : (image : Image) (drafting : Drafting) (read : NodeRead) (leaf size : ℕ) → IsSafe size drafting read → IsRead image drafting read → read.number ≡ leaf / 128 → leaf < 15360 → slice_index read.node.leaves (leaf % 128) < size
+leaf_below image drafting read leaf size safe is number most =
+    let few : read.number < 120 = omega (arith, number, most) in
+    (safe few).1 (leaf % 128) 0 (omega (arith, ap (length {A = ℕ}) (is few) ∙ length-leaves image (node_of drafting.root read.number)))
+
+-- what a result is, told otherwise
+pub if_ok_is : {A E : Type 0} (r : Result A E) (x y : A) → x ≡ y → IfOk r (λ z. z ≡ x) → IfOk r (λ z. z ≡ y)
+if_ok_is (Ok z) x y same is = is ∙ same
+if_ok_is (Err e) x y same is = tt
+
+-- ---- leaf after leaf
+
+-- the leaves from the one at the offset on and before this one are read into a part of the file
+pub record ReadTo {D : Type 0} (g : Ghosts D) (drafting : Drafting) (offset leaf : ℕ) (initial : List ℕ) (old now : D) (read : NodeRead) (part : List ℕ) : Type 0 where
+  pub from : offset / 512 ≤ leaf
+  pub reads : OnlyReads g (2 * (leaf - offset / 512)) old now
+  pub long : length part ≡ length initial
+  pub safe : IsSafe (g.blocks now) drafting read
+  pub told : Tells g old → Fits drafting.root → IsRead (g.content old) drafting read × IsReadTo leaf drafting.root.fill (leaves_of (g.content old) drafting.root) offset part
+
+module _ {D : Type 0} (g : Ghosts D) (drafting : Drafting) (offset leaf : ℕ) (initial : List ℕ) (d0 d1 : D) (read : NodeRead) (part : List ℕ) (to : ReadTo g drafting offset leaf initial d0 d1 read part) where
+  pub tells_still : Tells g d0 → Tells g d1
+  tells_still tells = tells_on g d0 d1 d1 (2 * (leaf - offset / 512)) to.reads tells
+
+  pub read_then : (d2 : D) (next : NodeRead) (content after : List ℕ) → OnlyReads g 2 d1 d2 → IsSafe (g.blocks d1) drafting next
+      → (Tells g d1 → Fits drafting.root → IsRead (g.content d1) drafting read → content ≡ leaf_content drafting.root.fill (leaves_of (g.content d1) drafting.root leaf))
+      → (Tells g d1 → IsRead (g.content d1) drafting read → IsRead (g.content d1) drafting next) → after ≡ with_leaf leaf content offset part → ReadTo g drafting offset (leaf + 1) initial d0 d2 next after
+  read_then d2 next content after reads safe bytes node same = record {
+    from = omega (arith, to.from);
+    reads = reads_then g d0 d1 d2 (2 * (leaf - offset / 512)) 2 (2 * (leaf + 1 - offset / 512)) to.reads reads (omega (arith, to.from));
+    long = ap (length {A = ℕ}) same ∙ length-overlaid offset part (512 * leaf) content ∙ to.long;
+    safe = subst (λ (size : ℕ). IsSafe size drafting next) (sym reads.same.size) safe;
+    told = λ tells fits.
+        let before = to.told tells fits in
+        let now = tells_still tells in
+        let is = subst (λ (i : Image). IsRead i drafting read) (sym to.reads.content) before.0 in
+        let there : content ≡ leaf_content drafting.root.fill (leaves_of (g.content d0) drafting.root leaf) = bytes now fits is ∙ ap (λ (i : Image). leaf_content drafting.root.fill (leaves_of i drafting.root leaf)) to.reads.content in (
+          subst (λ (i : Image). IsRead i drafting next) to.reads.content (node now is),
+          subst (IsReadTo (leaf + 1) drafting.root.fill (leaves_of (g.content d0) drafting.root) offset) (sym (same ∙ ap (λ (c : List ℕ). with_leaf leaf c offset part) there))
+              (read_more drafting.root.fill (leaves_of (g.content d0) drafting.root) offset part leaf before.1),
+        );
+  }
+
+-- the whole part
+pub read_whole : {D : Type 0} (g : Ghosts D) (graph : Graph) (ds : List Opened) (space : Kept) (id : Puid) (o : Object) (d : models.Draft) (f : File) (drafting : Drafting) (offset leaf : ℕ) (initial : List ℕ) (d0 d1 : D) (read : NodeRead) (part : List ℕ)
+    → StoreHas g graph ds d0 space → object_at graph id ≡ Some o → IsOpen ds id drafting d → d.object ≡ objects.File f → ReadTo g drafting offset leaf initial d0 d1 read part → leaves_in (offset + length initial) ≤ leaf
+    → offset + length initial ≤ drafting.root.size → part ≡ slice_range f.bytes offset (offset + length initial)
+read_whole g graph ds space id o d f drafting offset leaf initial d0 d1 read part store at opened file to all within =
+    let draft = the_draft (g.content d0) ds id drafting d opened (store.account.drafts id o at) in
+    let told = to.told store.carries.tells draft.tree.spelled.good.0 in
+    let gives = file_to_leaves drafting.root (leaves_of (g.content d0) drafting.root) f (draft.tree.object ∙ file) in
+    subst (λ (n : ℕ). part ≡ slice_range f.bytes offset (offset + n)) to.long (read_all drafting.root (leaves_of (g.content d0) drafting.root) f offset part gives (omega (arith, within, to.long))
+    (λ k inside early. told.1 k inside (omega (arith, early, all, ap (λ (n : ℕ). leaves_in (offset + n)) to.long))))
+
+-- ---- a draft's nodes are near
+
+-- a pointer of a tree leads to the disk, or nowhere
+pointer_near : (image : Image) (size owner : ℕ) (content : List ℕ) (root : roots.Root) (o : Object) → IsTree size owner (tree_in image content) root o → 0 < size → (p : List ℕ) → tree_of image content p < size
+pointer_near image size owner content root o tree some p = by (tree_of image content p) refl
+  where
+    by : (v : ℕ) → tree_of image content p ≡ v → tree_of image content p < size
+    by zero none = omega (arith, none, some)
+    by (suc v) is = let below : suc v < size = tree.on_disk p (held image (suc v)) (ap (held_at image) is) in omega (arith, is, below)
+
+pub node_near : (image : Image) (size : ℕ) (id : Puid) (drafting : Drafting) (d : models.Draft) → HasDraft image id (opened_as id drafting d) → length image ≡ size → 0 < size → (n : ℕ) → IsNear size image (node_of drafting.root n)
+node_near image size id drafting d draft long some n =
+    let content = root_spelling drafting.root in
+    let near = λ (p : List ℕ). pointer_near image (length image) id.block content drafting.root d.object draft.tree (omega (arith, long, some)) p in
+    record {
+      here = omega (arith, near (n ∷ []), node_at image drafting.root draft.tree.spelled.good.0 n, long);
+      leaves = λ k. omega (arith, near (n ∷ k ∷ []), read_leaf_is image drafting.root draft.tree.spelled.good.0 n k (leaves_at image (node_of drafting.root n)) refl, long);
+    }

@@ -1,0 +1,60 @@
+-- One refusal told as another.
+use Rattle.std.proofs.Common.{◌≡◌, ℕ, Ok, Err, false, refl, sym, subst}
+use Rattle.std.specs.Prelude.{IfErr, Result}
+use Rattle.std.specs.Result.{IsErrAnd}
+use Rattle.cfs_base.specs.Refusals.{refused_by}
+use Rattle.cfs_base.specs.Calls.{OnlyReads}
+use Rattle.cfs_base.specs.Run.{Tells}
+use Rattle.cfs_base.proofs.Calls.{stopped_after_reads, tells_on}
+use Rattle.cfs_base.specs.declared.disk.Disk.{Ghosts}
+use Rattle.cfs_base.specs.declared.refusal.Damage.{Damage}
+use Rattle.cfs_base.specs.declared.refusal.Refused.TheVariants as refused
+use Rattle.cfs_base.specs.declared.refusal.Refused.{Refused}
+use Rattle.cfs_base.specs.declared.refusal.Trouble.{Trouble}
+use Rattle.cfs_base.specs.declared.refusal.Trouble.TheVariants as trouble
+use Rattle.cyl_alloc.specs.Space.{Kept}
+use Rattle.special_files.specs.Refusal.{IsDamage, NoMap, OpenMap, OtherCount, NoRoot, FarNode, FarRoot, IsRefusal, IsRefusalOrMemory, IsTrouble, is_damage, is_damaged}
+
+-- what a `?` makes of a trouble: a refusal, or the same trouble
+pub told : {A : Type 0} (P : Refused → Type 0) (r : Result A Refused) (t : Trouble) → IsErrAnd r (λ e. e ≡ refused_by t) → P (refused_by t) → IfErr r P
+told P (Ok x) t is p = tt
+told P (Err e) t is p = subst P (sym is) p
+
+pub passed : {A : Type 0} (P : Trouble → Type 0) (r : Result A Trouble) (t : Trouble) → IsErrAnd r (λ e. e ≡ t) → P t → IfErr r P
+passed P (Ok x) t is p = tt
+passed P (Err e) t is p = subst P (sym is) p
+
+module _ {D : Type 0} (g : Ghosts D) (at floor : ℕ) (old new : D) (kept : Kept) where
+  pub refusal_of : (t : Trouble) → IsTrouble g at old new kept t → IsRefusal g at floor old new kept (refused_by t)
+  refusal_of (trouble.Disk tried) is = is
+  refusal_of (trouble.Damaged damage) is = is
+
+  pub or_memory : (t : Trouble) → IsTrouble g at old new kept t → IsRefusalOrMemory g at floor old new kept (refused_by t)
+  or_memory (trouble.Disk tried) is = is
+  or_memory (trouble.Damaged damage) is = is
+
+-- ---- after other calls
+
+-- what is wrong with a block is so, whatever was called before
+pub damage_since : {D : Type 0} (g : Ghosts D) (at : ℕ) (old mid new : D) (kept : Kept) (damage : Damage) → (Tells g old → Tells g mid) → IsDamage g at mid new kept damage → IsDamage g at old new kept damage
+damage_since g at old mid new kept damage on (NoMap code there why) = NoMap code there (λ tells. why (on tells))
+damage_since g at old mid new kept damage on (OpenMap code block why) = OpenMap code block (λ tells. why (on tells))
+damage_since g at old mid new kept damage on (OtherCount code why) = OtherCount code (λ tells. why (on tells))
+damage_since g at old mid new kept damage on (NoRoot code block why) = NoRoot code block (λ tells. why (on tells))
+damage_since g at old mid new kept damage on (FarNode code why) = FarNode code (λ tells. why (on tells))
+damage_since g at old mid new kept damage on (FarRoot code block) = FarRoot code block
+
+module _ {D : Type 0} (g : Ghosts D) (at : ℕ) (old mid new : D) (kept : Kept) where
+  pub trouble_after_reads : (n : ℕ) (t : Trouble) → OnlyReads g n old mid → IsTrouble g at mid new kept t → IsTrouble g at old new kept t
+  trouble_after_reads n (trouble.Disk tried) reads is = stopped_after_reads g old mid new n tried reads is
+  trouble_after_reads n (trouble.Damaged damage) reads is = damage_since g at old mid new kept damage (λ tells. tells_on g old mid new n reads tells) is
+
+  pub refusal_after_reads : (floor n : ℕ) (e : Refused) → OnlyReads g n old mid → IsRefusal g at floor mid new kept e → IsRefusal g at floor old new kept e
+  refusal_after_reads floor n (refused.Full need) reads is = is
+  refusal_after_reads floor n (refused.Disk tried) reads is = stopped_after_reads g old mid new n tried reads is
+  refusal_after_reads floor n (refused.Damaged damage) reads is = damage_since g at old mid new kept damage (λ tells. tells_on g old mid new n reads tells) is
+  refusal_after_reads floor n refused.Memory reads is = absurd is
+
+pub damaged_by : (t : Trouble) → is_damage t ≡ false → is_damaged (refused_by t) ≡ false
+damaged_by (trouble.Disk tried) is = refl
+damaged_by (trouble.Damaged damage) is = is

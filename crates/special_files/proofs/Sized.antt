@@ -1,0 +1,224 @@
+-- The size of a draft changed, while its leaves stay.
+use Rattle.std.proofs.Common.{◌≡◌, ◌≢◌, inl, inr, ℕ, zero, suc, ◌+◌, ◌/◌, ◌%◌, ◌<◌, ◌≤◌, Bool, true, false, if◌then◌else◌, IsTrue, List, [], ◌∷◌, ◌++◌, length, get_or, Option, Some, refl, sym, ◌∙◌, ap, subst, arith}
+use Rattle.std.specs.Prelude.{filter, is_some}
+use Rattle.std.specs.List.{range_with_len}
+use Rattle.std.proofs.Math.Path.{fun_ext}
+use Rattle.std.proofs.lemmas.Bool.{le-leb}
+use Rattle.cfs_base.specs.Disk.{Image}
+use Rattle.cfs_base.specs.declared.disk.Disk.{Ghosts}
+use Rattle.cfs_base.specs.declared.identifier.Puid.{Puid}
+use Rattle.cfs_base.specs.declared.kind.Kind.TheVariants as kinds
+use Rattle.cfs_base.specs.declared.kind.FileKind.{FileKind}
+use Rattle.cfs_base.specs.declared.kind.FileKind.TheVariants as file_kinds
+use Rattle.block_tree.specs.declared.root.Root as roots
+use Rattle.block_tree.specs.Root.{Fits, IsRoot, root_spelling}
+use Rattle.block_tree.specs.Tree.{levels_of, tree_of}
+use Rattle.block_tree.proofs.Trees.{path_is}
+use Rattle.cyl_alloc.specs.Space.{Kept}
+use Rattle.leaf_changes.specs.Gives.{kind_of}
+use Rattle.leaf_changes.specs.Leaves.{LeavesFit, bytes_held}
+use Rattle.leaf_changes.proofs.Given.{file_to_leaves}
+use Rattle.leaf_changes.proofs.Resized.{grown_fit, grown_object}
+use Rattle.ufs_model.specs.declared.change.Change.TheVariants.{SetSize}
+use Rattle.ufs_model.specs.declared.object.Draft.{Draft}
+use Rattle.ufs_model.specs.declared.object.File.{File}
+use Rattle.ufs_model.specs.declared.object.Object.TheVariants as objects
+use Rattle.ufs_model.specs.declared.object.Object.{Object}
+use Rattle.ufs_model.specs.Graph.{Graph, object_at}
+use Rattle.ufs_model.specs.Numbers.{first_level, has_number, merged, missing, next_levels, shared, within}
+use Rattle.ufs_model.specs.Object.{changed_object, fresh_after, held_leaves, held_levels, held_nodes, inner_levels, resize_anew, size_of, written_anew}
+use Rattle.ufs_model.specs.State.{changed_draft}
+use Rattle.vol_image.specs.Part.{BelongsTo}
+use Rattle.vol_image.specs.Reading.{IsTree, object_with}
+use Rattle.vol_image.specs.Seen.{held_at, place_at, tree_in}
+use Rattle.vol_image.proofs.Places.{same_levels}
+use Rattle.vol_image.proofs.Rising.{filter-rises, in_filter, same_numbers, to_filter}
+use Rattle.vol_owners.specs.Account.{HasDraft, Opened, content_of, is_meant_for, levels_standing, passes, standing_at}
+use Rattle.intentions.specs.Store.{StoreHas}
+use Rattle.special_files.specs.Becomes.{Becomes}
+use Rattle.special_files.specs.Drafting.{Drafting, IsOpen, fresh_of, need_beside, opened_as, set_in, shadow_need}
+use Rattle.special_files.specs.Leaves.{draft_in, leaves_of, object_of}
+use Rattle.special_files.specs.Store.{replaced}
+use Rattle.special_files.proofs.Amid.{amid_begins}
+use Rattle.special_files.proofs.Levels.{fresh_leaf, fresh_node, leaf_level, levels_are, node_level}
+use Rattle.special_files.proofs.Marks.{below_flags, first_is, in_set, leaf_held, next_is, node_held, none_shared, set-rises, within_none}
+use Rattle.special_files.proofs.PutStore.{alone_now, store_goes_on, the_draft}
+use Rattle.special_files.proofs.Trees.{leaf_at, node_at, nothing_below}
+use Rattle.special_files.proofs.Writes.{becomes_as}
+
+-- ---- the tree of a root of another size
+
+module _ (image : Image) (root : roots.Root) (size : ℕ) (fits : Fits root) where
+  abbrev pub resized_root : roots.Root
+  resized_root = record root { size = size }
+
+  fits_still : Fits resized_root
+  fits_still = record { fill = fits.fill; word = fits.word; count = fits.count; nodes = fits.nodes }
+
+  same_tree : (p : List ℕ) → tree_of image (root_spelling resized_root) p ≡ tree_of image (root_spelling root) p
+  same_tree [] = refl
+  same_tree (m ∷ []) = node_at image resized_root fits_still m ∙ sym (node_at image root fits m)
+  same_tree (m ∷ j ∷ []) = leaf_at image resized_root fits_still m j ∙ sym (leaf_at image root fits m j)
+  same_tree (m ∷ j ∷ i ∷ q) = nothing_below image (root_spelling resized_root) m j i q ∙ sym (nothing_below image (root_spelling root) m j i q)
+
+  pub same_below : (p : List ℕ) → (tree_in image (root_spelling resized_root)).below p ≡ (tree_in image (root_spelling root)).below p
+  same_below p = ap (held_at image) (same_tree p)
+
+  pub same_leaf : (n : ℕ) → leaves_of image resized_root n ≡ leaves_of image root n
+  same_leaf n =
+      ap (λ (p : List ℕ). (tree_in image (root_spelling resized_root)).below p) (path_is (root_spelling resized_root) n) ∙ same_below (n / 128 ∷ n % 128 ∷ [])
+      ∙ sym (ap (λ (p : List ℕ). (tree_in image (root_spelling root)).below p) (path_is (root_spelling root) n))
+
+  same_standing : (test : ℕ → Bool) (k : ℕ) → get_or (levels_standing test (tree_in image (root_spelling root)) (length (levels_of (root_spelling root)))) k []
+      ≡ get_or (levels_standing test (tree_in image (root_spelling resized_root)) (length (levels_of (root_spelling resized_root)))) k []
+  same_standing test k =
+      let old = tree_in image (root_spelling root) in
+      let new = tree_in image (root_spelling resized_root) in
+      let leaves : standing_at test old 2 ≡ standing_at test new 2 = leaf_level test old ∙ ap (λ (P : ℕ → Bool). filter P (range_with_len 0 15360)) (fun_ext (λ l. ap (passes test) (sym (same_below (l / 128 ∷ l % 128 ∷ []))))) ∙ sym (leaf_level test new) in
+      let nodes : standing_at test old 1 ≡ standing_at test new 1 = node_level test old ∙ ap (λ (P : ℕ → Bool). filter P (range_with_len 0 120)) (fun_ext (λ n. ap (passes test) (sym (same_below (n ∷ []))))) ∙ sym (node_level test new) in
+      ap (λ (ls : List (List ℕ)). get_or ls k []) (levels_are test old ∙ (λ i. leaves i ∷ nodes i ∷ []) ∙ sym (levels_are test new))
+
+  pub sized_tree : (n owner : ℕ) (o : Object) → IsTree n owner (tree_in image (root_spelling root)) root o → IsRoot resized_root → LeavesFit resized_root (leaves_of image root)
+      → IsTree n owner (tree_in image (root_spelling resized_root)) resized_root (object_of image resized_root)
+  sized_tree n owner o tree good fit = record {
+    spelled = record { good = (fits_still, good); spelled = refl };
+    object = refl;
+    on_disk = λ p h v. tree.on_disk p h (sym (same_below p) ∙ v);
+    owned = λ p h v. subst (λ ls. BelongsTo owner (place_at ls p) h.part) (same_levels (root_spelling root) (root_spelling resized_root)) (tree.owned p h (sym (same_below p) ∙ v));
+    within = λ m h is. fit.within m h (sym (same_leaf m) ∙ is);
+    filled = λ m i h is small past. fit.filled m i h (sym (same_leaf m) ∙ is) small past;
+    leads_on = λ p h v short.
+        let more = tree.leads_on p h (sym (same_below p) ∙ v) (subst (λ ls. length p < length ls) (same_levels (root_spelling resized_root) (root_spelling root)) short) in
+        (more.0, subst (λ o. IsTrue (is_some o)) (sym (same_below (p ++ more.0 ∷ []))) more.1);
+  }
+
+  -- a draft whose root has another size, which its leaves fit
+  pub sized_draft : (id : Puid) (was : Drafting) (d : Draft) → was.root ≡ root → HasDraft image id (opened_as id was d) → IsRoot resized_root → LeavesFit resized_root (leaves_of image root)
+      → HasDraft image id (opened_as id (record was { root = resized_root }) (record { object = object_of image resized_root; fresh = d.fresh }))
+  sized_draft id was d here draft good fit =
+      let had = subst (λ (r : roots.Root). HasDraft image id (opened_as id (record was { root = r }) d)) here draft in
+      record {
+        own = had.own;
+        same_kind = had.same_kind;
+        same_word = had.same_word;
+        tree = sized_tree (length image) id.block d.object had.tree good fit;
+        shadow = had.shadow;
+        fresh = λ k. had.fresh k ∙ same_standing (is_meant_for image id.block) k;
+        no_other = λ m meant. elim (had.no_other m meant) [
+          | inl shadow ↦ inl shadow
+          | inr s ↦ inr (record { path = s.path; held = s.held; there = same_below s.path ∙ s.there; is = s.is })
+        ];
+      }
+
+-- ---- fresh blocks, of which each is held
+
+all_shared : (flags : List Bool) (held : List ℕ) → ((x : ℕ) → get_or flags x false ≡ true → has_number x held ≡ true) → shared (set_in flags) held ≡ set_in flags
+all_shared flags held all = same_numbers _ _ (filter-rises (λ n. has_number n held) (set_in flags) (set-rises flags)) (set-rises flags)
+    (λ x h. (in_filter (λ n. has_number n held) x (set_in flags) h).1) (λ x h. to_filter (λ n. has_number n held) x (set_in flags) (all x (in_set flags x h)) h)
+
+within_first : (levels there : List (List ℕ)) → get_or (within levels there) 0 [] ≡ shared (get_or levels 0 []) (first_level there)
+within_first [] there = sym (none_within there)
+  where
+    none_within : (there : List (List ℕ)) → shared [] (first_level there) ≡ []
+    none_within there = refl
+within_first (ns ∷ levels) there = refl
+
+within_next : (levels there : List (List ℕ)) (k : ℕ) → get_or (within levels there) (suc k) [] ≡ get_or (within (next_levels levels) (next_levels there)) k []
+within_next [] there k = refl
+within_next (ns ∷ levels) there k = refl
+
+-- ---- to more, or to the same
+
+module _ {D : Type 0} (g : Ghosts D) (graph : Graph) (ds : List Opened) (id : Puid) (o : Object) (at : object_at graph id ≡ Some o) (d0 : D) (k0 : Kept) (was : Drafting) (d : Draft)
+    (store : StoreHas g graph ds d0 k0) (opened : IsOpen ds id was d) (f : File) (file : d.object ≡ objects.File f) (size : ℕ) (more : was.root.size ≤ size) (limit : size ≤ 7864320) where
+  abbrev a : Image
+  a = g.content d0
+
+  abbrev now : Drafting
+  now = record was { root = record was.root { size = size } }
+
+  abbrev e : Draft
+  e = record { object = object_of a now.root; fresh = d.fresh }
+
+  abbrev es : List Opened
+  es = replaced (opened_as id now e) ds
+
+  draft : HasDraft a id (opened_as id was d)
+  draft = the_draft a ds id was d opened (store.account.drafts id o at)
+
+  gives : object_with was.root (leaves_of a was.root) ≡ objects.File f
+  gives = draft.tree.object ∙ file
+
+  no_index : was.root.kind ≢ kinds.Index
+  no_index is = by f.kind ((file_to_leaves was.root (leaves_of a was.root) f gives).kind)
+    where
+      by : (k : FileKind) → was.root.kind ≡ kind_of k → ⊥
+      by file_kinds.Normal same = (let no : kinds.Normal ≡ kinds.Index = sym same ∙ is in cc)
+      by file_kinds.Special same = (let no : kinds.Special ≡ kinds.Index = sym same ∙ is in cc)
+
+  fit : LeavesFit was.root (leaves_of a was.root)
+  fit = record { within = draft.tree.within; filled = draft.tree.filled }
+
+  good : IsRoot now.root
+  good = record { fill = draft.tree.spelled.good.1.fill; size = record { limit = limit; slots = λ is. absurd (no_index is) } }
+
+  stands : HasDraft a id (opened_as id now e)
+  stands = sized_draft a was.root size draft.tree.spelled.good.0 id was d refl draft good (grown_fit was.root (leaves_of a was.root) (leaves_of a was.root) size fit (λ n. refl) more)
+
+  first : Becomes g graph ds id e d0 d0 k0 now
+  first =
+      let amid = amid_begins g graph ds id o d0 k0 store at in
+      record {
+        steps = record { store = store_goes_on g graph ds id o d0 d0 k0 k0 was now d e store at opened amid stands refl; only = amid.only };
+        is_open = record {
+          at = opened.at;
+          alone = alone_now g graph ds id o d0 d0 k0 k0 was now d e store at opened amid;
+          leaf_flags = opened.leaf_flags;
+          node_flags = opened.node_flags;
+          fresh = opened.fresh;
+        };
+      }
+
+  object : changed_object (SetSize size) d.object ≡ e.object
+  object =
+      ap (changed_object (SetSize size)) (sym draft.tree.object)
+      ∙ sym (grown_object was.root (leaves_of a was.root) (leaves_of a now.root) size fit (λ n. ap bytes_held (same_leaf a was.root size draft.tree.spelled.good.0 n)) more no_index)
+
+  size_is : size_of d.object ≡ was.root.size
+  size_is = ap size_of file ∙ (file_to_leaves was.root (leaves_of a was.root) f gives).size
+
+  nothing_anew : written_anew (SetSize size) d.object d.fresh ≡ []
+  nothing_anew = ap (λ (b : Bool). if b then [] else resize_anew (inner_levels d.object) size (held_leaves d.object) d.fresh) (le-leb (size_of d.object) size (omega (arith, size_is, more)))
+
+  same_leaves : shared (get_or d.fresh 0 []) (held_leaves e.object) ≡ get_or d.fresh 0 []
+  same_leaves =
+      ap (λ (ns : List ℕ). shared ns (held_leaves e.object)) (opened.fresh 0)
+      ∙ all_shared was.leaves (held_leaves e.object) (λ x flag. leaf_held a id es now e first.is_open stands x (below_flags was.leaves 15360 x opened.leaf_flags flag) flag) ∙ sym (opened.fresh 0)
+
+  same_nodes : shared (get_or (next_levels d.fresh) 0 []) (held_nodes e.object) ≡ get_or d.fresh 1 []
+  same_nodes =
+      ap (λ (ns : List ℕ). shared ns (held_nodes e.object)) (next_is d.fresh 0 ∙ opened.fresh 1)
+      ∙ all_shared was.nodes (held_nodes e.object) (λ x flag. node_held a id es now e first.is_open stands x (below_flags was.nodes 120 x opened.node_flags flag) flag) ∙ sym (opened.fresh 1)
+
+  same_fresh : (k : ℕ) → get_or (within d.fresh (held_levels e.object)) k [] ≡ get_or d.fresh k []
+  same_fresh zero = within_first d.fresh (held_levels e.object) ∙ same_leaves
+  same_fresh (suc zero) = within_next d.fresh (held_levels e.object) 0 ∙ within_first (next_levels d.fresh) (next_levels (held_levels e.object)) ∙ same_nodes
+  same_fresh (suc (suc j)) =
+      within_next d.fresh (held_levels e.object) (suc j) ∙ within_next (next_levels d.fresh) (next_levels (held_levels e.object)) j
+      ∙ within_none (next_levels (next_levels d.fresh)) j ∙ sym (opened.fresh (suc (suc j)))
+
+  all_fresh : (k : ℕ) → get_or (fresh_after (SetSize size) d.object d.fresh) k [] ≡ get_or d.fresh k []
+  all_fresh k =
+      ap (λ (ls : List (List ℕ)). get_or (within (merged ls d.fresh) (held_levels (changed_object (SetSize size) d.object))) k []) nothing_anew
+      ∙ ap (λ (p : Object). get_or (within d.fresh (held_levels p)) k []) object ∙ same_fresh k
+
+  -- the draft is the model's
+  pub grown_becomes : Becomes g graph ds id (changed_draft (SetSize size) d) d0 d0 k0 now
+  grown_becomes = becomes_as g graph ds id o at d0 d0 k0 now e (changed_draft (SetSize size) d) first object all_fresh
+
+  -- it takes nothing but the shadow root
+  pub grown_need : need_beside (SetSize size) d was ≡ shadow_need was
+  grown_need = ap (λ (ls : List (List ℕ)). missing ls d.fresh + shadow_need was) nothing_anew ∙ zero_and (shadow_need was)
+    where
+      zero_and : (n : ℕ) → 0 + n ≡ n
+      zero_and n = omega arith

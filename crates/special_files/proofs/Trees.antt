@@ -1,0 +1,69 @@
+-- A tree of nodes and leaves: what stands at each path, as the pointers say.
+use Rattle.std.proofs.Common.{◌≡◌, ℕ, zero, suc, ◌+◌, ◌*◌, ◌<◌, List, [], ◌∷◌, length, get_or, set, refl, sym, ◌∙◌, ap, ◌^◌, arith}
+use Rattle.std.specs.Prelude.{slice_index}
+use Rattle.std.proofs.lemmas.List.Elements.{All-set}
+use Rattle.std.proofs.Math.ListN.{length-set}
+use Rattle.cfs_base.specs.Disk.{Image, block_at}
+use Rattle.cfs_base.specs.declared.kind.Place.TheVariants.{Leaf, Node}
+use Rattle.block_tree.specs.declared.root.Root as roots
+use Rattle.block_tree.specs.Pointers.{leaf_pointers, node_pointers}
+use Rattle.block_tree.specs.Root.{Fits, IsGoodRoot, root_spelling}
+use Rattle.block_tree.specs.Tree.{end_of, levels_of, pointer, tree_of}
+use Rattle.block_tree.proofs.Spellings.{nodes_of}
+use Rattle.block_tree.proofs.Trees.{node_block}
+use Rattle.vol_image.specs.Seen.{place_at}
+
+-- ---- pointers
+
+pub pointer_is : (root : roots.Root) → Fits root → (m : ℕ) → pointer node_pointers (root_spelling root) m ≡ slice_index root.nodes m
+pointer_is root fits m = ap (λ (ns : List ℕ). get_or ns m 0) (sym (nodes_of root fits))
+
+pub node_at : (image : Image) (root : roots.Root) → Fits root → (m : ℕ) → tree_of image (root_spelling root) (m ∷ []) ≡ slice_index root.nodes m
+node_at image root fits m = node_block image (root_spelling root) m ∙ pointer_is root fits m
+
+-- the pointer of a leaf in a node; of an absent node 0
+abbrev pub leaf_from : Image → ℕ → ℕ → ℕ
+leaf_from image p j = end_of image (leaf_pointers ∷ []) p (j ∷ [])
+
+pub leaf_at : (image : Image) (root : roots.Root) → Fits root → (m j : ℕ) → tree_of image (root_spelling root) (m ∷ j ∷ []) ≡ leaf_from image (slice_index root.nodes m) j
+unfolding levels_of
+leaf_at image root fits m j = ap (λ (p : ℕ). leaf_from image p j) (pointer_is root fits m)
+
+pub nothing_below : (image : Image) (content : List ℕ) (m j i : ℕ) (q : List ℕ) → tree_of image content (m ∷ j ∷ i ∷ q) ≡ 0
+unfolding levels_of
+nothing_below image content m j i q = by (pointer node_pointers content m)
+  where
+    end : (p : ℕ) → end_of image [] p (i ∷ q) ≡ 0
+    end zero = refl
+    end (suc p) = refl
+
+    by : (p : ℕ) → end_of image (leaf_pointers ∷ []) p (j ∷ i ∷ q) ≡ 0
+    by zero = refl
+    by (suc p) = end (pointer leaf_pointers (block_at image (suc p)) j)
+
+-- ---- one pointer of a root changed
+
+pub fits_with : (root : roots.Root) (n y : ℕ) → Fits root → y < 2 ^ 32 → Fits (record root { nodes = set root.nodes n y })
+fits_with root n y fits small = record {
+  fill = fits.fill;
+  word = fits.word;
+  count = length-set root.nodes n y ∙ fits.count;
+  nodes = All-set (λ p. p < 2 ^ 32) root.nodes n y small fits.nodes;
+}
+
+pub good_with : (root : roots.Root) (n y : ℕ) → IsGoodRoot root → y < 2 ^ 32 → IsGoodRoot (record root { nodes = set root.nodes n y })
+good_with root n y good small = (fits_with root n y good.0 small, record { fill = good.1.fill; size = good.1.size })
+
+-- ---- places
+
+pub node_place : (content : List ℕ) (n : ℕ) → place_at (levels_of content) (n ∷ []) ≡ Node n
+unfolding place_at levels_of
+node_place content n = ap Node (omega arith)
+
+pub leaf_place : (content : List ℕ) (n k l : ℕ) → l ≡ 128 * n + k → place_at (levels_of content) (n ∷ k ∷ []) ≡ Leaf l
+unfolding place_at levels_of
+leaf_place content n k l is = ap Leaf (omega (arith, is))
+
+pub two_levels : (content : List ℕ) → length (levels_of content) ≡ 2
+unfolding levels_of
+two_levels content = refl

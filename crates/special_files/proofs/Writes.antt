@@ -1,0 +1,180 @@
+-- Leaves written into a draft one after another, and what has become of it then.
+use Rattle.std.proofs.Common.{◌≡◌, ◌≢◌, ◌⊎◌, inl, inr, ℕ, zero, suc, ◌+◌, ◌*◌, ◌/◌, ◌%◌, ◌<◌, ◌≤◌, Bool, true, false, cond, List, [], ◌∷◌, length, get_or, set, Option, Some, None, refl, sym, ◌∙◌, ap, subst, arith}
+use Rattle.std.specs.Prelude.{is_some}
+use Rattle.std.proofs.Math.ListN.{length-set}
+use Rattle.cfs_base.specs.Disk.{Image}
+use Rattle.cfs_base.specs.Run.{Leaves}
+use Rattle.cfs_base.specs.declared.disk.Disk.{Ghosts}
+use Rattle.cfs_base.specs.declared.identifier.Puid.{Puid}
+use Rattle.cfs_base.specs.declared.kind.Kind.TheVariants as kinds
+use Rattle.cfs_base.proofs.Runs.{then}
+use Rattle.block_tree.specs.declared.root.Root as roots
+use Rattle.block_tree.specs.Root.{root_spelling}
+use Rattle.cyl_alloc.specs.Space.{Kept}
+use Rattle.leaf_changes.specs.Bytes.{patched}
+use Rattle.leaf_changes.specs.Changes.{SetsSize, WritesFile}
+use Rattle.leaf_changes.specs.Leaves.{LeavesFit, WritesTo}
+use Rattle.leaf_changes.specs.Gives.{kind_of}
+use Rattle.leaf_changes.proofs.Fits.{same_object}
+use Rattle.leaf_changes.proofs.Given.{file_to_leaves}
+use Rattle.leaf_changes.proofs.Written.{writes_begin, writes_more, writes_object}
+use Rattle.ufs_model.specs.declared.change.Change.TheVariants.{Overwrite}
+use Rattle.ufs_model.specs.declared.object.Draft.{Draft}
+use Rattle.ufs_model.specs.State.{changed_draft}
+use Rattle.ufs_model.specs.declared.object.File.{File}
+use Rattle.ufs_model.specs.declared.object.Object.TheVariants as objects
+use Rattle.ufs_model.specs.declared.object.Object.{Object}
+use Rattle.cfs_base.specs.declared.kind.FileKind.{FileKind}
+use Rattle.cfs_base.specs.declared.kind.FileKind.TheVariants as file_kinds
+use Rattle.ufs_model.specs.Graph.{Graph, is_there, object_at}
+use Rattle.ufs_model.specs.Identifier.{same_puid}
+use Rattle.ufs_model.specs.Object.{changed_object, leaves_in}
+use Rattle.vol_image.specs.Reading.{IsTree, leaf_content, object_with}
+use Rattle.vol_image.specs.Seen.{tree_in}
+use Rattle.vol_image.specs.Sound.{Holds}
+use Rattle.vol_owners.specs.Account.{HasDraft, Opened, drafts_of}
+use Rattle.vol_owners.specs.Change.{ChangesOnly, of_draft}
+use Rattle.vol_owners.proofs.Changes.{changes_begin, changes_then}
+use Rattle.vol_image.proofs.Reached.{same_puid_itself}
+use Rattle.intentions.specs.Store.{StoreHas}
+use Rattle.special_files.specs.Becomes.{Becomes}
+use Rattle.special_files.specs.Drafting.{Drafting, IsOpen, opened_as}
+use Rattle.special_files.specs.Leaves.{PutsAt, draft_in, leaves_of, object_of}
+use Rattle.special_files.specs.Nodes.{IsRead}
+use Rattle.special_files.specs.Puts.{PutsLeaf, StaysBut}
+use Rattle.special_files.specs.Store.{Steps, replaced}
+use Rattle.special_files.specs.declared.node.NodeRead.{NodeRead}
+use Rattle.special_files.proofs.Amid.{amid_begins}
+use Rattle.special_files.proofs.Lists.{replaced_again, replaced_same}
+use Rattle.special_files.proofs.Marks.{Marks, fresh_written, marks_begin, marks_more}
+use Rattle.special_files.proofs.PutStore.{alone_now, store_goes_on, the_draft}
+
+-- the leaves from one on and before another are written
+pub record WrittenTo {D : Type 0} (g : Ghosts D) (graph : Graph) (ds : List Opened) (id : Puid) (offset : ℕ) (bytes : List ℕ) (leaf : ℕ) (old now : D) (space : Kept) (was is : Drafting) (read : NodeRead) : Type 0 where
+  pub draft : Draft
+  pub becomes : Becomes g graph ds id draft old now space is
+  pub images : Leaves g old now (λ c. Holds c graph)
+  pub stays : StaysBut was is
+  pub leaves : WritesTo leaf was.root.fill offset bytes (leaves_of (g.content old) was.root) (leaves_of (g.content now) is.root)
+  pub leaf_marks : Marks (λ l. l) (offset / 512) leaf was.leaves is.leaves
+  pub node_marks : Marks (λ l. l / 128) (offset / 512) leaf was.nodes is.nodes
+  pub read_is : IsRead (g.content now) is read
+
+module _ {D : Type 0} (g : Ghosts D) (graph : Graph) (ds : List Opened) (id : Puid) (o : Object) (at : object_at graph id ≡ Some o) where
+  pub becomes_begin : (d0 : D) (k0 : Kept) (was : Drafting) (d : Draft) → StoreHas g graph ds d0 k0 → IsOpen ds id was d → Becomes g graph ds id d d0 d0 k0 was
+  becomes_begin d0 k0 was d store opened =
+      let same = replaced_same (opened_as id was d) ds opened.alone in
+      record {
+        steps = record { store = subst (λ (es : List Opened). StoreHas g graph es d0 k0) (sym same) store; only = changes_begin _ (g.content d0) graph store.carries.holds };
+        is_open = subst (λ (es : List Opened). IsOpen es id was d) (sym same) opened;
+      }
+
+  -- one step more
+  pub becomes_then : (d0 d1 d2 : D) (k1 k2 : Kept) (mid now : Drafting) (d e : Draft) → Becomes g graph ds id d d0 d1 k1 mid
+      → Steps g graph id (replaced (opened_as id now e) (replaced (opened_as id mid d) ds)) d1 d2 k2 → IsOpen (replaced (opened_as id now e) (replaced (opened_as id mid d) ds)) id now e → Becomes g graph ds id e d0 d2 k2 now
+  becomes_then d0 d1 d2 k1 k2 mid now d e first steps opened =
+      let same = replaced_again (opened_as id now e) (opened_as id mid d) ds refl in
+      record {
+        steps = record {
+          store = subst (λ (es : List Opened). StoreHas g graph es d2 k2) same steps.store;
+          only = changes_then _ (g.content d0) (g.content d1) (g.content d2) first.steps.only steps.only;
+        };
+        is_open = subst (λ (es : List Opened). IsOpen es id now e) same opened;
+      }
+
+  -- the same draft of the model, told by other lists
+  pub becomes_as : (d0 d1 : D) (k1 : Kept) (now : Drafting) (d e : Draft) → Becomes g graph ds id d d0 d1 k1 now → e.object ≡ d.object → ((k : ℕ) → get_or e.fresh k [] ≡ get_or d.fresh k []) → Becomes g graph ds id e d0 d1 k1 now
+  becomes_as d0 d1 k1 now d e is object fresh =
+      let es = replaced (opened_as id now d) ds in
+      let image = g.content d1 in
+      let store = is.steps.store in
+      let had : HasDraft image id (opened_as id now d) = the_draft image es id now d is.is_open (store.account.drafts id o at) in
+      let stands : HasDraft image id (opened_as id now e) = record {
+        own = had.own;
+        same_kind = had.same_kind;
+        same_word = had.same_word;
+        tree = subst (λ (p : Object). IsTree (length image) id.block (tree_in image (root_spelling now.root)) now.root p) (sym object) had.tree;
+        shadow = had.shadow;
+        fresh = λ k. fresh k ∙ had.fresh k;
+        no_other = had.no_other;
+      } in
+      let same = replaced_again (opened_as id now e) (opened_as id now d) ds refl in
+      let amid = amid_begins g graph es id o d1 k1 store at in
+      record {
+        steps = record { store = subst (λ (fs : List Opened). StoreHas g graph fs d1 k1) same (store_goes_on g graph es id o d1 d1 k1 k1 now now d e store at is.is_open amid stands refl); only = is.steps.only };
+        is_open = subst (λ (fs : List Opened). IsOpen fs id now e) same (record {
+          at = is.is_open.at;
+          alone = alone_now g graph es id o d1 d1 k1 k1 now now d e store at is.is_open amid;
+          leaf_flags = is.is_open.leaf_flags;
+          node_flags = is.is_open.node_flags;
+          fresh = λ k. fresh k ∙ is.is_open.fresh k;
+        });
+      }
+
+  module _ (d0 : D) (k0 : Kept) (was : Drafting) (d : Draft) (store : StoreHas g graph ds d0 k0) (opened : IsOpen ds id was d) (offset : ℕ) (bytes : List ℕ) where
+    pub written_begin : (read : NodeRead) → IsRead (g.content d0) was read → StaysBut was was → WrittenTo g graph ds id offset bytes (offset / 512) d0 d0 k0 was was read
+    written_begin read is stays = record {
+      draft = d;
+      becomes = becomes_begin d0 k0 was d store opened;
+      images = record { later = omega arith; since = λ t c le h. inl h; now = λ c h. inl h };
+      stays = stays;
+      leaves = writes_begin was.root.fill offset bytes (leaves_of (g.content d0) was.root);
+      leaf_marks = marks_begin (λ l. l) (offset / 512) was.leaves;
+      node_marks = marks_begin (λ l. l / 128) (offset / 512) was.nodes;
+      read_is = is;
+    }
+
+    -- a leaf that was put with its bytes
+    pub written_more : (leaf : ℕ) (d1 d2 : D) (k1 k2 : Kept) (mid now : Drafting) (read next : NodeRead) → offset / 512 ≤ leaf → leaf < 15360 → (done : WrittenTo g graph ds id offset bytes leaf d0 d1 k1 was mid read)
+        → PutsLeaf g graph (replaced (opened_as id mid done.draft) ds) id leaf (patched leaf offset bytes (leaf_content mid.root.fill (leaves_of (g.content d1) mid.root leaf))) d1 d2 k2 mid now next
+        → Leaves g d1 d2 (λ c. Holds c graph) → StaysBut mid now → StaysBut was now → WrittenTo g graph ds id offset bytes (leaf + 1) d0 d2 k2 was now next
+    written_more leaf d1 d2 k1 k2 mid now read next from most done puts images stays all = record {
+      draft = draft_in (g.content d2) now;
+      becomes = becomes_then d0 d1 d2 k1 k2 mid now done.draft (draft_in (g.content d2) now) done.becomes puts.steps puts.is_open;
+      images = then g d0 d1 d2 _ _ done.images images (λ c h. h);
+      stays = all;
+      leaves = writes_more was.root.fill offset bytes (leaves_of (g.content d0) was.root) leaf (leaves_of (g.content d1) mid.root) (leaves_of (g.content d2) now.root) from done.leaves
+          (puts.leaves.here ∙ ap (λ (fill : ℕ). Some (patched leaf offset bytes (leaf_content fill (leaves_of (g.content d1) mid.root leaf)))) done.stays.root.fill) puts.leaves.others;
+      leaf_marks = marks_more (λ l. l) (offset / 512) leaf was.leaves mid.leaves now.leaves done.leaf_marks from (omega (arith, done.becomes.is_open.leaf_flags, most)) puts.sets.leaves;
+      node_marks = marks_more (λ l. l / 128) (offset / 512) leaf was.nodes mid.nodes now.nodes done.node_marks from (omega (arith, done.becomes.is_open.node_flags, most)) puts.sets.nodes;
+      read_is = puts.read_is;
+    }
+
+    -- all leaves are written: the draft is the model's
+    module _ (f : File) (file : d.object ≡ objects.File f) (inside : offset + length bytes ≤ was.root.size) (d1 : D) (k1 : Kept) (now : Drafting) (read : NodeRead)
+        (done : WrittenTo g graph ds id offset bytes (leaves_in (offset + length bytes)) d0 d1 k1 was now read) where
+      abbrev a : Image
+      a = g.content d0
+
+      abbrev b : Image
+      b = g.content d1
+
+      abbrev es : List Opened
+      es = replaced (opened_as id now done.draft) ds
+
+      before : HasDraft a id (opened_as id was d)
+      before = the_draft a ds id was d opened (store.account.drafts id o at)
+
+      after : HasDraft b id (opened_as id now done.draft)
+      after = the_draft b es id now done.draft done.becomes.is_open (done.becomes.steps.store.account.drafts id o at)
+
+      gives : object_with was.root (leaves_of a was.root) ≡ objects.File f
+      gives = before.tree.object ∙ file
+
+      no_index : was.root.kind ≢ kinds.Index
+      no_index is = by f.kind ((file_to_leaves was.root (leaves_of a was.root) f gives).kind)
+        where
+          by : (k : FileKind) → was.root.kind ≡ kind_of k → ⊥
+          by file_kinds.Normal same = (let no : kinds.Normal ≡ kinds.Index = sym same ∙ is in cc)
+          by file_kinds.Special same = (let no : kinds.Special ≡ kinds.Index = sym same ∙ is in cc)
+
+      object : changed_object (Overwrite offset bytes) d.object ≡ done.draft.object
+      object =
+          ap (changed_object (Overwrite offset bytes)) (sym before.tree.object)
+          ∙ sym (same_object was.root.size was.root now.root done.stays.root (leaves_of b now.root)
+          ∙ writes_object was.root (leaves_of a was.root) (leaves_of b now.root) offset bytes (record { within = before.tree.within; filled = before.tree.filled }) done.leaves inside no_index)
+          ∙ after.tree.object
+
+      pub written_end : Becomes g graph ds id (changed_draft (Overwrite offset bytes) d) d0 d1 k1 now
+      written_end = becomes_as d0 d1 k1 now done.draft (changed_draft (Overwrite offset bytes) d) done.becomes object
+          (λ k. fresh_written b id ds es was now d done.draft opened done.becomes.is_open after offset bytes done.leaf_marks done.node_marks object k ∙ sym (done.becomes.is_open.fresh k))

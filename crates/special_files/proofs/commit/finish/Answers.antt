@@ -1,0 +1,35 @@
+use Rattle.std.proofs.Common.{ℕ, ◌<◌, ◌*◌, length, refl, sym, ◌∙◌, ap, subst}
+use Rattle.std.proofs.Math.ListN.{length-set}
+use Rattle.std.specs.List.{All}
+use Rattle.cyl_alloc.specs.Space.{Kept, after_giving}
+use Rattle.special_files.specs.Committing.{CarriedOut, named}
+use Rattle.special_files.proofs.commit.finish.Goals as goal
+
+pub give_all-requires : goal.give_all-requires
+give_all-requires g c = record { on_disk = subst (λ (k : ℕ). All (λ n. n < k) c.args.dropped.now) c.requires.size c.requires.dropped_on_disk }
+
+pub gave-requires : goal.gave-requires
+gave-requires g c = record { on_disk = subst (λ (k : ℕ). c.args.shadow.0 < k) (c.requires.size ∙ ap (λ (k : ℕ). 64 * k) (sym c.give_all.ensures.cylinders)) c.requires.shadow_on_disk }
+
+pub returns-in-Ok : goal.returns-in-Ok
+returns-in-Ok g c =
+    let given = c.gave.ensures.given ∙ ap (λ (k : Kept). after_giving k c.args.shadow.0 1) c.give_all.ensures.given in
+    record {
+      done = λ graph word was o run ready none. subst (CarriedOut g.D.Disk graph (named c.args.at.0 word) o c.args.disk.now c.carry_out.new.disk c.args.space.now) (sym given)
+          (c.in-Ok.ensures.done graph word was o c.args.space.now run ready none);
+      leaves = λ graph word was o run ready none. c.carry_out.ensures.leaves graph word was o run ready none;
+      sound = λ graph word was o run ready none. tt;
+      fails = tt;
+      cylinders = ap (λ (k : Kept). length k.free) c.gave.ensures.given ∙ length-set _ _ _ ∙ c.give_all.ensures.cylinders;
+      calls = c.carry_out.ensures.calls;
+    }
+
+pub returns-in-Err : goal.returns-in-Err
+returns-in-Err g c = record {
+  done = λ graph word was o run ready none. tt;
+  leaves = λ graph word was o run ready none. c.carry_out.ensures.leaves graph word was o run ready none;
+  sound = λ graph word was o run ready none. c.in-Err.ensures.sound graph word was o run ready none;
+  fails = c.in-Err.ensures.fails c.args.space.now;
+  cylinders = refl;
+  calls = c.carry_out.ensures.calls;
+}

@@ -1,0 +1,20 @@
+use Rattle.std.proofs.Common.{Err, subst, sym}
+use Rattle.cfs_base.specs.declared.kind.Place.TheVariants.{ShadowRoot}
+use Rattle.cfs_base.specs.declared.refusal.Refused.{Refused}
+use Rattle.cyl_alloc.specs.Enters.{Enters}
+use Rattle.cyl_alloc.specs.Space.{intended}
+use Rattle.special_files.proofs.CommitDirect.{claim_real}
+use Rattle.special_files.proofs.direct.claim_shadow.Goals as goal
+
+pub trouble_of-requires : goal.trouble_of-requires
+trouble_of-requires g c =
+    let real = claim_real g.D.Disk c.args.disk.now c.intend.new.disk c.args.space.now c.in-Err.error c.requires.room c.in-Err.ensures.enters.refused in
+    record { room = real.0; memory = real.1 }
+
+pub returns-in-Ok : goal.returns-in-Ok
+returns-in-Ok g c = record { enters = c.in-Ok.ensures.enters }
+
+pub returns-in-Err : goal.returns-in-Err
+returns-in-Err g c = record {
+  enters = subst (λ (e : Refused). Enters g.D.Disk (intended ShadowRoot c.args.at.0) c.args.disk.now c.intend.new.disk c.args.space.now c.intend.new.self (Err e)) (sym c.trouble_of.ensures) c.in-Err.ensures.enters;
+}

@@ -1,0 +1,170 @@
+-- Entries that are changed one after another, as a commit and an abort do.
+use Rattle.std.specs.Prelude.{◌≡◌, ◌⊎◌, ℕ, ◌≤◌, true, false, List, [], ◌∷◌, ◌++◌, set, IfErr, OnOk, Result, Ok, Err, Option, Some, None, option_to_list}
+use Rattle.cfs_base.specs.Codes.{past_disk}
+use Rattle.cfs_base.specs.Calls.{HasFailed, MakesAtMost}
+use Rattle.cfs_base.specs.Disk.{Image, block_at}
+use Rattle.cfs_base.specs.Refusals.{refused_by}
+use Rattle.cfs_base.specs.declared.refusal.Refused.{Refused}
+use Rattle.cfs_base.specs.Run.{IsSettled, Leaves, Tells}
+use Rattle.cfs_base.specs.declared.disk.Disk.{Ghosts}
+use Rattle.cfs_base.specs.declared.identifier.Puid.{Puid}
+use Rattle.cfs_base.specs.declared.refusal.Trouble.{Trouble}
+use Rattle.cfs_base.specs.declared.refusal.Trouble.TheVariants as trouble
+use Rattle.cyl_alloc.specs.Space.{AreCounts, Kept, after_giving}
+use Rattle.cyl_map.specs.declared.entry.MapEntry.{MapEntry}
+use Rattle.cyl_map.specs.Volume.{entry_in, with_entry}
+use Rattle.intentions.specs.Course.{Course, IsCourse, IsOn, Keeps, MayPut}
+use Rattle.intentions.specs.Entries.{changed}
+use Rattle.intentions.specs.declared.change.Change.{Change}
+use Rattle.intentions.specs.declared.change.Change.TheVariants.{Finish, Release, SetBit, Undo}
+use Rattle.ufs_model.specs.declared.object.Object.{Object}
+use Rattle.ufs_model.specs.Graph.{Graph, object_at, with_object}
+use Rattle.ufs_model.specs.Numbers.{has_number}
+use Rattle.vol_image.specs.Commit.{IsDraft}
+use Rattle.vol_image.specs.Run.{Carries}
+use Rattle.vol_image.specs.Seen.{tree_in}
+use Rattle.vol_image.specs.Sound.{Holds}
+use Rattle.intentions.specs.Store.{StoreHas}
+use Rattle.vol_owners.specs.Account.{HasItsBlocks, Opened, StandsIn, is_meant_for, numbers_differ}
+use Rattle.vol_owners.specs.Change.{ChangesOnly, of_draft, of_owner}
+use Rattle.block_tree.specs.declared.root.Root as roots
+use Rattle.special_files.specs.Drafting.{Drafting}
+use Rattle.special_files.specs.Refusal.{IsDamage, is_damage}
+use Rattle.special_files.specs.Store.{without_draft}
+
+-- ---- entries changed
+
+-- the entry of this block, changed so
+pub record Flip : Type 0 where
+  pub block : ℕ
+  pub how : Change
+
+abbrev pub flips : Change → List ℕ → List Flip
+flips how [] = []
+flips how (n ∷ ns) = record { block = n; how = how } ∷ flips how ns
+
+abbrev pub flip_in : Image → Flip → Option MapEntry → Image
+flip_in image x None = image
+flip_in image x (Some e) = with_entry image x.block (changed x.how e)
+
+-- an image with one entry changed, and with these one after another
+abbrev pub flip : Image → Flip → Image
+flip image x = flip_in image x (entry_in image x.block)
+
+abbrev pub flipped : Image → List Flip → Image
+flipped image [] = image
+flipped image (x ∷ xs) = flipped (flip image x) xs
+
+-- each of them may come on this course
+abbrev pub MayFlip : Course → Image → List Flip → Type 0
+MayFlip course image [] = Unit {0}
+MayFlip course image (x ∷ xs) = ((e : MapEntry) × (entry_in image x.block ≡ Some e) × MayPut course x.block e (changed x.how e)) × MayFlip course (flip image x) xs
+
+-- a device call failed, where a write or barrier was tried, or a block that was read is damaged
+abbrev pub Fails : {D : Type 0} → Ghosts D → ℕ → D → D → Kept → Trouble → Type 0
+Fails g at old new kept (trouble.Disk tried) = (tried ≡ true) × HasFailed g old new
+Fails g at old new kept (trouble.Damaged damage) = IsDamage g at old new kept damage
+
+-- These entries are changed, with at most n device calls, t of them writes and barriers.
+pub record Flips {D : Type 0} (g : Ghosts D) (n t : ℕ) (xs : List Flip) (old new : D) (result : Result (Unit {0}) Trouble) : Type 0 where
+  pub put : Tells g old → OnOk result (g.content new ≡ flipped (g.content old) xs)
+  pub tells : Tells g old → OnOk result (Tells g new)
+  -- a run stays on its course, and each image that a crash leaves is on it
+  pub keeps : (course : Course) → IsCourse course → Keeps g course old → MayFlip course (g.content old) xs → OnOk result (Keeps g course new)
+  pub leaves : (course : Course) → IsCourse course → Keeps g course old → MayFlip course (g.content old) xs → Leaves g old new (IsOn course)
+  -- on it no damage is met
+  pub sound : (course : Course) → IsCourse course → Keeps g course old → MayFlip course (g.content old) xs → IfErr result (λ t. is_damage t ≡ false)
+  pub fails : (at : ℕ) (kept : Kept) → IfErr result (Fails g at old new kept)
+  pub calls : MakesAtMost g n t old new
+
+-- ---- counts
+
+-- each of these blocks is counted as Free again
+abbrev pub given_all : Kept → List ℕ → Kept
+given_all kept [] = kept
+given_all kept (n ∷ ns) = given_all (after_giving kept n 1) ns
+
+-- ---- a commit
+
+-- what is changed from the copy of the root on, but for the commit bit
+abbrev pub settling : (taken dropped made : List ℕ) (s : ℕ) → List Flip
+settling taken dropped made s = flips Finish taken ++ (flips Finish dropped ++ (flips Finish made ++ flips Undo (s ∷ [])))
+
+-- The draft of an object stands with its root in the shadow root s. These blocks of its tree are those that are meant for the object,
+-- and those are the blocks of the object's own tree that the draft's doesn't have.
+pub record IsReady (a : Image) (graph : Graph) (id : Puid) (was o : Object) (s : ℕ) (taken dropped : List ℕ) : Type 0 where
+  pub at : object_at graph id ≡ Some was
+  pub has : HasItsBlocks a id.block
+  pub draft : IsDraft a id.block s o
+  pub meant : (n : ℕ) → has_number n taken ≡ true → is_meant_for a id.block n ≡ true
+  pub stands : (n : ℕ) → has_number n taken ≡ true → StandsIn (tree_in a (block_at a s)) n
+  pub all : (n : ℕ) → is_meant_for a id.block n ≡ true → (n ≡ s) ⊎ (has_number n taken ≡ true)
+  pub once : numbers_differ taken ≡ true
+  pub own : (n : ℕ) → has_number n dropped ≡ true → StandsIn (tree_in a (block_at a id.block)) n
+  pub gone : (n : ℕ) → has_number n dropped ≡ true → ¬ StandsIn (tree_in a (block_at a s)) n
+  pub others : (n : ℕ) → StandsIn (tree_in a (block_at a id.block)) n → StandsIn (tree_in a (block_at a s)) n ⊎ (has_number n dropped ≡ true)
+  pub dropped_once : numbers_differ dropped ≡ true
+
+-- an image with these blocks released and the commit bit of root r set, and with the content of its shadow root s copied to it
+abbrev pub bit_set : Image → ℕ → List ℕ → Image
+bit_set a r dropped = flipped a (flips Release dropped ++ flips SetBit (r ∷ []))
+
+abbrev pub root_copied : Image → ℕ → ℕ → List ℕ → Image
+root_copied a r s dropped = set (bit_set a r dropped) r (block_at (bit_set a r dropped) s)
+
+-- the identifier of an object with this root block
+abbrev pub named : ℕ → ℕ → Puid
+named block word = record { block = block; word = word }
+
+-- the image holds these objects, or with this one as it is afterwards
+abbrev pub IsOldOrNew : Graph → Puid → Object → Image → Type 0
+IsOldOrNew graph id o c = Holds c graph ⊎ Holds c (with_object graph id o)
+
+-- The draft of an object became the object. No block of it waits for anything, and the Free blocks are counted.
+pub record CarriedOut {D : Type 0} (g : Ghosts D) (graph : Graph) (id : Puid) (o : Object) (old new : D) (before after : Kept) : Type 0 where
+  pub carries : Carries g (with_object graph id o) new
+  pub settled : IsSettled g new
+  pub has : HasItsBlocks (g.content new) id.block
+  pub none_meant : (n : ℕ) → is_meant_for (g.content new) id.block n ≡ false
+  pub only : ChangesOnly (λ entry. of_owner id.block entry) (g.content old) (g.content new)
+  pub counts : AreCounts (g.content old) before → AreCounts (g.content new) after
+
+-- the draft in memory leads past the disk
+abbrev pub far_root : ℕ → Trouble
+far_root at = trouble.Damaged (record { block = at; code = past_disk })
+
+-- The store has this object in place of its draft, nothing waits, and only blocks of the object and Free ones changed.
+pub record Committed {D : Type 0} (g : Ghosts D) (graph : Graph) (ds : List Opened) (id : Puid) (o : Object) (old new : D) (space : Kept) : Type 0 where
+  pub store : StoreHas g (with_object graph id o) (without_draft id ds) new space
+  pub settled : IsSettled g new
+  pub only : ChangesOnly (λ entry. of_owner id.block entry) (g.content old) (g.content new)
+
+-- of a draft as the layers above see it: where its root and its shadow root are, its two roots, and what it makes
+pub record AreParts (was : Drafting) (at : ℕ) (shadow : Option ℕ) (own root : roots.Root) (created : Option ℕ) : Type 0 where
+  pub at_is : was.at ≡ at
+  pub shadow_is : was.shadow ≡ shadow
+  pub own_is : was.own ≡ own
+  pub root_is : was.root ≡ root
+  pub created_is : was.created ≡ created
+
+-- the same result of a call that takes blocks
+abbrev pub as_refused : {A : Type 0} → Result A Trouble → Result A Refused
+as_refused (Ok x) = Ok x
+as_refused (Err t) = Err (refused_by t)
+
+-- ---- an abort
+
+-- what is changed by it
+abbrev pub undoing : List ℕ → Option ℕ → Option ℕ → List Flip
+undoing taken shadow made = flips Undo taken ++ (flips Undo (option_to_list shadow) ++ flips Undo (option_to_list made))
+
+-- The store has no draft of the object any more, and only blocks that were meant for it changed.
+pub record Dropped {D : Type 0} (g : Ghosts D) (graph : Graph) (ds : List Opened) (id : Puid) (old new : D) (space : Kept) : Type 0 where
+  pub store : StoreHas g graph (without_draft id ds) new space
+  pub only : ChangesOnly (λ entry. of_draft id.block entry) (g.content old) (g.content new)
+
+-- there is such a block, and it lies past a disk of this size
+pub record IsFar (size : ℕ) (block : Option ℕ) : Type 0 where
+  pub n : ℕ
+  pub is : block ≡ Some n
+  pub far : size ≤ n

@@ -1,0 +1,27 @@
+-- The leaves of a draft on a disk, and one of them put.
+use Rattle.std.specs.Prelude.{◌≡◌, ◌≢◌, ℕ, List, Option, Some}
+use Rattle.cfs_base.specs.Disk.{Image}
+use Rattle.block_tree.specs.declared.root.Root as roots
+use Rattle.block_tree.specs.Root.{root_spelling}
+use Rattle.leaf_changes.specs.Leaves.{bytes_held}
+use Rattle.ufs_model.specs.declared.object.Draft.{Draft}
+use Rattle.ufs_model.specs.declared.object.Object.{Object}
+use Rattle.vol_image.specs.Reading.{leaf_in, object_with}
+use Rattle.vol_image.specs.Seen.{Held, tree_in}
+use Rattle.special_files.specs.Drafting.{Drafting, fresh_of}
+
+-- the leaves below a root, and the object that they give
+abbrev pub leaves_of : Image → roots.Root → ℕ → Option Held
+leaves_of image root = leaf_in (tree_in image (root_spelling root))
+
+abbrev pub object_of : Image → roots.Root → Object
+object_of image root = object_with root (leaves_of image root)
+
+-- one leaf is held and has these bytes; all others are as they were
+pub record PutsAt (leaf : ℕ) (content : List ℕ) (old new : ℕ → Option Held) : Type 0 where
+  pub here : bytes_held (new leaf) ≡ Some content
+  pub others : (m : ℕ) → m ≢ leaf → bytes_held (new m) ≡ bytes_held (old m)
+
+-- the draft of the model that an image and a draft in memory give
+abbrev pub draft_in : Image → Drafting → Draft
+draft_in image drafting = record { object = object_of image drafting.root; fresh = fresh_of drafting }

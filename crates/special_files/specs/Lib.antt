@@ -1,0 +1,12 @@
+pub mod Becomes
+pub mod Calls
+pub mod Changed
+pub mod Committing
+pub mod Drafting
+pub mod Ends
+pub mod Fills
+pub mod Leaves
+pub mod Nodes
+pub mod Puts
+pub mod Refusal
+pub mod Store

@@ -1,0 +1,43 @@
+-- One leaf put into a draft that stands.
+use Rattle.std.specs.Prelude.{◌≡◌, ℕ, ◌+◌, ◌*◌, ◌<◌, ◌≤◌, List, get_or}
+use Rattle.cfs_base.specs.Disk.{Image}
+use Rattle.cfs_base.specs.declared.disk.Disk.{Ghosts}
+use Rattle.cfs_base.specs.declared.identifier.Puid.{Puid}
+use Rattle.block_tree.specs.declared.root.Root as roots
+use Rattle.cyl_alloc.specs.Space.{Kept}
+use Rattle.leaf_changes.specs.Changes.{SetsSize}
+use Rattle.ufs_model.specs.Graph.{Graph}
+use Rattle.ufs_model.specs.Object.{leaves_in}
+use Rattle.vol_owners.specs.Account.{Opened}
+use Rattle.special_files.specs.Drafting.{Drafting, IsOpen, opened_as}
+use Rattle.special_files.specs.Calls.{SetsFresh}
+use Rattle.special_files.specs.Leaves.{PutsAt, draft_in, leaves_of}
+use Rattle.special_files.specs.Nodes.{IsRead}
+use Rattle.special_files.specs.Store.{Steps, replaced}
+use Rattle.special_files.specs.declared.node.NodeRead.{NodeRead}
+
+-- of a draft only its root's pointers and what is fresh may have changed
+pub record StaysBut (was now : Drafting) : Type 0 where
+  pub at : now.at ≡ was.at
+  pub shadow : now.shadow ≡ was.shadow
+  pub own : now.own ≡ was.own
+  pub created : now.created ≡ was.created
+  pub word : now.root.word ≡ was.root.word
+  pub root : SetsSize was.root.size was.root now.root
+
+-- the leaf lies within the size, and past it the content has fill bytes
+pub record FitsLeaf (root : roots.Root) (leaf : ℕ) (content : List ℕ) : Type 0 where
+  pub within : leaf < leaves_in root.size
+  pub filled : (i : ℕ) → i < 512 → root.size ≤ 512 * leaf + i → get_or content i 0 ≡ root.fill
+
+-- the drafts that stand afterwards
+abbrev pub drafts_with : Image → List Opened → Puid → Drafting → List Opened
+drafts_with image ds id now = replaced (opened_as id now (draft_in image now)) ds
+
+-- a leaf of this content was put into the draft
+pub record PutsLeaf {D : Type 0} (g : Ghosts D) (graph : Graph) (ds : List Opened) (id : Puid) (leaf : ℕ) (content : List ℕ) (old new : D) (after : Kept) (was now : Drafting) (read : NodeRead) : Type 0 where
+  pub steps : Steps g graph id (drafts_with (g.content new) ds id now) old new after
+  pub is_open : IsOpen (drafts_with (g.content new) ds id now) id now (draft_in (g.content new) now)
+  pub sets : SetsFresh leaf was now
+  pub leaves : PutsAt leaf content (leaves_of (g.content old) was.root) (leaves_of (g.content new) now.root)
+  pub read_is : IsRead (g.content new) now read

@@ -1,0 +1,195 @@
+//! A draft given up.
+ghost use Rattle.std.specs.Prelude.{◌≡◌, ◌≢◌, ◌<◌, ◌≤◌, ◌+◌, ◌*◌, ℕ, List, false, length, option_to_list, None, Some, IfErr, OnOk};
+ghost use Rattle.std.specs.List.{All};
+ghost use Rattle.cfs_base.specs.Calls.{HasTried, MakesAtMost};
+ghost use Rattle.cfs_base.specs.Run.{Leaves};
+ghost use Rattle.cfs_base.specs.declared.identifier.Puid.{Puid};
+ghost use Rattle.intentions.specs.Store.{StoreHas};
+ghost use Rattle.special_files.specs.Changed.{AreTaken};
+ghost use Rattle.special_files.specs.Committing as spec;
+ghost use Rattle.special_files.specs.Drafting.{Drafting, IsOpen, number_of, opened_as};
+ghost use Rattle.special_files.specs.Refusal.{IsTrouble, is_damage};
+ghost use Rattle.ufs_model.specs.Graph.{Graph, object_at};
+ghost use Rattle.ufs_model.specs.declared.object.Draft as drafts;
+ghost use Rattle.ufs_model.specs.declared.object.Object.{Object};
+ghost use Rattle.vol_image.specs.Sound.{Holds};
+ghost use Rattle.vol_owners.specs.Account.{Opened};
+
+use crate::blocks::Blocks;
+use crate::carry::flip_made;
+use crate::changed::changed;
+use crate::draft::Draft;
+use crate::flips::{flip_all, give_all};
+use crate::whole::is_on_disk;
+use block_tree::Root;
+use cfs_base::{BlockNo, Disk, Trouble};
+use cyl_alloc::Space;
+use intentions::{Change, barrier};
+
+/// Takes back what was claimed for a draft: its nodes and leaves, its shadow root, and the root of an object that it makes.
+fn undo_all<D: Disk>(
+    disk: &mut D,
+    taken: &[u32],
+    shadow: Option<BlockNo>,
+    created: Option<BlockNo>,
+) -> Result<(), Trouble>
+    requires taken_on_disk { All (λ n. n < D.blocks disk.old) taken.now }
+    requires shadow_on_disk { (n : ℕ) → number_of shadow ≡ Some n → n < D.blocks disk.old }
+    requires created_on_disk { (n : ℕ) → number_of created ≡ Some n → n < D.blocks disk.old }
+    ensures flips { spec.Flips D.Disk (2 * length taken.now + (2 + 2)) (length taken.now + (1 + 1))
+        (spec.undoing taken.now (number_of shadow) (number_of created)) disk.old disk.new result }
+{
+    flip_all(disk, taken, Change::Undo)?;
+    flip_made(disk, shadow, Change::Undo)?;
+    flip_made(disk, created, Change::Undo)
+}
+
+/// Counts a block as Free again, if there is one.
+fn give_made(space: &mut Space, block: Option<BlockNo>)
+    requires on_disk { (n : ℕ) → number_of block ≡ Some n → n < 64 * length space.old.free }
+    ensures given { space.new ≡ spec.given_all space.old (option_to_list (number_of block)) }
+    ensures cylinders { length space.new.free ≡ length space.old.free }
+{
+    if let Some(block) = block {
+        space.gave(block, 1);
+    }
+}
+
+/// Gives up a draft with these blocks of its own.
+fn give_up<D: Disk>(
+    disk: &mut D,
+    space: &mut Space,
+    taken: &[u32],
+    shadow: Option<BlockNo>,
+    created: Option<BlockNo>,
+) -> Result<(), Trouble>
+    requires size { D.blocks disk.old ≡ 64 * length space.old.free }
+    requires taken_on_disk { All (λ n. n < D.blocks disk.old) taken.now }
+    requires shadow_on_disk { (n : ℕ) → number_of shadow ≡ Some n → n < D.blocks disk.old }
+    requires created_on_disk { (n : ℕ) → number_of created ≡ Some n → n < D.blocks disk.old }
+    ensures done { (graph : Graph) (ds : List Opened) (id : Puid) (o : Object) (was : Drafting) (d : drafts.Draft)
+        → StoreHas D.Disk graph ds disk.old space.old → object_at graph id ≡ Some o → IsOpen ds id was d
+        → was.shadow ≡ number_of shadow → was.created ≡ None → number_of created ≡ None
+        → AreTaken (D.content disk.old) id (opened_as id was d) taken.now
+        → OnOk result (spec.Dropped D.Disk graph ds id disk.old disk.new space.new) }
+    ensures leaves { (graph : Graph) (ds : List Opened) (id : Puid) (o : Object) (was : Drafting) (d : drafts.Draft)
+        → StoreHas D.Disk graph ds disk.old space.old → object_at graph id ≡ Some o → IsOpen ds id was d
+        → was.shadow ≡ number_of shadow → number_of created ≡ None
+        → AreTaken (D.content disk.old) id (opened_as id was d) taken.now → Leaves D.Disk disk.old disk.new (λ c. Holds c graph) }
+    ensures sound { (graph : Graph) (ds : List Opened) (id : Puid) (o : Object) (was : Drafting) (d : drafts.Draft)
+        → StoreHas D.Disk graph ds disk.old space.old → object_at graph id ≡ Some o → IsOpen ds id was d
+        → was.shadow ≡ number_of shadow → number_of created ≡ None
+        → AreTaken (D.content disk.old) id (opened_as id was d) taken.now → IfErr result (λ t. is_damage t ≡ false) }
+    ensures fails { (at : ℕ) → IfErr result (spec.Fails D.Disk at disk.old disk.new space.new) }
+    ensures cylinders { length space.new.free ≡ length space.old.free }
+    ensures calls { MakesAtMost D.Disk (2 * length taken.now + (2 + 2)) (length taken.now + (1 + 1)) disk.old disk.new }
+{
+    match undo_all(disk, taken, shadow, created) {
+        Ok(()) => {
+            give_all(space, taken);
+            give_made(space, shadow);
+            give_made(space, created);
+            Ok(())
+        }
+        Err(trouble) => Err(trouble),
+    }
+}
+
+/// Whether a block of the draft's own lies on the disk, if there is one.
+fn part_on_disk<D: Disk>(disk: &D, at: BlockNo, block: Option<BlockNo>) -> Result<(), Trouble>
+    ensures on_disk { OnOk result ((n : ℕ) → number_of block ≡ Some n → n < D.blocks disk.now) }
+    ensures far { IfErr result (λ t. spec.IsFar (D.blocks disk.now) (number_of block) × (t ≡ spec.far_root at.0)) }
+{
+    match block {
+        Some(block) => is_on_disk(disk, at, block),
+        None => Ok(()),
+    }
+}
+
+/// Gives up a draft of these parts.
+fn abort_parts<D: Disk>(
+    disk: &mut D,
+    space: &mut Space,
+    at: BlockNo,
+    shadow: Option<BlockNo>,
+    own: &Root,
+    root: &Root,
+    taken: &mut Blocks,
+    dropped: &mut Blocks,
+    created: Option<BlockNo>,
+) -> Result<(), Trouble>
+    requires on_disk { at.0 < D.blocks disk.old }
+    requires size { D.blocks disk.old ≡ 64 * length space.old.free }
+    ensures done { (graph : Graph) (ds : List Opened) (id : Puid) (o : Object) (was : Drafting) (d : drafts.Draft)
+        → StoreHas D.Disk graph ds disk.old space.old → object_at graph id ≡ Some o → IsOpen ds id was d
+        → spec.AreParts was at.0 (number_of shadow) own.now root.now (number_of created) → number_of created ≡ None
+        → OnOk result (spec.Dropped D.Disk graph ds id disk.old disk.new space.new) }
+    ensures leaves { (graph : Graph) (ds : List Opened) (id : Puid) (o : Object) (was : Drafting) (d : drafts.Draft)
+        → StoreHas D.Disk graph ds disk.old space.old → object_at graph id ≡ Some o → IsOpen ds id was d
+        → spec.AreParts was at.0 (number_of shadow) own.now root.now (number_of created) → number_of created ≡ None
+        → Leaves D.Disk disk.old disk.new (λ c. Holds c graph) }
+    ensures sound { (graph : Graph) (ds : List Opened) (id : Puid) (o : Object) (was : Drafting) (d : drafts.Draft)
+        → StoreHas D.Disk graph ds disk.old space.old → object_at graph id ≡ Some o → IsOpen ds id was d
+        → spec.AreParts was at.0 (number_of shadow) own.now root.now (number_of created) → number_of created ≡ None
+        → IfErr result (λ t. is_damage t ≡ false) }
+    ensures refused { IfErr result (IsTrouble D.Disk at.0 disk.old disk.new space.new) }
+    ensures made { OnOk result (HasTried D.Disk disk.old disk.new) }
+    ensures cylinders { length space.new.free ≡ length space.old.free }
+    ensures calls { MakesAtMost D.Disk 31205 15483 disk.old disk.new }
+{
+    match part_on_disk(disk, at, shadow) {
+        Ok(()) => {}
+        Err(trouble) => return Err(trouble),
+    }
+    match part_on_disk(disk, at, created) {
+        Ok(()) => {}
+        Err(trouble) => return Err(trouble),
+    }
+    match barrier(disk) {
+        Ok(()) => {}
+        Err(trouble) => return Err(trouble),
+    }
+    match changed(disk, at, own, root, taken, dropped) {
+        Ok(()) => {}
+        Err(trouble) => return Err(trouble.after_try()),
+    }
+    give_up(disk, space, taken.as_slice(), shadow, created)
+}
+
+impl Draft {
+    /// Gives up the draft, whose blocks are Free then. Where it is refused the draft is gone, and each image that a crash
+    /// leaves has the object as it was. `Damaged` as in `commit`.
+    pub fn abort<D: Disk>(mut self, disk: &mut D, space: &mut Space) -> Result<(), Trouble>
+        requires on_disk { self.at < D.blocks disk.old }
+        requires size { D.blocks disk.old ≡ 64 * length space.old.free }
+        // The store has no draft of the object.
+        ensures done { (graph : Graph) (ds : List Opened) (id : Puid) (o : Object) (d : drafts.Draft)
+            → StoreHas D.Disk graph ds disk.old space.old → object_at graph id ≡ Some o → IsOpen ds id self d → self.created ≡ None
+            → OnOk result (spec.Dropped D.Disk graph ds id disk.old disk.new space.new) }
+        // Each image that a crash leaves on the way holds all objects as they were.
+        ensures leaves { (graph : Graph) (ds : List Opened) (id : Puid) (o : Object) (d : drafts.Draft)
+            → StoreHas D.Disk graph ds disk.old space.old → object_at graph id ≡ Some o → IsOpen ds id self d → self.created ≡ None
+            → Leaves D.Disk disk.old disk.new (λ c. Holds c graph) }
+        // No damage where the disk holds the object.
+        ensures sound { (graph : Graph) (ds : List Opened) (id : Puid) (o : Object) (d : drafts.Draft)
+            → StoreHas D.Disk graph ds disk.old space.old → object_at graph id ≡ Some o → IsOpen ds id self d → self.created ≡ None
+            → IfErr result (λ t. is_damage t ≡ false) }
+        ensures refused { IfErr result (IsTrouble D.Disk self.at disk.old disk.new space.new) }
+        ensures made { OnOk result (HasTried D.Disk disk.old disk.new) }
+        ensures cylinders { length space.new.free ≡ length space.old.free }
+        ensures calls { MakesAtMost D.Disk 31205 15483 disk.old disk.new }
+    {
+        let draft = &mut self;
+        abort_parts(
+            disk,
+            space,
+            draft.at,
+            draft.shadow,
+            &draft.own,
+            &draft.root,
+            &mut draft.taken,
+            &mut draft.dropped,
+            draft.created,
+        )
+    }
+}

@@ -1,0 +1,129 @@
+//! What a commit takes and drops.
+ghost use Rattle.std.specs.Prelude.{◌≡◌, ◌≢◌, ◌+◌, ◌<◌, ◌≤◌, ◌++◌, ℕ, false, length, slice_index, List, Some, IfErr, OnOk};
+ghost use Rattle.cfs_base.specs.Calls.{OnlyReads};
+ghost use Rattle.cfs_base.specs.Refusals.{trouble_had_tried};
+ghost use Rattle.cfs_base.specs.Run.{Tells};
+ghost use Rattle.cfs_base.specs.declared.identifier.Puid.{Puid};
+ghost use Rattle.cyl_alloc.specs.Space.{Kept};
+ghost use Rattle.intentions.specs.Store.{StoreHas};
+ghost use Rattle.special_files.specs.Changed as spec;
+ghost use Rattle.special_files.specs.Drafting.{Drafting, IsOpen, opened_as};
+ghost use Rattle.special_files.specs.Nodes.{IsNear};
+ghost use Rattle.special_files.specs.Refusal.{IsTrouble, is_damage};
+ghost use Rattle.ufs_model.specs.Graph.{Graph, object_at};
+ghost use Rattle.ufs_model.specs.declared.object.Draft as drafts;
+ghost use Rattle.ufs_model.specs.declared.object.Object.{Object};
+ghost use Rattle.vol_owners.specs.Account.{Opened};
+
+use crate::blocks::Blocks;
+use crate::node::read_node;
+use block_tree::{Node, Root};
+use cfs_base::{BlockNo, Disk, Trouble};
+
+/// Lists a block, unless it is 0 or the same as the other.
+fn add_unlike(list: &mut Blocks, block: u32, other: u32)
+    requires { length list.old < 15480 }
+    ensures { list.new ≡ list.old ++ spec.unlike block other }
+{
+    if block == 0 || block == other {
+        return;
+    }
+    list.add(block);
+}
+
+/// Lists a node and its leaves, but for those that the other node has at the same place.
+fn add_node(list: &mut Blocks, block: u32, node: &Node, other: u32, other_node: &Node)
+    requires { length list.old + 129 ≤ 15480 }
+    ensures { list.new ≡ list.old
+        ++ spec.all_unlike (spec.table block node.now.leaves) (spec.table other other_node.now.leaves) 129 }
+{
+    add_unlike(list, block, other);
+    for leaf in 0..128 {
+        add_unlike(list, node.leaves[leaf], other_node.leaves[leaf]);
+    }
+}
+
+/// Lists what differs between a node of the draft and one of the object. Where their blocks are the same nothing does.
+fn add_changed<D: Disk>(
+    disk: &mut D,
+    at: BlockNo,
+    own: u32,
+    new: u32,
+    taken: &mut Blocks,
+    dropped: &mut Blocks,
+) -> Result<(), Trouble>
+    requires some { 0 < D.blocks disk.old }
+    requires taken { length taken.old + 129 ≤ 15480 }
+    requires dropped { length dropped.old + 129 ≤ 15480 }
+    ensures taken { Tells D.Disk disk.old → OnOk result (taken.new ≡ taken.old
+        ++ spec.all_unlike (spec.in_node (D.content disk.old) new) (spec.in_node (D.content disk.old) own) 129) }
+    ensures dropped { Tells D.Disk disk.old → OnOk result (dropped.new ≡ dropped.old
+        ++ spec.all_unlike (spec.in_node (D.content disk.old) own) (spec.in_node (D.content disk.old) new) 129) }
+    ensures takes { OnOk result (spec.Adds (D.blocks disk.old) 129 taken.old taken.new) }
+    ensures drops { OnOk result (spec.Adds (D.blocks disk.old) 129 dropped.old dropped.new) }
+    ensures refused { (kept : Kept) → IfErr result (IsTrouble D.Disk at.0 disk.old disk.new kept) }
+    ensures untried { IfErr result (λ trouble. trouble_had_tried trouble ≡ false) }
+    ensures sound { Tells D.Disk disk.old → IsNear (D.blocks disk.old) (D.content disk.old) own
+        → IsNear (D.blocks disk.old) (D.content disk.old) new → IfErr result (λ trouble. is_damage trouble ≡ false) }
+    ensures reads { OnlyReads D.Disk 2 disk.old disk.new }
+{
+    if own == new {
+        return Ok(());
+    }
+    let own_node = match read_node(disk, own, at) {
+        Ok(node) => node,
+        Err(trouble) => return Err(trouble),
+    };
+    let node = match read_node(disk, new, at) {
+        Ok(node) => node,
+        Err(trouble) => return Err(trouble),
+    };
+    add_node(taken, new, &node, own, &own_node);
+    add_node(dropped, own, &own_node, new, &node);
+    Ok(())
+}
+
+/// Lists the blocks of a draft's own, but for its shadow root, and the blocks of the object that the draft doesn't have.
+/// The object's root is at the block `at`, `own` is that root, and `root` the one that it is to get. Nothing is written.
+/// `Damaged` names the object's root block or a node, with code 4, where a pointer of it leads past the disk.
+pub(crate) fn changed<D: Disk>(
+    disk: &mut D,
+    at: BlockNo,
+    own: &Root,
+    root: &Root,
+    taken: &mut Blocks,
+    dropped: &mut Blocks,
+) -> Result<(), Trouble>
+    requires { 0 < D.blocks disk.old }
+    ensures changed { (graph : Graph) (ds : List Opened) (space : Kept) (id : Puid) (o : Object) (was : Drafting) (d : drafts.Draft)
+        → StoreHas D.Disk graph ds disk.old space → object_at graph id ≡ Some o → IsOpen ds id was d
+        → was.own ≡ own.now → was.root ≡ root.now
+        → OnOk result (spec.IsChanged (D.content disk.old) id (opened_as id was d) taken.new dropped.new) }
+    // On any disk there are no more than a draft has room for, and each is a block of the disk.
+    ensures room { OnOk result ((length taken.new ≤ 15480) × (length dropped.new ≤ 15480)) }
+    ensures on_disk { OnOk result (spec.AreOnDisk (D.blocks disk.old) taken.new × spec.AreOnDisk (D.blocks disk.old) dropped.new) }
+    ensures refused { (kept : Kept) → IfErr result (IsTrouble D.Disk at.0 disk.old disk.new kept) }
+    ensures untried { IfErr result (λ trouble. trouble_had_tried trouble ≡ false) }
+    // No damage where the disk holds the object.
+    ensures sound { (graph : Graph) (ds : List Opened) (space : Kept) (id : Puid) (o : Object) (was : Drafting) (d : drafts.Draft)
+        → StoreHas D.Disk graph ds disk.old space → object_at graph id ≡ Some o → IsOpen ds id was d
+        → was.own ≡ own.now → was.root ≡ root.now → IfErr result (λ trouble. is_damage trouble ≡ false) }
+    ensures reads { OnlyReads D.Disk 240 disk.old disk.new }
+{
+    taken.clear();
+    dropped.clear();
+    for number in 0..120 {
+        match add_changed(
+            disk,
+            at,
+            own.nodes[number],
+            root.nodes[number],
+            taken,
+            dropped,
+        ) {
+            Ok(()) => {}
+            Err(trouble) => return Err(trouble),
+        }
+    }
+    Ok(())
+}

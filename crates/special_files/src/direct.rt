@@ -1,0 +1,109 @@
+//! A draft committed that has no shadow root yet.
+ghost use Rattle.std.specs.Prelude.{◌≡◌, ◌≢◌, ◌<◌, ◌≤◌, ◌*◌, ℕ, List, false, length, sum, None, Some, IfErr, OnOk};
+ghost use Rattle.cfs_base.specs.Calls.{HasTried, MakesAtMost};
+ghost use Rattle.cfs_base.specs.Refusals.{refused_by};
+ghost use Rattle.cfs_base.specs.Run.{Leaves};
+ghost use Rattle.cfs_base.specs.declared.identifier.Puid.{Puid};
+ghost use Rattle.cfs_base.specs.declared.kind.Place.TheVariants.{ShadowRoot};
+ghost use Rattle.cfs_base.specs.declared.refusal.Refused.TheVariants as refused;
+ghost use Rattle.cyl_alloc.specs.Enters.{Enters};
+ghost use Rattle.cyl_alloc.specs.Space.{intended};
+ghost use Rattle.intentions.specs.Store.{StoreHas};
+ghost use Rattle.special_files.specs.Committing as spec;
+ghost use Rattle.special_files.specs.Drafting.{Drafting, IsOpen, number_of};
+ghost use Rattle.special_files.specs.Refusal.{IsTrouble, is_damage, is_full};
+ghost use Rattle.ufs_model.specs.Graph.{Graph, object_at};
+ghost use Rattle.ufs_model.specs.declared.object.Draft as drafts;
+ghost use Rattle.ufs_model.specs.declared.object.Object.{Object};
+ghost use Rattle.vol_owners.specs.Account.{Opened};
+
+use crate::blocks::Blocks;
+use crate::changed::changed;
+use crate::commit::finish;
+use crate::leaf::write_own;
+use block_tree::Root;
+use cfs_base::{BlockNo, Disk, Place, Refused, Trouble};
+use cyl_alloc::Space;
+
+/// A refusal of a call that takes no block and no memory.
+fn trouble_of(error: Refused) -> Trouble
+    requires room { is_full error ≡ false }
+    requires memory { error ≢ refused.Memory }
+    ensures { refused_by result ≡ error }
+{
+    match error {
+        Refused::Disk { tried } => Trouble::Disk { tried },
+        Refused::Damaged(damage) => Trouble::Damaged(damage),
+        Refused::Full(_) => unreachable!(),
+        Refused::Memory => unreachable!(),
+    }
+}
+
+/// Claims a shadow root, where some block is Free.
+fn claim_shadow<D: Disk>(disk: &mut D, space: &mut Space, at: BlockNo) -> Result<BlockNo, Trouble>
+    requires some { at.0 ≢ 0 }
+    requires size { D.blocks disk.old ≡ 64 * length space.old.free }
+    requires room { 1 ≤ sum space.old.free }
+    ensures enters { Enters D.Disk (intended ShadowRoot at.0) disk.old disk.new space.old space.new (spec.as_refused result) }
+{
+    match space.intend(disk, Place::ShadowRoot, at.0) {
+        Ok(block) => Ok(block),
+        Err(error) => Err(trouble_of(error)),
+    }
+}
+
+/// Commits a draft of these parts: its shadow root is claimed and written, and then all is carried out.
+pub(crate) fn commit_direct<D: Disk>(
+    disk: &mut D,
+    space: &mut Space,
+    at: BlockNo,
+    own: &Root,
+    root: &Root,
+    taken: &mut Blocks,
+    dropped: &mut Blocks,
+    created: Option<BlockNo>,
+) -> Result<(), Trouble>
+    requires some { at.0 ≢ 0 }
+    requires on_disk { at.0 < D.blocks disk.old }
+    requires size { D.blocks disk.old ≡ 64 * length space.old.free }
+    requires room { 1 ≤ sum space.old.free }
+    requires created_on_disk { (n : ℕ) → number_of created ≡ Some n → n < D.blocks disk.old }
+    ensures done { (graph : Graph) (ds : List Opened) (id : Puid) (o : Object) (was : Drafting) (d : drafts.Draft)
+        → StoreHas D.Disk graph ds disk.old space.old → object_at graph id ≡ Some o → IsOpen ds id was d
+        → spec.AreParts was at.0 None own.now root.now (number_of created) → number_of created ≡ None
+        → OnOk result (spec.Committed D.Disk graph ds id d.object disk.old disk.new space.new) }
+    ensures leaves { (graph : Graph) (ds : List Opened) (id : Puid) (o : Object) (was : Drafting) (d : drafts.Draft)
+        → StoreHas D.Disk graph ds disk.old space.old → object_at graph id ≡ Some o → IsOpen ds id was d
+        → spec.AreParts was at.0 None own.now root.now (number_of created) → number_of created ≡ None
+        → Leaves D.Disk disk.old disk.new (spec.IsOldOrNew graph id d.object) }
+    ensures sound { (graph : Graph) (ds : List Opened) (id : Puid) (o : Object) (was : Drafting) (d : drafts.Draft)
+        → StoreHas D.Disk graph ds disk.old space.old → object_at graph id ≡ Some o → IsOpen ds id was d
+        → spec.AreParts was at.0 None own.now root.now (number_of created) → number_of created ≡ None
+        → IfErr result (λ t. is_damage t ≡ false) }
+    ensures refused { IfErr result (IsTrouble D.Disk at.0 disk.old disk.new space.new) }
+    ensures made { OnOk result (HasTried D.Disk disk.old disk.new) }
+    ensures cylinders { length space.new.free ≡ length space.old.free }
+    ensures calls { MakesAtMost D.Disk 93138 46452 disk.old disk.new }
+{
+    match changed(disk, at, own, root, taken, dropped) {
+        Ok(()) => {}
+        Err(trouble) => return Err(trouble),
+    }
+    let shadow = match claim_shadow(disk, space, at) {
+        Ok(block) => block,
+        Err(trouble) => return Err(trouble),
+    };
+    match write_own(disk, shadow, &root.encode()) {
+        Ok(()) => {}
+        Err(_) => return Err(Trouble::Disk { tried: true }),
+    }
+    finish(
+        disk,
+        space,
+        at,
+        shadow,
+        taken.as_slice(),
+        dropped.as_slice(),
+        created,
+    )
+}

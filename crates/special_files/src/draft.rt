@@ -1,0 +1,131 @@
+//! The draft of an object.
+ghost use Rattle.std.specs.Prelude.{◌≡◌, ◌+◌, ◌<◌, ◌≤◌, ℕ, List, false, length, sum, IfErr, OnOk};
+ghost use Rattle.std.specs.List.{sum_by};
+ghost use Rattle.cfs_base.specs.declared.identifier.Puid.{Puid};
+ghost use Rattle.cfs_base.specs.declared.refusal.Refused.TheVariants as refused;
+ghost use Rattle.special_files.specs.Drafting.{IsOpen, shadow_count, shadow_need};
+ghost use Rattle.special_files.specs.Drafting.{is_fresh_leaf, is_fresh_node};
+ghost use Rattle.special_files.specs.Refusal.{told_after};
+ghost use Rattle.std.specs.Prelude.{is_some};
+ghost use Rattle.ufs_model.specs.declared.object.Draft as drafts;
+ghost use Rattle.vol_owners.specs.Account.{Opened};
+
+use crate::blocks::Blocks;
+use crate::flags::Flags;
+use block_tree::Root;
+use cfs_base::{BlockNo, Need, Refused};
+use cyl_alloc::Space;
+use std::marker::Model;
+
+/// A changed object beside the one that stands. It has a shadow root, and of the leaves and nodes those that were written
+/// since it was begun; all others are the object's own.
+#[derive(Debug, Drop)]
+pub struct Draft {
+    pub(crate) at: BlockNo,
+    /// A draft that is its own commit has none until then.
+    pub(crate) shadow: Option<BlockNo>,
+    /// The root of the object, which stays as it is.
+    pub(crate) own: Root,
+    /// The root that the object is to get.
+    pub(crate) root: Root,
+    /// Which leaves and which nodes are the draft's own.
+    pub(crate) leaves: Flags,
+    pub(crate) nodes: Flags,
+    /// The root of an object that is made with the commit.
+    pub(crate) created: Option<BlockNo>,
+    /// Room for what a commit takes and drops. Both are empty between two calls.
+    pub(crate) taken: Blocks,
+    pub(crate) dropped: Blocks,
+}
+
+impl Model for Draft {
+    ghost use Rattle.std.specs.Prelude.{◌≡◌, ◌≢◌, ◌≤◌, length};
+    ghost use Rattle.special_files.specs.Drafting.{Drafting, number_of};
+
+    ghost Value = { Drafting };
+
+    ghost view = { λ a. record { at = a.at.0; shadow = number_of a.shadow; own = a.own; root = a.root; leaves = a.leaves; nodes = a.nodes; created = number_of a.created } };
+
+    ghost invariant = { λ a. (a.at.0 ≢ 0) × (length a.leaves ≡ 15360) × (length a.nodes ≡ 120)
+        × (a.root.size ≤ 7864320) };
+}
+
+impl Draft {
+    /// The object's size in bytes, as the draft has it.
+    pub fn size(&self) -> u64
+        ensures { result ≡ self.now.root.size }
+    {
+        self.root.size
+    }
+
+    /// The root block of the object.
+    pub fn at(&self) -> BlockNo
+        ensures { result.0 ≡ self.now.at }
+    {
+        self.at
+    }
+
+    /// The root that the object is to get.
+    pub fn root(&self) -> &Root
+        ensures { result.now ≡ self.now.root }
+    {
+        &self.root
+    }
+
+    /// How many blocks the draft has of its own: fresh leaves and nodes, and the shadow root once it is taken.
+    pub fn fresh_count(&self) -> u32
+        ensures { (ds : List Opened) (id : Puid) (d : drafts.Draft) → IsOpen ds id self.now d
+            → result ≡ sum_by length d.fresh + shadow_count self.now }
+    {
+        self.leaves.count() + self.nodes.count() + self.shadow_count()
+    }
+
+    /// Whether a leaf is the draft's own.
+    pub(crate) fn has_fresh_leaf(&self, leaf: u32) -> bool
+        requires { leaf < 15360 }
+        ensures { result ≡ is_fresh_leaf self.now leaf }
+    {
+        self.leaves.has(leaf)
+    }
+
+    /// Whether a node is the draft's own.
+    pub(crate) fn has_fresh_node(&self, node: u32) -> bool
+        requires { node < 120 }
+        ensures { result ≡ is_fresh_node self.now node }
+    {
+        self.nodes.has(node)
+    }
+
+    fn shadow_count(&self) -> u32
+        ensures { result ≡ shadow_count self.now }
+    {
+        self.shadow.is_some() as u32
+    }
+
+    /// What a commit takes besides: a shadow root, where there is none yet.
+    pub(crate) fn shadow_need(&self) -> u32
+        ensures { result ≡ shadow_need self.now }
+    {
+        self.shadow.is_none() as u32
+    }
+}
+
+/// `Full` where fewer blocks are Free than these.
+pub(crate) fn has_room(space: &Space, need: u32, floor: u32) -> Result<(), Refused>
+    ensures room { OnOk result (need + floor ≤ sum space.now.free) }
+    ensures full { IfErr result (λ e. (e ≡ refused.Full (record { free = sum space.now.free; need = need }))
+        × (sum space.now.free < need + floor)) }
+{
+    let free = space.free();
+    if (free as u64) < need as u64 + floor as u64 {
+        return Err(Refused::Full(Need { free, need }));
+    }
+    Ok(())
+}
+
+/// The same refusal of a call that may have tried a write before.
+pub(crate) fn after(tried: bool, error: Refused) -> Refused
+    ensures { result ≡ told_after tried error }
+{
+    if tried { error.after_try() } else { error }
+}

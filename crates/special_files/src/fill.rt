@@ -1,0 +1,88 @@
+//! A slot of an index filled or emptied in a draft.
+ghost use Rattle.std.specs.Prelude.{◌≡◌, ◌+◌, ◌*◌, ◌/◌, ◌<◌, ◌≤◌, ◌&&◌, ℕ, true, false, is_none, length, sum, List, Some, IfErr, IfOk, OnOk};
+ghost use Rattle.cfs_base.specs.Calls.{HasTried, OnlyReads};
+ghost use Rattle.cfs_base.specs.Run.{Leaves};
+ghost use Rattle.cfs_base.specs.declared.identifier.Puid.{Puid};
+ghost use Rattle.cfs_base.specs.declared.refusal.Refused.TheVariants as refused;
+ghost use Rattle.intentions.specs.Store.{StoreHas};
+ghost use Rattle.leaf_changes.specs.Bytes.{IsSlot};
+ghost use Rattle.special_files.specs.Becomes.{Becomes};
+ghost use Rattle.special_files.specs.Drafting.{IsOpen, leaf_takes};
+ghost use Rattle.special_files.specs.Ends.{Ends};
+ghost use Rattle.special_files.specs.Fills.{filled_draft};
+ghost use Rattle.special_files.specs.Puts.{StaysBut};
+ghost use Rattle.special_files.specs.Refusal.{is_damaged, is_full};
+ghost use Rattle.ufs_model.specs.Graph.{Graph, object_at};
+ghost use Rattle.ufs_model.specs.declared.object.Draft as drafts;
+ghost use Rattle.ufs_model.specs.declared.object.Index.{Index};
+ghost use Rattle.ufs_model.specs.declared.object.Object.TheVariants as objects;
+ghost use Rattle.ufs_model.specs.declared.object.Object.{Object};
+ghost use Rattle.vol_image.specs.Reading.{slot_in};
+ghost use Rattle.vol_image.specs.Sound.{Holds};
+ghost use Rattle.vol_owners.specs.Account.{Opened};
+
+use crate::draft::Draft;
+use crate::node::NodeRead;
+use block_tree::SIZE_LIMIT;
+use cfs_base::{Block, Disk, Puid, Refused};
+use cyl_alloc::Space;
+use leaf_changes::{put_slot, slot_at};
+
+/// Whether a slot of this leaf is to be emptied, and is empty.
+fn is_empty_already(content: &Block, slot: usize, what: Option<Puid>) -> bool
+    requires { slot < 64 }
+    ensures { result ≡ (is_none what && is_none (slot_in content.now slot)) }
+{
+    what.is_none() && slot_at(content, slot).is_none()
+}
+
+impl Draft {
+    /// Puts an identifier into a slot of an index, or empties the slot, and answers true. The slot's leaf alone is read, and
+    /// put with this in it. False where the slot is empty and is to be: nothing is done then. Has no floor, and never answers
+    /// `Memory`.
+    pub fn fill<D: Disk>(
+        &mut self,
+        disk: &mut D,
+        space: &mut Space,
+        slot: u64,
+        what: Option<Puid>,
+    ) -> Result<bool, Refused>
+        requires on_disk { self.old.at < D.blocks disk.old }
+        requires size { D.blocks disk.old ≡ 64 * length space.old.free }
+        requires within { 8 * slot + 8 ≤ self.old.root.size }
+        requires slot { IsSlot what }
+        // The draft is that of the model with this in the slot.
+        ensures filled { (graph : Graph) (ds : List Opened) (id : Puid) (o : Object) (d : drafts.Draft) (i : Index)
+            → StoreHas D.Disk graph ds disk.old space.old → object_at graph id ≡ Some o → IsOpen ds id self.old d
+            → d.object ≡ objects.Index i → OnOk result
+            (Becomes D.Disk graph ds id (filled_draft i slot what d) disk.old disk.new space.new self.new) }
+        ensures leaves { (graph : Graph) (ds : List Opened) (id : Puid) (o : Object) (d : drafts.Draft)
+            → StoreHas D.Disk graph ds disk.old space.old → object_at graph id ≡ Some o → IsOpen ds id self.old d
+            → Leaves D.Disk disk.old disk.new (λ c. Holds c graph) }
+        ensures stays { StaysBut self.old self.new }
+        ensures ends { Ends D.Disk self.old.at 0 8 4 (leaf_takes self.old (slot / 64)) disk.old disk.new space.old space.new result }
+        ensures done { IfOk result (λ put. put ≡ true → HasTried D.Disk disk.old disk.new) }
+        ensures spared { IfOk result (λ put. put ≡ false
+            → (self.new ≡ self.old) × (space.new ≡ space.old) × OnlyReads D.Disk 2 disk.old disk.new) }
+        ensures kept { IfErr result (λ e. e ≡ refused.Disk false → self.new ≡ self.old) }
+        // Never Full where the blocks that it takes are Free.
+        ensures room { leaf_takes self.old (slot / 64) ≤ sum space.old.free → IfErr result (λ e. is_full e ≡ false) }
+        ensures sound { (graph : Graph) (ds : List Opened) (id : Puid) (o : Object) (d : drafts.Draft)
+            → StoreHas D.Disk graph ds disk.old space.old → object_at graph id ≡ Some o → IsOpen ds id self.old d
+            → IfErr result (λ e. is_damaged e ≡ false) }
+    {
+        prove!(self.root.size <= SIZE_LIMIT);
+        let leaf = (slot / 64) as u32;
+        let place = (slot % 64) as usize;
+        let mut read = NodeRead::nothing();
+        let mut content = self.leaf_bytes(disk, &mut read, leaf)?;
+        if is_empty_already(&content, place, what) {
+            return Ok(false);
+        }
+        put_slot(&mut content, place, what);
+        match self.put_leaf(disk, space, &mut read, leaf, &content) {
+            Ok(()) => Ok(true),
+            Err(error) => Err(error),
+        }
+    }
+}

@@ -1,0 +1,80 @@
+//! One flag for each leaf, or each node.
+ghost use Rattle.std.specs.Prelude.{◌≡◌, ◌-◌, ◌<◌, ◌≤◌, false, count_by, get_or, length, replicate, set, IfOk};
+ghost use Rattle.special_files.specs.Drafting as spec;
+
+use cfs_base::NoMemory;
+use std::alloc::Global;
+use std::marker::Model;
+
+/// Flags, and how many of them are set. Clauses see the list of them.
+#[derive(Debug, Drop)]
+pub(crate) struct Flags {
+    items: Vec<bool>,
+    count: u32,
+}
+
+impl Model for Flags {
+    ghost use Rattle.std.specs.Prelude.{◌≡◌, ◌≤◌, Bool, List, count_by, length};
+
+    ghost Value = { List Bool };
+
+    ghost view = { λ a. a.items.items };
+
+    ghost invariant = { λ a. (a.count ≡ count_by (λ b. b) a.items.items) × (length a.items.items ≤ 15360) };
+}
+
+fn one_unless(flag: bool) -> u32
+    ensures { result ≡ spec.one_unless flag }
+{
+    !flag as u32
+}
+
+impl Flags {
+    /// So many flags, of which none is set.
+    pub fn none(alloc: Global, count: usize) -> Result<Flags, NoMemory>
+        requires { count ≤ 15360 }
+        ensures { IfOk result (λ flags. flags ≡ replicate count false) }
+    {
+        let items = vec![in alloc; false; count]?;
+        Ok(Flags { items, count: 0 })
+    }
+
+    /// How many are set.
+    pub fn count(&self) -> u32
+        ensures count { result ≡ count_by (λ b. b) self.now }
+        ensures most { result ≤ length self.now }
+    {
+        self.count
+    }
+
+    pub fn has(&self, at: u32) -> bool
+        requires { at < length self.now }
+        ensures { result ≡ get_or self.now at false }
+    {
+        self.items[at as usize]
+    }
+
+    pub fn put(&mut self, at: u32, flag: bool)
+        requires { at < length self.old }
+        ensures { self.new ≡ set self.old at flag }
+    {
+        let at = at as usize;
+        let was = self.items[at];
+        self.items[at] = flag;
+        self.count = self.count - was as u32 + flag as u32;
+    }
+
+    /// How many of these aren't set.
+    pub fn lacking(&self, from: u32, to: u32) -> u32
+        requires order { from ≤ to }
+        requires within { to ≤ length self.now }
+        ensures count { result ≡ length (spec.unset_in self.now from to) }
+        ensures most { result ≤ to - from }
+    {
+        let mut count = 0;
+        for at in from..to {
+            count += one_unless(self.has(at));
+        }
+        count
+    }
+}

@@ -1,0 +1,145 @@
+//! One leaf put into a draft.
+ghost use Rattle.std.specs.Prelude.{◌≡◌, ◌≢◌, ℕ, ◌+◌, ◌*◌, ◌/◌, ◌^◌, ◌<◌, ◌≤◌, false, length, sum, List, Some, IfErr, OnOk};
+ghost use Rattle.cfs_base.specs.Calls.{HasTried};
+ghost use Rattle.cfs_base.specs.Run.{Leaves};
+ghost use Rattle.cfs_base.specs.declared.identifier.Puid.{Puid};
+ghost use Rattle.cfs_base.specs.declared.refusal.Refused.TheVariants as refused;
+ghost use Rattle.cyl_alloc.specs.Enters.{Enters};
+ghost use Rattle.cyl_alloc.specs.Space.{intended};
+ghost use Rattle.cyl_map.specs.Entry.{IsEntry};
+ghost use Rattle.intentions.specs.Store.{StoreHas};
+ghost use Rattle.special_files.specs.Calls as spec;
+ghost use Rattle.special_files.specs.Drafting.{IsOpen, leaf_takes};
+ghost use Rattle.special_files.specs.Ends.{Ends};
+ghost use Rattle.special_files.specs.Nodes.{IsRead, IsSafe};
+ghost use Rattle.special_files.specs.Puts.{FitsLeaf, PutsLeaf, StaysBut};
+ghost use Rattle.special_files.specs.Refusal.{is_damaged, is_full};
+ghost use Rattle.ufs_model.specs.Graph.{Graph, object_at};
+ghost use Rattle.ufs_model.specs.declared.object.Draft as drafts;
+ghost use Rattle.ufs_model.specs.declared.object.Object.{Object};
+ghost use Rattle.vol_image.specs.Sound.{Holds};
+ghost use Rattle.vol_owners.specs.Account.{Opened};
+
+use crate::draft::Draft;
+use crate::node::NodeRead;
+use cfs_base::{Block, BlockNo, Disk, Place, Refused};
+use cyl_alloc::Space;
+
+/// Writes a block of the draft's own.
+pub(crate) fn write_own<D: Disk>(
+    disk: &mut D,
+    block: BlockNo,
+    content: &Block,
+) -> Result<(), Refused>
+    requires { block.0 < D.blocks disk.old }
+    ensures { spec.WritesBlock D.Disk block.0 content.now disk.old disk.new result }
+{
+    match disk.write(block, content) {
+        Ok(()) => Ok(()),
+        Err(_) => Err(Refused::Disk { tried: true }),
+    }
+}
+
+impl Draft {
+    /// Claims a block for the draft, the least-numbered that is Free.
+    pub(crate) fn claim<D: Disk>(
+        &self,
+        disk: &mut D,
+        space: &mut Space,
+        place: Place,
+    ) -> Result<BlockNo, Refused>
+        requires size { D.blocks disk.old ≡ 64 * length space.old.free }
+        requires entry { (owner : ℕ) → owner ≢ 0 → owner < 2 ^ 32 → IsEntry (intended place owner) }
+        ensures { Enters D.Disk (intended place self.now.at) disk.old disk.new space.old space.new result }
+    {
+        space.intend(disk, place, self.at.0)
+    }
+
+    /// The block of a node of the draft's own: it is claimed where the draft has none.
+    pub(crate) fn node_block<D: Disk>(
+        &self,
+        disk: &mut D,
+        space: &mut Space,
+        node: u32,
+    ) -> Result<BlockNo, Refused>
+        requires size { D.blocks disk.old ≡ 64 * length space.old.free }
+        requires below { node < 120 }
+        ensures { spec.GetsNode D.Disk node disk.old disk.new space.old space.new self.now result }
+    {
+        if self.has_fresh_node(node) {
+            return Ok(BlockNo(self.root.nodes[node as usize]));
+        }
+        self.claim(disk, space, Place::Node(node as u16))
+    }
+
+    /// Puts a leaf of this content into the draft. Where the draft has no leaf of its own one is claimed, and after it its
+    /// node, where that needs one. The leaf's node was read, and is as it is then afterwards.
+    pub(crate) fn put_leaf<D: Disk>(
+        &mut self,
+        disk: &mut D,
+        space: &mut Space,
+        read: &mut NodeRead,
+        leaf: u32,
+        content: &Block,
+    ) -> Result<(), Refused>
+        requires size { D.blocks disk.old ≡ 64 * length space.old.free }
+        requires below { leaf < 15360 }
+        requires read { read.old.number ≡ leaf / 128 }
+        requires safe { IsSafe (D.blocks disk.old) self.old read.old }
+        ensures put { (graph : Graph) (ds : List Opened) (id : Puid) (o : Object) (d : drafts.Draft)
+            → StoreHas D.Disk graph ds disk.old space.old → object_at graph id ≡ Some o → IsOpen ds id self.old d
+            → IsRead (D.content disk.old) self.old read.old → FitsLeaf self.old.root leaf content.now
+            → OnOk result (PutsLeaf D.Disk graph ds id leaf content.now disk.old disk.new space.new self.old self.new read.new) }
+        ensures leaves { (graph : Graph) (ds : List Opened) (id : Puid) (o : Object) (d : drafts.Draft)
+            → StoreHas D.Disk graph ds disk.old space.old → object_at graph id ≡ Some o → IsOpen ds id self.old d
+            → IsRead (D.content disk.old) self.old read.old → Leaves D.Disk disk.old disk.new (λ c. Holds c graph) }
+        ensures stays { StaysBut self.old self.new }
+        ensures flags { OnOk result (spec.SetsFlags leaf self.old self.new) }
+        ensures number { read.new.number ≡ leaf / 128 }
+        ensures safe { OnOk result (IsSafe (D.blocks disk.new) self.new read.new) }
+        ensures ends { Ends D.Disk self.old.at 0 6 4 (leaf_takes self.old leaf) disk.old disk.new space.old space.new result }
+        ensures tried { OnOk result (HasTried D.Disk disk.old disk.new) }
+        // Where nothing was tried yet the draft is as it was.
+        ensures kept { IfErr result (λ e. e ≡ refused.Disk false → self.new ≡ self.old) }
+        ensures room { leaf_takes self.old leaf ≤ sum space.old.free → IfErr result (λ e. is_full e ≡ false) }
+        ensures sound { (graph : Graph) (ds : List Opened) (id : Puid) (o : Object) (d : drafts.Draft)
+            → StoreHas D.Disk graph ds disk.old space.old → object_at graph id ≡ Some o → IsOpen ds id self.old d
+            → IsRead (D.content disk.old) self.old read.old → IfErr result (λ e. is_damaged e ≡ false) }
+    {
+        let place = (leaf % 128) as usize;
+        if self.has_fresh_leaf(leaf) {
+            return write_own(disk, BlockNo(read.node.leaves[place]), content);
+        }
+        let block = match self.claim(disk, space, Place::Leaf(leaf as u16)) {
+            Ok(block) => block,
+            Err(error) => return Err(error),
+        };
+        let node = match self.node_block(disk, space, leaf / 128) {
+            Ok(node) => node,
+            Err(error) => return Err(error.after_try()),
+        };
+        match write_own(disk, block, content) {
+            Ok(()) => {}
+            Err(error) => return Err(error),
+        }
+        read.node.leaves[place] = block.0;
+        match write_own(disk, node, &read.node.encode()) {
+            Ok(()) => {}
+            Err(error) => return Err(error),
+        }
+        self.add(leaf, node);
+        Ok(())
+    }
+
+    /// A leaf is the draft's own from now on, and so is its node, which is at this block.
+    fn add(&mut self, leaf: u32, node: BlockNo)
+        requires { leaf < 15360 }
+        ensures stays { StaysBut self.old self.new }
+        ensures nodes { spec.Adds leaf node.0 self.old self.new }
+    {
+        let number = leaf / 128;
+        self.root.nodes[number as usize] = node.0;
+        self.leaves.put(leaf, true);
+        self.nodes.put(number, true);
+    }
+}

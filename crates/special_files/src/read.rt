@@ -1,0 +1,103 @@
+//! A draft that is read.
+ghost use Rattle.std.specs.Prelude.{◌≡◌, ◌+◌, ◌-◌, ◌*◌, ◌/◌, ◌<◌, ◌≤◌, ℕ, false, length, slice_range, List, Some, IfErr, IfOk, OnOk};
+ghost use Rattle.block_tree.specs.Root.{Fits};
+ghost use Rattle.cfs_base.specs.Calls.{OnlyReads};
+ghost use Rattle.cfs_base.specs.Refusals.{trouble_had_tried};
+ghost use Rattle.cfs_base.specs.Run.{Tells};
+ghost use Rattle.cfs_base.specs.declared.identifier.Puid.{Puid};
+ghost use Rattle.cyl_alloc.specs.Space.{Kept};
+ghost use Rattle.intentions.specs.Store.{StoreHas};
+ghost use Rattle.special_files.specs.Drafting.{IsOpen, node_of};
+ghost use Rattle.special_files.specs.Leaves.{leaves_of};
+ghost use Rattle.special_files.specs.Nodes.{IsNear, IsRead, IsSafe};
+ghost use Rattle.special_files.specs.Refusal.{IsTrouble, is_damage};
+ghost use Rattle.ufs_model.specs.Graph.{Graph, object_at};
+ghost use Rattle.ufs_model.specs.Object as spec;
+ghost use Rattle.ufs_model.specs.declared.object.Draft as drafts;
+ghost use Rattle.ufs_model.specs.declared.object.File.{File};
+ghost use Rattle.ufs_model.specs.declared.object.Object.TheVariants as objects;
+ghost use Rattle.ufs_model.specs.declared.object.Object.{Object};
+ghost use Rattle.vol_image.specs.Reading.{leaf_content};
+ghost use Rattle.vol_owners.specs.Account.{Opened};
+
+use crate::draft::Draft;
+use crate::node::{NodeRead, read_block};
+use block_tree::SIZE_LIMIT;
+use cfs_base::{Block, Disk, Trouble};
+use leaf_changes::read_part;
+
+/// How many leaves so many bytes take.
+pub(crate) fn leaves_in(size: u64) -> u32
+    requires { size ≤ 7864320 }
+    ensures { result ≡ spec.leaves_in size }
+{
+    size.div_ceil(512) as u32
+}
+
+impl Draft {
+    /// The bytes of a leaf.
+    pub(crate) fn leaf_bytes<D: Disk>(
+        &self,
+        disk: &mut D,
+        read: &mut NodeRead,
+        leaf: u32,
+    ) -> Result<Block, Trouble>
+        requires below { leaf < 15360 }
+        requires some { 0 < D.blocks disk.old }
+        requires safe { IsSafe (D.blocks disk.old) self.now read.old }
+        ensures bytes { Tells D.Disk disk.old → Fits self.now.root → IsRead (D.content disk.old) self.now read.old
+            → IfOk result (λ content. content ≡ leaf_content self.now.root.fill (leaves_of (D.content disk.old) self.now.root leaf)) }
+        ensures node { Tells D.Disk disk.old → IsRead (D.content disk.old) self.now read.old
+            → OnOk result (IsRead (D.content disk.old) self.now read.new) }
+        ensures safe { OnOk result (IsSafe (D.blocks disk.old) self.now read.new) }
+        ensures number { OnOk result (read.new.number ≡ leaf / 128) }
+        ensures refused { (kept : Kept) → IfErr result (IsTrouble D.Disk self.now.at disk.old disk.new kept) }
+        ensures untried { IfErr result (λ trouble. trouble_had_tried trouble ≡ false) }
+        ensures sound { Tells D.Disk disk.old
+            → IsNear (D.blocks disk.old) (D.content disk.old) (node_of self.now.root (leaf / 128))
+            → IfErr result (λ trouble. is_damage trouble ≡ false) }
+        ensures reads { OnlyReads D.Disk 2 disk.old disk.new }
+    {
+        match self.turn_to(disk, read, leaf / 128) {
+            Ok(()) => {}
+            Err(trouble) => return Err(trouble),
+        }
+        read_block(
+            disk,
+            read.node.leaves[(leaf % 128) as usize],
+            self.root.fill,
+        )
+    }
+
+    /// Reads a part of a file, from an offset in bytes on. `Damaged` names the root block, or a node, with code 4, where a
+    /// pointer of it leads past the disk.
+    pub fn read<D: Disk>(&self, disk: &mut D, offset: u64, into: &mut [u8]) -> Result<(), Trouble>
+        requires on_disk { self.now.at < D.blocks disk.old }
+        requires within { offset + length into.old ≤ self.now.root.size }
+        // The part has the bytes of the draft of the model.
+        ensures bytes { (graph : Graph) (ds : List Opened) (space : Kept) (id : Puid) (o : Object) (d : drafts.Draft) (f : File)
+            → StoreHas D.Disk graph ds disk.old space → object_at graph id ≡ Some o → IsOpen ds id self.now d
+            → d.object ≡ objects.File f
+            → OnOk result (into.new ≡ slice_range f.bytes offset (offset + length into.old)) }
+        ensures long { length into.new ≡ length into.old }
+        ensures store { (graph : Graph) (ds : List Opened) (space : Kept) → StoreHas D.Disk graph ds disk.old space
+            → StoreHas D.Disk graph ds disk.new space }
+        ensures refused { (kept : Kept) → IfErr result (IsTrouble D.Disk self.now.at disk.old disk.new kept) }
+        ensures untried { IfErr result (λ trouble. trouble_had_tried trouble ≡ false) }
+        // No damage where the disk holds the object.
+        ensures sound { (graph : Graph) (ds : List Opened) (space : Kept) (id : Puid) (o : Object) (d : drafts.Draft)
+            → StoreHas D.Disk graph ds disk.old space → object_at graph id ≡ Some o → IsOpen ds id self.now d
+            → IfErr result (λ trouble. is_damage trouble ≡ false) }
+        ensures reads { OnlyReads D.Disk (2 * (spec.leaves_in (offset + length into.old) - offset / 512)) disk.old disk.new }
+    {
+        prove!(self.root.size <= SIZE_LIMIT);
+        let mut read = NodeRead::nothing();
+        for leaf in (offset / 512) as u32..leaves_in(offset + into.len() as u64) {
+            match self.leaf_bytes(disk, &mut read, leaf) {
+                Ok(content) => read_part(&content, leaf, offset, into),
+                Err(trouble) => return Err(trouble),
+            }
+        }
+        Ok(())
+    }
+}
