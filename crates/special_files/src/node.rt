@@ -113,6 +113,8 @@ impl Draft {
             → OnOk result (spec.IsRead (D.content disk.old) self.now read.new) }
         ensures safe { OnOk result (spec.IsSafe (D.blocks disk.old) self.now read.new) }
         ensures number { OnOk result (read.new.number ≡ number) }
+        // The node that was read last is not read again.
+        ensures again { read.old.number ≡ number → disk.new ≡ disk.old }
         ensures refused { (kept : Kept) → IfErr result (IsTrouble D.Disk self.now.at disk.old disk.new kept) }
         ensures untried { IfErr result (λ trouble. trouble_had_tried trouble ≡ false) }
         ensures sound { Tells D.Disk disk.old
