@@ -65,6 +65,8 @@ impl Disk for LastCylinderFree {
 
     ghost of_blocks = { λ d h. Prim.cc };
 
+    ghost left_sized = { λ d t c left. absurd left };
+
     fn blocks(&self) -> u32 {
         64 * self.cylinders
     }

@@ -31,6 +31,8 @@ impl Disk for NoDisk {
 
     ghost of_blocks = { λ d h. Prim.cc };
 
+    ghost left_sized = { λ d t c left. absurd left };
+
     fn blocks(&self) -> u32 {
         self.blocks
     }

@@ -97,4 +97,7 @@ pub trait Disk {
 
     /// Each block of its content has 512 bytes.
     ghost of_blocks: { (d : Self) → IsTrue (honest d) → AreBlocks (content d) };
+
+    /// What a crash leaves is as long as the disk.
+    ghost left_sized: { (d : Self) (t : ℕ) (c : List (List ℕ)) → left_since d t c → length c ≡ blocks d };
 }

@@ -1,6 +1,6 @@
 -- What a recorder's images say of the disk that holds it.
 use Rattle.std.proofs.Common.{◌≡◌, ◌⊎◌, inl, inr, ⊎_elim, ℕ, ◌≤◌, IsTrue, Bool, nat_lt, if◌then◌else◌, replicate, List, [], ◌∷◌, length, length-set, refl, sym, ◌∙◌, subst, arith, true, false}
-use Rattle.std.proofs.lemmas.List.{length-replicate}
+use Rattle.cfs_fakes.specs.Sizes.{base_size}
 use Rattle.cfs_base.specs.Disk.{Image, LeavesOnly, Nothing, Written}
 use Rattle.cfs_fakes.specs.declared.kept.Call.{Call}
 use Rattle.cfs_fakes.specs.declared.kept.Call.TheVariants.{Write, Barrier}
@@ -17,25 +17,6 @@ content_before t kept s h = elim (nat_lt kept.moment t) as (λ v. IsImage (if v 
 replay_content : (s : State) (t : ℕ) (calls : List Kept) → IsImage s s.content → IsImage (replay s t calls) (replay s t calls).content
 replay_content s t [] h = h
 replay_content s t (kept ∷ later) h = replay_content (after_before t kept s) t later (content_before t kept s h)
-
-abbrev HasSize : ℕ → State → Type 0
-HasSize n s = (length s.content ≡ n) × (length s.base ≡ n)
-
-after_size : (n : ℕ) (call : Call) (s : State) → HasSize n s → HasSize n (after call s)
-after_size n (Write at block true) s h = (length-set s.content at block ∙ h.0, h.1)
-after_size n (Write at block false) s h = h
-after_size n Barrier s h = (h.0, h.0)
-
-size_before : (n t : ℕ) (kept : Kept) (s : State) → HasSize n s → HasSize n (after_before t kept s)
-size_before n t kept s h = elim (nat_lt kept.moment t) as (λ v. HasSize n (if v then after kept.call s else s)) [ true ↦ after_size n kept.call s h | false ↦ h ]
-
-replay_size : (n : ℕ) (s : State) (t : ℕ) (calls : List Kept) → HasSize n s → HasSize n (replay s t calls)
-replay_size n s t [] h = h
-replay_size n s t (kept ∷ later) h = replay_size n (after_before t kept s) t later (size_before n t kept s h)
-
--- no call changes the number of blocks
-pub base_size : (n t : ℕ) (calls : List Kept) → length (replay (zeros n) t calls).base ≡ n
-base_size n t calls = (replay_size n (zeros n) t calls (length-replicate n (replicate 512 0), length-replicate n (replicate 512 0))).1
 
 module _ {D : Type 0} (recorder : D → Recorder) where
   pub lifts : {old new : D} {P Q : Image → Type 0} → LeavesOnly clock left_of (recorder old) (recorder new) P → ((c : Image) → P c → (IsTrue (recorder old).keeps × IsImage (state_now (recorder old)) c) ⊎ Q c)

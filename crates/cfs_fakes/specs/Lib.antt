@@ -6,3 +6,4 @@ pub mod Rerun
 pub mod Sink
 pub mod Source
 pub mod Store
+pub mod Sizes

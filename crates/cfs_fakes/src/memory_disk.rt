@@ -6,6 +6,8 @@ ghost use Rattle.cfs_base.specs.Disk.{AreBlocks, block_at, Nothing, Written, Onl
 ghost use Rattle.cfs_fakes.specs.Picks.{choice_of};
 ghost use Rattle.cfs_fakes.specs.Replay.{after, IsChoice};
 ghost use Rattle.cfs_fakes.specs.Recorder.{clock, state_now, left_of as left_of_recorder};
+ghost use Rattle.std.proofs.Common.{◌∙◌};
+ghost use Rattle.cfs_fakes.specs.Sizes.{left_size};
 
 use crate::faults::{failed, starve};
 use crate::kept::{Call, Pick};
@@ -59,6 +61,8 @@ impl Disk for MemoryDisk {
     ghost sized = { λ d h. refl };
 
     ghost of_blocks = { λ d h. d.blocks };
+
+    ghost left_sized = { λ d t c left. left_size d.recorder t c left ∙ d.size };
 
     fn blocks(&self) -> u32 {
         self.store.count()

@@ -26,6 +26,8 @@ impl<D: Disk> Disk for Untold<D> {
 
     ghost of_blocks = { λ d honest. Prim.cc };
 
+    ghost left_sized = { λ d t c left. absurd left };
+
     fn blocks(&self) -> u32 {
         self.disk.blocks()
     }

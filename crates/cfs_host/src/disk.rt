@@ -98,6 +98,8 @@ impl Disk for FileDisk {
 
     ghost of_blocks = { λ d h. Prim.cc };
 
+    ghost left_sized = { λ d t c left. absurd left };
+
     fn blocks(&self) -> u32 {
         self.blocks
     }

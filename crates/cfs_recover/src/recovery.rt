@@ -38,6 +38,7 @@ fn tidy_volume<D: Disk>(disk: &mut D, survey: &Survey, space: &mut Space) -> Res
         → OnOk result (IsRecovered D.Disk a disk.new survey.now.grounds.label survey.now.walked.walk.names space.new) }
     ensures leads { (a : Image) (g : Graph) → IsSettled D.Disk disk.old → D.content disk.old ≡ a → IsSurvey a survey.now
         → IsSoundAs a g → Leads D.Disk (λ c. IsSoundAs c g) disk.old disk.new }
+    ensures size { OnOk result (length space.new.free ≡ length survey.now.grounds.maps.items) }
     ensures cause { OnErr result (HasFailed D.Disk disk.old disk.new) }
     ensures calls { MakesAtMost D.Disk (2 * D.blocks disk.old + 2) (2 * D.blocks disk.old + 2) disk.old disk.new }
 {
@@ -72,6 +73,7 @@ fn open_settled<D: Disk>(alloc: Global, disk: &mut D) -> Result<Recovered, Recov
     ensures unsound { Tells D.Disk disk.old → ¬ IsSound (D.content disk.old) → IsUntouched D.Disk disk.old disk.new }
     ensures leads { (g : Graph) → IsSettled D.Disk disk.old → IsSoundAs (D.content disk.old) g
         → Leads D.Disk (λ c. IsSoundAs c g) disk.old disk.new }
+    ensures size { IfOk result (λ r. D.blocks disk.old ≡ 64 * length r.space.free) }
     ensures cause { IfErr result (IsCaused D.Disk disk.old disk.new) }
     ensures calls { MakesAtMost D.Disk (15485 * D.blocks disk.old + 3) (2 * D.blocks disk.old + 2) disk.old disk.new }
 {
@@ -100,6 +102,8 @@ pub fn recover<D: Disk>(alloc: Global, disk: &mut D) -> Result<Recovered, Recove
         → IsSoundAs (D.content disk.new) g }
     ensures images { IsTrue (D.honest disk.old) → (g : Graph) → IsSoundAs (D.content disk.old) g
         → LeavesSinceBarrier D.Disk disk.old disk.new (λ c. IsSoundAs c g) }
+    // On any disk the space is one of its cylinders.
+    ensures size { IfOk result (λ r. D.blocks disk.new ≡ 64 * length r.space.free) }
     ensures cause { IfErr result (IsCaused D.Disk disk.old disk.new) }
     ensures calls { MakesAtMost D.Disk (15485 * D.blocks disk.old + 4) (2 * D.blocks disk.old + 3) disk.old disk.new }
 {

@@ -1,2 +1,3 @@
 mod Indices
 mod Putting
+mod NewObjects

@@ -122,7 +122,7 @@ module _ {D : Type 0} (g : Ghosts D) (graph : Graph) (ds : List Opened) (id : Pu
     abbrev e : Opened
     e = opened_as id now (filled_draft i slot what d)
 
-    pub commit_done : Committed g graph (replaced e es) id (index_with i slot what) d2 d3 k3 → Changes g graph ds id (index_with i slot what) d0 d3 k3
+    pub commit_done : Committed g graph (replaced e es) id (index_with i slot what) None d2 d3 k3 → Changes g graph ds id (index_with i slot what) d0 d3 k3
     commit_done ch = record {
       store = subst (λ (fs : List Opened). StoreHas g (with_object graph id (index_with i slot what)) fs d3 k3) (without_begun e (opened_as id was d) ds refl has.shut) ch.store;
       settled = ch.settled;
@@ -248,7 +248,7 @@ module _ {D : Type 0} (g : Ghosts D) (at slot : ℕ) (what : Option Puid) (d0 : 
     -- filled, and committed or not
     module _ (d3 : D) (k3 : Kept) (b : Bool) (ended : Ends {A = Bool} g was.at 0 8 4 (leaf_takes was (slot / 64)) d1 d2 k1 k2 (Ok b)) (tried : HasTried g d1 d2) (cylinders : length k3.free ≡ length k2.free)
         (n t : ℕ) (few : n ≤ 93140) (fewer : t ≤ 46460) (commit : MakesAtMost g n t d2 d3)
-        (leaves : (graph : Graph) (ds : List Opened) (id : Puid) (i : Index) → HasSlot g graph ds d0 k0 at id i slot → Leaves g d1 d2 (λ c. Holds c graph) × Leaves g d2 d3 (IsOldOrNew graph id (index_with i slot what))) where
+        (leaves : (graph : Graph) (ds : List Opened) (id : Puid) (i : Index) → HasSlot g graph ds d0 k0 at id i slot → Leaves g d1 d2 (λ c. Holds c graph) × Leaves g d2 d3 (IsOldOrNew graph graph id (index_with i slot what))) where
       ends : Ends {A = Bool} g was.at 0 8 4 (leaf_takes was (slot / 64)) d1 d2 k0 k2 (Ok b)
       ends = begun_with (Ok b) ended
 
@@ -258,9 +258,9 @@ module _ {D : Type 0} (g : Ghosts D) (at slot : ℕ) (what : Option Puid) (d0 : 
       all : MakesAtMost g 93200 46500 d0 d3
       all = makes_then g d0 d2 d3 9 n 93200 4 t 46500 first commit (omega (arith, few)) (omega (arith, fewer))
 
-      images : (graph : Graph) (ds : List Opened) (id : Puid) (i : Index) → HasSlot g graph ds d0 k0 at id i slot → Leaves g d0 d3 (IsOldOrNew graph id (index_with i slot what))
+      images : (graph : Graph) (ds : List Opened) (id : Puid) (i : Index) → HasSlot g graph ds d0 k0 at id i slot → Leaves g d0 d3 (IsOldOrNew graph graph id (index_with i slot what))
       images graph ds id i has =
-          let P = IsOldOrNew graph id (index_with i slot what) in
+          let P = IsOldOrNew graph graph id (index_with i slot what) in
           let two = leaves graph ds id i has in
           then g d0 d2 d3 P P (then g d0 d1 d2 P (λ c. Holds c graph) (wider g d0 d1 Nothing P reads.images (λ c none. absurd none)) two.0 (λ c h. inl h)) two.1 (λ c h. h)
 

@@ -75,7 +75,7 @@ pub record PutsSlot {D : Type 0} (g : Ghosts D) (at slot : ℕ) (what : Option P
   pub done : (graph : Graph) (ds : List Opened) (id : Puid) (i : Index) → HasSlot g graph ds old before at id i slot
       → OnOk result (Changes g graph ds id (index_with i slot what) old new after)
   pub leaves : (graph : Graph) (ds : List Opened) (id : Puid) (i : Index) → HasSlot g graph ds old before at id i slot
-      → Leaves g old new (IsOldOrNew graph id (index_with i slot what))
+      → Leaves g old new (IsOldOrNew graph graph id (index_with i slot what))
   -- no damage where the disk holds the index
   pub sound : (graph : Graph) (ds : List Opened) (id : Puid) (i : Index) → HasSlot g graph ds old before at id i slot
       → IfErr result (λ e. is_damaged e ≡ false)

@@ -12,7 +12,7 @@ use special_files::Draft;
 use std::alloc::Global;
 
 /// `Full` where fewer blocks are Free than these and the four that are left for deletes.
-fn has_room(space: &Space, need: u32) -> Result<(), Refused>
+pub(crate) fn has_room(space: &Space, need: u32) -> Result<(), Refused>
     requires { need ≤ 4 }
     ensures room { OnOk result (need + 4 ≤ sum space.now.free) }
     ensures full { IfErr result (λ e. (e ≡ refused.Full (record { free = sum space.now.free; need = need }))
@@ -26,7 +26,7 @@ fn has_room(space: &Space, need: u32) -> Result<(), Refused>
 }
 
 /// The root at a block has no such slot.
-fn short(index: BlockNo) -> Refused
+pub(crate) fn short(index: BlockNo) -> Refused
     ensures { result ≡ spec.short_at index.0 }
 {
     Refused::Damaged(Damage {

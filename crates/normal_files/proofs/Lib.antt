@@ -13,6 +13,7 @@ pub mod Grown
 pub mod GrowRun
 pub mod PartlyBelow
 pub mod NeedOf
+pub mod Orders
 pub mod LackingTo
 pub mod Taking
 pub mod TakeLeaf

@@ -1,5 +1,5 @@
 -- How many blocks a write takes, told by the pointers of the file.
-use Rattle.std.proofs.Common.{◌≡◌, ◌≢◌, inl, inr, ℕ, zero, suc, ◌+◌, ◌-◌, ◌*◌, ◌/◌, ◌%◌, ◌<◌, ◌≤◌, Bool, true, false, length, get_or, refl, sym, ◌∙◌, ap, subst, arith}
+use Rattle.std.proofs.Common.{◌≡◌, ◌≢◌, inl, inr, ℕ, zero, suc, ◌+◌, ◌-◌, ◌*◌, ◌/◌, ◌%◌, ◌<◌, ◌≤◌, Bool, true, false, List, length, get_or, refl, sym, ◌∙◌, ap, subst, arith}
 use Rattle.std.specs.Prelude.{◌==◌, count_by, is_some, map, not}
 use Rattle.std.specs.List.{range_with_len}
 use Rattle.std.proofs.Math.Path.{fun_ext}
@@ -18,9 +18,11 @@ use Rattle.ufs_model.specs.declared.object.File.{File}
 use Rattle.ufs_model.specs.declared.object.Object.TheVariants as objects
 use Rattle.ufs_model.proofs.Rising.{in_map, in_numbers, in_withs, numbers-rise, same_numbers, to_map, to_numbers, to_withs, with_numbers-rise}
 use Rattle.vol_image.specs.Seen.{held_at}
-use Rattle.vol_image.proofs.Paths.{held_some, some_held}
+use Rattle.vol_image.proofs.Paths.{held_some, held_there, some_held}
 use Rattle.normal_files.specs.Laid.{IsRooted, leaf_of, leaves_of, node_of, object_of}
 use Rattle.normal_files.specs.Nodes.{leaves_at}
+use Rattle.normal_files.specs.Parts.{IsPart, IsReadPart, absent_in}
+use Rattle.normal_files.specs.declared.part.Part.{Part}
 use Rattle.normal_files.proofs.Trees.{leaf_stands, zeros}
 
 -- two tests that hold together are one
@@ -71,16 +73,27 @@ module _ (a : Image) (id : Puid) (f : File) (root : roots.Root) (rooted : IsRoot
   is_root : IsRootBlock (root_spelling root) root
   is_root = record { good = rooted.laid.good; spelled = refl }
 
-  held_is : (l : ℕ) → has_number l f.held ≡ is_some (leaves_of a root l)
+  pub held_is : (l : ℕ) → has_number l f.held ≡ is_some (leaves_of a root l)
   held_is l = ap (has_number l) gives.held ∙ held_each root (leaves_of a root) l (rooted.laid.fit.within l)
 
   pub some_is : (n k : ℕ) → k < 128 → is_some (leaves_of a root (128 * n + k)) ≡ is_some (held_at a (leaf_of a root n k))
   some_is n k small = ap is_some (leaf_stands a (root_spelling root) root is_root n k small)
 
+  no_block : (z : ℕ) → (z == 0) ≡ not (is_some (held_at a z))
+  no_block zero = refl
+  no_block (suc z) = ne_eqb (suc z) 0 (λ none. cc) ∙ sym (ap (λ o. not (is_some o)) (held_there a (suc z) (λ none. cc)))
+
+  -- an absent leaf is one to which the node doesn't lead
+  pub told_leaf : (size : ℕ) (part : Part) → IsReadPart size part → IsPart a root part → part.leaves.from < part.leaves.to → (l : ℕ) → l / 128 ≡ part.number → absent_in part.own.leaves l ≡ absent_leaf l
+  told_leaf size part read is some l number =
+      let at : 128 * part.number + l % 128 ≡ l = omega (arith, number) in
+      ap (λ (ls : List ℕ). get_or ls (l % 128) 0 == 0) (is.own some) ∙ no_block (leaf_of a root part.number (l % 128))
+      ∙ ap not (sym (some_is part.number (l % 128) (omega arith)) ∙ ap (λ (m : ℕ). is_some (leaves_of a root m)) at)
+
   no_node : (n k : ℕ) → node_of root n ≡ 0 → leaf_of a root n k ≡ 0
   no_node n k none = ap (λ (p : ℕ). get_or (leaves_at a p) k 0) none ∙ zeros 128 k
 
-  node_held : (n : ℕ) → has_number n (parents f.held) ≡ not (absent_node n)
+  pub node_held : (n : ℕ) → has_number n (parents f.held) ≡ not (absent_node n)
   node_held n = same_test (has_number n (parents f.held)) (not (absent_node n)) forth back
     where
       real : (p : ℕ) → p ≢ 0 → not (p == 0) ≡ true

@@ -1,8 +1,8 @@
 -- What the parts of a write take is the model's need of it.
-use Rattle.std.proofs.Common.{◌≡◌, ◌≢◌, inl, inr, ℕ, zero, suc, ◌+◌, ◌-◌, ◌*◌, ◌/◌, ◌%◌, ◌<◌, ◌≤◌, Bool, false, cond, List, length, get_or, refl, sym, ◌∙◌, ap, arith}
-use Rattle.std.specs.Prelude.{◌==◌, ◌&&◌, count_by, filter, if◌then◌else◌, is_some, nat_lt, not}
+use Rattle.std.proofs.Common.{◌≡◌, ◌≢◌, inl, inr, ℕ, zero, suc, ◌+◌, ◌-◌, ◌/◌, ◌<◌, ◌≤◌, Bool, false, cond, length, refl, sym, ◌∙◌, ap, arith}
+use Rattle.std.specs.Prelude.{◌==◌, ◌&&◌, count_by, filter, if◌then◌else◌, nat_lt}
 use Rattle.std.specs.List.{range_with_len}
-use Rattle.std.proofs.lemmas.Bool.{cases_lt, lt-ltb, ne_eqb}
+use Rattle.std.proofs.lemmas.Bool.{cases_lt, lt-ltb}
 use Rattle.std.proofs.lemmas.Bool.Decides.{nat_tests}
 use Rattle.std.proofs.lemmas.List.Sums.{length-filter}
 use Rattle.cfs_base.specs.Disk.{Image}
@@ -13,13 +13,11 @@ use Rattle.ufs_model.specs.declared.object.File.{File}
 use Rattle.ufs_model.specs.declared.object.Object.TheVariants as objects
 use Rattle.ufs_model.specs.Numbers.{branches, missing}
 use Rattle.ufs_model.specs.Object.{held_levels, leaves_in, touched}
-use Rattle.vol_image.specs.Seen.{held_at}
-use Rattle.vol_image.proofs.Paths.{held_there}
-use Rattle.normal_files.specs.Laid.{IsRooted, leaf_of, leaves_of, node_of, object_of}
+use Rattle.normal_files.specs.Laid.{IsRooted, node_of, object_of}
 use Rattle.normal_files.specs.Parts.{IsPart, IsReadPart, absent_in, lacking_to, part_need}
 use Rattle.normal_files.specs.declared.part.Part.{Part}
 use Rattle.normal_files.proofs.LackingTo.{filter_more}
-use Rattle.normal_files.proofs.NeedOf.{absent_leaf, absent_node, need_is, some_is}
+use Rattle.normal_files.proofs.NeedOf.{absent_leaf, absent_node, need_is, told_leaf}
 
 -- ---- counts over a row
 
@@ -64,20 +62,9 @@ module _ (a : Image) (id : Puid) (f : File) (root : roots.Root) (rooted : IsRoot
   abbrev Node : ℕ → Bool
   Node = absent_node a id f root rooted same
 
-  no_block : (z : ℕ) → (z == 0) ≡ not (is_some (held_at a z))
-  no_block zero = refl
-  no_block (suc z) = ne_eqb (suc z) 0 (λ none. cc) ∙ sym (ap (λ o. not (is_some o)) (held_there a (suc z) (λ none. cc)))
-
-  -- an absent leaf is one to which the node doesn't lead
-  absent_same : (part : Part) → IsReadPart size part → IsPart a root part → (l : ℕ) → part.leaves.from ≤ l → l < part.leaves.to → absent_in part.own.leaves l ≡ Leaf l
-  absent_same part read is l from to =
-      let at : 128 * part.number + l % 128 ≡ l = omega (arith, read.from, read.to, from, to) in
-      ap (λ (ls : List ℕ). get_or ls (l % 128) 0 == 0) (is.own (omega (arith, from, to))) ∙ no_block (leaf_of a root part.number (l % 128))
-      ∙ ap not (sym (some_is a id f root rooted same part.number (l % 128) (omega arith)) ∙ ap (λ (m : ℕ). is_some (leaves_of a root m)) at)
-
   lacking_is : (part : Part) → IsReadPart size part → IsPart a root part → lacking_to part.own.leaves part.leaves.from part.leaves.to ≡ many Leaf part.leaves.from (part.leaves.to - part.leaves.from)
   unfolding many
-  lacking_is part read is = many_same (absent_in part.own.leaves) Leaf part.leaves.from (part.leaves.to - part.leaves.from) (λ l from to. absent_same part read is l from (omega (arith, to, read.some, from)))
+  lacking_is part read is = many_same (absent_in part.own.leaves) Leaf part.leaves.from (part.leaves.to - part.leaves.from) (λ l from to. told_leaf a id f root rooted same size part read is (omega (arith, to, read.some, from)) l (omega (arith, to, read.some, from, read.from, read.to)))
 
   leaves_is : many Leaf (offset / 512) ((offset + count - 1) / 512 + 1 - offset / 512) ≡ lacking_to low.own.leaves low.leaves.from low.leaves.to + lacking_to high.own.leaves high.leaves.from high.leaves.to
   leaves_is =

@@ -6,11 +6,13 @@ use Rattle.cfs_base.specs.declared.disk.Disk.{Ghosts}
 use Rattle.cfs_base.specs.declared.identifier.Puid.{Puid}
 use Rattle.cfs_base.specs.declared.refusal.Refused.{Refused}
 use Rattle.block_tree.specs.declared.root.Root as roots
+use Rattle.claims.specs.Claims.{AreClaimed}
 use Rattle.cyl_alloc.specs.Space.{Kept}
 use Rattle.ufs_model.specs.declared.object.File.{File}
 use Rattle.ufs_model.specs.Graph.{Graph}
 use Rattle.normal_files.specs.Ends.{Finishes, HasGone, refused_after}
 use Rattle.normal_files.specs.Laid.{node_of}
+use Rattle.normal_files.specs.Order.{claims_from}
 use Rattle.normal_files.specs.Parts.{IsReadPart, absent_in, lacking_to, part_need}
 use Rattle.normal_files.specs.Steps.{IsAmid}
 use Rattle.normal_files.specs.Takes.{IsTakenTo, MayTake, StaysAmid, TakesLeaf, TakesTo, fresh_content, is_held, leaf_takes, node_takes, stop, with_taken}
@@ -43,7 +45,7 @@ module _ {D : Type 0} (g : Ghosts D) (owner fill offset : ℕ) (bytes : List ℕ
     pub one_held : get_or part.own.leaves (leaf % 128) 0 ≢ 0 → TakesTo g owner fill offset bytes part had (leaf + 1) d0 mid k0 k1 next
     one_held held = record {
       on = λ graph id f root last start may. let on = before.on graph id f root last start may in
-          (on.0, held_passed (g.content d0) (g.content mid) owner fill offset bytes part had leaf next on.1 (leaf % 128) at held);
+          (on.0, held_passed (g.content d0) (g.content mid) owner fill offset bytes part had leaf next on.1 (leaf % 128) at (omega arith) held);
     }
 
     pub one_taken : (new : D) (k2 : Kept) (x y : ℕ) (content : List ℕ) (held : Bool) → held ≡ is_held had next → get_or part.own.leaves (leaf % 128) 0 ≡ 0 → content ≡ fresh_content fill leaf offset bytes
@@ -118,6 +120,7 @@ taken_begins g owner fill offset bytes part had d kept count = record {
       some = λ yes. cc;
       keeps = record { size = refl; entries = λ m taken. refl; contents = λ m no taken. refl };
       rest = λ m. inl refl;
+      order = λ leaves nodes tells n m e eq more. subst (λ (k : ℕ). AreClaimed (claims_from owner leaves nodes part.leaves.from k) (g.content d) e) (omega (arith, eq)) more;
     },
   );
 }

@@ -1,19 +1,25 @@
 -- The absent leaves of one node, taken one after another.
-use Rattle.std.proofs.Common.{◌≡◌, ◌≢◌, ◌⊎◌, inl, inr, ℕ, zero, suc, ◌+◌, ◌*◌, ◌/◌, ◌%◌, ◌<◌, ◌≤◌, Bool, true, false, List, [], set, get_or, refl, sym, ◌∙◌, ap, subst, get_or-set_other, get_or-set_same, arith}
+use Rattle.std.proofs.Common.{◌≡◌, ◌≢◌, ◌⊎◌, inl, inr, ℕ, zero, suc, ◌+◌, ◌*◌, ◌/◌, ◌%◌, ◌<◌, ◌≤◌, Bool, true, false, List, [], ◌∷◌, set, get_or, refl, sym, ◌∙◌, ap, subst, get_or-set_other, get_or-set_same, arith}
+use Rattle.std.specs.Prelude.{◌==◌}
 use Rattle.std.proofs.lemmas.Bool.{both_ways, cases_Bool, cases_eq, ne_eqb}
 use Rattle.std.proofs.Math.ListN.{length-set}
 use Rattle.cfs_base.specs.Disk.{Image, block_at}
 use Rattle.cfs_base.specs.declared.kind.Place.{Place}
 use Rattle.cfs_base.specs.declared.kind.Place.TheVariants.{Leaf, Node}
 use Rattle.block_tree.specs.Pointers.{leaf_pointers, pointers_of}
+use Rattle.claims.specs.Claims.{AreClaimed}
+use Rattle.claims.proofs.Claims.{claims_then}
 use Rattle.cyl_map.specs.declared.entry.MapEntry.{MapEntry}
 use Rattle.cyl_map.specs.Volume.{entry_in, is_free_entry, is_free_in}
 use Rattle.cyl_map.proofs.Volumes.{entry_in-set}
 use Rattle.std.proofs.lemmas.Option.{same_Some}
+use Rattle.ufs_model.specs.Numbers.{has_number}
 use Rattle.normal_files.specs.Nodes.{leaves_at}
+use Rattle.normal_files.specs.Order.{TellsHeld, claims_from, nodes_now}
 use Rattle.normal_files.specs.Takes.{FreesNone, HasTaken, IsNew, IsOneOf, IsTakenTo, IsWhole, KeepsTaken, TakesLeaf, fresh_content, is_held}
 use Rattle.normal_files.specs.declared.next.Next.{Next}
 use Rattle.normal_files.specs.declared.part.Part.{Part}
+use Rattle.normal_files.proofs.Orders.{leaf_claimed, now_has, now_more, now_same, told_absent, told_held}
 
 -- ---- single blocks
 
@@ -56,7 +62,7 @@ module _ (a c : Image) (owner fill offset : ℕ) (bytes : List ℕ) (part : Part
   taken_frees m free = elim (has.rest m) [ inl same ↦ sym (ap is_free_entry same) ∙ free | inr one ↦ absurd (both_ways _ (one_taken m one) free) ]
 
   -- the next leaf is held already
-  module _ (l : ℕ) (at : 128 * part.number + l ≡ upto) (held : get_or part.own.leaves l 0 ≢ 0) where
+  module _ (l : ℕ) (at : 128 * part.number + l ≡ upto) (small : l < 128) (held : get_or part.own.leaves l 0 ≢ 0) where
     back : (k : ℕ) → IsTakenTo part (upto + 1) k → IsTakenTo part upto k
     back k t = record {
       small = t.small;
@@ -80,6 +86,8 @@ module _ (a c : Image) (owner fill offset : ℕ) (bytes : List ℕ) (part : Part
       some = λ yes. let s = has.some yes in (s.0, forth s.0 s.1);
       keeps = has.keeps;
       rest = λ m. elim (has.rest m) [ inl same ↦ inl same | inr (inl (k, t, is)) ↦ inr (inl (k, forth k t, is)) | inr (inr is) ↦ inr (inr is) ];
+      order = λ leaves nodes tells n m e eq more.
+          has.order leaves nodes tells (suc n) m e (omega (arith, eq)) (rw (told_held part had leaves nodes tells upto l at small held) more);
     }
 
   -- it is absent, and taken
@@ -133,6 +141,16 @@ module _ (a c : Image) (owner fill offset : ℕ) (bytes : List ℕ) (part : Part
     as_before : (m : ℕ) → entry_in d m ≡ entry_in c m → (entry_in d m ≡ entry_in a m) ⊎ IsOneOf part had (upto + 1) more m
     as_before m same = elim (has.rest m) [ inl was ↦ inl (same ∙ was) | inr one ↦ inr (old_one m one) ]
 
+    order_passed : (leaves nodes : List ℕ) → TellsHeld part had leaves nodes → (n m : ℕ) (e : Image) → part.leaves.from + m ≡ upto + 1 + n
+        → AreClaimed (claims_from owner leaves (nodes_now (had == 0) true part.number nodes) (upto + 1) n) d e → AreClaimed (claims_from owner leaves nodes part.leaves.from m) a e
+    order_passed leaves nodes tells n m e eq more =
+        let N = nodes_now (had == 0) next.grown part.number nodes in
+        let number : upto / 128 ≡ part.number = omega (arith, at, small) in
+        has.order leaves nodes tells (suc n) m e (omega (arith, eq))
+        (leaf_claimed owner leaves N (nodes_now (had == 0) true part.number nodes) upto n c d e (is_held had next) next.block x y (fresh_content fill upto offset bytes) (told_absent part had leaves nodes tells upto l at small absent)
+        (ap (λ (k : ℕ). has_number k N) number ∙ now_has (had == 0) next.grown part.number nodes tells.node) (now_same (had == 0) next.grown part.number nodes)
+        (λ no. now_more (had == 0) next.grown part.number nodes no ∙ ap (λ (k : ℕ). k ∷ N) (sym number)) takes more)
+
     pub leaf_passed : HasTaken a d owner fill offset bytes part had (upto + 1) more
     leaf_passed = record {
       count = length-set next.node.leaves l x ∙ has.count;
@@ -164,6 +182,7 @@ module _ (a c : Image) (owner fill offset : ℕ) (bytes : List ℕ) (part : Part
           ]
         ]
       ];
+      order = order_passed;
     }
 
   -- the node is written, to which nothing leads yet
@@ -199,6 +218,7 @@ module _ (a c : Image) (owner fill offset : ℕ) (bytes : List ℕ) (part : Part
         contents = λ m no taken. get_or-set_other c next.block m v [] (λ same. both_ways _ taken (ap (is_free_in a) same ∙ is.free)) ∙ has.keeps.contents m no taken;
       };
       rest = λ m. elim (has.rest m) [ inl same ↦ inl (same_entry m ∙ same) | inr one ↦ inr one ];
+      order = λ leaves nodes tells n m e eq more. has.order leaves nodes tells n m e eq (claims_then [] _ c d e same_entry more);
     }
 
     pub node_whole : IsWhole d had next

@@ -23,7 +23,9 @@ use Rattle.vol_owners.specs.Account.{Opened}
 use Rattle.normal_files.specs.Among.{IsAmong, IsEither}
 use Rattle.normal_files.specs.Ends.{Finishes, HasGone, IsStop, refused_after}
 use Rattle.normal_files.specs.Laid.{node_of}
+use Rattle.claims.specs.Claims.{AreClaimed}
 use Rattle.normal_files.specs.Links.{linked_image, linked_root}
+use Rattle.normal_files.specs.Order.{claims_of}
 use Rattle.normal_files.specs.Parts.{IsReadPart}
 use Rattle.normal_files.specs.Standing.{IsPartly}
 use Rattle.normal_files.specs.Steps.{Goes, HasCome, HasStoppedBy, IsAmid, told_after}
@@ -34,7 +36,7 @@ use Rattle.normal_files.specs.declared.part.Part.{Part}
 use Rattle.normal_files.proofs.Amid.{amid_begins}
 use Rattle.normal_files.proofs.Ending.{gone_err, stop_by}
 use Rattle.normal_files.proofs.Patched.{partly_written}
-use Rattle.normal_files.proofs.WriteRun.{partly1, partly2, stores_now}
+use Rattle.normal_files.proofs.WriteRun.{order_now, partly1, partly2, stores_now}
 
 -- ---- how it ends
 
@@ -134,6 +136,11 @@ module _ {D : Type 0} (g : Ghosts D) (graph : Graph) (ds : List Opened) (id : Pu
       pub end_stores : (new : D) → g.content new ≡ two → IsSettled g new → StoreHas g (with_object graph id (objects.File (written f offset bytes))) ds new k1
       end_stores new content settled =
           stores_now g graph id f root offset bytes low high start is.starts is.inside size low_read high_read is.low_is is.high_is first joins last apart mid d k1 entries amid low_next high_next mine ds kept is.store is.no_draft new (content ∙ sym same_two) settled
+
+      pub end_order : (new : D) → g.content new ≡ two → low.leaves.from < low.leaves.to → AreClaimed (claims_of at f offset (length bytes)) a (g.content new)
+      end_order new content some = subst (λ (r : ℕ). AreClaimed (claims_of r f offset (length bytes)) a (g.content new)) is.here
+          (subst (AreClaimed (claims_of id.block f offset (length bytes)) a) (same_two ∙ sym content)
+          (order_now g graph id f root offset bytes low high start is.starts is.inside size low_read high_read is.low_is is.high_is first joins last apart mid d k1 entries amid low_next high_next mine some))
 
 -- the held leaves couldn't be written
 pub put_stops : {D : Type 0} (g : Ghosts D) (old new : D) (kept : Kept) (t : Trouble) → HasStoppedBy g old new t → IsStop g old new kept (refused_by t)

@@ -1,6 +1,6 @@
 -- A write, from the first leaf to the last pointer.
-use Rattle.std.proofs.Common.{◌≡◌, ◌≢◌, ◌⊎◌, inl, inr, ℕ, zero, suc, ◌+◌, ◌*◌, ◌/◌, ◌%◌, ◌<◌, ◌≤◌, Bool, true, false, List, [], length, get_or, Option, Some, None, refl, sym, ◌∙◌, ap, subst, arith}
-use Rattle.std.specs.Prelude.{◌&&◌, ◌==◌, is_some}
+use Rattle.std.proofs.Common.{◌≡◌, ◌≢◌, ◌⊎◌, inl, inr, ℕ, zero, suc, ◌+◌, ◌-◌, ◌*◌, ◌/◌, ◌%◌, ◌<◌, ◌≤◌, Bool, true, false, List, [], length, get_or, Option, Some, None, refl, sym, ◌∙◌, ap, subst, arith}
+use Rattle.std.specs.Prelude.{◌&&◌, ◌==◌, is_some, not}
 use Rattle.std.proofs.lemmas.Bool.{both_ways, cases_eq, cases_lt}
 use Rattle.cfs_base.specs.Disk.{Image, block_at}
 use Rattle.cfs_base.specs.Run.{IsSettled}
@@ -11,6 +11,8 @@ use Rattle.cfs_base.specs.declared.kind.Place.TheVariants.{Leaf, Node, Root}
 use Rattle.block_tree.specs.declared.root.Root as roots
 use Rattle.block_tree.specs.Pointers.{leaf_pointers, pointers_of}
 use Rattle.block_tree.specs.Root.{root_spelling}
+use Rattle.claims.specs.Claims.{AreClaimed}
+use Rattle.claims.proofs.Claims.{claims_then}
 use Rattle.cyl_alloc.specs.Space.{AreCounts, Kept, allocated}
 use Rattle.cyl_map.specs.declared.state.BlockState.{BlockState}
 use Rattle.cyl_map.specs.declared.state.BlockState.TheVariants.{Allocated, Free, IntendAllocate, IntendDeallocate}
@@ -20,6 +22,7 @@ use Rattle.leaf_changes.specs.Leaves.{LeavesFit, bytes_held}
 use Rattle.ufs_model.specs.declared.object.File.{File}
 use Rattle.ufs_model.specs.declared.object.Object.TheVariants as objects
 use Rattle.ufs_model.specs.Graph.{Graph, with_object}
+use Rattle.ufs_model.specs.Numbers.{has_number, parents}
 use Rattle.ufs_model.specs.Object.{leaves_in, written}
 use Rattle.ufs_model.proofs.Graphs.{rises-with_object}
 use Rattle.vol_image.specs.Part.{BelongsTo, part_at, part_of}
@@ -41,6 +44,7 @@ use Rattle.normal_files.specs.Among.{leaf_after}
 use Rattle.normal_files.specs.Laid.{IsAt, IsRooted, leaf_of, leaves_of, node_of}
 use Rattle.normal_files.specs.Links.{linked_image, linked_root}
 use Rattle.normal_files.specs.Nodes.{leaves_at}
+use Rattle.normal_files.specs.Order.{TellsHeld, claims_from, claims_of, nodes_now}
 use Rattle.normal_files.specs.Parts.{IsPart, IsReadPart}
 use Rattle.normal_files.specs.Standing.{IsPartly}
 use Rattle.normal_files.specs.Steps.{IsAmid, IsWrittenTo, Starts}
@@ -51,6 +55,8 @@ use Rattle.normal_files.proofs.Among.{among_holds, among_rooted, leaf_either, sa
 use Rattle.normal_files.proofs.Laid.{rooted_reads}
 use Rattle.normal_files.proofs.Mixed.{last_file, mixed_fits, mixed_partly}
 use Rattle.normal_files.proofs.StillThere.{all_there}
+use Rattle.normal_files.proofs.NeedOf.{held_is, node_held, told_leaf}
+use Rattle.normal_files.proofs.Orders.{not_is, now_other}
 use Rattle.normal_files.proofs.Owned.{IsOwn, block_from_own, own_from_block}
 use Rattle.normal_files.proofs.Patched.{next_held, next_untouched, untouched, whole}
 use Rattle.normal_files.proofs.Ready.{IsReady}
@@ -376,3 +382,33 @@ module _ {D : Type 0} (g : Ghosts D) (graph : Graph) (id : Puid) (f : File) (roo
         counts = subst (λ (i : Image). AreCounts i kept) (sym content) comes2.stage.counts;
         ordered = rises-with_object graph id new store.ordered;
       }
+
+  -- ---- the claims in their order
+
+  tells : (part : Part) → IsReadPart size part → IsPart a root part → part.leaves.from < part.leaves.to → (nodes : List ℕ) → has_number part.number nodes ≡ not (node_of root part.number == 0) → TellsHeld part (node_of root part.number) f.held nodes
+  tells part read is some nodes node = record {
+    leaf = λ l number. not_is _ _ (told_leaf a id f root starts.rooted starts.same size part read is some l number ∙ ap not (sym (held_is a id f root starts.rooted starts.same l)));
+    node = node;
+  }
+
+  abbrev low_nodes : List ℕ
+  low_nodes = nodes_now (node_of root low.number == 0) low_next.grown low.number (parents f.held)
+
+  high_claims : (n : ℕ) → high.leaves.from + n ≡ high.leaves.to → AreClaimed (claims_from id.block f.held low_nodes high.leaves.from n) both.mid c2
+  high_claims n is = elim (cases_lt high.leaves.from high.leaves.to) [
+    | inl more ↦ both.high_has.order f.held low_nodes
+        (tells high high_read high_is more low_nodes (now_other _ low_next.grown low.number high.number (parents f.held) (apart more) ∙ node_held a id f root starts.rooted starts.same high.number)) 0 n c2 (omega (arith, is)) comes2.stage.entries
+    | inr past ↦ let none : 0 ≡ n = omega (arith, is, past) in subst (λ (k : ℕ). AreClaimed (claims_from id.block f.held low_nodes high.leaves.from k) both.mid c2) none
+        (λ m. comes2.stage.entries m ∙ elim (both.high_has.rest m) [
+          | inl same ↦ same
+          | inr (inl (k, t, at)) ↦ absurd (omega (arith, t.from, t.to, past))
+          | inr (inr (none, grown, at)) ↦ let t = both.high_has.some grown in absurd (omega (arith, t.1.from, t.1.to, past))
+        ])
+  ]
+
+  pub order_now : low.leaves.from < low.leaves.to → AreClaimed (claims_of id.block f offset (length bytes)) a c2
+  order_now some =
+      let n = high.leaves.to - high.leaves.from in
+      let rest = subst (λ (l : ℕ). AreClaimed (claims_from id.block f.held low_nodes l n) both.mid c2) joins (high_claims n (omega (arith, high_read.some))) in
+      let all = both.low_has.order f.held (parents f.held) (tells low low_read low_is some (parents f.held) (node_held a id f root starts.rooted starts.same low.number)) n (leaves_in (offset + length bytes) - offset / 512) c2 (omega (arith, first, joins, last, high_read.some, low_read.some)) rest in
+      claims_then [] _ a (g.content p) c2 same_p (subst (λ (l : ℕ). AreClaimed (claims_from id.block f.held (parents f.held) l (leaves_in (offset + length bytes) - offset / 512)) (g.content p) c2) first all)

@@ -6,6 +6,7 @@ pub mod Laid
 pub mod Among
 pub mod Steps
 pub mod Parts
+pub mod Order
 pub mod Grows
 pub mod Takes
 pub mod Ends

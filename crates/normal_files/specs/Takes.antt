@@ -9,6 +9,7 @@ use Rattle.cfs_base.specs.declared.kind.Place.{Place}
 use Rattle.cfs_base.specs.declared.kind.Place.TheVariants.{Leaf, Node}
 use Rattle.cfs_base.specs.declared.refusal.Refused.{Refused}
 use Rattle.block_tree.specs.declared.root.Root as roots
+use Rattle.claims.specs.Claims.{AreClaimed}
 use Rattle.cyl_alloc.specs.Enters.{Enters}
 use Rattle.cyl_alloc.specs.Space.{IsLeastFree, Kept, allocated}
 use Rattle.cyl_map.specs.Volume.{entry_in, is_free_in, with_entry}
@@ -17,6 +18,7 @@ use Rattle.ufs_model.specs.declared.object.File.{File}
 use Rattle.ufs_model.specs.Graph.{Graph}
 use Rattle.normal_files.specs.Among.{IsAmong, IsEither}
 use Rattle.normal_files.specs.Nodes.{leaves_at}
+use Rattle.normal_files.specs.Order.{TellsHeld, claims_from, nodes_now}
 use Rattle.normal_files.specs.Steps.{IsAmid, Starts}
 use Rattle.normal_files.specs.declared.next.Next.{Next}
 use Rattle.normal_files.specs.declared.part.Part.{Part}
@@ -94,6 +96,9 @@ pub record HasTaken (a c : Image) (owner fill offset : ℕ) (bytes : List ℕ) (
   pub some : next.grown ≡ true → (k : ℕ) × IsTakenTo part upto k
   pub keeps : KeepsTaken a c
   pub rest : (m : ℕ) → (entry_in c m ≡ entry_in a m) ⊎ IsOneOf part had upto next m
+  -- what is claimed for more leaves, up to image e, follows what was claimed for these
+  pub order : (leaves nodes : List ℕ) → TellsHeld part had leaves nodes → (n m : ℕ) (e : Image) → part.leaves.from + m ≡ upto + n
+      → AreClaimed (claims_from owner leaves (nodes_now (had == 0) next.grown part.number nodes) upto n) c e → AreClaimed (claims_from owner leaves nodes part.leaves.from m) a e
 
 -- the new node is written too
 abbrev pub IsWhole : Image → (had : ℕ) → Next → Type 0

@@ -6,6 +6,7 @@ ghost use Rattle.cfs_base.specs.Run.{IsSettled, Leaves as LeavesOf, Tells};
 ghost use Rattle.cfs_base.specs.declared.identifier.Puid.{Puid};
 ghost use Rattle.cfs_base.specs.declared.refusal.Refused.TheVariants as refusals;
 ghost use Rattle.cfs_base.specs.declared.refusal.Trouble.TheVariants as troubles;
+ghost use Rattle.claims.specs.Claims.{AreClaimed};
 ghost use Rattle.cyl_alloc.specs.Space.{Kept};
 ghost use Rattle.cyl_map.specs.Volume.{entry_in};
 ghost use Rattle.intentions.specs.Store.{StoreHas};
@@ -13,6 +14,7 @@ ghost use Rattle.normal_files.specs.Among.{IsAmong, IsEither};
 ghost use Rattle.normal_files.specs.Ends.{IsStop, is_damaged};
 ghost use Rattle.normal_files.specs.Laid.{node_of};
 ghost use Rattle.normal_files.specs.Links.{linked_image, linked_root};
+ghost use Rattle.normal_files.specs.Order.{claims_of};
 ghost use Rattle.normal_files.specs.Parts.{IsReadPart, part_need};
 ghost use Rattle.normal_files.specs.Standing.{IsPartly};
 ghost use Rattle.normal_files.specs.Steps.{HasCome, HasStoppedBy, IsAmid};
@@ -147,6 +149,10 @@ pub(crate) fn write_parts<D: Disk>(
         → Writes D.Disk graph ds id f root.now at.0 offset bytes.now low.now high.now disk.old space.old
         → OnOk result (StoreHas D.Disk (with_object graph id (objects.File (written_file f offset bytes.now))) ds
         disk.new space.new × IsSettled D.Disk disk.new) }
+    ensures order { (graph : Graph) (ds : List Opened) (id : Puid) (f : files.File)
+        → Writes D.Disk graph ds id f root.now at.0 offset bytes.now low.now high.now disk.old space.old
+        → low.now.leaves.from < low.now.leaves.to → OnOk result
+        (AreClaimed (claims_of at.0 f offset (length bytes.now)) (D.content disk.old) (D.content disk.new)) }
     // Done or not, each image that is left has each leaf old or new.
     ensures images { (graph : Graph) (ds : List Opened) (id : Puid) (f : files.File)
         → Writes D.Disk graph ds id f root.now at.0 offset bytes.now low.now high.now disk.old space.old
@@ -199,6 +205,11 @@ pub fn write<D: Disk>(
         → offset + length bytes.now ≤ length f.bytes
         → OnOk result (StoreHas D.Disk (with_object graph id (objects.File (written_file f offset bytes.now))) ds
         disk.new space.new × IsSettled D.Disk disk.new) }
+    // Each touched leaf that isn't held takes the least Free block, and after it its node: in increasing order.
+    ensures order { (graph : Graph) (ds : List Opened) (id : Puid) (f : files.File) → StoreHas D.Disk graph ds disk.old space.old
+        → object_at graph id ≡ Some (objects.File f) → drafts_of ds id ≡ [] → id.block ≡ at.0
+        → offset + length bytes.now ≤ length f.bytes → OnOk result
+        (AreClaimed (claims_of at.0 f offset (length bytes.now)) (D.content disk.old) (D.content disk.new)) }
     // Done or not, each image that is left has each leaf old or new.
     ensures images { (graph : Graph) (ds : List Opened) (id : Puid) (f : files.File) → StoreHas D.Disk graph ds disk.old space.old
         → object_at graph id ≡ Some (objects.File f) → drafts_of ds id ≡ [] → id.block ≡ at.0

@@ -1,5 +1,5 @@
 //! The random words, drawn in turn.
-ghost use Rattle.std.specs.Prelude.{◌≡◌, ◌+◌, ◌<◌};
+ghost use Rattle.std.specs.Prelude.{◌≡◌, ◌+◌, ◌<◌, ℕ};
 ghost use Rattle.ufs_model.specs.Word.{word};
 ghost use Rattle.puid_space.specs.Draw.{stream_at};
 
@@ -21,6 +21,8 @@ pub struct Drawn {
 pub struct Draw {
     seed: u64,
     drawn: u32,
+    /// The word of the next draw.
+    ahead: u32,
     stream: ChaCha20Rng,
 }
 
@@ -30,21 +32,26 @@ impl Model for Draw {
     ghost Value = { Draws };
 
     ghost use Rattle.std.specs.Prelude.{◌≡◌, ◌+◌};
+    ghost use Rattle.ufs_model.specs.Word.{word};
 
     ghost view = { λ d. record { seed = d.seed; drawn = d.drawn } };
 
-    ghost invariant = { λ d. d.stream ≡ stream_at d.seed (d.drawn + 1) };
+    ghost invariant = { λ d. (d.stream ≡ stream_at d.seed (d.drawn + 2)) × (d.ahead ≡ word d.seed (d.drawn + 1)) };
 }
 
 impl Draw {
     /// The words of a seed, of which none is drawn yet.
+    #[tactic(auto, unfolding(ufs_model::specs::Word::word))]
     pub fn new(seed: u64) -> Draw
         ensures { result ≡ record { seed = seed; drawn = 0 } }
     {
+        let mut stream = first_draw(seed);
+        let ahead = stream.next_word();
         Draw {
             seed,
             drawn: 0,
-            stream: first_draw(seed),
+            ahead,
+            stream,
         }
     }
 
@@ -63,12 +70,20 @@ impl Draw {
         ensures word { result.word ≡ word self.old.seed (self.old.drawn + 1) }
         ensures drawn { self.new ≡ record self.old { drawn = self.old.drawn + 1 } }
     {
-        let word = self.stream.next_word();
+        let word = self.ahead;
+        self.ahead = self.stream.next_word();
         self.drawn += 1;
         Drawn {
             draw: self.drawn,
             word,
         }
+    }
+
+    /// The word of the next draw, which isn't drawn yet.
+    pub fn ahead(&self) -> u32
+        ensures { result ≡ word self.now.seed (self.now.drawn + 1) }
+    {
+        self.ahead
     }
 }
 

@@ -1,8 +1,8 @@
 -- A draft whose blocks become Free.
-use Rattle.std.proofs.Common.{◌≡◌, ◌≢◌, inl, inr, ⊎_elim, ℕ, Bool, IsTrue, true, false, List, [], ◌++◌, length, Option, Some, None, Ok, Err, refl, sym, ◌∙◌, ap, subst}
-use Rattle.std.specs.Prelude.{IfErr, OnOk, Result, option_to_list}
-use Rattle.std.proofs.lemmas.Bool.{both_ways, cases_Bool, false_from_ne_true}
-use Rattle.std.proofs.lemmas.List.{append-nil}
+use Rattle.std.proofs.Common.{◌≡◌, ◌≢◌, inl, inr, ⊎_elim, ℕ, Bool, IsTrue, true, false, List, [], ◌∷◌, ◌++◌, length, Option, Some, None, Ok, Err, refl, sym, ◌∙◌, ap, subst}
+use Rattle.std.specs.Prelude.{OnOk, Result, option_to_list}
+use Rattle.std.specs.List.{list_all}
+use Rattle.std.proofs.lemmas.Bool.{and_from, and_parts, both_ways, cases_Bool, false_from_ne_true}
 use Rattle.std.proofs.lemmas.Option.{same_Some}
 use Rattle.cfs_base.specs.Disk.{Image, IsSameDisk, Nothing}
 use Rattle.cfs_base.specs.Run.{Leaves}
@@ -10,63 +10,58 @@ use Rattle.cfs_base.specs.declared.disk.Disk.{Ghosts}
 use Rattle.cfs_base.specs.declared.identifier.Puid.{Puid}
 use Rattle.cfs_base.specs.declared.kind.Place.TheVariants.{Root, ShadowRoot}
 use Rattle.cfs_base.specs.declared.refusal.Trouble.{Trouble}
-use Rattle.cfs_base.proofs.Runs.{wider}
+use Rattle.cfs_base.proofs.Runs.{then, wider}
+use Rattle.cyl_map.specs.declared.state.BlockState.{BlockState}
 use Rattle.cyl_map.specs.declared.entry.MapEntry.{MapEntry}
 use Rattle.cyl_map.specs.Volume.{entry_in, is_free_entry, is_free_in}
 use Rattle.cyl_map.proofs.Volumes.{entry_in_table}
-use Rattle.cyl_alloc.specs.Space.{AreCounts, Kept}
+use Rattle.cyl_alloc.specs.Space.{AreCounts, Kept, free_entry}
 use Rattle.ufs_model.specs.declared.object.Draft as models
 use Rattle.ufs_model.specs.declared.object.Object.{Object}
-use Rattle.ufs_model.specs.Graph.{Graph, object_at}
+use Rattle.ufs_model.specs.Graph.{Graph, is_there, object_at}
 use Rattle.ufs_model.specs.Numbers.{has_number}
 use Rattle.vol_image.specs.Part.{IsTaken}
 use Rattle.vol_image.specs.Sound.{Holds}
 use Rattle.vol_image.proofs.Carries.{carries_on}
 use Rattle.vol_image.proofs.Law.{frames_hold}
-use Rattle.vol_image.proofs.Parts.{shadow_taken}
+use Rattle.vol_image.proofs.Parts.{shadow_taken, taken_apart}
 use Rattle.vol_image.proofs.Steps.{frames_begin, not_map}
-use Rattle.vol_owners.specs.Account.{Accounts, HasDraft, HasDrafts, Opened, content_of, is_meant_for, numbers_differ}
-use Rattle.vol_owners.specs.Change.{ChangesOnly, of_draft}
-use Rattle.vol_owners.specs.Owner.{is_meant, is_of}
+use Rattle.vol_owners.specs.Account.{Accounts, HasDraft, HasDrafts, IsMade, Opened, content_of, drafts_of, is_meant_for}
+use Rattle.vol_owners.specs.Change.{ChangesOnly, IsOpenTo, OwnsNothing, of_draft, of_drafts}
+use Rattle.vol_owners.specs.Owner.{is_meant, is_of, is_placed, is_taken}
 use Rattle.vol_owners.proofs.Changes.{changes_begin}
-use Rattle.vol_owners.proofs.Entries.{free_unowned, stands_meant}
-use Rattle.vol_owners.proofs.Steps.{draft_goes_on}
+use Rattle.vol_owners.proofs.Entries.{free_unowned, had_not_meant, owner_is, placed_taken, root_placed, stands_meant}
+use Rattle.vol_owners.proofs.Steps.{draft_goes_on, making_goes_on}
 use Rattle.intentions.specs.Course.{Frame, IsOn, MayPut}
-use Rattle.intentions.specs.Entries.{changed, undone}
+use Rattle.intentions.specs.Entries.{changed, undone, undone_in}
 use Rattle.intentions.specs.declared.change.Change.TheVariants.{Undo}
 use Rattle.intentions.specs.Store.{StoreHas}
+use Rattle.intentions.proofs.Changes.{on_ok}
 use Rattle.intentions.proofs.Courses.{carries_framed, keeps_frame}
 use Rattle.intentions.proofs.Settling.{may_take_back}
+use Rattle.intentions.proofs.Valid.{no_shadow_stands, undone_stands, undone_valid}
 use Rattle.special_files.specs.Changed.{AreTaken}
-use Rattle.special_files.specs.Committing.{Dropped, Flip, Flips, MayFlip, flipped, flips, given_all, undoing}
+use Rattle.special_files.specs.Committing.{AbortEnds, Dropped, Flip, Flips, MayFlip, flipped, flips, given_all, undoing}
 use Rattle.special_files.specs.Drafting.{Drafting, IsOpen, opened_as}
 use Rattle.special_files.specs.Refusal.{is_damage}
 use Rattle.special_files.specs.Store.{without_draft}
 use Rattle.special_files.proofs.CommitDraft.{without_created, without_here, without_others, without_stay}
 use Rattle.special_files.proofs.CommitEntries.{meant_not_free, undone_free}
-use Rattle.special_files.proofs.CommitFlips.{counts_given_all, flipped_append, flipped_block, flipped_on, flips_entry, if_at, first_number, may_append, may_flips}
-use Rattle.special_files.proofs.CommitWhole.{only_one, tree_inner}
-use Rattle.special_files.proofs.Meant.{meant_is, meant_loose, meant_open, no_shadow}
+use Rattle.special_files.proofs.CommitFlips.{counts_given_all, flipped_append, flipped_block, flipped_on, flips_entry, if_at, first_number, may_append, may_flips, more_numbers, option_has, option_is, option_once}
+use Rattle.special_files.proofs.CommitRoles.{one_owner}
+use Rattle.special_files.proofs.Made.{IsNewRoot, made_apart, made_meant, made_root, no_object}
+use Rattle.special_files.proofs.Making.{created_there, without_it}
+use Rattle.special_files.proofs.CommitWhole.{tree_inner}
+use Rattle.special_files.proofs.Meant.{meant_is, meant_loose, no_shadow}
 use Rattle.special_files.proofs.PutStore.{the_draft}
 
-module _ (a : Image) (g : Graph) (ds : List Opened) (id : Puid) (o : Object) (k0 : Kept) (d : Opened) (taken : List ℕ) (had : Accounts a g ds) (at : object_at g id ≡ Some o) (draft : HasDraft a id d) (lists : AreTaken a id d taken) where
+module _ (a : Image) (g : Graph) (ds : List Opened) (id : Puid) (o : Object) (k0 : Kept) (d : Opened) (taken : List ℕ) (had : Accounts a g ds) (at : object_at g id ≡ Some o) (alone : drafts_of ds id ≡ d ∷ []) (draft : HasDraft a id d) (lists : AreTaken a id d taken) where
   -- the shadow root, if it has one
   abbrev pub own : List ℕ
   own = option_to_list d.shadow
 
   own_is : (n : ℕ) → has_number n (option_to_list d.shadow) ≡ true → d.shadow ≡ Some n
-  own_is n is = by d.shadow refl is
-    where
-      by : (s : Option ℕ) → d.shadow ≡ s → has_number n (option_to_list s) ≡ true → d.shadow ≡ Some n
-      by None eq h = cc
-      by (Some s) eq h = eq ∙ ap Some (only_one s n h)
-
-  own_once : numbers_differ (option_to_list d.shadow) ≡ true
-  own_once = by d.shadow
-    where
-      by : (s : Option ℕ) → numbers_differ (option_to_list s) ≡ true
-      by None = refl
-      by (Some s) = refl
+  own_is n is = option_is d.shadow n is
 
   own_meant : (n : ℕ) → has_number n (option_to_list d.shadow) ≡ true → is_meant_for a id.block n ≡ true
   own_meant n is = stands_meant id.block (entry_in a n) (draft.shadow n (own_is n is))
@@ -95,108 +90,194 @@ module _ (a : Image) (g : Graph) (ds : List Opened) (id : Puid) (o : Object) (k0
   b1_entry m = flips_entry (Frame a g) Undo taken a lists.once may1 m
 
   may2 : MayFlip (Frame a g) b1 (flips Undo (option_to_list d.shadow))
-  may2 = may_flips (Frame a g) Undo (option_to_list d.shadow) b1 own_once (λ n is.
+  may2 = may_flips (Frame a g) Undo (option_to_list d.shadow) b1 (option_once d.shadow) (λ n is.
       let may = may_undo n (own_meant n is) (λ e here root.
       let shadow = shadow_taken a id.block n (draft.shadow n (own_is n is)) in
       let no : Some ShadowRoot ≡ Some Root = sym shadow.place_is ∙ ap (λ (x : MapEntry). x.place) (same_Some _ _ (sym shadow.taken.here ∙ here)) ∙ root in cc) in
       (may.0, b1_entry n ∙ ap (λ (b : Bool). if_at b Undo (entry_in a n)) (own_not_taken n is) ∙ may.1, may.2))
 
   b2_entry : (m : ℕ) → entry_in b2 m ≡ if_at (has_number m (option_to_list d.shadow)) Undo (entry_in b1 m)
-  b2_entry m = flips_entry (Frame a g) Undo (option_to_list d.shadow) b1 own_once may2 m
+  b2_entry m = flips_entry (Frame a g) Undo (option_to_list d.shadow) b1 (option_once d.shadow) may2 m
 
-  pub b2_on : IsOn (Frame a g) b2
-  b2_on = flipped_on (Frame a g) (flips Undo (option_to_list d.shadow)) b1 had.holds (flipped_on (Frame a g) (flips Undo taken) a had.holds (frames_begin a g had.holds) may1) may2
+  -- ---- the root of an object that was to be made
 
-  pub all_may : MayFlip (Frame a g) a (flips Undo taken ++ flips Undo (option_to_list d.shadow))
-  all_may = may_append (Frame a g) (flips Undo taken) (flips Undo (option_to_list d.shadow)) a may1 may2
+  made_is : (n : ℕ) → has_number n (option_to_list d.created) ≡ true → IsMade a n
+  made_is n there = had.made n (created_there id d n ds alone (option_is d.created n there))
 
-  pub all_is : flipped a (flips Undo taken ++ flips Undo (option_to_list d.shadow)) ≡ b2
-  all_is = flipped_append (flips Undo taken) (flips Undo (option_to_list d.shadow)) a
+  made_at : (n : ℕ) → has_number n (option_to_list d.created) ≡ true → IsNewRoot a n
+  made_at n there = made_root a had.holds.own n (made_is n there)
 
-  state_of : (n : ℕ) (e : MapEntry) → is_meant_for a id.block n ≡ true → entry_in a n ≡ Some e → (is_free_entry (Some e) ≡ false) × (is_free_entry (Some (undone e)) ≡ true)
-  state_of n e meant here =
-      let m = meant_is a id.block n meant in
+  made_not_meant : (n : ℕ) → has_number n (option_to_list d.created) ≡ true → is_meant_for a id.block n ≡ false
+  made_not_meant n there = false_from_ne_true _ (λ meant. made_apart a had.holds.own n (made_is n there) id.block (had.objects id o at) (one_owner is_meant is_meant n id.block (entry_in a n) (made_meant a had.holds.own n (made_is n there)) meant))
+
+  b2_kept : (m : ℕ) → is_meant_for a id.block m ≡ false → entry_in b2 m ≡ entry_in a m
+  b2_kept m none =
+      b2_entry m ∙ (λ i. if_at (false_from_ne_true _ (λ is. both_ways _ none (own_meant m is)) i) Undo (entry_in b1 m))
+      ∙ b1_entry m ∙ (λ i. if_at (false_from_ne_true _ (λ is. both_ways _ none (lists.meant m is)) i) Undo (entry_in a m))
+
+  b2_made : (n : ℕ) → (there : has_number n (option_to_list d.created) ≡ true) → entry_in b2 n ≡ Some (made_at n there).at.taken.is
+  b2_made n there = b2_kept n (made_not_meant n there) ∙ (made_at n there).at.taken.here
+
+  abbrev pub b3 : Image
+  b3 = flipped b2 (flips Undo (option_to_list d.created))
+
+  may3 : MayFlip (Frame a g) b2 (flips Undo (option_to_list d.created))
+  may3 = may_flips (Frame a g) Undo (option_to_list d.created) b2 (option_once d.created) (λ n there.
+      let root = (made_at n there).at in
+      let e = root.taken.is in
+      let gone : undone e ≡ free_entry = ap (λ (s : BlockState). undone_in s e) (made_at n there).state in (
+        e,
+        b2_made n there,
+        (
+          undone_valid e (entry_in_table a n e root.taken.here),
+          λ at_root. (let no : None ≡ Some Root = ap (λ (x : MapEntry). x.place) (sym gone) ∙ at_root in cc),
+          record {
+            apart = taken_apart a g had.holds n n root.taken;
+            keeps = λ held. absurd (both_ways _ (had_not_meant held.0.block (entry_in a n) ((had.objects held.0 held.1 held.2).each n held.3)) (root_placed is_meant (entry_in a n) (made_is n there).entered));
+            standing = λ x p found bit. undone_stands x.block e ∙ sym (no_shadow_stands x.block e (λ at_shadow. (let no : Some Root ≡ Some ShadowRoot = sym root.place_is ∙ at_shadow in cc)));
+          },
+        ),
+      ))
+
+  b3_entry : (m : ℕ) → entry_in b3 m ≡ if_at (has_number m (option_to_list d.created)) Undo (entry_in b2 m)
+  b3_entry m = flips_entry (Frame a g) Undo (option_to_list d.created) b2 (option_once d.created) may3 m
+
+  pub b3_on : IsOn (Frame a g) b3
+  b3_on = flipped_on (Frame a g) (flips Undo (option_to_list d.created)) b2 had.holds (flipped_on (Frame a g) (flips Undo (option_to_list d.shadow)) b1 had.holds (flipped_on (Frame a g) (flips Undo taken) a had.holds (frames_begin a g had.holds) may1) may2) may3
+
+  -- ---- all
+
+  pub all_may : MayFlip (Frame a g) a (undoing taken d.shadow d.created)
+  all_may = may_append (Frame a g) (flips Undo taken) (flips Undo (option_to_list d.shadow) ++ flips Undo (option_to_list d.created)) a may1 (may_append (Frame a g) (flips Undo (option_to_list d.shadow)) (flips Undo (option_to_list d.created)) b1 may2 may3)
+
+  pub all_is : flipped a (undoing taken d.shadow d.created) ≡ b3
+  all_is = flipped_append (flips Undo taken) (flips Undo (option_to_list d.shadow) ++ flips Undo (option_to_list d.created)) a ∙ flipped_append (flips Undo (option_to_list d.shadow)) (flips Undo (option_to_list d.created)) b1
+
+  state_of : (r n : ℕ) (e : MapEntry) → is_meant_for a r n ≡ true → entry_in a n ≡ Some e → (is_free_entry (Some e) ≡ false) × (is_free_entry (Some (undone e)) ≡ true)
+  state_of r n e meant here =
+      let m = meant_is a r n meant in
       let state = ap (λ (x : MapEntry). x.state) (same_Some _ _ (sym here ∙ m.taken.here)) ∙ m.state in
       (meant_not_free e state, undone_free e state)
 
-  pub counts_now : AreCounts a k0 → AreCounts b2 (given_all (given_all k0 taken) (option_to_list d.shadow))
+  pub counts_now : AreCounts a k0 → AreCounts b3 (given_all (given_all (given_all k0 taken) (option_to_list d.shadow)) (option_to_list d.created))
   counts_now counts =
-      counts_given_all (Frame a g) Undo (option_to_list d.shadow) b1 (given_all k0 taken) own_once may2
-      (counts_given_all (Frame a g) Undo taken a k0 lists.once may1 counts (λ n e is here. state_of n e (lists.meant n is) here))
-      (λ n e is here. state_of n e (own_meant n is) (sym (b1_entry n ∙ ap (λ (b : Bool). if_at b Undo (entry_in a n)) (own_not_taken n is)) ∙ here))
+      counts_given_all (Frame a g) Undo (option_to_list d.created) b2 (given_all (given_all k0 taken) (option_to_list d.shadow)) (option_once d.created) may3
+      (counts_given_all (Frame a g) Undo (option_to_list d.shadow) b1 (given_all k0 taken) (option_once d.shadow) may2
+      (counts_given_all (Frame a g) Undo taken a k0 lists.once may1 counts (λ n e is here. state_of id.block n e (lists.meant n is) here))
+      (λ n e is here. state_of id.block n e (own_meant n is) (sym (b1_entry n ∙ ap (λ (b : Bool). if_at b Undo (entry_in a n)) (own_not_taken n is)) ∙ here)))
+      (λ n e is here. state_of n n e (made_meant a had.holds.own n (made_is n is)) (sym (b2_kept n (made_not_meant n is)) ∙ here))
 
-  -- what was meant is Free now, and all else is as it was
-  freed : (m : ℕ) → is_meant_for a id.block m ≡ true → is_free_in b2 m ≡ true
-  freed m meant = ⊎_elim
-      (λ is. ap is_free_entry (b2_entry m ∙ (λ i. if_at (is i) Undo (entry_in b1 m)) ∙ ap (if_at true Undo) (b1_entry m ∙ (λ i. if_at (own_not_taken m is i) Undo (entry_in a m)) ∙ t.here)) ∙ (state_of m t.is meant t.here).1)
-      (λ not. ap is_free_entry (b2_entry m ∙ (λ i. if_at (not i) Undo (entry_in b1 m)) ∙ b1_entry m ∙ (λ i. if_at (in_taken not i) Undo (entry_in a m)) ∙ ap (if_at true Undo) t.here) ∙ (state_of m t.is meant t.here).1)
+  -- what was meant is Free now, and the root that was made; all else is as it was
+  freed_meant : (m : ℕ) → is_meant_for a id.block m ≡ true → is_free_in b3 m ≡ true
+  freed_meant m meant =
+      ap is_free_entry (b3_entry m ∙ (λ i. if_at (false_from_ne_true _ (λ there. both_ways _ (made_not_meant m there) meant) i) Undo (entry_in b2 m)))
+      ∙ ⊎_elim
+      (λ is. ap is_free_entry (b2_entry m ∙ (λ i. if_at (is i) Undo (entry_in b1 m)) ∙ ap (if_at true Undo) (b1_entry m ∙ (λ i. if_at (own_not_taken m is i) Undo (entry_in a m)) ∙ t.here)) ∙ (state_of id.block m t.is meant t.here).1)
+      (λ not. ap is_free_entry (b2_entry m ∙ (λ i. if_at (not i) Undo (entry_in b1 m)) ∙ b1_entry m ∙ (λ i. if_at (in_taken not i) Undo (entry_in a m)) ∙ ap (if_at true Undo) t.here) ∙ (state_of id.block m t.is meant t.here).1)
       (cases_Bool (has_number m (option_to_list d.shadow)))
     where
       t : IsTaken a m id.block
       t = (meant_is a id.block m meant).taken
 
       in_taken : has_number m (option_to_list d.shadow) ≡ false → has_number m taken ≡ true
-      in_taken not = ⊎_elim (λ is. absurd (both_ways _ not (subst (λ (s : Option ℕ). has_number m (option_to_list s) ≡ true) (sym is) (first_number m [])))) (λ there. there) (lists.all m meant)
+      in_taken not = ⊎_elim (λ is. absurd (both_ways _ not (option_has d.shadow m is))) (λ there. there) (lists.all m meant)
 
-  kept : (m : ℕ) → is_meant_for a id.block m ≡ false → entry_in b2 m ≡ entry_in a m
-  kept m none =
-      b2_entry m ∙ (λ i. if_at (false_from_ne_true _ (λ is. both_ways _ none (own_meant m is)) i) Undo (entry_in b1 m))
-      ∙ b1_entry m ∙ (λ i. if_at (false_from_ne_true _ (λ is. both_ways _ none (lists.meant m is)) i) Undo (entry_in a m))
+  freed_made : (m : ℕ) → has_number m (option_to_list d.created) ≡ true → is_free_in b3 m ≡ true
+  freed_made m there =
+      ap is_free_entry (b3_entry m ∙ (λ i. if_at (there i) Undo (entry_in b2 m)) ∙ ap (if_at true Undo) (b2_made m there))
+      ∙ (state_of m m (made_at m there).at.taken.is (made_meant a had.holds.own m (made_is m there)) (made_at m there).at.taken.here).1
 
-  pub none_meant : (m : ℕ) → is_meant_for b2 id.block m ≡ false
-  none_meant m = ⊎_elim (λ is. free_unowned is_meant refl id.block (entry_in b2 m) (freed m is)) (λ none. ap (is_of is_meant id.block) (kept m none) ∙ none) (cases_Bool (is_meant_for a id.block m))
+  pub freed : (c : ℕ) → d.created ≡ Some c → is_free_in b3 c ≡ true
+  freed c is = freed_made c (option_has d.created c is)
 
-  pub only_meant : ChangesOnly (λ e. of_draft id.block e) a b2
+  kept : (m : ℕ) → is_meant_for a id.block m ≡ false → has_number m (option_to_list d.created) ≡ false → entry_in b3 m ≡ entry_in a m
+  kept m none other = b3_entry m ∙ (λ i. if_at (other i) Undo (entry_in b2 m)) ∙ b2_kept m none
+
+  pub none_meant : (m : ℕ) → is_meant_for b3 id.block m ≡ false
+  none_meant m = ⊎_elim (λ is. free_unowned is_meant refl id.block (entry_in b3 m) (freed_meant m is)) (λ none.
+      ⊎_elim (λ there. free_unowned is_meant refl id.block (entry_in b3 m) (freed_made m there)) (λ other. ap (is_of is_meant id.block) (kept m none other) ∙ none) (cases_Bool (has_number m (option_to_list d.created)))) (cases_Bool (is_meant_for a id.block m))
+
+  -- nothing is left of what was to be made
+  pub none_left : (c : ℕ) → d.created ≡ Some c → OwnsNothing b3 c
+  none_left c is m = ⊎_elim (λ meant. free_unowned is_taken refl c (entry_in b3 m) (freed_meant m meant)) (λ none.
+      ⊎_elim (λ there. free_unowned is_taken refl c (entry_in b3 m) (freed_made m there)) (λ other. ap (is_of is_taken c) (kept m none other) ∙ false_from_ne_true _ (λ of_c.
+      both_ways _ other (subst (λ (k : ℕ). has_number k (option_to_list d.created) ≡ true) (sym ((made_is c (option_has d.created c is)).alone m of_c)) (option_has d.created c is)))) (cases_Bool (has_number m (option_to_list d.created)))) (cases_Bool (is_meant_for a id.block m))
+
+  meant_of : (r m : ℕ) → is_meant_for a r m ≡ true → has_number r (id.block ∷ option_to_list d.created) ≡ true → IsOpenTo (λ e. of_drafts (id.block ∷ option_to_list d.created) e) (entry_in a m)
+  meant_of r m meant among =
+      let two = and_parts (is_placed is_meant (entry_in a m)) _ meant in
+      inr (placed_taken is_meant refl (entry_in a m) two.0, and_from _ _ two.0 (subst (λ (n : ℕ). has_number n (id.block ∷ option_to_list d.created) ≡ true) (owner_is is_meant r (entry_in a m) meant) among))
+
+  pub only_meant : ChangesOnly (λ e. of_drafts (id.block ∷ option_to_list d.created) e) a b3
   only_meant = record {
-    size = b2_on.size;
-    maps = b2_on.maps;
-    own = b2_on.own;
-    label = b2_on.label;
-    fixed = b2_on.fixed;
-    entries = λ m. ⊎_elim (λ is. inr (meant_open id.block (entry_in a m) is, inl (freed m is))) (λ none. inl (kept m none)) (cases_Bool (is_meant_for a id.block m));
-    contents = λ m loose. inl (flipped_block (flips Undo (option_to_list d.shadow)) b1 m (not_map m loose) ∙ flipped_block (flips Undo taken) a m (not_map m loose));
+    size = b3_on.size;
+    maps = b3_on.maps;
+    own = b3_on.own;
+    label = b3_on.label;
+    fixed = b3_on.fixed;
+    entries = λ m. ⊎_elim (λ is. inr (meant_of id.block m is (first_number id.block (option_to_list d.created)), inl (freed_meant m is))) (λ none.
+        ⊎_elim (λ there. inr (meant_of m m (made_meant a had.holds.own m (made_is m there)) (more_numbers id.block m (option_to_list d.created) there), inl (freed_made m there))) (λ other. inl (kept m none other))
+        (cases_Bool (has_number m (option_to_list d.created)))) (cases_Bool (is_meant_for a id.block m));
+    contents = λ m loose. inl (flipped_block (flips Undo (option_to_list d.created)) b2 m (not_map m loose) ∙ flipped_block (flips Undo (option_to_list d.shadow)) b1 m (not_map m loose) ∙ flipped_block (flips Undo taken) a m (not_map m loose));
   }
 
 module _ {D : Type 0} (g : Ghosts D) (graph : Graph) (ds : List Opened) (id : Puid) (o : Object) (d0 d1 : D) (k0 : Kept) (drafting : Drafting) (m : models.Draft) (taken : List ℕ)
-    (store : StoreHas g graph ds d0 k0) (at : object_at graph id ≡ Some o) (opened : IsOpen ds id drafting m) (lists : AreTaken (g.content d0) id (opened_as id drafting m) taken) (n t : ℕ) where
+    (store : StoreHas g graph ds d0 k0) (at : object_at graph id ≡ Some o) (opened : IsOpen ds id drafting m) (lists : AreTaken (g.content d0) id (opened_as id drafting m) taken) where
+  abbrev d : Opened
+  d = opened_as id drafting m
+
+  abbrev a : Image
+  a = g.content d0
+
   draft : HasDraft (g.content d0) id (opened_as id drafting m)
-  draft = the_draft (g.content d0) ds id drafting m opened (store.account.drafts id o at)
+  draft = the_draft a ds id drafting m opened (store.account.drafts id o at)
 
   abbrev pub plan : List Flip
-  plan = flips Undo taken ++ flips Undo (option_to_list drafting.shadow)
+  plan = undoing taken drafting.shadow drafting.created
 
   may : MayFlip (Frame (g.content d0) graph) (g.content d0) plan
-  may = all_may (g.content d0) graph ds id o k0 (opened_as id drafting m) taken store.account at draft lists
+  may = all_may a graph ds id o k0 d taken store.account at opened.alone draft lists
 
-  pub abort_leaves : (r : Result (Unit {0}) Trouble) → Flips g n t plan d0 d1 r → Leaves g d0 d1 (λ c. Holds c graph)
-  abort_leaves r f = wider g d0 d1 (IsOn (Frame (g.content d0) graph)) (λ c. Holds c graph) (f.leaves (Frame (g.content d0) graph) store.account.holds (keeps_frame g graph d0 store.carries) may)
-      (λ c on. frames_hold (g.content d0) c graph store.account.holds on)
-
-  pub abort_sound : (r : Result (Unit {0}) Trouble) → Flips g n t plan d0 d1 r → IfErr r (λ e. is_damage e ≡ false)
-  abort_sound r f = f.sound (Frame (g.content d0) graph) store.account.holds (keeps_frame g graph d0 store.carries) may
-
-  pub dropped : drafting.created ≡ None → Flips g n t plan d0 d1 (Ok tt) → Dropped g graph ds id d0 d1 (given_all (given_all k0 taken) (option_to_list drafting.shadow))
-  dropped none f =
-      let d = opened_as id drafting m in
-      let content : g.content d1 ≡ b2 (g.content d0) graph ds id o k0 d taken store.account at draft lists = f.put store.carries.tells ∙ all_is (g.content d0) graph ds id o k0 d taken store.account at draft lists in
-      let only = subst (ChangesOnly (λ e. of_draft id.block e) (g.content d0)) (sym content) (only_meant (g.content d0) graph ds id o k0 d taken store.account at draft lists) in
-      let nothing = subst (λ (i : Image). (x : ℕ) → is_meant_for i id.block x ≡ false) (sym content) (none_meant (g.content d0) graph ds id o k0 d taken store.account at draft lists) in
+  dropped : (n t : ℕ) → Flips g n t plan d0 d1 (Ok tt) → Dropped g graph ds id drafting.created d0 d1 (given_all (given_all (given_all k0 taken) (option_to_list drafting.shadow)) (option_to_list drafting.created))
+  dropped n t f =
+      let content : g.content d1 ≡ b3 a graph ds id o k0 d taken store.account at opened.alone draft lists = f.put store.carries.tells ∙ all_is a graph ds id o k0 d taken store.account at opened.alone draft lists in
+      let only = subst (ChangesOnly (λ e. of_drafts (id.block ∷ option_to_list drafting.created) e) a) (sym content) (only_meant a graph ds id o k0 d taken store.account at opened.alone draft lists) in
+      let nothing = subst (HasDrafts (g.content d1) id) (sym (without_here id ds)) (subst (λ (i : Image). (x : ℕ) → is_meant_for i id.block x ≡ false) (sym content) (none_meant a graph ds id o k0 d taken store.account at opened.alone draft lists)) in
       record {
         store = record {
-          carries = carries_framed g (g.content d0) graph d1 store.account.holds (f.keeps (Frame (g.content d0) graph) store.account.holds (keeps_frame g graph d0 store.carries) may);
-          account = draft_goes_on (g.content d0) (g.content d1) graph ds (without_draft id ds) id o store.account at (subst (HasDrafts (g.content d1) id) (sym (without_here id ds)) nothing) (without_others id ds)
-              (without_stay graph id ds store.account.on_objects) only (without_created id d ds opened.alone none);
-          counts = subst (λ (i : Image). AreCounts i (given_all (given_all k0 taken) (option_to_list drafting.shadow))) (sym content) (counts_now (g.content d0) graph ds id o k0 d taken store.account at draft lists store.counts);
+          carries = carries_framed g a graph d1 store.account.holds (f.keeps (Frame a graph) store.account.holds (keeps_frame g graph d0 store.carries) may);
+          account = by drafting.created refl content only nothing;
+          counts = subst (λ (i : Image). AreCounts i (given_all (given_all (given_all k0 taken) (option_to_list drafting.shadow)) (option_to_list drafting.created))) (sym content) (counts_now a graph ds id o k0 d taken store.account at opened.alone draft lists store.counts);
           ordered = store.ordered;
         };
+        freed = λ c is. ap (λ (i : Image). is_free_in i c) content ∙ freed a graph ds id o k0 d taken store.account at opened.alone draft lists c is;
         only = only;
       }
+    where
+      stay : list_all (λ f. is_there graph f.id) (without_draft id ds) ≡ true
+      stay = without_stay graph id ds store.account.on_objects
 
--- the plan of a draft that makes no object
-pub plan_flips : {D : Type 0} (g : Ghosts D) (n t : ℕ) (d0 d1 : D) (taken : List ℕ) (was shadow made : Option ℕ) → was ≡ shadow → made ≡ None → (r : Result (Unit {0}) Trouble) → Flips g n t (undoing taken shadow made) d0 d1 r → Flips g n t (flips Undo taken ++ flips Undo (option_to_list was)) d0 d1 r
-plan_flips g n t d0 d1 taken was shadow made same none r f =
-    subst (λ (x : List Flip). Flips g n t (flips Undo taken ++ x) d0 d1 r) (append-nil (flips Undo (option_to_list was)))
-    (subst (λ (x : Option ℕ). Flips g n t (flips Undo taken ++ (flips Undo (option_to_list x) ++ [])) d0 d1 r) (sym same) (subst (λ (x : Option ℕ). Flips g n t (undoing taken shadow x) d0 d1 r) none f))
+      by : (x : Option ℕ) → drafting.created ≡ x → g.content d1 ≡ b3 a graph ds id o k0 d taken store.account at opened.alone draft lists → ChangesOnly (λ e. of_drafts (id.block ∷ option_to_list x) e) a (g.content d1) → HasDrafts (g.content d1) id (drafts_of (without_draft id ds) id) → Accounts (g.content d1) graph (without_draft id ds)
+      by None none content only nothing = draft_goes_on a (g.content d1) graph ds (without_draft id ds) id o store.account at nothing (without_others id ds) stay only (without_created id d ds opened.alone none)
+      by (Some c) is content only nothing =
+          let without = without_it id d c ds opened.alone is store.account.made_once in
+          making_goes_on a (g.content d1) graph ds (without_draft id ds) id o store.account at nothing (without_others id ds) stay c only (no_object a graph ds store.account store.ordered c (store.account.made c (created_there id d c ds opened.alone is)))
+          (inr (subst (λ (i : Image). OwnsNothing i c) (sym content) (none_left a graph ds id o k0 d taken store.account at opened.alone draft lists c is), without.gone)) without.but
+
+  pub abort_ends : (n t : ℕ) (r : Result (Unit {0}) Trouble) (after : Kept) → Flips g n t plan d0 d1 r → OnOk r (after ≡ given_all (given_all (given_all k0 taken) (option_to_list drafting.shadow)) (option_to_list drafting.created)) → AbortEnds g graph ds id drafting.created d0 d1 after r
+  abort_ends n t r after f given = record {
+    done = all r f given;
+    leaves = wider g d0 d1 (IsOn (Frame a graph)) (λ c. Holds c graph) (f.leaves (Frame a graph) store.account.holds (keeps_frame g graph d0 store.carries) may) (λ c on. frames_hold a c graph store.account.holds on);
+    sound = f.sound (Frame a graph) store.account.holds (keeps_frame g graph d0 store.carries) may;
+  }
+    where
+      all : (r : Result (Unit {0}) Trouble) → Flips g n t plan d0 d1 r → OnOk r (after ≡ given_all (given_all (given_all k0 taken) (option_to_list drafting.shadow)) (option_to_list drafting.created)) → OnOk r (Dropped g graph ds id drafting.created d0 d1 after)
+      all (Ok u) f is = subst (Dropped g graph ds id drafting.created d0 d1) (sym is) (dropped n t f)
+      all (Err e) f is = tt
+
+-- an abort that was refused before it gave up anything
+pub abort_stops : {D : Type 0} (g : Ghosts D) (graph : Graph) (ds : List Opened) (id : Puid) (created : Option ℕ) (old new : D) (space : Kept) (e : Trouble) → Leaves g old new (λ c. ⊥) → is_damage e ≡ false → AbortEnds g graph ds id created old new space (Err e)
+abort_stops g graph ds id created old new space e images sound = record { done = tt; leaves = wider g old new (λ c. ⊥) (λ c. Holds c graph) images (λ c no. absurd no); sound = sound }
 
 -- a call that changed nothing
 pub store_still : {D : Type 0} (g : Ghosts D) (graph : Graph) (ds : List Opened) (old new : D) (space : Kept) → StoreHas g graph ds old space → g.content new ≡ g.content old → ((n : ℕ) → IsTrue (g.told old n) → IsTrue (g.told new n)) → Leaves g old new Nothing → IsSameDisk g.blocks g.honest g.tells_images old new → StoreHas g graph ds new space
@@ -207,6 +288,10 @@ store_still g graph ds old new space store content told images same = record {
   ordered = store.ordered;
 }
 
-pub dropped_since : {D : Type 0} (g : Ghosts D) (graph : Graph) (ds : List Opened) (id : Puid) (old mid new : D) (space : Kept) → g.content mid ≡ g.content old → (r : Result (Unit {0}) Trouble) → OnOk r (Dropped g graph ds id mid new space) → OnOk r (Dropped g graph ds id old new space)
-dropped_since g graph ds id old mid new space content (Ok u) is = record { store = is.store; only = subst (λ (i : Image). ChangesOnly (λ e. of_draft id.block e) i (g.content new)) content is.only }
-dropped_since g graph ds id old mid new space content (Err e) is = tt
+-- an abort after calls that changed nothing
+pub abort_since : {D : Type 0} (g : Ghosts D) (graph : Graph) (ds : List Opened) (id : Puid) (created : Option ℕ) (old mid new : D) (space : Kept) → g.content mid ≡ g.content old → Leaves g old mid (λ c. ⊥) → (r : Result (Unit {0}) Trouble) → AbortEnds g graph ds id created mid new space r → AbortEnds g graph ds id created old new space r
+abort_since g graph ds id created old mid new space content images r ends = record {
+  done = on_ok r ends.done (λ is. record { store = is.store; freed = is.freed; only = subst (λ (i : Image). ChangesOnly (λ e. of_drafts (id.block ∷ option_to_list created) e) i (g.content new)) content is.only });
+  leaves = then g old mid new (λ c. Holds c graph) (λ c. Holds c graph) (wider g old mid (λ c. ⊥) (λ c. Holds c graph) images (λ c no. absurd no)) ends.leaves (λ c h. h);
+  sound = ends.sound;
+}

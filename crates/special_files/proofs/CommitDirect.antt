@@ -133,7 +133,7 @@ module _ {D : Type 0} (g : Ghosts D) (graph : Graph) (ds : List Opened) (id : Pu
         entries : (b : ℕ) → entry_in (g.content d3) b ≡ entry_in (g.content d2) b
         entries b = ap (λ (i : Image). entry_in i b) content ∙ entry_in-set (g.content d2) s.0 block b real
 
-        pub direct_ready : (taken dropped : List ℕ) → block ≡ root_spelling drafting.root → IsChanged (g.content d0) id (opened_as id drafting m) taken dropped → IsReady (g.content d3) graph id o m.object s.0 taken dropped
+        pub direct_ready : (taken dropped : List ℕ) → block ≡ root_spelling drafting.root → IsChanged (g.content d0) id (opened_as id drafting m) taken dropped → IsReady (g.content d3) graph id o m.object s.0 taken dropped None
         direct_ready taken dropped spelled lists =
             ready (g.content d0) (g.content d3) graph id o (opened_as id drafting m) s.0 taken dropped store.account.holds at (store.account.objects id o at) (the_draft (g.content d0) ds id drafting m opened (store.account.drafts id o at)) lists
             (still_has (g.content d0) (g.content d3) graph ds id o store.account at amid3.only id o at)
@@ -145,3 +145,4 @@ module _ {D : Type 0} (g : Ghosts D) (graph : Graph) (ds : List Opened) (id : Pu
             (ap (λ (i : Image). block_at i s.0) content ∙ get_or-set_same (g.content d2) s.0 block [] below ∙ spelled)
             (λ b is. (let no : None ≡ Some b = sym stood ∙ is in cc))
             (λ b is eq. is.taken.taken (ap (λ (e : MapEntry). e.state) (same_Some _ _ (sym is.taken.here ∙ ap (entry_in (g.content d0)) eq ∙ was.1)) ∙ was.2))
+            amid3.carries.holds

@@ -1,6 +1,7 @@
 -- A commit from the release of what is dropped to the end.
 use Rattle.std.proofs.Common.{◌≡◌, inl, inr, ⊎_elim, ℕ, ◌≤◌, true, false, List, [], ◌∷◌, ◌++◌, length, set, Ok, Err, Some, refl, sym, ◌∙◌, ap, subst, arith}
-use Rattle.std.specs.Prelude.{IfErr, OnOk, Result}
+use Rattle.std.specs.Prelude.{IfErr, OnOk, Option, Result, option_to_list}
+use Rattle.std.specs.Result.{IsErrAnd}
 use Rattle.std.proofs.lemmas.Bool.{false_from_ne_true}
 use Rattle.cfs_base.specs.Calls.{MakesAtMost}
 use Rattle.cfs_base.specs.Disk.{Image, block_at}
@@ -11,23 +12,20 @@ use Rattle.cfs_base.specs.declared.identifier.Puid.{Puid}
 use Rattle.cfs_base.specs.declared.refusal.Trouble.{Trouble}
 use Rattle.cfs_base.specs.declared.refusal.Trouble.TheVariants as trouble
 use Rattle.cfs_base.proofs.Runs.{then, wider}
-use Rattle.cyl_map.specs.declared.entry.MapEntry.{MapEntry}
 use Rattle.cyl_map.specs.Volume.{entry_in, with_entry}
 use Rattle.cyl_alloc.specs.Space.{AreCounts, Kept}
 use Rattle.cyl_alloc.specs.Refusals.{IsMapTrouble}
 use Rattle.ufs_model.specs.declared.object.Object.{Object}
 use Rattle.ufs_model.specs.Graph.{Graph, with_object}
-use Rattle.vol_image.specs.Commit.{IsDraft}
-use Rattle.vol_image.specs.Part.{is_committed, is_fixed, part_at, reserved}
+use Rattle.vol_image.specs.Part.{is_fixed, reserved}
 use Rattle.vol_image.specs.Run.{Carries}
-use Rattle.vol_image.specs.Seen.{tree_in}
 use Rattle.vol_image.specs.Sound.{Holds}
 use Rattle.vol_image.proofs.Law.{frames_hold}
 use Rattle.vol_image.proofs.Parts.{in_image, root_placed, taken_apart}
 use Rattle.vol_image.proofs.Steps.{not_label, not_map}
 use Rattle.cyl_map.proofs.Volumes.{same_or_not}
 use Rattle.vol_owners.specs.Account.{HasItsBlocks, is_meant_for}
-use Rattle.vol_owners.specs.Change.{ChangesOnly, of_owner}
+use Rattle.vol_owners.specs.Change.{ChangesOnly, of_owners}
 use Rattle.vol_owners.specs.Owner.{is_of, is_taken}
 use Rattle.vol_owners.proofs.Entries.{the_entry}
 use Rattle.intentions.specs.Calls.{ChangesBit, HasStoppedBy}
@@ -36,10 +34,10 @@ use Rattle.intentions.specs.Course.{Course, Frame, IsCourse, IsOn, Keeps}
 use Rattle.intentions.specs.Entries.{with_bit}
 use Rattle.intentions.specs.declared.change.Change.TheVariants.{ClearBit, Release, SetBit}
 use Rattle.intentions.proofs.Courses.{carries_ended, carries_framed, keeps_frame, keeps_settled, on_holds}
-use Rattle.special_files.specs.Committing.{CarriedOut, Fails, Flip, Flips, IsOldOrNew, IsReady, MayFlip, bit_set, flipped, flips, given_all, named, settling}
+use Rattle.special_files.specs.Committing.{CarriedOut, Fails, Flip, Flips, IsEntered, IsOldOrNew, IsReady, MayFlip, bit_set, flipped, flips, given_all, named, settling}
 use Rattle.special_files.specs.Refusal.{is_damage}
 use Rattle.special_files.proofs.CommitFlips.{flip_is, flipped_append}
-use Rattle.special_files.proofs.CommitRoles.{Role, none_meant, now_has, only_owner}
+use Rattle.special_files.proofs.CommitRoles.{none_meant, now_has, only_owners}
 use Rattle.special_files.proofs.CommitRuns.{fails_after, no_damage}
 use Rattle.special_files.proofs.CommitWhole as whole
 
@@ -56,130 +54,127 @@ module _ {D : Type 0} (g : Ghosts D) (old new : D) where
 
 -- ---- up to the bit
 
-module _ {D : Type 0} (g : Ghosts D) (graph : Graph) (at word : ℕ) (was o : Object) (s : ℕ) (taken dropped : List ℕ) (d0 : D) (run : Carries g graph d0) (ready : IsReady (g.content d0) graph (named at word) was o s taken dropped) where
+module _ {D : Type 0} (g : Ghosts D) {graph full : Graph} {at word : ℕ} {was o : Object} {s : ℕ} {taken dropped : List ℕ} {created : Option ℕ} (d0 : D) (run : Carries g graph d0) (ready : IsReady (g.content d0) full (named at word) was o s taken dropped created) where
   frame_keeps : Keeps g (Frame (g.content d0) graph) d0
   frame_keeps = keeps_frame g graph d0 run
 
   may : MayFlip (Frame (g.content d0) graph) (g.content d0) (flips Release dropped)
-  may = whole.release_may (g.content d0) graph (named at word) was o s taken dropped run.holds ready
+  may = whole.release_may ready graph
 
-  pub release_leaves : (d1 : D) (n t : ℕ) (r : Result (Unit {0}) Trouble) → Flips g n t (flips Release dropped) d0 d1 r → Leaves g d0 d1 (IsOldOrNew graph (named at word) o)
-  release_leaves d1 n t r f = wider g d0 d1 (IsOn (Frame (g.content d0) graph)) (IsOldOrNew graph (named at word) o) (f.leaves (Frame (g.content d0) graph) run.holds frame_keeps may) (λ c on. inl (frames_hold (g.content d0) c graph run.holds on))
+  pub release_leaves : (d1 : D) (n t : ℕ) (r : Result (Unit {0}) Trouble) → Flips g n t (flips Release dropped) d0 d1 r → Leaves g d0 d1 (IsOldOrNew graph full (named at word) o)
+  release_leaves d1 n t r f = wider g d0 d1 (IsOn (Frame (g.content d0) graph)) (IsOldOrNew graph full (named at word) o) (f.leaves (Frame (g.content d0) graph) run.holds frame_keeps may) (λ c on. inl (frames_hold (g.content d0) c graph run.holds on))
 
   pub release_sound : (d1 : D) (n t : ℕ) (r : Result (Unit {0}) Trouble) → Flips g n t (flips Release dropped) d0 d1 r → IfErr r (λ e. is_damage e ≡ false)
   release_sound d1 n t r f = f.sound (Frame (g.content d0) graph) run.holds frame_keeps may
 
+  -- the bit in the image of the plan
+  bit_is : bit_set (g.content d0) at dropped ≡ whole.a2 ready
+  bit_is =
+      flipped_append (flips Release dropped) (flips SetBit (at ∷ [])) (g.content d0)
+      ∙ flip_is (flipped (g.content d0) (flips Release dropped)) (record { block = at; how = SetBit }) _ (whole.a1_root ready).taken.here
+
   module _ (d1 : D) (n t : ℕ) (f : Flips g n t (flips Release dropped) d0 d1 (Ok tt)) where
-    pub content1 : g.content d1 ≡ whole.a1 (g.content d0) graph (named at word) was o s taken dropped run.holds ready
+    content1 : g.content d1 ≡ whole.a1 ready
     content1 = f.put run.tells
 
-    pub run1 : Carries g graph d1
+    run1 : Carries g graph d1
     run1 = carries_framed g (g.content d0) graph d1 run.holds (f.keeps (Frame (g.content d0) graph) run.holds frame_keeps may)
 
-    pub draft1 : IsDraft (g.content d1) at s o
-    draft1 = subst (λ (i : Image). IsDraft i at s o) (sym content1) (whole.a1_draft (g.content d0) graph (named at word) was o s taken dropped run.holds ready)
-
-    here1 : entry_in (g.content d1) at ≡ Some (whole.a1_root (g.content d0) graph (named at word) was o s taken dropped run.holds ready).taken.is
-    here1 = ap (λ (i : Image). entry_in i at) content1 ∙ (whole.a1_root (g.content d0) graph (named at word) was o s taken dropped run.holds ready).taken.here
+    here1 : entry_in (g.content d1) at ≡ Some (whole.a1_root ready).taken.is
+    here1 = ap (λ (i : Image). entry_in i at) content1 ∙ (whole.a1_root ready).taken.here
 
     pub bit_sound : (d2 : D) (e : Trouble) → IsMapTrouble g d1 d2 at e → is_damage (trouble_after_try e) ≡ false
-    bit_sound d2 e is = no_damage g at SetBit d1 d2 (Frame (g.content d1) graph) run1.holds (keeps_frame g graph d1 run1) (whole.a1_root (g.content d0) graph (named at word) was o s taken dropped run.holds ready).taken.is here1 e is
+    bit_sound d2 e is = no_damage g at SetBit d1 d2 (Frame (g.content d1) graph) run1.holds (keeps_frame g graph d1 run1) (whole.a1_root ready).taken.is here1 e is
+
+    a2_now : with_entry (g.content d1) at (with_bit (whole.a1_root ready).taken.is) ≡ whole.a2 ready
+    a2_now = ap (λ (i : Image). with_entry i at (with_bit (whole.a1_root ready).taken.is)) content1
+
+    module _ (d2 : D) (r : Result (Unit {0}) Trouble) (bit : ChangesBit g at (λ e. with_bit e) d1 d2 r) where
+      pub bit_leaves : Leaves g d1 d2 (λ c. Holds c (with_object full (named at word) o))
+      bit_leaves = wider g d1 d2 (λ c. c ≡ with_entry (g.content d1) at (with_bit (whole.a1_root ready).taken.is)) (λ c. Holds c (with_object full (named at word) o)) (bit.images run1.tells (whole.a1_root ready).taken.is here1)
+          (λ c is. subst (λ (i : Image). Holds i (with_object full (named at word) o)) (sym (is ∙ a2_now)) (whole.bit ready).committed.holds)
 
     pub bit_put : (d2 : D) → ChangesBit g at (λ e. with_bit e) d1 d2 (Ok (tt {0})) → g.content d2 ≡ bit_set (g.content d0) at dropped
-    bit_put d2 bit =
-        let e = (whole.a1_root (g.content d0) graph (named at word) was o s taken dropped run.holds ready).taken.is in
-        let here = (whole.a1_root (g.content d0) graph (named at word) was o s taken dropped run.holds ready).taken.here in
-        bit.put run1.tells e here1 ∙ ap (λ (i : Image). with_entry i at (with_bit e)) content1 ∙ sym (bit_is e here)
-      where
-        bit_is : (e : MapEntry) → entry_in (flipped (g.content d0) (flips Release dropped)) at ≡ Some e → bit_set (g.content d0) at dropped ≡ with_entry (flipped (g.content d0) (flips Release dropped)) at (with_bit e)
-        bit_is e here = flipped_append (flips Release dropped) (flips SetBit (at ∷ [])) (g.content d0) ∙ flip_is (flipped (g.content d0) (flips Release dropped)) (record { block = at; how = SetBit }) e here
+    bit_put d2 bit = bit.put run1.tells (whole.a1_root ready).taken.is here1 ∙ a2_now ∙ sym bit_is
 
   -- ---- from the bit on
 
-  module _ (d1 : D) (content_is : g.content d1 ≡ bit_set (g.content d0) at dropped) (settled1 : IsSettled g d1) where
-    a2_is : g.content d1 ≡ whole.a2 (g.content d0) graph (named at word) was o s taken dropped run.holds ready
-    a2_is =
-        content_is ∙ flipped_append (flips Release dropped) (flips SetBit (at ∷ [])) (g.content d0)
-        ∙ flip_is (flipped (g.content d0) (flips Release dropped)) (record { block = at; how = SetBit }) _ (whole.a1_root (g.content d0) graph (named at word) was o s taken dropped run.holds ready).taken.here
+  module _ (d1 : D) (content_is : g.content d1 ≡ bit_set (g.content d0) at dropped) where
+    a2_is : g.content d1 ≡ whole.a2 ready
+    a2_is = content_is ∙ bit_is
 
-    pub committed1 : IsCommitted (g.content d1) (with_object graph (named at word) o) (named at word) o s
-    committed1 = subst (λ (i : Image). IsCommitted i (with_object graph (named at word) o) (named at word) o s) (sym a2_is) (whole.bit (g.content d0) graph (named at word) was o s taken dropped run.holds ready).committed
+    pub committed1 : IsCommitted (g.content d1) (with_object full (named at word) o) (named at word) o s
+    committed1 = subst (λ (i : Image). IsCommitted i (with_object full (named at word) o) (named at word) o s) (sym a2_is) (whole.bit ready).committed
 
     module _ (d2 : D) (copied : g.content d2 ≡ set (g.content d1) at (block_at (g.content d1) s)) (settled2 : IsSettled g d2) where
       abbrev w : Course
-      w = whole.course (g.content d0) graph (named at word) was o s taken dropped run.holds ready
+      w = whole.course ready
 
-      a3_is : g.content d2 ≡ whole.a3 (g.content d0) graph (named at word) was o s taken dropped run.holds ready
+      a3_is : g.content d2 ≡ whole.a3 ready
       a3_is = copied ∙ ap (λ (i : Image). set i at (block_at i s)) a2_is
 
       fits : IsCourse w
-      fits = (whole.copy (g.content d0) graph (named at word) was o s taken dropped run.holds ready).copied
+      fits = (whole.copy ready).copied
 
       keeps2 : Keeps g w d2
-      keeps2 = keeps_settled g w d2 settled2 (subst (IsOn w) (sym a3_is) (whole.begins (g.content d0) graph (named at word) was o s taken dropped run.holds ready))
+      keeps2 = keeps_settled g w d2 settled2 (subst (IsOn w) (sym a3_is) (whole.begins ready))
 
       abbrev pub plan : List Flip
-      plan = settling taken dropped [] s ++ flips ClearBit (at ∷ [])
+      plan = settling taken dropped (option_to_list created) s ++ flips ClearBit (at ∷ [])
 
       may2 : MayFlip w (g.content d2) plan
-      may2 = subst (λ (i : Image). MayFlip w i plan) (sym a3_is) (whole.all_may (g.content d0) graph (named at word) was o s taken dropped run.holds ready)
+      may2 = subst (λ (i : Image). MayFlip w i plan) (sym a3_is) (whole.all_may ready)
 
       module _ (d3 : D) (n t : ℕ) where
-        pub settle_leaves : (r : Result (Unit {0}) Trouble) → Flips g n t plan d2 d3 r → Leaves g d2 d3 (λ c. Holds c (with_object graph (named at word) o))
-        settle_leaves r f = wider g d2 d3 (IsOn w) (λ c. Holds c (with_object graph (named at word) o)) (f.leaves w fits keeps2 may2) (λ c on. on_holds w c fits on)
+        pub settle_leaves : (r : Result (Unit {0}) Trouble) → Flips g n t plan d2 d3 r → Leaves g d2 d3 (λ c. Holds c (with_object full (named at word) o))
+        settle_leaves r f = wider g d2 d3 (IsOn w) (λ c. Holds c (with_object full (named at word) o)) (f.leaves w fits keeps2 may2) (λ c on. on_holds w c fits on)
 
         pub settle_sound : (r : Result (Unit {0}) Trouble) → Flips g n t plan d2 d3 r → IfErr r (λ e. is_damage e ≡ false)
         settle_sound r f = f.sound w fits keeps2 may2
 
         module _ (f : Flips g n t plan d2 d3 (Ok tt)) (settled3 : IsSettled g d3) where
           abbrev b4 : Image
-          b4 = whole.b4 (g.content d0) graph (named at word) was o s taken dropped run.holds ready
+          b4 = whole.b4 ready
 
           b4_is : g.content d3 ≡ b4
-          b4_is = f.put settled2.tells ∙ ap (λ (i : Image). flipped i plan) a3_is ∙ whole.all_is (g.content d0) graph (named at word) was o s taken dropped run.holds ready
+          b4_is = f.put settled2.tells ∙ ap (λ (i : Image). flipped i plan) a3_is ∙ whole.all_is ready
 
-          b4_holds : Holds b4 (with_object graph (named at word) o)
-          b4_holds = on_holds w b4 fits (whole.b4_on (g.content d0) graph (named at word) was o s taken dropped run.holds ready)
+          b4_holds : Holds b4 (with_object full (named at word) o)
+          b4_holds = on_holds w b4 fits (whole.b4_on ready)
 
           root_apart : is_fixed at ≡ false
-          root_apart = taken_apart (g.content d0) graph run.holds at at (root_placed (g.content d0) (length (g.content d0)) (named at word) was (run.holds.objects (named at word) was ready.at)).taken
+          root_apart = taken_apart (g.content d0) full ready.holds at at (root_placed (g.content d0) (length (g.content d0)) (named at word) was (ready.holds.objects (named at word) was ready.at)).taken
 
-          fixed_unowned : (m : ℕ) → is_fixed m ≡ true → is_of is_taken at (entry_in (g.content d0) m) ≡ false
-          fixed_unowned m is = false_from_ne_true _ (λ h.
-              let e = the_entry is_taken at (entry_in (g.content d0) m) h in
+          fixed_unowned : (q m : ℕ) → is_fixed m ≡ true → is_of is_taken q (entry_in (g.content d0) m) ≡ false
+          fixed_unowned q m is = false_from_ne_true _ (λ h.
+              let e = the_entry is_taken q (entry_in (g.content d0) m) h in
               let same = run.holds.fixed m (in_image (g.content d0) graph run.holds m e.0 e.1) is in
-              let no : is_of is_taken at (Some reserved) ≡ true = sym (ap (is_of is_taken at) same) ∙ h in cc)
+              let no : is_of is_taken q (Some reserved) ≡ true = sym (ap (is_of is_taken q) same) ∙ h in cc)
 
-          pub carried_out : (before : Kept) → CarriedOut g graph (named at word) o d0 d3 before (given_all (given_all before dropped) (s ∷ []))
+          pub carried_out : (before : Kept) → CarriedOut g full (named at word) o created d0 d3 before (given_all (given_all before dropped) (s ∷ []))
           carried_out before = record {
             carries = carries_ended g w d3 fits (f.keeps w fits keeps2 may2) settled3;
             settled = settled3;
-            has = subst (λ (i : Image). HasItsBlocks i at) (sym b4_is) (now_has (g.content d0) b4 at _ ready.has role no_bit (whole.tree_now (g.content d0) graph (named at word) was o s taken dropped run.holds ready)
-                (whole.new_taken (g.content d0) graph (named at word) was o s taken dropped run.holds ready));
-            none_meant = λ m. ap (λ (i : Image). is_meant_for i at m) b4_is ∙ none_meant (g.content d0) b4 at _ ready.has role m;
-            only = subst (λ (i : Image). ChangesOnly (λ entry. of_owner at entry) (g.content d0) i) (sym b4_is)
-                (only_owner (g.content d0) b4 at _ ready.has role (whole.b4_size (g.content d0) graph (named at word) was o s taken dropped run.holds ready) b4_holds.maps b4_holds.own
-                (whole.b4_other_block (g.content d0) graph (named at word) was o s taken dropped run.holds ready 1 (λ zero. cc) (λ same. not_label at root_apart (sym same)))
+            has = subst (λ (i : Image). HasItsBlocks i at) (sym b4_is) (now_has (g.content d0) b4 at created _ ready.has (whole.role ready) (whole.no_bit_now ready) (whole.tree_now ready) (whole.new_taken ready));
+            none_meant = λ m. ap (λ (i : Image). is_meant_for i at m) b4_is ∙ none_meant (g.content d0) b4 at created _ ready.has (whole.role ready) m;
+            made = λ c is. subst (λ (i : Image). IsEntered (g.content d0) i c) (sym b4_is) (whole.made_now ready c is);
+            only = subst (λ (i : Image). ChangesOnly (λ entry. of_owners (at ∷ option_to_list created) entry) (g.content d0) i) (sym b4_is)
+                (only_owners (g.content d0) b4 at created _ ready.has (whole.role ready) (whole.b4_size ready) b4_holds.maps b4_holds.own
+                (whole.b4_other_block ready 1 (λ zero. cc) (λ same. not_label at root_apart (sym same)))
                 fixed_unowned
-                (λ m loose. ⊎_elim (λ same. inr same) (λ other. inl (whole.b4_other_block (g.content d0) graph (named at word) was o s taken dropped run.holds ready m (not_map m loose) other)) (same_or_not m at)));
-            counts = λ counts. subst (λ (i : Image). AreCounts i (given_all (given_all before dropped) (s ∷ []))) (sym b4_is) (whole.counts_now (g.content d0) graph (named at word) was o s taken dropped run.holds ready before counts);
+                (λ m loose. ⊎_elim (λ same. inr same) (λ other. inl (whole.b4_other_block ready m (not_map m loose) other)) (same_or_not m at)));
+            counts = λ counts. subst (λ (i : Image). AreCounts i (given_all (given_all before dropped) (s ∷ []))) (sym b4_is) (whole.counts_now ready before counts);
           }
-            where
-              role : (m : ℕ) → Role (g.content d0) b4 at (tree_in (g.content d0) (block_at (g.content d0) s)) m
-              role = whole.role (g.content d0) graph (named at word) was o s taken dropped run.holds ready
 
-              no_bit : is_committed (part_at b4 at) ≡ false
-              no_bit = whole.no_bit_now (g.content d0) graph (named at word) was o s taken dropped run.holds ready
-
-        pub done_by : (r : Result (Unit {0}) Trouble) → Flips g n t plan d2 d3 r → OnOk r (IsSettled g d3) → (before : Kept) → OnOk r (CarriedOut g graph (named at word) o d0 d3 before (given_all (given_all before dropped) (s ∷ [])))
+        pub done_by : (r : Result (Unit {0}) Trouble) → Flips g n t plan d2 d3 r → OnOk r (IsSettled g d3) → (before : Kept) → OnOk r (CarriedOut g full (named at word) o created d0 d3 before (given_all (given_all before dropped) (s ∷ [])))
         done_by (Ok u) f settled before = carried_out f settled before
         done_by (Err e) f settled before = tt
 
 -- ---- one call after another
 
-module _ {D : Type 0} (g : Ghosts D) (graph : Graph) (id : Puid) (o : Object) (d0 d1 d2 : D) where
-  pub leaves_then : Leaves g d0 d1 (IsOldOrNew graph id o) → Leaves g d1 d2 (λ c. Holds c (with_object graph id o)) → Leaves g d0 d2 (IsOldOrNew graph id o)
-  leaves_then one two = then g d0 d1 d2 (IsOldOrNew graph id o) (λ c. Holds c (with_object graph id o)) one two (λ c h. inr h)
+module _ {D : Type 0} (g : Ghosts D) (graph full : Graph) (id : Puid) (o : Object) (d0 d1 d2 : D) where
+  pub leaves_then : Leaves g d0 d1 (IsOldOrNew graph full id o) → Leaves g d1 d2 (λ c. Holds c (with_object full id o)) → Leaves g d0 d2 (IsOldOrNew graph full id o)
+  leaves_then one two = then g d0 d1 d2 (IsOldOrNew graph full id o) (λ c. Holds c (with_object full id o)) one two (λ c h. inr h)
 
 pub makes_more : {D : Type 0} (g : Ghosts D) (old new : D) (n t m s : ℕ) → n ≤ m → t ≤ s → MakesAtMost g n t old new → MakesAtMost g m s old new
 makes_more g old new n t m s le lt is = record { later = is.later; keeps = is.keeps; same = is.same; faults = is.faults; calls = omega (arith, is.calls); tries = omega (arith, is.tries); no_fewer = is.no_fewer }
@@ -187,3 +182,8 @@ makes_more g old new n t m s le lt is = record { later = is.later; keeps = is.ke
 pub fails_then : {D : Type 0} (g : Ghosts D) (at : ℕ) (old mid new : D) (kept : Kept) (n t m s : ℕ) → MakesAtMost g n t old mid → (Tells g old → Tells g mid) → MakesAtMost g m s mid new → (r : Result (Unit {0}) Trouble) → IfErr r (Fails g at mid new kept) → IfErr r (Fails g at old new kept)
 fails_then g at old mid new kept n t m s first on second (Ok u) is = tt
 fails_then g at old mid new kept n t m s first on second (Err e) is = fails_after g at old mid new kept n t m s first on second e is
+
+-- what a refused call owes of a result
+pub passed_done : {A : Type 0} (P : Type 0) (r : Result A Trouble) (t : Trouble) → IsErrAnd r (λ e. e ≡ t) → OnOk r P
+passed_done P (Ok x) t is = absurd is
+passed_done P (Err e) t is = tt

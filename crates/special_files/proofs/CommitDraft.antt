@@ -1,4 +1,4 @@
--- A draft whose root was written to its shadow root, and the store once it is the object.
+-- A draft whose root was written to its shadow root, and the drafts of the others.
 use Rattle.std.proofs.Common.{◌≡◌, ◌≢◌, inl, inr, ⊎_elim, ℕ, ◌%◌, ◌<◌, Bool, true, false, cond, IsTrue, List, [], ◌∷◌, ◌++◌, length, length-set, get_or, set, Option, Some, None, Ok, Err, refl, sym, ◌∙◌, ap, subst, arith}
 use Rattle.std.specs.Prelude.{IfErr, Result, is_some, not, option_to_list}
 use Rattle.std.specs.List.{All, list_all}
@@ -26,34 +26,29 @@ use Rattle.block_tree.specs.Root.{IsRootBlock, root_spelling}
 use Rattle.cyl_map.specs.declared.entry.MapEntry.{MapEntry}
 use Rattle.cyl_map.specs.Volume.{entry_in}
 use Rattle.cyl_map.proofs.Volumes.{entry_in-set, same_or_not}
-use Rattle.cyl_alloc.specs.Space.{AreCounts, Kept}
+use Rattle.cyl_alloc.specs.Space.{Kept}
 use Rattle.ufs_model.specs.declared.object.Draft as models
 use Rattle.ufs_model.specs.declared.object.Object.{Object}
 use Rattle.ufs_model.specs.Graph.{Graph, is_there, object_at, with_object}
 use Rattle.ufs_model.specs.Identifier.{same_puid}
-use Rattle.ufs_model.proofs.Graphs.{rises-with_object}
 use Rattle.vol_image.specs.Part.{SameAt, part_of, stands_for}
 use Rattle.vol_image.specs.Reading.{IsTree}
 use Rattle.vol_image.specs.Seen.{Tree, tree_in}
-use Rattle.vol_image.specs.Sight.{sight}
-use Rattle.vol_image.specs.Sound.{Holds, ReadsAs}
+use Rattle.vol_image.specs.Sound.{Holds}
 use Rattle.vol_image.proofs.Graphs.{object_at-with_object}
 use Rattle.vol_image.proofs.Parts.{IsPlaced, in_image, root_placed, shadow_taken, taken_apart}
 use Rattle.vol_image.proofs.Reached.{same_puid_is}
 use Rattle.vol_image.proofs.Steps.{not_map}
 use Rattle.vol_image.proofs.Unique.{one_root_block}
 use Rattle.vol_image.proofs.Views.{same_tree}
-use Rattle.vol_owners.specs.Account.{HasDraft, HasDrafts, HasItsBlocks, Opened, StandsIn, content_of, created_of, drafts_of, is_meant_for, levels_standing}
-use Rattle.vol_owners.specs.Change.{ChangesOnly, SameOthers, of_draft, of_owner}
-use Rattle.vol_owners.specs.Owner.{is_meant, is_of, is_placed}
-use Rattle.vol_owners.proofs.Entries.{had_not_meant, placed_taken, stands_meant}
-use Rattle.vol_owners.proofs.Changes.{changes_then, changes_wider}
+use Rattle.vol_owners.specs.Account.{HasDraft, HasItsBlocks, Opened, StandsIn, content_of, created_of, drafts_of, is_meant_for, levels_standing}
+use Rattle.vol_owners.specs.Change.{SameOthers}
+use Rattle.vol_owners.specs.Owner.{is_meant, is_of}
+use Rattle.vol_owners.proofs.Entries.{had_not_meant, stands_meant}
 use Rattle.vol_owners.proofs.Owned.{shadow_apart}
-use Rattle.vol_owners.proofs.Steps.{object_changes_on}
 use Rattle.intentions.specs.Store.{StoreHas}
-use Rattle.intentions.proofs.Committed.{object_at_put}
 use Rattle.special_files.specs.Changed.{AreOnDisk, IsChanged}
-use Rattle.special_files.specs.Committing.{CarriedOut, Committed, Fails, IsReady, far_root, named}
+use Rattle.special_files.specs.Committing.{Fails, IsReady, far_root, named}
 use Rattle.special_files.specs.Store.{without_draft}
 use Rattle.special_files.proofs.Begun.{own_tree}
 use Rattle.special_files.proofs.CommitRuns.{fails_after}
@@ -65,7 +60,7 @@ use Rattle.special_files.proofs.Lists.{differs}
 module _ (a b : Image) (g : Graph) (id : Puid) (was : Object) (d : Opened) (s : ℕ) (taken dropped : List ℕ) (holds : Holds a g) (at : object_at g id ≡ Some was) (has : HasItsBlocks a id.block) (draft : HasDraft a id d)
     (lists : IsChanged a id d taken dropped) (now_has : HasItsBlocks b id.block) (size : length b ≡ length a) (same : (m : ℕ) → m ≢ s → entry_in b m ≡ entry_in a m)
     (blocks : (m : ℕ) → m % 64 ≢ 0 → m ≢ s → block_at b m ≡ block_at a m) (stands : stands_for id.block (entry_in b s) ≡ true) (spelled : block_at b s ≡ root_spelling d.root)
-    (shadow : (n : ℕ) → d.shadow ≡ Some n → n ≡ s) (apart : (n : ℕ) → IsInner a id.block n → n ≢ s) where
+    (shadow : (n : ℕ) → d.shadow ≡ Some n → n ≡ s) (apart : (n : ℕ) → IsInner a id.block n → n ≢ s) (now_holds : Holds b g) where
   new_inner : (n : ℕ) → StandsIn (tree_in a (content_of d)) n → IsInner a id.block n
   new_inner n h = tree_inner a (length a) id.block (content_of d) d.root d.draft.object draft.tree n h
 
@@ -104,8 +99,9 @@ module _ (a b : Image) (g : Graph) (id : Puid) (was : Object) (d : Opened) (s : 
       let was_one = ap (stands_for id.block) (sym (same n other)) ∙ is in
       ⊎_elim (λ one. shadow n one) (λ in_tree. absurd (shadow_apart a (length a) id.block n (content_of d) d.root d.draft.object draft.tree was_one in_tree)) (draft.no_other n (stands_meant id.block (entry_in a n) was_one))) (same_or_not n s)
 
-  pub ready : IsReady b g id was d.draft.object s taken dropped
+  pub ready : IsReady b g id was d.draft.object s taken dropped None
   ready = record {
+    holds = now_holds;
     at = at;
     has = now_has;
     draft = record {
@@ -125,11 +121,12 @@ module _ (a b : Image) (g : Graph) (id : Puid) (was : Object) (d : Opened) (s : 
     gone = λ n is there. lists.drops.gone n is (subst (λ (t : Tree). StandsIn t n) new_tree there);
     others = λ n there. ⊎_elim (λ in_new. inl (subst (λ (t : Tree). StandsIn t n) (sym new_tree) in_new)) (λ is. inr is) (lists.drops.all n (subst (λ (t : Tree). StandsIn t n) own_tree_now there));
     dropped_once = lists.drops.once;
+    made = λ c is. (let no : None ≡ Some c = is in cc);
   }
 
 -- ---- the drafts of the others
 
-without_none : (id : Puid) (ds : List Opened) → drafts_of ds id ≡ [] → without_draft id ds ≡ ds
+pub without_none : (id : Puid) (ds : List Opened) → drafts_of ds id ≡ [] → without_draft id ds ≡ ds
 without_none id [] none = refl
 without_none id (f ∷ ds) none = elim (same_puid f.id id) as (λ b. same_puid f.id id ≡ b → cond b (f ∷ drafts_of ds id) (drafts_of ds id) ≡ [] → cond (not b) (f ∷ without_draft id ds) (without_draft id ds) ≡ f ∷ ds) [
   | true ↦ λ is empty. cc
@@ -160,14 +157,14 @@ without_created id d (f ∷ ds) alone none = elim (same_puid f.id id) as (λ b. 
   | false ↦ λ apart here. ap (λ (ns : List ℕ). option_to_list f.created ++ ns) (without_created id d ds here none)
 ] refl alone
 
-there_still : (g : Graph) (id : Puid) (o : Object) (x : Puid) → is_there g x ≡ true → is_there (with_object g id o) x ≡ true
+pub there_still : (g : Graph) (id : Puid) (o : Object) (x : Puid) → is_there g x ≡ true → is_there (with_object g id o) x ≡ true
 there_still g id o x there = ap (λ (r : Option Object). is_some r) (object_at-with_object g id o x) ∙ by (same_puid x id)
   where
     by : (b : Bool) → is_some (cond b (Some o) (object_at g x)) ≡ true
     by true = refl
     by false = there
 
-without_there : (g : Graph) (id : Puid) (o : Object) (ds : List Opened) → list_all (λ f. is_there g f.id) ds ≡ true → list_all (λ f. is_there (with_object g id o) f.id) (without_draft id ds) ≡ true
+pub without_there : (g : Graph) (id : Puid) (o : Object) (ds : List Opened) → list_all (λ f. is_there g f.id) ds ≡ true → list_all (λ f. is_there (with_object g id o) f.id) (without_draft id ds) ≡ true
 without_there g id o [] all = refl
 without_there g id o (f ∷ ds) all =
     let two = and_parts (is_there g f.id) (list_all (λ h. is_there g h.id) ds) all in
@@ -175,30 +172,6 @@ without_there g id o (f ∷ ds) all =
       | true ↦ without_there g id o ds two.1
       | false ↦ and_from _ _ (there_still g id o f.id two.0) (without_there g id o ds two.1)
     ]
-
--- ---- the store
-
-module _ {D : Type 0} (g : Ghosts D) (graph : Graph) (ds : List Opened) (id : Puid) (was o : Object) (d : Opened) (d0 d1 d2 : D) (k0 k1 k2 : Kept) where
-  pub store_commits : StoreHas g graph ds d0 k0 → object_at graph id ≡ Some was → drafts_of ds id ≡ d ∷ [] → d.created ≡ None → ChangesOnly (λ e. of_owner id.block e) (g.content d0) (g.content d1)
-      → AreCounts (g.content d1) k1 → CarriedOut g graph id o d1 d2 k1 k2 → Committed g graph ds id o d0 d2 k2
-  store_commits store at alone none only counts done =
-      let all = changes_then _ (g.content d0) (g.content d1) (g.content d2) only done.only in
-      record {
-        store = record {
-          carries = done.carries;
-          account = object_changes_on (g.content d0) (g.content d2) graph ds (without_draft id ds) id was o store.account at
-              (subst (λ (n : ℕ). ReadsAs n id (sight (g.content d2) id.block) o) all.size (done.carries.holds.objects id o (object_at_put graph id o)))
-              done.has (subst (HasDrafts (g.content d2) id) (sym (without_here id ds)) done.none_meant) (without_others id ds) all (without_created id d ds alone none) (without_there graph id o ds store.account.on_objects);
-          counts = done.counts counts;
-          ordered = rises-with_object graph id o store.ordered;
-        };
-        settled = done.settled;
-        only = all;
-      }
-
--- what only a draft changed, its owner did
-pub owner_changes : (r : ℕ) (a b : Image) → ChangesOnly (λ e. of_draft r e) a b → ChangesOnly (λ e. of_owner r e) a b
-owner_changes r a b only = changes_wider (λ e. of_draft r e) (λ e. of_owner r e) a b (λ entry is. (let two = and_parts (is_placed is_meant entry) _ is in and_from _ _ (placed_taken is_meant refl entry two.0) two.1)) only
 
 -- ---- the root written to the shadow root
 
@@ -275,13 +248,14 @@ module _ {D : Type 0} (g : Ghosts D) (graph : Graph) (ds : List Opened) (id : Pu
       pub store1 : StoreHas g graph ds d1 k0
       store1 = subst (λ (es : List Opened). StoreHas g graph es d1 k0) (replaced_same (opened_as id drafting m) ds opened.alone) (store_goes_on g graph ds id o d0 d1 k0 k0 drafting drafting m m store at opened amid1 draft1 refl)
 
-      pub ready1 : (taken dropped : List ℕ) → block ≡ root_spelling drafting.root → IsChanged (g.content d1) id (opened_as id drafting m) taken dropped → IsReady (g.content d1) graph id o m.object s taken dropped
+      pub ready1 : (taken dropped : List ℕ) → block ≡ root_spelling drafting.root → IsChanged (g.content d1) id (opened_as id drafting m) taken dropped → IsReady (g.content d1) graph id o m.object s taken dropped None
       ready1 taken dropped spelled lists =
           ready (g.content d1) (g.content d1) graph id o (opened_as id drafting m) s taken dropped store1.account.holds at (store1.account.objects id o at) draft1 lists (store1.account.objects id o at) refl
           (λ n other. refl) (λ n is other. refl) (ap (stands_for id.block) (entries s) ∙ stands)
           (ap (λ (i : Image). block_at i s) content ∙ get_or-set_same (g.content d0) s block [] below ∙ spelled)
           (λ n is. same_Some _ _ (sym is ∙ stood))
           (λ n is. inner_apart n (record { taken = record { is = is.taken.is; here = sym (entries n) ∙ is.taken.here; taken = is.taken.taken; placed = is.taken.placed; owned = is.taken.owned }; no_root = is.no_root; no_shadow = is.no_shadow }))
+          store1.account.holds
 
 -- ---- ends
 

@@ -1,7 +1,7 @@
 -- Images with entries changed one after another.
 use Rattle.std.proofs.Common.{◌≡◌, ◌≢◌, inl, inr, ℕ, ◌%◌, Bool, true, false, List, [], ◌∷◌, ◌++◌, length, Option, Some, None, refl, sym, ◌∙◌, ap, subst, arith}
-use Rattle.std.specs.Prelude.{◌==◌, ◌||◌}
-use Rattle.std.proofs.lemmas.Bool.{and_parts, both_ways, cases_Bool, eq-eqb, eqb-false, eqb-true, not-true}
+use Rattle.std.specs.Prelude.{◌==◌, ◌||◌, option_to_list}
+use Rattle.std.proofs.lemmas.Bool.{and_parts, both_ways, cases_Bool, eq-eqb, eqb-false, eqb-true, not-true, or_cases}
 use Rattle.cfs_base.specs.Disk.{Image, block_at}
 use Rattle.cyl_map.specs.Entry.{IsEntry}
 use Rattle.cyl_map.specs.declared.entry.MapEntry.{MapEntry}
@@ -108,6 +108,18 @@ first_number n ns = rw (eq-eqb n n refl) refl
 
 pub more_numbers : (n m : ℕ) (ns : List ℕ) → has_number m ns ≡ true → has_number m (n ∷ ns) ≡ true
 more_numbers n m ns there = elim (cases_Bool (n == m)) [ inl is ↦ rw is refl | inr not ↦ rw not there ]
+
+-- the block that there is, if there is one
+pub option_is : (x : Option ℕ) (n : ℕ) → has_number n (option_to_list x) ≡ true → x ≡ Some n
+option_is None n h = cc
+option_is (Some m) n h = elim (or_cases (m == n) false h) [ inl same ↦ ap Some (eqb-true m n same) | inr never ↦ cc ]
+
+pub option_has : (x : Option ℕ) (n : ℕ) → x ≡ Some n → has_number n (option_to_list x) ≡ true
+option_has x n is = subst (λ (y : Option ℕ). has_number n (option_to_list y) ≡ true) (sym is) (first_number n [])
+
+pub option_once : (x : Option ℕ) → numbers_differ (option_to_list x) ≡ true
+option_once None = refl
+option_once (Some m) = refl
 
 module _ (w : Course) (how : Change) where
   abbrev May : Image → ℕ → Type 0

@@ -1,6 +1,6 @@
 -- The images of a commit, one after another.
 use Rattle.std.proofs.Common.{◌≡◌, ◌≢◌, inl, inr, ⊎_elim, ℕ, ◌%◌, Bool, true, false, List, [], ◌∷◌, ◌++◌, length, set, Option, Some, None, refl, sym, ◌∙◌, ap, subst, length-set, arith}
-use Rattle.std.specs.Prelude.{◌==◌}
+use Rattle.std.specs.Prelude.{◌==◌, option_to_list}
 use Rattle.std.proofs.lemmas.Bool.{both_ways, cases_Bool, eqb-true, false_from_ne_true, false≢true, ne_eqb, or_cases}
 use Rattle.std.proofs.lemmas.List.{get_or-set_other}
 use Rattle.std.proofs.lemmas.Option.{same_Some}
@@ -40,13 +40,14 @@ use Rattle.intentions.specs.Course.{Course, Frame, IsOn, MayPut, Settling}
 use Rattle.intentions.specs.Entries.{changed, finished, released, undone, with_bit, with_bit_at, without_bit}
 use Rattle.intentions.specs.declared.change.Change.TheVariants.{ClearBit, Finish, Release, Undo}
 use Rattle.intentions.proofs.Committed.{commits, copied_settles, copies, still_to_finish}
-use Rattle.intentions.proofs.Settling.{may_clear, may_finish, may_release, may_undo}
-use Rattle.intentions.proofs.Valid.{bit_valid, released_keeps}
-use Rattle.special_files.specs.Committing.{Flip, IsReady, MayFlip, flipped, flips, given_all, settling}
+use Rattle.intentions.proofs.Settling.{may_clear, may_finish, may_finish_made, may_release, may_undo}
+use Rattle.intentions.proofs.Valid.{bit_valid, finished_part, released_keeps}
+use Rattle.special_files.specs.Committing.{Flip, IsEntered, IsReady, MayFlip, flipped, flips, given_all, settling}
 use Rattle.special_files.proofs.Begun.{own_tree}
 use Rattle.special_files.proofs.CommitEntries.{bits_same, dropped_free, dropped_state, finished_free, finished_had, meant_not_free, no_bit, released_free, released_not_free, undone_free, with_bit_free}
-use Rattle.special_files.proofs.CommitFlips.{counts_given_all, counts_kept, flipped_append, flipped_block, flipped_on, flips_entry, if_at, length-flipped, may_append, may_flips, first_number}
-use Rattle.special_files.proofs.CommitRoles.{Gone, Now, Role, Same, block_stands, stands_block}
+use Rattle.special_files.proofs.CommitFlips.{counts_given_all, counts_kept, flipped_append, flipped_block, flipped_on, flips_entry, if_at, length-flipped, may_append, may_flips, first_number, option_has, option_is, option_once}
+use Rattle.special_files.proofs.CommitRoles.{Gone, Made, Now, Role, Same, block_stands, made_alone, stands_block}
+use Rattle.special_files.proofs.Made.{IsNewRoot, made_apart, made_meant, made_root}
 use Rattle.special_files.proofs.Meant.{counts_content, meant_is}
 
 -- ---- nodes and leaves
@@ -71,7 +72,7 @@ only_one s n is = elim (or_cases (s == n) false is) [ inl same ↦ eqb-true s n 
 pub not_only : (s n : ℕ) → n ≢ s → has_number n (s ∷ []) ≡ false
 not_only s n apart = rw (ne_eqb s n (λ same. apart (sym same))) refl
 
-module _ (a : Image) (g : Graph) (id : Puid) (was o : Object) (s : ℕ) (taken dropped : List ℕ) (holds : Holds a g) (ready : IsReady a g id was o s taken dropped) where
+module _ {a : Image} {g : Graph} {id : Puid} {was o : Object} {s : ℕ} {taken dropped : List ℕ} {created : Option ℕ} (ready : IsReady a g id was o s taken dropped created) where
   abbrev r : ℕ
   r = id.block
 
@@ -79,7 +80,7 @@ module _ (a : Image) (g : Graph) (id : Puid) (was o : Object) (s : ℕ) (taken d
   after = with_object g id o
 
   root : IsPlaced a id.block id.block Root
-  root = root_placed a (length a) id was (holds.objects id was ready.at)
+  root = root_placed a (length a) id was (ready.holds.objects id was ready.at)
 
   shadow : IsPlaced a s id.block ShadowRoot
   shadow = shadow_taken a id.block s ready.draft.stands
@@ -90,9 +91,9 @@ module _ (a : Image) (g : Graph) (id : Puid) (was o : Object) (s : ℕ) (taken d
   own_inner : (n : ℕ) → StandsIn (tree_in a (block_at a id.block)) n → IsInner a id.block n
   unfolding sight
   own_inner n at =
-      let own = (holds.objects id was ready.at).root in
-      let is = (holds.objects id was ready.at).spelled in
-      tree_inner a (length a) id.block (block_at a id.block) own was (subst (λ (c : List ℕ). IsTree (length a) id.block (tree_in a c) own was) (sym is.spelled) (own_tree a (length a) id own was ready.has (holds.objects id was ready.at) is)) n at
+      let own = (ready.holds.objects id was ready.at).root in
+      let is = (ready.holds.objects id was ready.at).spelled in
+      tree_inner a (length a) id.block (block_at a id.block) own was (subst (λ (c : List ℕ). IsTree (length a) id.block (tree_in a c) own was) (sym is.spelled) (own_tree a (length a) id own was ready.has (ready.holds.objects id was ready.at) is)) n at
 
   -- different blocks
   inner_root : (n : ℕ) → IsInner a id.block n → n ≢ id.block
@@ -124,22 +125,22 @@ module _ (a : Image) (g : Graph) (id : Puid) (was o : Object) (s : ℕ) (taken d
   abbrev pub a1 : Image
   a1 = flipped a (flips Release dropped)
 
-  may_drop : (n : ℕ) → has_number n dropped ≡ true → (e : MapEntry) × (entry_in a n ≡ Some e) × MayPut (Frame a g) n e (changed Release e)
-  may_drop n is =
+  may_drop : (h : Graph) (n : ℕ) → has_number n dropped ≡ true → (e : MapEntry) × (entry_in a n ≡ Some e) × MayPut (Frame a h) n e (changed Release e)
+  may_drop h n is =
       let t = (dropped_inner n is).taken in
-      (t.is, t.here, may_release a g n t.is (taken_apart a g holds n id.block t) (entry_in_table a n t.is t.here) (holds.own n t.is t.here))
+      (t.is, t.here, may_release a h n t.is (taken_apart a g ready.holds n id.block t) (entry_in_table a n t.is t.here) (ready.holds.own n t.is t.here))
 
-  pub release_may : MayFlip (Frame a g) a (flips Release dropped)
-  release_may = may_flips (Frame a g) Release dropped a ready.dropped_once may_drop
+  pub release_may : (h : Graph) → MayFlip (Frame a h) a (flips Release dropped)
+  release_may h = may_flips (Frame a h) Release dropped a ready.dropped_once (may_drop h)
 
   pub a1_entry : (m : ℕ) → entry_in a1 m ≡ if_at (has_number m dropped) Release (entry_in a m)
-  a1_entry m = flips_entry (Frame a g) Release dropped a ready.dropped_once release_may m
+  a1_entry m = flips_entry (Frame a g) Release dropped a ready.dropped_once (release_may g) m
 
   pub a1_block : (m : ℕ) → m % 64 ≢ 0 → block_at a1 m ≡ block_at a m
   a1_block m real = flipped_block (flips Release dropped) a m real
 
   pub a1_holds : Holds a1 g
-  a1_holds = frames_hold a a1 g holds (flipped_on (Frame a g) (flips Release dropped) a holds (frames_begin a g holds) release_may)
+  a1_holds = frames_hold a a1 g ready.holds (flipped_on (Frame a g) (flips Release dropped) a ready.holds (frames_begin a g ready.holds) (release_may g))
 
   if_released : (b : Bool) (entry : Option MapEntry) → ((e : MapEntry) → entry ≡ Some e → IsEntry e) → (part_of (if_at b Release entry) ≡ part_of entry) × ((x : ℕ) → stands_for x (if_at b Release entry) ≡ stands_for x entry)
   if_released false entry valid = (refl, λ x. refl)
@@ -156,7 +157,7 @@ module _ (a : Image) (g : Graph) (id : Puid) (was o : Object) (s : ℕ) (taken d
   a1_stands x m = ap (stands_for x) (a1_entry m) ∙ (a1_same m).1 x
 
   real : (n : ℕ) → IsTaken a n id.block → n % 64 ≢ 0
-  real n t = not_map n (taken_apart a g holds n id.block t)
+  real n t = not_map n (taken_apart a g ready.holds n id.block t)
 
   a1_shadow : block_at a1 s ≡ block_at a s
   a1_shadow = a1_block s (real s shadow.taken)
@@ -262,8 +263,11 @@ module _ (a : Image) (g : Graph) (id : Puid) (was o : Object) (s : ℕ) (taken d
   abbrev pub b2 : Image
   b2 = flipped b1 (flips Finish dropped)
 
+  abbrev pub bm : Image
+  bm = flipped b2 (flips Finish (option_to_list created))
+
   abbrev pub b3 : Image
-  b3 = flipped b2 (flips Undo (s ∷ []))
+  b3 = flipped bm (flips Undo (s ∷ []))
 
   abbrev pub b4 : Image
   b4 = flipped b3 (flips ClearBit (id.block ∷ []))
@@ -298,21 +302,71 @@ module _ (a : Image) (g : Graph) (id : Puid) (was o : Object) (s : ℕ) (taken d
   b2_same : (m : ℕ) → has_number m taken ≡ false → has_number m dropped ≡ false → entry_in b2 m ≡ entry_in a3 m
   b2_same m one two = b2_entry m ∙ ap (λ (b : Bool). if_at b Finish (entry_in b1 m)) two ∙ b1_entry m ∙ ap (λ (b : Bool). if_at b Finish (entry_in a3 m)) one
 
+  -- the root of an object that is made is none of these
+  made_root_at : (n : ℕ) → created ≡ Some n → IsNewRoot a n
+  made_root_at n is = made_root a ready.holds.own n (ready.made n is)
+
+  made_meant_at : (n : ℕ) → created ≡ Some n → is_meant_for a n n ≡ true
+  made_meant_at n is = made_meant a ready.holds.own n (ready.made n is)
+
+  made_not_root : (n : ℕ) → created ≡ Some n → n ≢ id.block
+  made_not_root n is = made_apart a ready.holds.own n (ready.made n is) id.block ready.has
+
+  made_not_shadow : (n : ℕ) → created ≡ Some n → n ≢ s
+  made_not_shadow n is same =
+      let c = (made_root_at n is).at in
+      let no : Some Root ≡ Some ShadowRoot = sym c.place_is ∙ ap (λ (e : MapEntry). e.place) (same_Some _ _ (sym c.taken.here ∙ ap (entry_in a) same ∙ shadow.taken.here)) ∙ shadow.place_is in cc
+
+  made_not_inner : (n : ℕ) → created ≡ Some n → IsInner a id.block n → ⊥
+  made_not_inner n is inner = let c = (made_root_at n is).at in inner.no_root (ap (λ (e : MapEntry). e.place) (same_Some _ _ (sym inner.taken.here ∙ c.taken.here)) ∙ c.place_is)
+
+  made_not_taken : (n : ℕ) → created ≡ Some n → has_number n taken ≡ false
+  made_not_taken n is = false_from_ne_true _ (λ there. made_not_inner n is (taken_inner n there))
+
+  made_not_dropped : (n : ℕ) → created ≡ Some n → has_number n dropped ≡ false
+  made_not_dropped n is = false_from_ne_true _ (λ there. made_not_inner n is (dropped_inner n there))
+
+  -- a block that isn't that root
+  no_made : (n : ℕ) → (created ≡ Some n → ⊥) → has_number n (option_to_list created) ≡ false
+  no_made n none = false_from_ne_true _ (λ there. none (option_is created n there))
+
+  b2_made : (n : ℕ) → (is : created ≡ Some n) → entry_in b2 n ≡ Some (made_root_at n is).at.taken.is
+  b2_made n is = b2_same n (made_not_taken n is) (made_not_dropped n is) ∙ a3_entry n (made_not_root n is) ∙ a1_kept n (made_not_dropped n is) ∙ (made_root_at n is).at.taken.here
+
+  may_made : MayFlip course b2 (flips Finish (option_to_list created))
+  may_made = may_flips course Finish (option_to_list created) b2 (option_once created) (λ n there.
+      let is = option_is created n there in
+      let c = (made_root_at n is).at in (
+        c.taken.is,
+        b2_made n is,
+        may_finish_made a3 after id o s copy.copied n c.taken.is (entry_in_table a n c.taken.is c.taken.here) c.place_is c.taken.owned
+            (λ leaves. (let clash : IntendAllocate ≡ IntendDeallocate = sym (made_root_at n is).state ∙ leaves in cc)) (taken_apart a g ready.holds n n c.taken) (made_not_root n is),
+      ))
+
+  bm_entry : (m : ℕ) → entry_in bm m ≡ if_at (has_number m (option_to_list created)) Finish (entry_in b2 m)
+  bm_entry m = flips_entry course Finish (option_to_list created) b2 (option_once created) may_made m
+
+  bm_same : (m : ℕ) → (created ≡ Some m → ⊥) → entry_in bm m ≡ entry_in b2 m
+  bm_same m none = bm_entry m ∙ ap (λ (b : Bool). if_at b Finish (entry_in b2 m)) (no_made m none)
+
   a3_shadow : entry_in a3 s ≡ Some shadow.taken.is
   a3_shadow = a3_entry s (λ same. root_shadow (sym same)) ∙ a1_kept s shadow_not_dropped ∙ shadow.taken.here
 
-  may3 : MayFlip course b2 (flips Undo (s ∷ []))
-  may3 = may_flips course Undo (s ∷ []) b2 refl (λ n is. subst (λ (k : ℕ). (e : MapEntry) × (entry_in b2 k ≡ Some e) × MayPut course k e (changed Undo e)) (only_one s n is)
-      (shadow.taken.is, b2_same s shadow_not_taken shadow_not_dropped ∙ a3_shadow, may_undo a3 after id o s copy.copied copy.committed.stands shadow.taken.is a3_shadow))
+  bm_shadow : entry_in bm s ≡ Some shadow.taken.is
+  bm_shadow = bm_same s (λ is. made_not_shadow s is refl) ∙ b2_same s shadow_not_taken shadow_not_dropped ∙ a3_shadow
 
-  b3_entry : (m : ℕ) → entry_in b3 m ≡ if_at (has_number m (s ∷ [])) Undo (entry_in b2 m)
-  b3_entry m = flips_entry course Undo (s ∷ []) b2 refl may3 m
+  may3 : MayFlip course bm (flips Undo (s ∷ []))
+  may3 = may_flips course Undo (s ∷ []) bm refl (λ n is. subst (λ (k : ℕ). (e : MapEntry) × (entry_in bm k ≡ Some e) × MayPut course k e (changed Undo e)) (only_one s n is)
+      (shadow.taken.is, bm_shadow, may_undo a3 after id o s copy.copied copy.committed.stands shadow.taken.is a3_shadow))
+
+  b3_entry : (m : ℕ) → entry_in b3 m ≡ if_at (has_number m (s ∷ [])) Undo (entry_in bm m)
+  b3_entry m = flips_entry course Undo (s ∷ []) bm refl may3 m
 
   b3_on : IsOn course b3
-  b3_on = flipped_on course (flips Undo (s ∷ [])) b2 copy.copied (flipped_on course (flips Finish dropped) b1 copy.copied (flipped_on course (flips Finish taken) a3 copy.copied begins may1) may2) may3
+  b3_on = flipped_on course (flips Undo (s ∷ [])) bm copy.copied (flipped_on course (flips Finish (option_to_list created)) b2 copy.copied (flipped_on course (flips Finish dropped) b1 copy.copied (flipped_on course (flips Finish taken) a3 copy.copied begins may1) may2) may_made) may3
 
   b3_root : entry_in b3 id.block ≡ Some (with_bit a1_root.taken.is)
-  b3_root = b3_entry id.block ∙ ap (λ (b : Bool). if_at b Undo (entry_in b2 id.block)) (not_only s id.block root_shadow) ∙ b2_same id.block root_not_taken root_not_dropped ∙ a3_root
+  b3_root = b3_entry id.block ∙ ap (λ (b : Bool). if_at b Undo (entry_in bm id.block)) (not_only s id.block root_shadow) ∙ bm_same id.block (λ is. made_not_root id.block is refl) ∙ b2_same id.block root_not_taken root_not_dropped ∙ a3_root
 
   may4 : MayFlip course b3 (flips ClearBit (id.block ∷ []))
   may4 = may_flips course ClearBit (id.block ∷ []) b3 refl (λ n is. subst (λ (k : ℕ). (e : MapEntry) × (entry_in b3 k ≡ Some e) × MayPut course k e (changed ClearBit e)) (only_one id.block n is)
@@ -325,29 +379,34 @@ module _ (a : Image) (g : Graph) (id : Puid) (was o : Object) (s : ℕ) (taken d
   b4_on = flipped_on course (flips ClearBit (id.block ∷ [])) b3 copy.copied b3_on may4
 
   abbrev pub all : List Flip
-  all = settling taken dropped [] s ++ flips ClearBit (id.block ∷ [])
+  all = settling taken dropped (option_to_list created) s ++ flips ClearBit (id.block ∷ [])
+
+  settling_is : flipped a3 (settling taken dropped (option_to_list created) s) ≡ b3
+  settling_is =
+      flipped_append (flips Finish taken) (flips Finish dropped ++ (flips Finish (option_to_list created) ++ flips Undo (s ∷ []))) a3
+      ∙ flipped_append (flips Finish dropped) (flips Finish (option_to_list created) ++ flips Undo (s ∷ [])) b1 ∙ flipped_append (flips Finish (option_to_list created)) (flips Undo (s ∷ [])) b2
 
   pub all_is : flipped a3 all ≡ b4
-  all_is =
-      flipped_append (settling taken dropped [] s) (flips ClearBit (id.block ∷ [])) a3
-      ∙ ap (λ (i : Image). flipped i (flips ClearBit (id.block ∷ []))) (flipped_append (flips Finish taken) (flips Finish dropped ++ flips Undo (s ∷ [])) a3 ∙ flipped_append (flips Finish dropped) (flips Undo (s ∷ [])) b1)
+  all_is = flipped_append (settling taken dropped (option_to_list created) s) (flips ClearBit (id.block ∷ [])) a3 ∙ ap (λ (i : Image). flipped i (flips ClearBit (id.block ∷ []))) settling_is
 
   pub all_may : MayFlip course a3 all
-  all_may = may_append course (settling taken dropped [] s) (flips ClearBit (id.block ∷ [])) a3
-      (may_append course (flips Finish taken) (flips Finish dropped ++ flips Undo (s ∷ [])) a3 may1 (may_append course (flips Finish dropped) (flips Undo (s ∷ [])) b1 may2 may3))
-      (subst (λ (i : Image). MayFlip course i (flips ClearBit (id.block ∷ []))) (sym (flipped_append (flips Finish taken) (flips Finish dropped ++ flips Undo (s ∷ [])) a3 ∙ flipped_append (flips Finish dropped) (flips Undo (s ∷ [])) b1)) may4)
+  all_may = may_append course (settling taken dropped (option_to_list created) s) (flips ClearBit (id.block ∷ [])) a3
+      (may_append course (flips Finish taken) (flips Finish dropped ++ (flips Finish (option_to_list created) ++ flips Undo (s ∷ []))) a3 may1
+      (may_append course (flips Finish dropped) (flips Finish (option_to_list created) ++ flips Undo (s ∷ [])) b1 may2 (may_append course (flips Finish (option_to_list created)) (flips Undo (s ∷ [])) b2 may_made may3)))
+      (subst (λ (i : Image). MayFlip course i (flips ClearBit (id.block ∷ []))) (sym settling_is) may4)
 
   -- ---- afterwards
 
   -- a block that is no root
-  b4_entry_of : (m : ℕ) → m ≢ id.block → (bs bd bt : Bool) → has_number m (s ∷ []) ≡ bs → has_number m dropped ≡ bd → has_number m taken ≡ bt
-      → entry_in b4 m ≡ if_at bs Undo (if_at bd Finish (if_at bt Finish (if_at bd Release (entry_in a m))))
-  b4_entry_of m other bs bd bt one two three =
+  b4_entry_of : (m : ℕ) → m ≢ id.block → (bs bc bd bt : Bool) → has_number m (s ∷ []) ≡ bs → has_number m (option_to_list created) ≡ bc → has_number m dropped ≡ bd → has_number m taken ≡ bt
+      → entry_in b4 m ≡ if_at bs Undo (if_at bc Finish (if_at bd Finish (if_at bt Finish (if_at bd Release (entry_in a m)))))
+  b4_entry_of m other bs bc bd bt one made two three =
       b4_entry m ∙ ap (λ (b : Bool). if_at b ClearBit (entry_in b3 m)) (not_only id.block m other)
-      ∙ b3_entry m ∙ (λ i. if_at (one i) Undo (entry_in b2 m))
-      ∙ ap (if_at bs Undo) (b2_entry m ∙ (λ i. if_at (two i) Finish (entry_in b1 m)))
-      ∙ ap (λ (x : Option MapEntry). if_at bs Undo (if_at bd Finish x)) (b1_entry m ∙ (λ i. if_at (three i) Finish (entry_in a3 m)))
-      ∙ ap (λ (x : Option MapEntry). if_at bs Undo (if_at bd Finish (if_at bt Finish x))) (a3_entry m other ∙ a1_entry m ∙ (λ i. if_at (two i) Release (entry_in a m)))
+      ∙ b3_entry m ∙ (λ i. if_at (one i) Undo (entry_in bm m))
+      ∙ ap (if_at bs Undo) (bm_entry m ∙ (λ i. if_at (made i) Finish (entry_in b2 m)))
+      ∙ ap (λ (x : Option MapEntry). if_at bs Undo (if_at bc Finish x)) (b2_entry m ∙ (λ i. if_at (two i) Finish (entry_in b1 m)))
+      ∙ ap (λ (x : Option MapEntry). if_at bs Undo (if_at bc Finish (if_at bd Finish x))) (b1_entry m ∙ (λ i. if_at (three i) Finish (entry_in a3 m)))
+      ∙ ap (λ (x : Option MapEntry). if_at bs Undo (if_at bc Finish (if_at bd Finish (if_at bt Finish x)))) (a3_entry m other ∙ a1_entry m ∙ (λ i. if_at (two i) Release (entry_in a m)))
 
   b4_root : entry_in b4 id.block ≡ Some (without_bit (with_bit root.taken.is))
   b4_root =
@@ -364,56 +423,65 @@ module _ (a : Image) (g : Graph) (id : Puid) (was o : Object) (s : ℕ) (taken d
   pub new_taken : (m : ℕ) → StandsIn (tree_in a (block_at a s)) m → is_of is_taken id.block (entry_in a m) ≡ true
   new_taken m at = taken_of_id m (new_inner m at).taken
 
-  role_root : Role a b4 id.block (tree_in a (block_at a s)) id.block
+  role_root : Role a b4 id.block created (tree_in a (block_at a s)) id.block
   role_root = Now (taken_of_id id.block root.taken)
       (ap (is_of is_had id.block) b4_root ∙ bits_same is_had id.block root.taken.is ∙ ap (is_of is_had id.block) (sym root.taken.here) ∙ ready.has.each id.block (inl refl)) (inl refl)
 
   shadow_meant : is_meant_for a id.block s ≡ true
   shadow_meant = stands_meant id.block (entry_in a s) ready.draft.stands
 
-  role_shadow : Role a b4 id.block (tree_in a (block_at a s)) s
+  role_shadow : Role a b4 id.block created (tree_in a (block_at a s)) s
   role_shadow = Gone (taken_of_id s shadow.taken)
-      (ap is_free_entry (b4_entry_of s (λ same. root_shadow (sym same)) true false false (first_number s []) shadow_not_dropped shadow_not_taken ∙ ap (if_at true Undo) shadow.taken.here) ∙ undone_free shadow.taken.is (meant_state s shadow.taken.is shadow_meant shadow.taken.here))
+      (ap is_free_entry (b4_entry_of s (λ same. root_shadow (sym same)) true false false false (first_number s []) (no_made s (λ is. made_not_shadow s is refl)) shadow_not_dropped shadow_not_taken ∙ ap (if_at true Undo) shadow.taken.here) ∙ undone_free shadow.taken.is (meant_state s shadow.taken.is shadow_meant shadow.taken.here))
       (λ stands. ⊎_elim (λ is. root_shadow (sym is)) (λ at. inner_shadow s (new_inner s at) refl) stands)
 
-  role_taken : (m : ℕ) → has_number m taken ≡ true → Role a b4 id.block (tree_in a (block_at a s)) m
+  role_taken : (m : ℕ) → has_number m taken ≡ true → Role a b4 id.block created (tree_in a (block_at a s)) m
   role_taken m is =
       let t = taken_inner m is in
       Now (taken_of_id m t.taken)
-      (ap (is_of is_had id.block) (b4_entry_of m (inner_root m t) false false true (not_only s m (inner_shadow m t)) (taken_not_dropped m is) is ∙ ap (if_at true Finish) t.taken.here)
+      (ap (is_of is_had id.block) (b4_entry_of m (inner_root m t) false false false true (not_only s m (inner_shadow m t)) (no_made m (λ made. made_not_inner m made t)) (taken_not_dropped m is) is ∙ ap (if_at true Finish) t.taken.here)
       ∙ finished_had id.block t.taken.is (ap (is_of is_meant id.block) (sym t.taken.here) ∙ ready.meant m is))
       (inr (ready.stands m is))
 
-  role_dropped : (m : ℕ) → has_number m dropped ≡ true → Role a b4 id.block (tree_in a (block_at a s)) m
+  role_dropped : (m : ℕ) → has_number m dropped ≡ true → Role a b4 id.block created (tree_in a (block_at a s)) m
   role_dropped m is =
       let t = dropped_inner m is in
       Gone (taken_of_id m t.taken)
-      (ap is_free_entry (b4_entry_of m (inner_root m t) false true false (not_only s m (inner_shadow m t)) is (dropped_not_taken m is) ∙ ap (λ (x : Option MapEntry). if_at true Finish (if_at true Release x)) t.taken.here)
+      (ap is_free_entry (b4_entry_of m (inner_root m t) false false true false (not_only s m (inner_shadow m t)) (no_made m (λ made. made_not_inner m made t)) is (dropped_not_taken m is) ∙ ap (λ (x : Option MapEntry). if_at true Finish (if_at true Release x)) t.taken.here)
       ∙ dropped_free id.block t.taken.is (had_entry m is) t.no_root t.no_shadow)
       (λ stands. ⊎_elim (λ root_is. inner_root m t root_is) (λ at. ready.gone m is at) stands)
 
-  role_other : (m : ℕ) → m ≢ id.block → m ≢ s → has_number m taken ≡ false → has_number m dropped ≡ false → Role a b4 id.block (tree_in a (block_at a s)) m
-  role_other m no_root no_shadow not_taken not_dropped = Same
-      (b4_entry_of m no_root false false false (not_only s m no_shadow) not_dropped not_taken)
+  made_entry : (m : ℕ) → (is : created ≡ Some m) → entry_in b4 m ≡ Some (finished (made_root_at m is).at.taken.is)
+  made_entry m is =
+      b4_entry_of m (made_not_root m is) false true false false (not_only s m (made_not_shadow m is)) (option_has created m is) (made_not_dropped m is) (made_not_taken m is)
+      ∙ ap (if_at true Finish) (made_root_at m is).at.taken.here
+
+  made_had : (m : ℕ) → created ≡ Some m → is_of is_had m (entry_in b4 m) ≡ true
+  made_had m is = ap (is_of is_had m) (made_entry m is) ∙ finished_had m (made_root_at m is).at.taken.is (ap (is_of is_meant m) (sym (made_root_at m is).at.taken.here) ∙ made_meant_at m is)
+
+  role_other : (m : ℕ) → m ≢ id.block → m ≢ s → has_number m taken ≡ false → has_number m dropped ≡ false → has_number m (option_to_list created) ≡ false → Role a b4 id.block created (tree_in a (block_at a s)) m
+  role_other m no_root no_shadow not_taken not_dropped not_made = Same
+      (b4_entry_of m no_root false false false false (not_only s m no_shadow) not_made not_dropped not_taken)
       (false_from_ne_true _ (λ meant. ⊎_elim (λ is. no_shadow is) (λ there. both_ways _ not_taken there) (ready.all m meant)))
       (λ had. ⊎_elim (λ is. inl is) (λ at. ⊎_elim (λ there. inr there) (λ there. absurd (both_ways _ not_dropped there)) (ready.others m at)) (block_stands a id.block ready.has.no_bit m (ready.has.no_other m had)))
 
-  pub role : (m : ℕ) → Role a b4 id.block (tree_in a (block_at a s)) m
-  role m = ⊎_elim (λ is. subst (Role a b4 id.block (tree_in a (block_at a s))) (sym is) role_root) (λ no_root.
-      ⊎_elim (λ is. subst (Role a b4 id.block (tree_in a (block_at a s))) (sym is) role_shadow) (λ no_shadow.
+  pub role : (m : ℕ) → Role a b4 id.block created (tree_in a (block_at a s)) m
+  role m = ⊎_elim (λ is. subst (Role a b4 id.block created (tree_in a (block_at a s))) (sym is) role_root) (λ no_root.
+      ⊎_elim (λ is. subst (Role a b4 id.block created (tree_in a (block_at a s))) (sym is) role_shadow) (λ no_shadow.
       ⊎_elim (λ is. role_taken m is) (λ not_taken.
-      ⊎_elim (λ is. role_dropped m is) (λ not_dropped. role_other m no_root no_shadow not_taken not_dropped)
-      (cases_Bool (has_number m dropped))) (cases_Bool (has_number m taken))) (same_or_not m s)) (same_or_not m id.block)
+      ⊎_elim (λ is. role_dropped m is) (λ not_dropped.
+      ⊎_elim (λ there. (let is = option_is created m there in Made is (taken_of a m m (made_root_at m is).at.taken) (made_had m is) no_root)) (λ not_made. role_other m no_root no_shadow not_taken not_dropped not_made)
+      (cases_Bool (has_number m (option_to_list created)))) (cases_Bool (has_number m dropped))) (cases_Bool (has_number m taken))) (same_or_not m s)) (same_or_not m id.block)
 
   -- ---- contents and counts
 
   b4_block : (m : ℕ) → m % 64 ≢ 0 → block_at b4 m ≡ block_at a3 m
   b4_block m real =
-      flipped_block (flips ClearBit (id.block ∷ [])) b3 m real ∙ flipped_block (flips Undo (s ∷ [])) b2 m real ∙ flipped_block (flips Finish dropped) b1 m real ∙ flipped_block (flips Finish taken) a3 m real
+      flipped_block (flips ClearBit (id.block ∷ [])) b3 m real ∙ flipped_block (flips Undo (s ∷ [])) bm m real ∙ flipped_block (flips Finish (option_to_list created)) b2 m real ∙ flipped_block (flips Finish dropped) b1 m real ∙ flipped_block (flips Finish taken) a3 m real
 
   pub b4_size : length b4 ≡ length a
   b4_size =
-      length-flipped (flips ClearBit (id.block ∷ [])) b3 ∙ length-flipped (flips Undo (s ∷ [])) b2 ∙ length-flipped (flips Finish dropped) b1 ∙ length-flipped (flips Finish taken) a3
+      length-flipped (flips ClearBit (id.block ∷ [])) b3 ∙ length-flipped (flips Undo (s ∷ [])) bm ∙ length-flipped (flips Finish (option_to_list created)) b2 ∙ length-flipped (flips Finish dropped) b1 ∙ length-flipped (flips Finish taken) a3
       ∙ length-set a2 id.block (block_at a2 s) ∙ length-with_entry a1 id.block (with_bit a1_root.taken.is) ∙ length-flipped (flips Release dropped) a
 
   a2_block : (m : ℕ) → m % 64 ≢ 0 → block_at a2 m ≡ block_at a m
@@ -431,7 +499,7 @@ module _ (a : Image) (g : Graph) (id : Puid) (was o : Object) (s : ℕ) (taken d
 
   pub counts_now : (kept : Kept) → AreCounts a kept → AreCounts b4 (after_giving (given_all kept dropped) s 1)
   counts_now kept counts =
-      let c1 : AreCounts a1 kept = counts_kept (Frame a g) Release dropped a kept ready.dropped_once release_may counts (λ n e is here. released_free e) in
+      let c1 : AreCounts a1 kept = counts_kept (Frame a g) Release dropped a kept ready.dropped_once (release_may g) counts (λ n e is here. released_free e) in
       let c2 : AreCounts a2 kept = counts_same a1 kept id.block a1_root.taken.is (with_bit a1_root.taken.is) c1 a1_root.taken.here
       (subst IsEntry (sym (ap (λ p. with_bit_at p a1_root.taken.is) a1_root.place_is)) (bit_valid a1_root.taken.is a1_root.place_is (entry_in_table a1 id.block a1_root.taken.is a1_root.taken.here))) (with_bit_free a1_root.taken.is) in
       let c3 : AreCounts a3 kept = counts_content a2 kept id.block (block_at a2 s) (real id.block root.taken) c2 in
@@ -441,9 +509,24 @@ module _ (a : Image) (g : Graph) (id : Puid) (was o : Object) (s : ℕ) (taken d
       let t = dropped_inner n is in
       let same : released t.taken.is ≡ e = same_Some _ _ (sym (a3_entry n (inner_root n t) ∙ a1_dropped n is) ∙ sym (b1_entry n ∙ ap (λ (b : Bool). if_at b Finish (entry_in a3 n)) (dropped_not_taken n is)) ∙ here) in
       (ap is_free (sym same) ∙ released_not_free id.block t.taken.is (had_entry n is) t.no_root t.no_shadow, ap (λ (x : MapEntry). is_free (finished x)) (sym same) ∙ dropped_free id.block t.taken.is (had_entry n is) t.no_root t.no_shadow)) in
-      let c6 : AreCounts b3 (after_giving (given_all kept dropped) s 1) = counts_given_all course Undo (s ∷ []) b2 (given_all kept dropped) refl may3 c5 (λ n e is here.
-      let here_s = subst (λ (k : ℕ). entry_in b2 k ≡ Some e) (sym (only_one s n is)) here in
-      let same : shadow.taken.is ≡ e = same_Some _ _ (sym (b2_same s shadow_not_taken shadow_not_dropped ∙ a3_shadow) ∙ here_s) in
+      let cm : AreCounts bm (given_all kept dropped) = counts_kept course Finish (option_to_list created) b2 (given_all kept dropped) (option_once created) may_made c5 (λ n e there here.
+      let is = option_is created n there in
+      finished_free e (ap (λ (x : MapEntry). x.state) (same_Some _ _ (sym here ∙ b2_made n is)) ∙ (made_root_at n is).state)) in
+      let c6 : AreCounts b3 (after_giving (given_all kept dropped) s 1) = counts_given_all course Undo (s ∷ []) bm (given_all kept dropped) refl may3 cm (λ n e is here.
+      let here_s = subst (λ (k : ℕ). entry_in bm k ≡ Some e) (sym (only_one s n is)) here in
+      let same : shadow.taken.is ≡ e = same_Some _ _ (sym bm_shadow ∙ here_s) in
       let state = meant_state s shadow.taken.is shadow_meant shadow.taken.here in
       (ap is_free (sym same) ∙ meant_not_free shadow.taken.is state, ap (λ (x : MapEntry). is_free (undone x)) (sym same) ∙ undone_free shadow.taken.is state)) in
       counts_kept course ClearBit (id.block ∷ []) b3 (after_giving (given_all kept dropped) s 1) refl may4 c6 (λ n e is here. refl)
+
+  pub made_now : (c : ℕ) → created ≡ Some c → IsEntered a b4 c
+  made_now c is =
+      let root = (made_root_at c is).at in
+      record {
+        had = made_had c is;
+        alone = made_alone a b4 id.block created (tree_in a (block_at a s)) ready.has role c is (made_not_root c is) (ready.made c is).alone;
+        same = record {
+          part = ap part_of (made_entry c is) ∙ finished_part root.taken.is (λ leaves. (let clash : IntendAllocate ≡ IntendDeallocate = sym (made_root_at c is).state ∙ leaves in cc)) ∙ ap part_of (sym root.taken.here);
+          content = b4_other_block c (not_map c (taken_apart a g ready.holds c c root.taken)) (made_not_root c is);
+        };
+      }

@@ -11,13 +11,16 @@ pub mod CommitEntries
 pub mod CommitFlips
 pub mod CommitRoles
 pub mod CommitRuns
+pub mod CommitStore
 pub mod CommitWhole
 pub mod Endings
 pub mod Fills
 pub mod Fresh
 pub mod Levels
 pub mod Lists
-pub mod Marks
+pub mod Made
+pub mod Making
+mod Marks
 pub mod Meant
 pub mod Needs
 pub mod PutCall

@@ -21,6 +21,7 @@ use Rattle.block_tree.specs.Pointers.{leaf_pointers, pointers_of}
 use Rattle.block_tree.specs.Root.{root_spelling}
 use Rattle.cyl_map.specs.declared.entry.MapEntry.{MapEntry}
 use Rattle.cyl_map.specs.Volume.{AreMaps, entry_in, map_of}
+use Rattle.claims.proofs.Claims.{written_same}
 use Rattle.cyl_alloc.specs.Enters.{Enters}
 use Rattle.cyl_alloc.specs.Refusals.{IsFindRefusal}
 use Rattle.cyl_alloc.specs.Space.{AreCounts, IsBadMap, Kept, intended}
@@ -29,7 +30,8 @@ use Rattle.ufs_model.specs.declared.object.Object.{Object}
 use Rattle.ufs_model.specs.Graph.{Graph, object_at}
 use Rattle.vol_image.specs.Seen.{tree_in}
 use Rattle.vol_image.specs.Sound.{Holds}
-use Rattle.vol_image.proofs.Parts.{in_image, root_placed}
+use Rattle.vol_image.proofs.Parts.{in_image, root_placed, taken_apart}
+use Rattle.vol_image.proofs.Steps.{not_map}
 use Rattle.vol_owners.specs.Account.{HasDraft, HasItsBlocks, Opened, is_meant_for}
 use Rattle.intentions.specs.Store.{StoreHas}
 use Rattle.special_files.specs.Calls.{Adds, Claims, GetsNode, Had, SetsFresh, WritesBlock}
@@ -44,7 +46,8 @@ use Rattle.special_files.proofs.Endings.{ends_err, ends_then_err, ends_then_ok, 
 use Rattle.special_files.proofs.Fresh.{length-leaves, leaves_there, node_of_fresh}
 use Rattle.special_files.proofs.Levels.{Tell}
 use Rattle.special_files.proofs.PutLeaf.{IsReadFor, fresh_below, node_again, put_again}
-use Rattle.special_files.proofs.PutRun.{amid4, claim1, run_puts}
+use Rattle.special_files.proofs.Meant.{meant_is}
+use Rattle.special_files.proofs.PutRun.{amid4, claim1, run_order, run_puts}
 use Rattle.special_files.proofs.PutStore.{flags_of, leaf_put, the_draft}
 use Rattle.special_files.proofs.Puts.{LeafPut, node_is}
 use Rattle.cfs_base.proofs.Calls.{tried_then}
@@ -142,6 +145,7 @@ module _ {D : Type 0} (g : Ghosts D) (graph : Graph) (ds : List Opened) (id : Pu
         leaf_put g graph ds id o d0 d1 k0 k0 was was m read leaf x (node_of was.root (leaf / 128)) content store at opened fits most mid puts (stays_itself was) sets
         (λ below. node_again a graph holds id o at has was m draft leaves leaf read_for some content most fresh
         ∙ ap (λ (i : Image). leaves_at i (node_of was.root (leaf / 128))) (sym writes.written) ∙ ap (λ (n : ℕ). leaves_at (g.content d1) (node_of was.root n)) (sym number))
+        (rw fresh (written_same a (g.content d1) x content (not_map x (taken_apart a graph holds x id.block (meant_is a id.block x mine.0).taken)) writes.written))
 
   -- ---- into new blocks
 
@@ -154,7 +158,7 @@ module _ {D : Type 0} (g : Ghosts D) (graph : Graph) (ds : List Opened) (id : Pu
         (run_puts g graph ds id o d0 d1 d2 k0 k1 k2 was m leaves leaf store at opened most x enters y gets read_for d3 d4 content node first second stale (sym pointers) (omega (arith, long))) in
         let mid = amid4 g graph ds id o d0 d1 d2 k0 k1 k2 was m leaves leaf store at opened most x enters y gets read_for d3 d4 content node first second in
         leaf_put g graph ds id o d0 d4 k0 k2 was now m (record { number = read.number; node = record { leaves = set leaves (leaf % 128) x.0 } }) leaf x.0 y.0 content store at opened fits most mid puts stays adds.fresh
-        (λ below. by puts)
+        (λ below. by puts) (run_order g graph ds id o d0 d1 d2 k0 k1 k2 was m leaves leaf store at opened most x enters y gets read_for d3 d4 content node first second stale)
       where
         by : LeafPut a (g.content d4) id (opened_as id was m) now.root leaf x.0 y.0 content → set leaves (leaf % 128) x.0 ≡ leaves_at (g.content d4) (node_of now.root read.number)
         by puts =

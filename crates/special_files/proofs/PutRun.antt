@@ -1,6 +1,6 @@
 -- The device calls of one leaf put, one after another.
-use Rattle.std.proofs.Common.{◌≡◌, ◌≢◌, ℕ, ◌/◌, ◌%◌, ◌^◌, ◌<◌, true, false, List, length, set, Ok, Some, refl, sym, ◌∙◌, ap, subst, eq-eqb, arith}
-use Rattle.std.specs.Prelude.{Result}
+use Rattle.std.proofs.Common.{◌≡◌, ◌≢◌, ℕ, ◌/◌, ◌%◌, ◌^◌, ◌<◌, true, false, List, [], ◌∷◌, length, set, Ok, Some, refl, sym, ◌∙◌, ap, subst, eq-eqb, arith}
+use Rattle.std.specs.Prelude.{Result, if◌then◌else◌}
 use Rattle.cfs_base.specs.Disk.{Image}
 use Rattle.cfs_base.specs.Run.{Leaves}
 use Rattle.cfs_base.specs.declared.disk.Disk.{Ghosts}
@@ -10,7 +10,9 @@ use Rattle.cfs_base.specs.declared.kind.Place.{Place}
 use Rattle.cfs_base.specs.declared.kind.Place.TheVariants.{Leaf, Node, Root}
 use Rattle.cfs_base.specs.declared.refusal.Refused.{Refused}
 use Rattle.cyl_map.specs.Entry.{IsEntry}
-use Rattle.cyl_map.specs.Volume.{is_free_in, with_entry}
+use Rattle.cyl_map.specs.Volume.{entry_in, is_free_in, with_entry}
+use Rattle.claims.specs.Claims.{AreClaimed, SameEntries}
+use Rattle.claims.proofs.Claims.{claimed_by, written_same}
 use Rattle.cyl_alloc.specs.Enters.{Enters}
 use Rattle.block_tree.specs.Pointers.{leaf_pointers, pointers_of}
 use Rattle.std.proofs.Math.ListN.{length-set}
@@ -29,7 +31,8 @@ use Rattle.vol_owners.specs.Account.{HasDraft, HasItsBlocks, Opened, is_meant_fo
 use Rattle.vol_owners.specs.Owner.{is_meant, is_of}
 use Rattle.intentions.specs.Store.{StoreHas}
 use Rattle.special_files.specs.Calls.{Claims, GetsNode, Had, WritesBlock}
-use Rattle.special_files.specs.Drafting.{Drafting, IsOpen, is_fresh_leaf, node_of, opened_as}
+use Rattle.special_files.specs.Drafting.{Drafting, IsOpen, is_fresh_leaf, is_fresh_node, node_of, opened_as}
+use Rattle.special_files.specs.Order.{leaf_claims}
 use Rattle.special_files.proofs.Amid.{IsAmid, amid_begins, claim_leaves, claimed, write_leaves, wrote}
 use Rattle.special_files.proofs.PutLeaf.{HasBoth, IsReadFor, claimed_node, had_node, put_new, intended_meant, leaf_entry, node_entry}
 use Rattle.special_files.proofs.PutStore.{the_draft}
@@ -154,3 +157,16 @@ module _ {D : Type 0} (g : Ghosts D) (graph : Graph) (ds : List Opened) (id : Pu
             run_puts stale pointers within =
                 subst (λ (i : Image). LeafPut a i id (opened_as id was m) (record was.root { nodes = set was.root.nodes (leaf / 128) y.0 }) leaf x.0 y.0 content) (sym (writes.written ∙ ap (λ (i : Image). set i y.0 node) leaf_writes.written))
                 (put_new a graph store.account.holds id o at has was m draft leaves leaf is some_blocks leaf_is' node_is' x.0 y.0 (g.content d2) claim1.1.free content node both.1 stale pointers within)
+
+            -- the claims in their order
+            same : SameEntries (g.content d2) (g.content d4)
+            same m = written_same (g.content d3) (g.content d4) y.0 node both.1.y_map writes.written m ∙ written_same (g.content d2) (g.content d3) x.0 content both.1.x_map leaf_writes.written m
+
+            node_claim : GetsNode g (leaf / 128) d1 d2 k1 k2 was (Ok y) → AreClaimed (if is_fresh_node was (leaf / 128) then [] else intended (Node (leaf / 128)) was.at ∷ []) (g.content d1) (g.content d4)
+            node_claim (Had fresh old kept got) = rw fresh (λ m. same m ∙ ap (λ (d : D). entry_in (g.content d) m) old)
+            node_claim (Claims stale enters2) =
+                let claim2 = claimed g graph ds id o d0 k0 store at d1 d2 k1 k2 (intended (Node (leaf / 128)) was.at) (Ok y) claim1.0 enters2 node_is (not_root_node (leaf / 128)) y refl (mine (Node (leaf / 128))) in
+                rw stale (g.content d2, claimed_by _ (g.content d1) (g.content d2) y.0 node_is claim2.1 claim2.2, same)
+
+            pub run_order : is_fresh_leaf was leaf ≡ false → AreClaimed (leaf_claims was.at was.leaves was.nodes leaf) a (g.content d4)
+            run_order stale = rw stale (g.content d1, claimed_by _ a (g.content d1) x.0 leaf_is claim1.1 claim1.2, node_claim gets)

@@ -6,6 +6,7 @@ use Rattle.cfs_base.specs.Disk.{Image}
 use Rattle.cfs_base.specs.declared.disk.Disk.{Ghosts}
 use Rattle.cfs_base.specs.declared.identifier.Puid.{Puid}
 use Rattle.block_tree.specs.Root.{root_spelling}
+use Rattle.claims.specs.Claims.{AreClaimed}
 use Rattle.cyl_alloc.specs.Space.{Kept}
 use Rattle.ufs_model.specs.declared.object.Draft as models
 use Rattle.ufs_model.specs.declared.object.Object.{Object}
@@ -18,6 +19,7 @@ use Rattle.special_files.specs.Calls.{SetsFresh}
 use Rattle.special_files.specs.Drafting.{Drafting, IsOpen, fresh_of, node_of, opened_as}
 use Rattle.special_files.specs.Leaves.{draft_in}
 use Rattle.special_files.specs.Nodes.{leaves_at}
+use Rattle.special_files.specs.Order.{leaf_claims}
 use Rattle.special_files.specs.Puts.{FitsLeaf, PutsLeaf, StaysBut}
 use Rattle.special_files.specs.Store.{replaced}
 use Rattle.special_files.specs.declared.node.NodeRead.{NodeRead}
@@ -93,8 +95,8 @@ module _ {D : Type 0} (g : Ghosts D) (graph : Graph) (ds : List Opened) (id : Pu
       subst (HasDraft b id) same (put_draft_stands a b graph store.account.holds id (opened_as id was m) now.root leaf x y content draft put most o at fits.within fits.filled (fresh_of now)
       (told_levels (is_meant_for b id.block) (tree_in b (root_spelling now.root)) now long_leaves long_nodes tell))
 
-  pub leaf_put : (read.number < 120 → read.node.leaves ≡ leaves_at b (node_of now.root read.number)) → PutsLeaf g graph ds id leaf content old new after was now read
-  leaf_put node = record {
+  pub leaf_put : (read.number < 120 → read.node.leaves ≡ leaves_at b (node_of now.root read.number)) → AreClaimed (leaf_claims was.at was.leaves was.nodes leaf) a b → PutsLeaf g graph ds id leaf content old new after was now read
+  leaf_put node order = record {
     steps = record { store = store_goes_on g graph ds id o old new before after was now m later store at opened amid stands stays.created; only = amid.only };
     is_open = record {
       at = opened.at ∙ sym stays.at;
@@ -106,4 +108,5 @@ module _ {D : Type 0} (g : Ghosts D) (graph : Graph) (ds : List Opened) (id : Pu
     sets = sets;
     leaves = leaf_puts a b graph store.account.holds id (opened_as id was m) now.root leaf x y content draft put most;
     read_is = node;
+    order = order;
   }

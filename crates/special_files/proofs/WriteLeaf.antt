@@ -1,19 +1,19 @@
 -- Bytes written into one leaf of a draft: what was read is laid under them, and they are put.
-use Rattle.std.proofs.Common.{◌≡◌, ℕ, ◌+◌, ◌-◌, ◌*◌, ◌/◌, ◌%◌, ◌<◌, ◌≤◌, IsTrue, List, [], ◌++◌, length, get_or, take, drop, replicate, slice_range, inl, Option, Some, Ok, Err, refl, sym, ◌∙◌, ap, subst, arith}
-use Rattle.std.specs.Prelude.{IfErr, IfOk, OnOk, Result}
+use Rattle.std.proofs.Common.{◌≡◌, ℕ, ◌+◌, ◌-◌, ◌*◌, ◌/◌, ◌%◌, ◌<◌, ◌≤◌, List, ◌++◌, length, get_or, take, replicate, slice_range, inl, Some, Ok, Err, refl, sym, ◌∙◌, ap, subst, arith}
+use Rattle.std.specs.Prelude.{IfErr, OnOk, Result}
 use Rattle.std.proofs.lemmas.List.{drop_all, get_or-append_right, get_or-replicate, length-take}
 use Rattle.cfs_base.specs.Calls.{OnlyReads}
 use Rattle.cfs_base.specs.Disk.{Image, Nothing}
-use Rattle.cfs_base.specs.Refusals.{refused_by, trouble_had_tried}
+use Rattle.cfs_base.specs.Refusals.{refused_by}
 use Rattle.cfs_base.specs.Run.{Leaves}
 use Rattle.cfs_base.specs.declared.disk.Disk.{Ghosts}
 use Rattle.cfs_base.specs.declared.identifier.Puid.{Puid}
 use Rattle.cfs_base.specs.declared.refusal.Refused.{Refused}
-use Rattle.cfs_base.specs.declared.refusal.Refused.TheVariants as refusals
 use Rattle.cfs_base.specs.declared.refusal.Trouble.{Trouble}
 use Rattle.cfs_base.proofs.Calls.{makes_then, reads_make, reads_then, reads_within}
 use Rattle.cfs_base.proofs.Runs.{then, wider}
 use Rattle.block_tree.specs.declared.root.Root as roots
+use Rattle.claims.specs.Claims.{AreClaimed}
 use Rattle.cyl_alloc.specs.Space.{Kept}
 use Rattle.leaf_changes.specs.Bytes.{cut, overlaid, patched}
 use Rattle.leaf_changes.specs.Leaves.{LeavesFit}
@@ -24,7 +24,6 @@ use Rattle.ufs_model.specs.declared.object.Object.{Object}
 use Rattle.ufs_model.specs.Graph.{Graph, object_at}
 use Rattle.ufs_model.specs.Object.{leaves_in}
 use Rattle.vol_image.specs.Reading.{leaf_content}
-use Rattle.vol_image.specs.Sound.{Holds}
 use Rattle.vol_owners.specs.Account.{HasDraft, Opened}
 use Rattle.vol_owners.specs.Change.{ChangesOnly, of_draft}
 use Rattle.intentions.specs.Store.{StoreHas}
@@ -32,13 +31,14 @@ use Rattle.special_files.specs.Drafting.{Drafting, IsOpen, node_of, opened_as}
 use Rattle.special_files.specs.Ends.{Ends}
 use Rattle.special_files.specs.Leaves.{PutsAt, leaves_of}
 use Rattle.special_files.specs.Nodes.{IsNear, IsRead, leaves_at}
+use Rattle.special_files.specs.Order.{leaf_claims}
 use Rattle.special_files.specs.Puts.{FitsLeaf, PutsLeaf}
-use Rattle.special_files.specs.Refusal.{IsRefusal, IsTrouble, is_damage, is_damaged}
+use Rattle.special_files.specs.Refusal.{IsTrouble}
 use Rattle.special_files.specs.declared.node.NodeRead.{NodeRead}
 use Rattle.special_files.proofs.Begun.{store_reads}
 use Rattle.special_files.proofs.PutStore.{the_draft}
 use Rattle.special_files.proofs.ReadLeaves.{node_near}
-use Rattle.special_files.proofs.Refusals.{damaged_by, refusal_after_reads, refusal_of}
+use Rattle.special_files.proofs.Refusals.{refusal_after_reads, refusal_of}
 
 -- ---- results
 
@@ -102,6 +102,7 @@ module _ {D : Type 0} (g : Ghosts D) (d0 d1 d2 : D) (n : ℕ) (reads : OnlyReads
     sets = puts.sets;
     leaves = subst (λ (i : Image). PutsAt leaf content (leaves_of i was.root) (leaves_of (g.content d2) now.root)) reads.content puts.leaves;
     read_is = puts.read_is;
+    order = subst (λ (i : Image). AreClaimed (leaf_claims was.at was.leaves was.nodes leaf) i (g.content d2)) reads.content puts.order;
   }
 
   pub images_since : (P : Image → Type 0) → Leaves g d1 d2 P → Leaves g d0 d2 P

@@ -1,19 +1,17 @@
 -- Leaves written into a draft one after another, and what has become of it then.
-use Rattle.std.proofs.Common.{◌≡◌, ◌≢◌, ◌⊎◌, inl, inr, ℕ, zero, suc, ◌+◌, ◌*◌, ◌/◌, ◌%◌, ◌<◌, ◌≤◌, Bool, true, false, cond, List, [], ◌∷◌, length, get_or, set, Option, Some, None, refl, sym, ◌∙◌, ap, subst, arith}
-use Rattle.std.specs.Prelude.{is_some}
-use Rattle.std.proofs.Math.ListN.{length-set}
+use Rattle.std.proofs.Common.{◌≡◌, ◌≢◌, inl, ℕ, suc, ◌+◌, ◌-◌, ◌/◌, ◌<◌, ◌≤◌, Bool, true, List, [], length, get_or, set, Some, refl, sym, ◌∙◌, ap, subst, arith}
 use Rattle.cfs_base.specs.Disk.{Image}
 use Rattle.cfs_base.specs.Run.{Leaves}
 use Rattle.cfs_base.specs.declared.disk.Disk.{Ghosts}
 use Rattle.cfs_base.specs.declared.identifier.Puid.{Puid}
 use Rattle.cfs_base.specs.declared.kind.Kind.TheVariants as kinds
 use Rattle.cfs_base.proofs.Runs.{then}
-use Rattle.block_tree.specs.declared.root.Root as roots
 use Rattle.block_tree.specs.Root.{root_spelling}
+use Rattle.claims.specs.Claims.{AreClaimed}
+use Rattle.claims.proofs.Claims.{claims_then}
 use Rattle.cyl_alloc.specs.Space.{Kept}
 use Rattle.leaf_changes.specs.Bytes.{patched}
-use Rattle.leaf_changes.specs.Changes.{SetsSize, WritesFile}
-use Rattle.leaf_changes.specs.Leaves.{LeavesFit, WritesTo}
+use Rattle.leaf_changes.specs.Leaves.{WritesTo}
 use Rattle.leaf_changes.specs.Gives.{kind_of}
 use Rattle.leaf_changes.proofs.Fits.{same_object}
 use Rattle.leaf_changes.proofs.Given.{file_to_leaves}
@@ -26,21 +24,19 @@ use Rattle.ufs_model.specs.declared.object.Object.TheVariants as objects
 use Rattle.ufs_model.specs.declared.object.Object.{Object}
 use Rattle.cfs_base.specs.declared.kind.FileKind.{FileKind}
 use Rattle.cfs_base.specs.declared.kind.FileKind.TheVariants as file_kinds
-use Rattle.ufs_model.specs.Graph.{Graph, is_there, object_at}
-use Rattle.ufs_model.specs.Identifier.{same_puid}
+use Rattle.ufs_model.specs.Graph.{Graph, object_at}
 use Rattle.ufs_model.specs.Object.{changed_object, leaves_in}
 use Rattle.vol_image.specs.Reading.{IsTree, leaf_content, object_with}
 use Rattle.vol_image.specs.Seen.{tree_in}
 use Rattle.vol_image.specs.Sound.{Holds}
-use Rattle.vol_owners.specs.Account.{HasDraft, Opened, drafts_of}
-use Rattle.vol_owners.specs.Change.{ChangesOnly, of_draft}
+use Rattle.vol_owners.specs.Account.{HasDraft, Opened}
 use Rattle.vol_owners.proofs.Changes.{changes_begin, changes_then}
-use Rattle.vol_image.proofs.Reached.{same_puid_itself}
 use Rattle.intentions.specs.Store.{StoreHas}
 use Rattle.special_files.specs.Becomes.{Becomes}
 use Rattle.special_files.specs.Drafting.{Drafting, IsOpen, opened_as}
-use Rattle.special_files.specs.Leaves.{PutsAt, draft_in, leaves_of, object_of}
+use Rattle.special_files.specs.Leaves.{draft_in, leaves_of}
 use Rattle.special_files.specs.Nodes.{IsRead}
+use Rattle.special_files.specs.Order.{claims_from, leaf_claims}
 use Rattle.special_files.specs.Puts.{PutsLeaf, StaysBut}
 use Rattle.special_files.specs.Store.{Steps, replaced}
 use Rattle.special_files.specs.declared.node.NodeRead.{NodeRead}
@@ -59,6 +55,8 @@ pub record WrittenTo {D : Type 0} (g : Ghosts D) (graph : Graph) (ds : List Open
   pub leaf_marks : Marks (λ l. l) (offset / 512) leaf was.leaves is.leaves
   pub node_marks : Marks (λ l. l / 128) (offset / 512) leaf was.nodes is.nodes
   pub read_is : IsRead (g.content now) is read
+  -- what is claimed for more leaves follows what was claimed for these
+  pub order : (n : ℕ) (c : Image) → AreClaimed (claims_from is.at is.leaves is.nodes leaf n) (g.content now) c → AreClaimed (claims_from was.at was.leaves was.nodes (offset / 512) (leaf - offset / 512 + n)) (g.content old) c
 
 module _ {D : Type 0} (g : Ghosts D) (graph : Graph) (ds : List Opened) (id : Puid) (o : Object) (at : object_at graph id ≡ Some o) where
   pub becomes_begin : (d0 : D) (k0 : Kept) (was : Drafting) (d : Draft) → StoreHas g graph ds d0 k0 → IsOpen ds id was d → Becomes g graph ds id d d0 d0 k0 was
@@ -122,6 +120,7 @@ module _ {D : Type 0} (g : Ghosts D) (graph : Graph) (ds : List Opened) (id : Pu
       leaf_marks = marks_begin (λ l. l) (offset / 512) was.leaves;
       node_marks = marks_begin (λ l. l / 128) (offset / 512) was.nodes;
       read_is = is;
+      order = λ n c more. subst (λ (k : ℕ). AreClaimed (claims_from was.at was.leaves was.nodes (offset / 512) k) (g.content d0) c) (omega arith) more;
     }
 
     -- a leaf that was put with its bytes
@@ -138,6 +137,12 @@ module _ {D : Type 0} (g : Ghosts D) (graph : Graph) (ds : List Opened) (id : Pu
       leaf_marks = marks_more (λ l. l) (offset / 512) leaf was.leaves mid.leaves now.leaves done.leaf_marks from (omega (arith, done.becomes.is_open.leaf_flags, most)) puts.sets.leaves;
       node_marks = marks_more (λ l. l / 128) (offset / 512) leaf was.nodes mid.nodes now.nodes done.node_marks from (omega (arith, done.becomes.is_open.node_flags, most)) puts.sets.nodes;
       read_is = puts.read_is;
+      order = λ n c more.
+          let rest = λ (at : ℕ) (ls ns : List Bool). AreClaimed (claims_from at ls ns (leaf + 1) n) (g.content d2) c in
+          let moved : rest mid.at (set mid.leaves leaf true) (set mid.nodes (leaf / 128) true) = subst (λ (ns : List Bool). rest mid.at (set mid.leaves leaf true) ns) puts.sets.nodes
+          (subst (λ (ls : List Bool). rest mid.at ls now.nodes) puts.sets.leaves (subst (λ (at : ℕ). rest at now.leaves now.nodes) stays.at more)) in
+          subst (λ (k : ℕ). AreClaimed (claims_from was.at was.leaves was.nodes (offset / 512) k) (g.content d0) c) (omega (arith, from))
+          (done.order (suc n) c (claims_then (leaf_claims mid.at mid.leaves mid.nodes leaf) _ (g.content d1) (g.content d2) c puts.order moved));
     }
 
     -- all leaves are written: the draft is the model's

@@ -12,7 +12,7 @@ use Rattle.cfs_base.specs.declared.refusal.Trouble.{Trouble}
 use Rattle.cfs_base.specs.declared.refusal.Trouble.TheVariants as trouble
 use Rattle.cyl_alloc.specs.Space.{AreCounts, Kept, after_giving}
 use Rattle.cyl_map.specs.declared.entry.MapEntry.{MapEntry}
-use Rattle.cyl_map.specs.Volume.{entry_in, with_entry}
+use Rattle.cyl_map.specs.Volume.{entry_in, is_free_in, with_entry}
 use Rattle.intentions.specs.Course.{Course, IsCourse, IsOn, Keeps, MayPut}
 use Rattle.intentions.specs.Entries.{changed}
 use Rattle.intentions.specs.declared.change.Change.{Change}
@@ -23,10 +23,13 @@ use Rattle.ufs_model.specs.Numbers.{has_number}
 use Rattle.vol_image.specs.Commit.{IsDraft}
 use Rattle.vol_image.specs.Run.{Carries}
 use Rattle.vol_image.specs.Seen.{tree_in}
-use Rattle.vol_image.specs.Sound.{Holds}
+use Rattle.vol_image.specs.Part.{SameAt}
+use Rattle.vol_image.specs.Reading.{bare_object}
+use Rattle.vol_image.specs.Sound.{Holds, IsBareRoot}
 use Rattle.intentions.specs.Store.{StoreHas}
-use Rattle.vol_owners.specs.Account.{HasItsBlocks, Opened, StandsIn, is_meant_for, numbers_differ}
-use Rattle.vol_owners.specs.Change.{ChangesOnly, of_draft, of_owner}
+use Rattle.vol_owners.specs.Account.{HasItsBlocks, IsMade, Opened, StandsIn, is_meant_for, numbers_differ}
+use Rattle.vol_owners.specs.Change.{ChangesOnly, of_drafts, of_owners}
+use Rattle.vol_owners.specs.Owner.{is_had, is_of, is_taken}
 use Rattle.block_tree.specs.declared.root.Root as roots
 use Rattle.special_files.specs.Drafting.{Drafting}
 use Rattle.special_files.specs.Refusal.{IsDamage, is_damage}
@@ -90,9 +93,11 @@ given_all kept (n ∷ ns) = given_all (after_giving kept n 1) ns
 abbrev pub settling : (taken dropped made : List ℕ) (s : ℕ) → List Flip
 settling taken dropped made s = flips Finish taken ++ (flips Finish dropped ++ (flips Finish made ++ flips Undo (s ∷ [])))
 
--- The draft of an object stands with its root in the shadow root s. These blocks of its tree are those that are meant for the object,
--- and those are the blocks of the object's own tree that the draft's doesn't have.
-pub record IsReady (a : Image) (graph : Graph) (id : Puid) (was o : Object) (s : ℕ) (taken dropped : List ℕ) : Type 0 where
+-- The image holds these objects. The draft of one stands with its root in the shadow root s. These blocks of its tree are those that
+-- are meant for the object, and those are the blocks of the object's own tree that the draft's doesn't have. The root of the object
+-- that is made with the commit, if one is, is there.
+pub record IsReady (a : Image) (graph : Graph) (id : Puid) (was o : Object) (s : ℕ) (taken dropped : List ℕ) (created : Option ℕ) : Type 0 where
+  pub holds : Holds a graph
   pub at : object_at graph id ≡ Some was
   pub has : HasItsBlocks a id.block
   pub draft : IsDraft a id.block s o
@@ -104,6 +109,7 @@ pub record IsReady (a : Image) (graph : Graph) (id : Puid) (was o : Object) (s :
   pub gone : (n : ℕ) → has_number n dropped ≡ true → ¬ StandsIn (tree_in a (block_at a s)) n
   pub others : (n : ℕ) → StandsIn (tree_in a (block_at a id.block)) n → StandsIn (tree_in a (block_at a s)) n ⊎ (has_number n dropped ≡ true)
   pub dropped_once : numbers_differ dropped ≡ true
+  pub made : (c : ℕ) → created ≡ Some c → IsMade a c
 
 -- an image with these blocks released and the commit bit of root r set, and with the content of its shadow root s copied to it
 abbrev pub bit_set : Image → ℕ → List ℕ → Image
@@ -116,28 +122,72 @@ root_copied a r s dropped = set (bit_set a r dropped) r (block_at (bit_set a r d
 abbrev pub named : ℕ → ℕ → Puid
 named block word = record { block = block; word = word }
 
--- the image holds these objects, or with this one as it is afterwards
-abbrev pub IsOldOrNew : Graph → Puid → Object → Image → Type 0
-IsOldOrNew graph id o c = Holds c graph ⊎ Holds c (with_object graph id o)
+-- the image holds these objects, or those with this one as it is afterwards
+abbrev pub IsOldOrNew : (graph full : Graph) → Puid → Object → Image → Type 0
+IsOldOrNew graph full id o c = Holds c graph ⊎ Holds c (with_object full id o)
 
--- The draft of an object became the object. No block of it waits for anything, and the Free blocks are counted.
-pub record CarriedOut {D : Type 0} (g : Ghosts D) (graph : Graph) (id : Puid) (o : Object) (old new : D) (before after : Kept) : Type 0 where
+-- From image a to image b the root of an object that is made became Allocated; it is all that has this owner.
+pub record IsEntered (a b : Image) (c : ℕ) : Type 0 where
+  pub had : is_of is_had c (entry_in b c) ≡ true
+  pub alone : (n : ℕ) → is_of is_taken c (entry_in b n) ≡ true → n ≡ c
+  pub same : SameAt a b c
+
+-- The draft of an object became the object, and the root of the one that is made with it is there. No block of them waits for
+-- anything, and the Free blocks are counted.
+pub record CarriedOut {D : Type 0} (g : Ghosts D) (graph : Graph) (id : Puid) (o : Object) (created : Option ℕ) (old new : D) (before after : Kept) : Type 0 where
   pub carries : Carries g (with_object graph id o) new
   pub settled : IsSettled g new
   pub has : HasItsBlocks (g.content new) id.block
   pub none_meant : (n : ℕ) → is_meant_for (g.content new) id.block n ≡ false
-  pub only : ChangesOnly (λ entry. of_owner id.block entry) (g.content old) (g.content new)
+  pub made : (c : ℕ) → created ≡ Some c → IsEntered (g.content old) (g.content new) c
+  pub only : ChangesOnly (λ entry. of_owners (id.block ∷ option_to_list created) entry) (g.content old) (g.content new)
   pub counts : AreCounts (g.content old) before → AreCounts (g.content new) after
+
+-- A draft that stands ready becomes its object. Each image that a crash leaves on the way has all old, or all new, and no damage is met.
+pub record Finishes {D : Type 0} (g : Ghosts D) (at s : ℕ) (taken dropped : List ℕ) (created : Option ℕ) (old new : D) (before after : Kept) (result : Result (Unit {0}) Trouble) : Type 0 where
+  pub done : (graph full : Graph) (word : ℕ) (was o : Object) → Carries g graph old → IsReady (g.content old) full (named at word) was o s taken dropped created
+      → OnOk result (CarriedOut g full (named at word) o created old new before after)
+  pub leaves : (graph full : Graph) (word : ℕ) (was o : Object) → Carries g graph old → IsReady (g.content old) full (named at word) was o s taken dropped created
+      → Leaves g old new (IsOldOrNew graph full (named at word) o)
+  pub sound : (graph full : Graph) (word : ℕ) (was o : Object) → Carries g graph old → IsReady (g.content old) full (named at word) was o s taken dropped created
+      → IfErr result (λ t. is_damage t ≡ false)
 
 -- the draft in memory leads past the disk
 abbrev pub far_root : ℕ → Trouble
 far_root at = trouble.Damaged (record { block = at; code = past_disk })
 
--- The store has this object in place of its draft, nothing waits, and only blocks of the object and Free ones changed.
-pub record Committed {D : Type 0} (g : Ghosts D) (graph : Graph) (ds : List Opened) (id : Puid) (o : Object) (old new : D) (space : Kept) : Type 0 where
-  pub store : StoreHas g (with_object graph id o) (without_draft id ds) new space
+-- ---- an object that is made with a commit
+
+pub record Making : Type 0 where
+  pub id : Puid
+  pub object : Object
+
+-- its root block, if one is made
+abbrev pub root_of : Option Making → Option ℕ
+root_of None = None
+root_of (Some m) = Some m.id.block
+
+abbrev pub with_made : Graph → Option Making → Graph
+with_made graph None = graph
+with_made graph (Some m) = with_object graph m.id m.object
+
+-- The draft makes no object; or this one, whose root is written, and leads to nothing.
+abbrev pub Makes : Image → Option ℕ → Option Making → Type 0
+Makes image created None = created ≡ None
+Makes image created (Some m) = (created ≡ Some m.id.block) × ((root : roots.Root) × IsBareRoot image m.id root × (bare_object root ≡ m.object))
+
+-- The store has this object in place of its draft, and the one that is made with it. Nothing waits, and only blocks of these and
+-- Free ones changed.
+pub record Committed {D : Type 0} (g : Ghosts D) (graph : Graph) (ds : List Opened) (id : Puid) (o : Object) (made : Option Making) (old new : D) (space : Kept) : Type 0 where
+  pub store : StoreHas g (with_object (with_made graph made) id o) (without_draft id ds) new space
   pub settled : IsSettled g new
-  pub only : ChangesOnly (λ entry. of_owner id.block entry) (g.content old) (g.content new)
+  pub only : ChangesOnly (λ entry. of_owners (id.block ∷ option_to_list (root_of made)) entry) (g.content old) (g.content new)
+
+-- how a commit ends where the store has the draft
+pub record CommitEnds {D : Type 0} (g : Ghosts D) (graph : Graph) (ds : List Opened) (id : Puid) (o : Object) (made : Option Making) (old new : D) (space : Kept) (result : Result (Unit {0}) Trouble) : Type 0 where
+  pub done : OnOk result (Committed g graph ds id o made old new space)
+  pub leaves : Leaves g old new (IsOldOrNew graph (with_made graph made) id o)
+  pub sound : IfErr result (λ t. is_damage t ≡ false)
 
 -- of a draft as the layers above see it: where its root and its shadow root are, its two roots, and what it makes
 pub record AreParts (was : Drafting) (at : ℕ) (shadow : Option ℕ) (own root : roots.Root) (created : Option ℕ) : Type 0 where
@@ -158,10 +208,18 @@ as_refused (Err t) = Err (refused_by t)
 abbrev pub undoing : List ℕ → Option ℕ → Option ℕ → List Flip
 undoing taken shadow made = flips Undo taken ++ (flips Undo (option_to_list shadow) ++ flips Undo (option_to_list made))
 
--- The store has no draft of the object any more, and only blocks that were meant for it changed.
-pub record Dropped {D : Type 0} (g : Ghosts D) (graph : Graph) (ds : List Opened) (id : Puid) (old new : D) (space : Kept) : Type 0 where
+-- The store has no draft of the object any more. Only blocks that were meant for it changed, and the root of the object that was
+-- to be made with it, which is Free.
+pub record Dropped {D : Type 0} (g : Ghosts D) (graph : Graph) (ds : List Opened) (id : Puid) (created : Option ℕ) (old new : D) (space : Kept) : Type 0 where
   pub store : StoreHas g graph (without_draft id ds) new space
-  pub only : ChangesOnly (λ entry. of_draft id.block entry) (g.content old) (g.content new)
+  pub freed : (c : ℕ) → created ≡ Some c → is_free_in (g.content new) c ≡ true
+  pub only : ChangesOnly (λ entry. of_drafts (id.block ∷ option_to_list created) entry) (g.content old) (g.content new)
+
+-- how an abort ends where the store has the draft
+pub record AbortEnds {D : Type 0} (g : Ghosts D) (graph : Graph) (ds : List Opened) (id : Puid) (created : Option ℕ) (old new : D) (space : Kept) (result : Result (Unit {0}) Trouble) : Type 0 where
+  pub done : OnOk result (Dropped g graph ds id created old new space)
+  pub leaves : Leaves g old new (λ c. Holds c graph)
+  pub sound : IfErr result (λ t. is_damage t ≡ false)
 
 -- there is such a block, and it lies past a disk of this size
 pub record IsFar (size : ℕ) (block : Option ℕ) : Type 0 where

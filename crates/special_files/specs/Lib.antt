@@ -7,6 +7,7 @@ pub mod Ends
 pub mod Fills
 pub mod Leaves
 pub mod Nodes
+pub mod Order
 pub mod Puts
 pub mod Refusal
 pub mod Store

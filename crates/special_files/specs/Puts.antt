@@ -4,6 +4,7 @@ use Rattle.cfs_base.specs.Disk.{Image}
 use Rattle.cfs_base.specs.declared.disk.Disk.{Ghosts}
 use Rattle.cfs_base.specs.declared.identifier.Puid.{Puid}
 use Rattle.block_tree.specs.declared.root.Root as roots
+use Rattle.claims.specs.Claims.{AreClaimed}
 use Rattle.cyl_alloc.specs.Space.{Kept}
 use Rattle.leaf_changes.specs.Changes.{SetsSize}
 use Rattle.ufs_model.specs.Graph.{Graph}
@@ -13,6 +14,7 @@ use Rattle.special_files.specs.Drafting.{Drafting, IsOpen, opened_as}
 use Rattle.special_files.specs.Calls.{SetsFresh}
 use Rattle.special_files.specs.Leaves.{PutsAt, draft_in, leaves_of}
 use Rattle.special_files.specs.Nodes.{IsRead}
+use Rattle.special_files.specs.Order.{leaf_claims}
 use Rattle.special_files.specs.Store.{Steps, replaced}
 use Rattle.special_files.specs.declared.node.NodeRead.{NodeRead}
 
@@ -41,3 +43,4 @@ pub record PutsLeaf {D : Type 0} (g : Ghosts D) (graph : Graph) (ds : List Opene
   pub sets : SetsFresh leaf was now
   pub leaves : PutsAt leaf content (leaves_of (g.content old) was.root) (leaves_of (g.content new) now.root)
   pub read_is : IsRead (g.content new) now read
+  pub order : AreClaimed (leaf_claims was.at was.leaves was.nodes leaf) (g.content old) (g.content new)

@@ -1,5 +1,5 @@
 //! A draft given up.
-ghost use Rattle.std.specs.Prelude.{◌≡◌, ◌≢◌, ◌<◌, ◌≤◌, ◌+◌, ◌*◌, ℕ, List, false, length, option_to_list, None, Some, IfErr, OnOk};
+ghost use Rattle.std.specs.Prelude.{◌≡◌, ◌<◌, ◌+◌, ◌*◌, ℕ, List, false, length, option_to_list, Some, IfErr, OnOk};
 ghost use Rattle.std.specs.List.{All};
 ghost use Rattle.cfs_base.specs.Calls.{HasTried, MakesAtMost};
 ghost use Rattle.cfs_base.specs.Run.{Leaves};
@@ -20,7 +20,7 @@ use crate::carry::flip_made;
 use crate::changed::changed;
 use crate::draft::Draft;
 use crate::flips::{flip_all, give_all};
-use crate::whole::is_on_disk;
+use crate::whole::part_on_disk;
 use block_tree::Root;
 use cfs_base::{BlockNo, Disk, Trouble};
 use cyl_alloc::Space;
@@ -67,19 +67,11 @@ fn give_up<D: Disk>(
     requires taken_on_disk { All (λ n. n < D.blocks disk.old) taken.now }
     requires shadow_on_disk { (n : ℕ) → number_of shadow ≡ Some n → n < D.blocks disk.old }
     requires created_on_disk { (n : ℕ) → number_of created ≡ Some n → n < D.blocks disk.old }
-    ensures done { (graph : Graph) (ds : List Opened) (id : Puid) (o : Object) (was : Drafting) (d : drafts.Draft)
+    ensures ends { (graph : Graph) (ds : List Opened) (id : Puid) (o : Object) (was : Drafting) (d : drafts.Draft)
         → StoreHas D.Disk graph ds disk.old space.old → object_at graph id ≡ Some o → IsOpen ds id was d
-        → was.shadow ≡ number_of shadow → was.created ≡ None → number_of created ≡ None
+        → was.shadow ≡ number_of shadow → was.created ≡ number_of created
         → AreTaken (D.content disk.old) id (opened_as id was d) taken.now
-        → OnOk result (spec.Dropped D.Disk graph ds id disk.old disk.new space.new) }
-    ensures leaves { (graph : Graph) (ds : List Opened) (id : Puid) (o : Object) (was : Drafting) (d : drafts.Draft)
-        → StoreHas D.Disk graph ds disk.old space.old → object_at graph id ≡ Some o → IsOpen ds id was d
-        → was.shadow ≡ number_of shadow → number_of created ≡ None
-        → AreTaken (D.content disk.old) id (opened_as id was d) taken.now → Leaves D.Disk disk.old disk.new (λ c. Holds c graph) }
-    ensures sound { (graph : Graph) (ds : List Opened) (id : Puid) (o : Object) (was : Drafting) (d : drafts.Draft)
-        → StoreHas D.Disk graph ds disk.old space.old → object_at graph id ≡ Some o → IsOpen ds id was d
-        → was.shadow ≡ number_of shadow → number_of created ≡ None
-        → AreTaken (D.content disk.old) id (opened_as id was d) taken.now → IfErr result (λ t. is_damage t ≡ false) }
+        → spec.AbortEnds D.Disk graph ds id was.created disk.old disk.new space.new result }
     ensures fails { (at : ℕ) → IfErr result (spec.Fails D.Disk at disk.old disk.new space.new) }
     ensures cylinders { length space.new.free ≡ length space.old.free }
     ensures calls { MakesAtMost D.Disk (2 * length taken.now + (2 + 2)) (length taken.now + (1 + 1)) disk.old disk.new }
@@ -92,17 +84,6 @@ fn give_up<D: Disk>(
             Ok(())
         }
         Err(trouble) => Err(trouble),
-    }
-}
-
-/// Whether a block of the draft's own lies on the disk, if there is one.
-fn part_on_disk<D: Disk>(disk: &D, at: BlockNo, block: Option<BlockNo>) -> Result<(), Trouble>
-    ensures on_disk { OnOk result ((n : ℕ) → number_of block ≡ Some n → n < D.blocks disk.now) }
-    ensures far { IfErr result (λ t. spec.IsFar (D.blocks disk.now) (number_of block) × (t ≡ spec.far_root at.0)) }
-{
-    match block {
-        Some(block) => is_on_disk(disk, at, block),
-        None => Ok(()),
     }
 }
 
@@ -120,18 +101,10 @@ fn abort_parts<D: Disk>(
 ) -> Result<(), Trouble>
     requires on_disk { at.0 < D.blocks disk.old }
     requires size { D.blocks disk.old ≡ 64 * length space.old.free }
-    ensures done { (graph : Graph) (ds : List Opened) (id : Puid) (o : Object) (was : Drafting) (d : drafts.Draft)
+    ensures ends { (graph : Graph) (ds : List Opened) (id : Puid) (o : Object) (was : Drafting) (d : drafts.Draft)
         → StoreHas D.Disk graph ds disk.old space.old → object_at graph id ≡ Some o → IsOpen ds id was d
-        → spec.AreParts was at.0 (number_of shadow) own.now root.now (number_of created) → number_of created ≡ None
-        → OnOk result (spec.Dropped D.Disk graph ds id disk.old disk.new space.new) }
-    ensures leaves { (graph : Graph) (ds : List Opened) (id : Puid) (o : Object) (was : Drafting) (d : drafts.Draft)
-        → StoreHas D.Disk graph ds disk.old space.old → object_at graph id ≡ Some o → IsOpen ds id was d
-        → spec.AreParts was at.0 (number_of shadow) own.now root.now (number_of created) → number_of created ≡ None
-        → Leaves D.Disk disk.old disk.new (λ c. Holds c graph) }
-    ensures sound { (graph : Graph) (ds : List Opened) (id : Puid) (o : Object) (was : Drafting) (d : drafts.Draft)
-        → StoreHas D.Disk graph ds disk.old space.old → object_at graph id ≡ Some o → IsOpen ds id was d
-        → spec.AreParts was at.0 (number_of shadow) own.now root.now (number_of created) → number_of created ≡ None
-        → IfErr result (λ t. is_damage t ≡ false) }
+        → spec.AreParts was at.0 (number_of shadow) own.now root.now (number_of created)
+        → spec.AbortEnds D.Disk graph ds id was.created disk.old disk.new space.new result }
     ensures refused { IfErr result (IsTrouble D.Disk at.0 disk.old disk.new space.new) }
     ensures made { OnOk result (HasTried D.Disk disk.old disk.new) }
     ensures cylinders { length space.new.free ≡ length space.old.free }
@@ -157,22 +130,22 @@ fn abort_parts<D: Disk>(
 }
 
 impl Draft {
-    /// Gives up the draft, whose blocks are Free then. Where it is refused the draft is gone, and each image that a crash
-    /// leaves has the object as it was. `Damaged` as in `commit`.
+    /// Gives up the draft, whose blocks are Free then, as is the root of an object that it was to make. Where it is refused
+    /// the draft is gone, and each image that a crash leaves has the object as it was. `Damaged` as in `commit`.
     pub fn abort<D: Disk>(mut self, disk: &mut D, space: &mut Space) -> Result<(), Trouble>
         requires on_disk { self.at < D.blocks disk.old }
         requires size { D.blocks disk.old ≡ 64 * length space.old.free }
-        // The store has no draft of the object.
+        // The store has no draft of the object, and makes none with it.
         ensures done { (graph : Graph) (ds : List Opened) (id : Puid) (o : Object) (d : drafts.Draft)
-            → StoreHas D.Disk graph ds disk.old space.old → object_at graph id ≡ Some o → IsOpen ds id self d → self.created ≡ None
-            → OnOk result (spec.Dropped D.Disk graph ds id disk.old disk.new space.new) }
+            → StoreHas D.Disk graph ds disk.old space.old → object_at graph id ≡ Some o → IsOpen ds id self d
+            → OnOk result (spec.Dropped D.Disk graph ds id self.created disk.old disk.new space.new) }
         // Each image that a crash leaves on the way holds all objects as they were.
         ensures leaves { (graph : Graph) (ds : List Opened) (id : Puid) (o : Object) (d : drafts.Draft)
-            → StoreHas D.Disk graph ds disk.old space.old → object_at graph id ≡ Some o → IsOpen ds id self d → self.created ≡ None
+            → StoreHas D.Disk graph ds disk.old space.old → object_at graph id ≡ Some o → IsOpen ds id self d
             → Leaves D.Disk disk.old disk.new (λ c. Holds c graph) }
         // No damage where the disk holds the object.
         ensures sound { (graph : Graph) (ds : List Opened) (id : Puid) (o : Object) (d : drafts.Draft)
-            → StoreHas D.Disk graph ds disk.old space.old → object_at graph id ≡ Some o → IsOpen ds id self d → self.created ≡ None
+            → StoreHas D.Disk graph ds disk.old space.old → object_at graph id ≡ Some o → IsOpen ds id self d
             → IfErr result (λ t. is_damage t ≡ false) }
         ensures refused { IfErr result (IsTrouble D.Disk self.at disk.old disk.new space.new) }
         ensures made { OnOk result (HasTried D.Disk disk.old disk.new) }

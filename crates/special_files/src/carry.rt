@@ -1,19 +1,18 @@
 //! A draft that stands with its root in its shadow root, carried out.
 ghost use Rattle.intentions.specs.Entries.{Fits};
-ghost use Rattle.std.specs.Prelude.{◌≡◌, ◌<◌, ◌+◌, ◌*◌, ◌++◌, ℕ, List, set, [], ◌∷◌, false, length, option_to_list, None, Some, IfErr, OnOk};
+ghost use Rattle.std.specs.Prelude.{◌≡◌, ◌<◌, ◌+◌, ◌*◌, ◌++◌, ℕ, List, set, [], ◌∷◌, false, length, option_to_list, Option, None, Some, IfErr, OnOk};
 ghost use Rattle.std.specs.List.{All};
 ghost use Rattle.cfs_base.specs.Calls.{MakesAtMost};
 ghost use Rattle.cfs_base.specs.Disk.{block_at};
 ghost use Rattle.cfs_base.specs.Run.{IsSettled, Leaves, Tells};
-ghost use Rattle.cyl_alloc.specs.Space.{AreCounts, Kept};
+ghost use Rattle.cyl_alloc.specs.Space.{Kept};
 ghost use Rattle.intentions.specs.Commit.{IsCommitted};
 ghost use Rattle.intentions.specs.declared.change.Change.TheVariants as changes;
 ghost use Rattle.special_files.specs.Committing as spec;
 ghost use Rattle.special_files.specs.Drafting.{number_of};
 ghost use Rattle.special_files.specs.Refusal.{is_damage};
-ghost use Rattle.ufs_model.specs.Graph.{Graph, object_at, with_object};
+ghost use Rattle.ufs_model.specs.Graph.{Graph};
 ghost use Rattle.ufs_model.specs.declared.object.Object.{Object};
-ghost use Rattle.vol_image.specs.Commit.{IsDraft};
 ghost use Rattle.vol_image.specs.Run.{Carries};
 ghost use Rattle.vol_image.specs.Sound.{Holds};
 
@@ -100,14 +99,17 @@ fn settle<D: Disk>(
 fn decide<D: Disk>(disk: &mut D, at: BlockNo, dropped: &[u32]) -> Result<(), Trouble>
     requires on_disk { at.0 < D.blocks disk.old }
     requires dropped_on_disk { All (λ n. n < D.blocks disk.old) dropped.now }
-    ensures put { (graph : Graph) (word : ℕ) (was o : Object) (s : ℕ) (taken : List ℕ) → Carries D.Disk graph disk.old
-        → spec.IsReady (D.content disk.old) graph (spec.named at.0 word) was o s taken dropped.now
+    ensures put { (graph full : Graph) (word : ℕ) (was o : Object) (s : ℕ) (taken : List ℕ) (created : Option ℕ)
+        → Carries D.Disk graph disk.old
+        → spec.IsReady (D.content disk.old) full (spec.named at.0 word) was o s taken dropped.now created
         → OnOk result (D.content disk.new ≡ spec.bit_set (D.content disk.old) at.0 dropped.now) }
-    ensures leaves { (graph : Graph) (word : ℕ) (was o : Object) (s : ℕ) (taken : List ℕ) → Carries D.Disk graph disk.old
-        → spec.IsReady (D.content disk.old) graph (spec.named at.0 word) was o s taken dropped.now
-        → Leaves D.Disk disk.old disk.new (spec.IsOldOrNew graph (spec.named at.0 word) o) }
-    ensures sound { (graph : Graph) (word : ℕ) (was o : Object) (s : ℕ) (taken : List ℕ) → Carries D.Disk graph disk.old
-        → spec.IsReady (D.content disk.old) graph (spec.named at.0 word) was o s taken dropped.now
+    ensures leaves { (graph full : Graph) (word : ℕ) (was o : Object) (s : ℕ) (taken : List ℕ) (created : Option ℕ)
+        → Carries D.Disk graph disk.old
+        → spec.IsReady (D.content disk.old) full (spec.named at.0 word) was o s taken dropped.now created
+        → Leaves D.Disk disk.old disk.new (spec.IsOldOrNew graph full (spec.named at.0 word) o) }
+    ensures sound { (graph full : Graph) (word : ℕ) (was o : Object) (s : ℕ) (taken : List ℕ) (created : Option ℕ)
+        → Carries D.Disk graph disk.old
+        → spec.IsReady (D.content disk.old) full (spec.named at.0 word) was o s taken dropped.now created
         → IfErr result (λ t. is_damage t ≡ false) }
     ensures settled { Tells D.Disk disk.old → OnOk result (IsSettled D.Disk disk.new) }
     ensures fails { (kept : Kept) → IfErr result (spec.Fails D.Disk at.0 disk.old disk.new kept) }
@@ -155,16 +157,8 @@ pub(crate) fn carry_out<D: Disk>(
     requires taken_on_disk { All (λ n. n < D.blocks disk.old) taken.now }
     requires dropped_on_disk { All (λ n. n < D.blocks disk.old) dropped.now }
     requires created_on_disk { (n : ℕ) → number_of created ≡ Some n → n < D.blocks disk.old }
-    ensures done { (graph : Graph) (word : ℕ) (was o : Object) (before : Kept) → Carries D.Disk graph disk.old
-        → spec.IsReady (D.content disk.old) graph (spec.named at.0 word) was o shadow.0 taken.now dropped.now → number_of created ≡ None
-        → OnOk result (spec.CarriedOut D.Disk graph (spec.named at.0 word) o disk.old disk.new before
-        (spec.given_all (spec.given_all before dropped.now) (shadow.0 ∷ []))) }
-    ensures leaves { (graph : Graph) (word : ℕ) (was o : Object) → Carries D.Disk graph disk.old
-        → spec.IsReady (D.content disk.old) graph (spec.named at.0 word) was o shadow.0 taken.now dropped.now → number_of created ≡ None
-        → Leaves D.Disk disk.old disk.new (spec.IsOldOrNew graph (spec.named at.0 word) o) }
-    ensures sound { (graph : Graph) (word : ℕ) (was o : Object) → Carries D.Disk graph disk.old
-        → spec.IsReady (D.content disk.old) graph (spec.named at.0 word) was o shadow.0 taken.now dropped.now → number_of created ≡ None
-        → IfErr result (λ t. is_damage t ≡ false) }
+    ensures finishes { (before : Kept) → spec.Finishes D.Disk at.0 shadow.0 taken.now dropped.now (number_of created)
+        disk.old disk.new before (spec.given_all (spec.given_all before dropped.now) (shadow.0 ∷ [])) result }
     ensures fails { (kept : Kept) → IfErr result (spec.Fails D.Disk at.0 disk.old disk.new kept) }
     ensures calls { MakesAtMost D.Disk (2 * length taken.now + 4 * length dropped.now + 15)
         (length taken.now + 2 * length dropped.now + 10) disk.old disk.new }

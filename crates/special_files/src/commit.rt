@@ -1,25 +1,16 @@
 //! A draft committed.
-ghost use Rattle.std.specs.Prelude.{◌≡◌, ◌≢◌, ◌<◌, ◌≤◌, ◌+◌, ◌*◌, ℕ, List, false, length, sum, None, Some, IfErr, IfOk, OnOk};
+ghost use Rattle.std.specs.Prelude.{◌≡◌, ◌<◌, ◌+◌, ◌*◌, ℕ, List, length, Option, Some, IfErr};
 ghost use Rattle.std.specs.List.{All};
-ghost use Rattle.block_tree.specs.Root.{root_spelling};
 ghost use Rattle.cfs_base.specs.Calls.{HasTried, MakesAtMost};
-ghost use Rattle.cfs_base.specs.Refusals.{refused_by};
-ghost use Rattle.cfs_base.specs.Run.{Leaves};
 ghost use Rattle.cfs_base.specs.declared.identifier.Puid.{Puid};
-ghost use Rattle.cfs_base.specs.declared.kind.Place.TheVariants as places;
 ghost use Rattle.cfs_base.specs.declared.refusal.Refused.TheVariants as refused;
-ghost use Rattle.cyl_alloc.specs.Enters.{Enters};
-ghost use Rattle.cyl_alloc.specs.Space.{intended};
 ghost use Rattle.intentions.specs.Store.{StoreHas};
-ghost use Rattle.special_files.specs.Calls.{WritesBlock};
 ghost use Rattle.special_files.specs.Committing as spec;
 ghost use Rattle.special_files.specs.Drafting.{Drafting, IsOpen, number_of};
-ghost use Rattle.special_files.specs.Refusal.{IsTrouble, is_damage, is_full};
-ghost use Rattle.ufs_model.specs.Graph.{Graph, object_at, with_object};
+ghost use Rattle.special_files.specs.Refusal.{IsTrouble};
+ghost use Rattle.ufs_model.specs.Graph.{Graph, object_at};
 ghost use Rattle.ufs_model.specs.declared.object.Draft as drafts;
 ghost use Rattle.ufs_model.specs.declared.object.Object.{Object};
-ghost use Rattle.vol_image.specs.Run.{Carries};
-ghost use Rattle.vol_image.specs.Sound.{Holds};
 ghost use Rattle.vol_owners.specs.Account.{Opened};
 
 use crate::blocks::Blocks;
@@ -47,15 +38,8 @@ pub(crate) fn finish<D: Disk>(
     requires taken_on_disk { All (λ n. n < D.blocks disk.old) taken.now }
     requires dropped_on_disk { All (λ n. n < D.blocks disk.old) dropped.now }
     requires created_on_disk { (n : ℕ) → number_of created ≡ Some n → n < D.blocks disk.old }
-    ensures done { (graph : Graph) (word : ℕ) (was o : Object) → Carries D.Disk graph disk.old
-        → spec.IsReady (D.content disk.old) graph (spec.named at.0 word) was o shadow.0 taken.now dropped.now → number_of created ≡ None
-        → OnOk result (spec.CarriedOut D.Disk graph (spec.named at.0 word) o disk.old disk.new space.old space.new) }
-    ensures leaves { (graph : Graph) (word : ℕ) (was o : Object) → Carries D.Disk graph disk.old
-        → spec.IsReady (D.content disk.old) graph (spec.named at.0 word) was o shadow.0 taken.now dropped.now → number_of created ≡ None
-        → Leaves D.Disk disk.old disk.new (spec.IsOldOrNew graph (spec.named at.0 word) o) }
-    ensures sound { (graph : Graph) (word : ℕ) (was o : Object) → Carries D.Disk graph disk.old
-        → spec.IsReady (D.content disk.old) graph (spec.named at.0 word) was o shadow.0 taken.now dropped.now → number_of created ≡ None
-        → IfErr result (λ t. is_damage t ≡ false) }
+    ensures finishes { spec.Finishes D.Disk at.0 shadow.0 taken.now dropped.now (number_of created) disk.old disk.new
+        space.old space.new result }
     ensures fails { IfErr result (spec.Fails D.Disk at.0 disk.old disk.new space.new) }
     ensures cylinders { length space.new.free ≡ length space.old.free }
     ensures calls { MakesAtMost D.Disk (2 * length taken.now + 4 * length dropped.now + 15)
@@ -87,18 +71,11 @@ pub(crate) fn commit_begun<D: Disk>(
     requires size { D.blocks disk.old ≡ 64 * length space.old.free }
     requires shadow_on_disk { shadow.0 < D.blocks disk.old }
     requires created_on_disk { (n : ℕ) → number_of created ≡ Some n → n < D.blocks disk.old }
-    ensures done { (graph : Graph) (ds : List Opened) (id : Puid) (o : Object) (was : Drafting) (d : drafts.Draft)
-        → StoreHas D.Disk graph ds disk.old space.old → object_at graph id ≡ Some o → IsOpen ds id was d
-        → spec.AreParts was at.0 (Some shadow.0) own.now root.now (number_of created) → number_of created ≡ None
-        → OnOk result (spec.Committed D.Disk graph ds id d.object disk.old disk.new space.new) }
-    ensures leaves { (graph : Graph) (ds : List Opened) (id : Puid) (o : Object) (was : Drafting) (d : drafts.Draft)
-        → StoreHas D.Disk graph ds disk.old space.old → object_at graph id ≡ Some o → IsOpen ds id was d
-        → spec.AreParts was at.0 (Some shadow.0) own.now root.now (number_of created) → number_of created ≡ None
-        → Leaves D.Disk disk.old disk.new (spec.IsOldOrNew graph id d.object) }
-    ensures sound { (graph : Graph) (ds : List Opened) (id : Puid) (o : Object) (was : Drafting) (d : drafts.Draft)
-        → StoreHas D.Disk graph ds disk.old space.old → object_at graph id ≡ Some o → IsOpen ds id was d
-        → spec.AreParts was at.0 (Some shadow.0) own.now root.now (number_of created) → number_of created ≡ None
-        → IfErr result (λ t. is_damage t ≡ false) }
+    ensures commits { (graph : Graph) (ds : List Opened) (id : Puid) (o : Object) (was : Drafting) (d : drafts.Draft)
+        (made : Option spec.Making) → StoreHas D.Disk graph ds disk.old space.old → object_at graph id ≡ Some o
+        → IsOpen ds id was d → spec.AreParts was at.0 (Some shadow.0) own.now root.now (number_of created)
+        → spec.Makes (D.content disk.old) (number_of created) made
+        → spec.CommitEnds D.Disk graph ds id d.object made disk.old disk.new space.new result }
     ensures refused { IfErr result (IsTrouble D.Disk at.0 disk.old disk.new space.new) }
     ensures made { HasTried D.Disk disk.old disk.new }
     ensures cylinders { length space.new.free ≡ length space.old.free }

@@ -1,8 +1,7 @@
 //! A draft committed that has no shadow root yet.
-ghost use Rattle.std.specs.Prelude.{◌≡◌, ◌≢◌, ◌<◌, ◌≤◌, ◌*◌, ℕ, List, false, length, sum, None, Some, IfErr, OnOk};
+ghost use Rattle.std.specs.Prelude.{◌≡◌, ◌≢◌, ◌<◌, ◌≤◌, ◌*◌, ℕ, List, false, length, sum, Option, None, Some, IfErr, OnOk};
 ghost use Rattle.cfs_base.specs.Calls.{HasTried, MakesAtMost};
 ghost use Rattle.cfs_base.specs.Refusals.{refused_by};
-ghost use Rattle.cfs_base.specs.Run.{Leaves};
 ghost use Rattle.cfs_base.specs.declared.identifier.Puid.{Puid};
 ghost use Rattle.cfs_base.specs.declared.kind.Place.TheVariants.{ShadowRoot};
 ghost use Rattle.cfs_base.specs.declared.refusal.Refused.TheVariants as refused;
@@ -11,7 +10,7 @@ ghost use Rattle.cyl_alloc.specs.Space.{intended};
 ghost use Rattle.intentions.specs.Store.{StoreHas};
 ghost use Rattle.special_files.specs.Committing as spec;
 ghost use Rattle.special_files.specs.Drafting.{Drafting, IsOpen, number_of};
-ghost use Rattle.special_files.specs.Refusal.{IsTrouble, is_damage, is_full};
+ghost use Rattle.special_files.specs.Refusal.{IsTrouble, is_full};
 ghost use Rattle.ufs_model.specs.Graph.{Graph, object_at};
 ghost use Rattle.ufs_model.specs.declared.object.Draft as drafts;
 ghost use Rattle.ufs_model.specs.declared.object.Object.{Object};
@@ -68,18 +67,11 @@ pub(crate) fn commit_direct<D: Disk>(
     requires size { D.blocks disk.old ≡ 64 * length space.old.free }
     requires room { 1 ≤ sum space.old.free }
     requires created_on_disk { (n : ℕ) → number_of created ≡ Some n → n < D.blocks disk.old }
-    ensures done { (graph : Graph) (ds : List Opened) (id : Puid) (o : Object) (was : Drafting) (d : drafts.Draft)
-        → StoreHas D.Disk graph ds disk.old space.old → object_at graph id ≡ Some o → IsOpen ds id was d
-        → spec.AreParts was at.0 None own.now root.now (number_of created) → number_of created ≡ None
-        → OnOk result (spec.Committed D.Disk graph ds id d.object disk.old disk.new space.new) }
-    ensures leaves { (graph : Graph) (ds : List Opened) (id : Puid) (o : Object) (was : Drafting) (d : drafts.Draft)
-        → StoreHas D.Disk graph ds disk.old space.old → object_at graph id ≡ Some o → IsOpen ds id was d
-        → spec.AreParts was at.0 None own.now root.now (number_of created) → number_of created ≡ None
-        → Leaves D.Disk disk.old disk.new (spec.IsOldOrNew graph id d.object) }
-    ensures sound { (graph : Graph) (ds : List Opened) (id : Puid) (o : Object) (was : Drafting) (d : drafts.Draft)
-        → StoreHas D.Disk graph ds disk.old space.old → object_at graph id ≡ Some o → IsOpen ds id was d
-        → spec.AreParts was at.0 None own.now root.now (number_of created) → number_of created ≡ None
-        → IfErr result (λ t. is_damage t ≡ false) }
+    ensures commits { (graph : Graph) (ds : List Opened) (id : Puid) (o : Object) (was : Drafting) (d : drafts.Draft)
+        (made : Option spec.Making) → StoreHas D.Disk graph ds disk.old space.old → object_at graph id ≡ Some o
+        → IsOpen ds id was d → spec.AreParts was at.0 None own.now root.now (number_of created)
+        → spec.Makes (D.content disk.old) (number_of created) made
+        → spec.CommitEnds D.Disk graph ds id d.object made disk.old disk.new space.new result }
     ensures refused { IfErr result (IsTrouble D.Disk at.0 disk.old disk.new space.new) }
     ensures made { OnOk result (HasTried D.Disk disk.old disk.new) }
     ensures cylinders { length space.new.free ≡ length space.old.free }

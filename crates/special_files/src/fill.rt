@@ -4,12 +4,14 @@ ghost use Rattle.cfs_base.specs.Calls.{HasTried, OnlyReads};
 ghost use Rattle.cfs_base.specs.Run.{Leaves};
 ghost use Rattle.cfs_base.specs.declared.identifier.Puid.{Puid};
 ghost use Rattle.cfs_base.specs.declared.refusal.Refused.TheVariants as refused;
+ghost use Rattle.claims.specs.Claims.{AreClaimed};
 ghost use Rattle.intentions.specs.Store.{StoreHas};
 ghost use Rattle.leaf_changes.specs.Bytes.{IsSlot};
 ghost use Rattle.special_files.specs.Becomes.{Becomes};
 ghost use Rattle.special_files.specs.Drafting.{IsOpen, leaf_takes};
 ghost use Rattle.special_files.specs.Ends.{Ends};
 ghost use Rattle.special_files.specs.Fills.{filled_draft};
+ghost use Rattle.special_files.specs.Order.{leaf_claims};
 ghost use Rattle.special_files.specs.Puts.{StaysBut};
 ghost use Rattle.special_files.specs.Refusal.{is_damaged, is_full};
 ghost use Rattle.ufs_model.specs.Graph.{Graph, object_at};
@@ -56,6 +58,11 @@ impl Draft {
             → StoreHas D.Disk graph ds disk.old space.old → object_at graph id ≡ Some o → IsOpen ds id self.old d
             → d.object ≡ objects.Index i → OnOk result
             (Becomes D.Disk graph ds id (filled_draft i slot what d) disk.old disk.new space.new self.new) }
+        // Its leaf takes the least Free block where it isn't fresh, and after it its node.
+        ensures order { (graph : Graph) (ds : List Opened) (id : Puid) (o : Object) (d : drafts.Draft) (i : Index)
+            → StoreHas D.Disk graph ds disk.old space.old → object_at graph id ≡ Some o → IsOpen ds id self.old d
+            → d.object ≡ objects.Index i → IfOk result (λ put. put ≡ true
+            → AreClaimed (leaf_claims self.old.at self.old.leaves self.old.nodes (slot / 64)) (D.content disk.old) (D.content disk.new)) }
         ensures leaves { (graph : Graph) (ds : List Opened) (id : Puid) (o : Object) (d : drafts.Draft)
             → StoreHas D.Disk graph ds disk.old space.old → object_at graph id ≡ Some o → IsOpen ds id self.old d
             → Leaves D.Disk disk.old disk.new (λ c. Holds c graph) }

@@ -1,5 +1,5 @@
 //! A draft becomes its object.
-ghost use Rattle.std.specs.Prelude.{◌≡◌, ◌≢◌, ◌<◌, ◌≤◌, ◌*◌, ℕ, List, false, length, sum, None, Some, IfErr, OnOk};
+ghost use Rattle.std.specs.Prelude.{◌≡◌, ◌≢◌, ◌<◌, ◌≤◌, ◌*◌, ℕ, List, false, length, sum, Option, None, Some, IfErr, OnOk};
 ghost use Rattle.cfs_base.specs.Calls.{HasTried, MakesAtMost};
 ghost use Rattle.cfs_base.specs.Run.{Leaves};
 ghost use Rattle.cfs_base.specs.declared.identifier.Puid.{Puid};
@@ -21,7 +21,7 @@ use cfs_base::{BlockNo, Damage, Disk, Trouble, code};
 use cyl_alloc::Space;
 
 /// Whether a block of the draft's own lies on the disk.
-pub(crate) fn is_on_disk<D: Disk>(disk: &D, at: BlockNo, block: BlockNo) -> Result<(), Trouble>
+fn is_on_disk<D: Disk>(disk: &D, at: BlockNo, block: BlockNo) -> Result<(), Trouble>
     ensures on_disk { OnOk result (block.0 < D.blocks disk.now) }
     ensures far { IfErr result (λ t. (D.blocks disk.now ≤ block.0) × (t ≡ spec.far_root at.0)) }
 {
@@ -34,12 +34,16 @@ pub(crate) fn is_on_disk<D: Disk>(disk: &D, at: BlockNo, block: BlockNo) -> Resu
     }))
 }
 
-/// Whether the root of an object that is made lies on the disk, if one is made.
-fn made_on_disk<D: Disk>(disk: &D, at: BlockNo, created: Option<BlockNo>) -> Result<(), Trouble>
-    ensures on_disk { OnOk result ((n : ℕ) → number_of created ≡ Some n → n < D.blocks disk.now) }
-    ensures far { IfErr result (λ t. (number_of created ≢ None) × (t ≡ spec.far_root at.0)) }
+/// Whether a block of the draft's own lies on the disk, if there is one.
+pub(crate) fn part_on_disk<D: Disk>(
+    disk: &D,
+    at: BlockNo,
+    block: Option<BlockNo>,
+) -> Result<(), Trouble>
+    ensures on_disk { OnOk result ((n : ℕ) → number_of block ≡ Some n → n < D.blocks disk.now) }
+    ensures far { IfErr result (λ t. spec.IsFar (D.blocks disk.now) (number_of block) × (t ≡ spec.far_root at.0)) }
 {
-    match created {
+    match block {
         Some(block) => is_on_disk(disk, at, block),
         None => Ok(()),
     }
@@ -61,24 +65,17 @@ fn commit_parts<D: Disk>(
     requires on_disk { at.0 < D.blocks disk.old }
     requires size { D.blocks disk.old ≡ 64 * length space.old.free }
     requires room { number_of shadow ≡ None → 1 ≤ sum space.old.free }
-    ensures done { (graph : Graph) (ds : List Opened) (id : Puid) (o : Object) (was : Drafting) (d : drafts.Draft)
-        → StoreHas D.Disk graph ds disk.old space.old → object_at graph id ≡ Some o → IsOpen ds id was d
-        → spec.AreParts was at.0 (number_of shadow) own.now root.now (number_of created) → number_of created ≡ None
-        → OnOk result (spec.Committed D.Disk graph ds id d.object disk.old disk.new space.new) }
-    ensures leaves { (graph : Graph) (ds : List Opened) (id : Puid) (o : Object) (was : Drafting) (d : drafts.Draft)
-        → StoreHas D.Disk graph ds disk.old space.old → object_at graph id ≡ Some o → IsOpen ds id was d
-        → spec.AreParts was at.0 (number_of shadow) own.now root.now (number_of created) → number_of created ≡ None
-        → Leaves D.Disk disk.old disk.new (spec.IsOldOrNew graph id d.object) }
-    ensures sound { (graph : Graph) (ds : List Opened) (id : Puid) (o : Object) (was : Drafting) (d : drafts.Draft)
-        → StoreHas D.Disk graph ds disk.old space.old → object_at graph id ≡ Some o → IsOpen ds id was d
-        → spec.AreParts was at.0 (number_of shadow) own.now root.now (number_of created) → number_of created ≡ None
-        → IfErr result (λ t. is_damage t ≡ false) }
+    ensures commits { (graph : Graph) (ds : List Opened) (id : Puid) (o : Object) (was : Drafting) (d : drafts.Draft)
+        (made : Option spec.Making) → StoreHas D.Disk graph ds disk.old space.old → object_at graph id ≡ Some o
+        → IsOpen ds id was d → spec.AreParts was at.0 (number_of shadow) own.now root.now (number_of created)
+        → spec.Makes (D.content disk.old) (number_of created) made
+        → spec.CommitEnds D.Disk graph ds id d.object made disk.old disk.new space.new result }
     ensures refused { IfErr result (IsTrouble D.Disk at.0 disk.old disk.new space.new) }
     ensures made { OnOk result (HasTried D.Disk disk.old disk.new) }
     ensures cylinders { length space.new.free ≡ length space.old.free }
     ensures calls { MakesAtMost D.Disk 93138 46452 disk.old disk.new }
 {
-    match made_on_disk(disk, at, created) {
+    match part_on_disk(disk, at, created) {
         Ok(()) => {}
         Err(trouble) => return Err(trouble),
     }
@@ -93,24 +90,28 @@ fn commit_parts<D: Disk>(
 
 impl Draft {
     /// Makes the draft its object. A draft without a shadow root takes one Free block for it. Done, all is durable, and the
-    /// object's blocks are exactly those of the draft. Where it is refused the draft is gone, and each image that a crash
-    /// leaves has the object old or new. `Damaged` names a map block, with code 2, which is none or has no Free block, with
-    /// code 12, or a node or the root block, with code 4, where a pointer leads past the disk.
+    /// object's blocks are exactly those of the draft; of an object that is made with it the root is Allocated. Where it is
+    /// refused the draft is gone, and each image that a crash leaves has the object old, or it new and what is made with
+    /// it. `Damaged` names a map block, with code 2, which is none or has no Free block, with code 12, or a node or the
+    /// root block, with code 4, where a pointer leads past the disk.
     pub fn commit<D: Disk>(mut self, disk: &mut D, space: &mut Space) -> Result<(), Trouble>
         requires on_disk { self.at < D.blocks disk.old }
         requires size { D.blocks disk.old ≡ 64 * length space.old.free }
         requires room { self.shadow ≡ None → 1 ≤ sum space.old.free }
-        // The store has the object, and nothing waits.
+        // The store has the object, and the one that is made with it, and nothing waits.
         ensures done { (graph : Graph) (ds : List Opened) (id : Puid) (o : Object) (d : drafts.Draft)
-            → StoreHas D.Disk graph ds disk.old space.old → object_at graph id ≡ Some o → IsOpen ds id self d → self.created ≡ None
-            → OnOk result (spec.Committed D.Disk graph ds id d.object disk.old disk.new space.new) }
-        // Each image that a crash leaves on the way holds all objects, this one old or new.
+            (made : Option spec.Making) → StoreHas D.Disk graph ds disk.old space.old → object_at graph id ≡ Some o
+            → IsOpen ds id self d → spec.Makes (D.content disk.old) self.created made
+            → OnOk result (spec.Committed D.Disk graph ds id d.object made disk.old disk.new space.new) }
+        // Each image that a crash leaves on the way holds all as it was, or this object new and the one that is made.
         ensures leaves { (graph : Graph) (ds : List Opened) (id : Puid) (o : Object) (d : drafts.Draft)
-            → StoreHas D.Disk graph ds disk.old space.old → object_at graph id ≡ Some o → IsOpen ds id self d → self.created ≡ None
-            → Leaves D.Disk disk.old disk.new (spec.IsOldOrNew graph id d.object) }
+            (made : Option spec.Making) → StoreHas D.Disk graph ds disk.old space.old → object_at graph id ≡ Some o
+            → IsOpen ds id self d → spec.Makes (D.content disk.old) self.created made
+            → Leaves D.Disk disk.old disk.new (spec.IsOldOrNew graph (spec.with_made graph made) id d.object) }
         // No damage where the disk holds the object.
         ensures sound { (graph : Graph) (ds : List Opened) (id : Puid) (o : Object) (d : drafts.Draft)
-            → StoreHas D.Disk graph ds disk.old space.old → object_at graph id ≡ Some o → IsOpen ds id self d → self.created ≡ None
+            (made : Option spec.Making) → StoreHas D.Disk graph ds disk.old space.old → object_at graph id ≡ Some o
+            → IsOpen ds id self d → spec.Makes (D.content disk.old) self.created made
             → IfErr result (λ t. is_damage t ≡ false) }
         ensures refused { IfErr result (IsTrouble D.Disk self.at disk.old disk.new space.new) }
         ensures made { OnOk result (HasTried D.Disk disk.old disk.new) }

@@ -6,6 +6,7 @@ ghost use Rattle.cfs_base.specs.Refusals.{trouble_had_tried};
 ghost use Rattle.cfs_base.specs.Run.{Leaves, Tells};
 ghost use Rattle.cfs_base.specs.declared.identifier.Puid.{Puid};
 ghost use Rattle.cfs_base.specs.declared.refusal.Refused.TheVariants as refused;
+ghost use Rattle.claims.specs.Claims.{AreClaimed};
 ghost use Rattle.cyl_alloc.specs.Space.{Kept};
 ghost use Rattle.intentions.specs.Store.{StoreHas};
 ghost use Rattle.leaf_changes.specs.Bytes as changes;
@@ -16,6 +17,7 @@ ghost use Rattle.special_files.specs.Drafting.{IsOpen, leaf_takes, leaves_take, 
 ghost use Rattle.special_files.specs.Ends.{Ends};
 ghost use Rattle.special_files.specs.Leaves.{leaves_of};
 ghost use Rattle.special_files.specs.Nodes.{IsNear, IsRead, IsSafe};
+ghost use Rattle.special_files.specs.Order.{claims_of};
 ghost use Rattle.special_files.specs.Puts.{PutsLeaf, StaysBut};
 ghost use Rattle.special_files.specs.Refusal.{IsTrouble, is_damage, is_damaged, is_full};
 ghost use Rattle.ufs_model.specs.Graph.{Graph, object_at};
@@ -158,6 +160,11 @@ impl Draft {
             → StoreHas D.Disk graph ds disk.old space.old → object_at graph id ≡ Some o → IsOpen ds id self.old d
             → d.object ≡ objects.File f → OnOk result
             (Becomes D.Disk graph ds id (changed_draft (Overwrite offset bytes.now) d) disk.old disk.new space.new self.new) }
+        // Each leaf that isn't fresh takes the least Free block, and after it its node: in increasing order.
+        ensures order { (graph : Graph) (ds : List Opened) (id : Puid) (o : Object) (d : drafts.Draft)
+            → StoreHas D.Disk graph ds disk.old space.old → object_at graph id ≡ Some o → IsOpen ds id self.old d
+            → OnOk result (AreClaimed (claims_of self.old (offset / 512) (spec.leaves_in (offset + length bytes.now)))
+            (D.content disk.old) (D.content disk.new)) }
         ensures leaves { (graph : Graph) (ds : List Opened) (id : Puid) (o : Object) (d : drafts.Draft)
             → StoreHas D.Disk graph ds disk.old space.old → object_at graph id ≡ Some o → IsOpen ds id self.old d
             → Leaves D.Disk disk.old disk.new (λ c. Holds c graph) }

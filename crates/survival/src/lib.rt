@@ -2,15 +2,24 @@
 //! The layers above use that a run survives if each of its calls does.
 #![tactic(auto)]
 
-ghost use Rattle.std.specs.Prelude.{◌≡◌, ℕ, List, [], ◌∷◌, ◌++◌, Some};
+ghost use Rattle.std.specs.Prelude.{◌≡◌, ◌⊎◌, ℕ, true, List, [], ◌∷◌, ◌++◌, Some, None};
 ghost use Rattle.cfs_base.specs.Disk.{Image};
-ghost use Rattle.survival.specs.Call.{CallKeeps, Survived};
+ghost use Rattle.cfs_base.specs.Run.{Leaves, left_now};
+ghost use Rattle.survival.specs.Call.{CallKeeps, CallSurvives, Survived};
+ghost use Rattle.survival.specs.Held.{Fits, LeavesSome};
 ghost use Rattle.survival.specs.Trail.{RunSurvives};
 ghost use Rattle.ufs_model.specs.Graph.{Graph};
+ghost use Rattle.ufs_model.specs.Next.{next};
+ghost use Rattle.ufs_model.specs.Outcome.{outcome_of};
+ghost use Rattle.ufs_model.specs.Refusal.{refusal_of};
 ghost use Rattle.ufs_model.specs.Run.{replay};
-ghost use Rattle.ufs_model.specs.State.{State};
+ghost use Rattle.ufs_model.specs.State.{State, is_running};
 ghost use Rattle.ufs_model.specs.declared.asked.Event.{Event};
-ghost use Rattle.vol_image.specs.Sound.{IsSoundAs, rooted_part};
+ghost use Rattle.ufs_model.specs.declared.asked.Event.TheVariants as events;
+ghost use Rattle.ufs_model.specs.declared.asked.Reply.TheVariants as replies;
+ghost use Rattle.ufs_model.specs.declared.asked.Request.{Request};
+ghost use Rattle.vol_image.specs.Sound.{Holds, IsSoundAs, rooted_part};
+ghost use Rattle.vol_image.specs.Survives.{MayName};
 
 use cfs_base::Disk;
 
@@ -27,4 +36,28 @@ pub fn runs_survive<D: Disk>()
     ensures none { (seed : ℕ) (g : Graph) (trail : List Event) (marks : List ℕ) (s : State) (old new : D)
         → replay seed g trail ≡ Some s → RunSurvives D.Disk seed g trail marks old
         → CallKeeps D.Disk s old new → RunSurvives D.Disk seed g trail marks new }
+{}
+
+/// What a crash leaves of a call, where each image holds objects that fit the disk. Does nothing.
+pub fn calls_survive<D: Disk>()
+    ensures call { (seed : ℕ) (s : State) (e : Event) (old new : D) → LeavesSome D.Disk seed s e old new
+        → CallSurvives D.Disk seed s e old new }
+    // each image has the objects of before the call or those of after it
+    ensures done { (seed : ℕ) (s t : State) (e : Event) (old new : D) → next seed s e ≡ Some t
+        → Fits (D.blocks new) s.graph → Fits (D.blocks new) t.graph
+        → Leaves D.Disk old new (λ c. Holds c s.graph ⊎ Holds c t.graph)
+        → ((c : Image) → left_now D.Disk new c → Holds c t.graph) → CallSurvives D.Disk seed s e old new }
+    // the same of a call that failed after its first write
+    ensures doubt { (seed who b moment : ℕ) (s : State) (request : Request) (old new : D) → is_running s ≡ true
+        → refusal_of s who request ≡ None → MayName s request b
+        → Fits (D.blocks new) s.graph → Fits (D.blocks new) (outcome_of seed s who request b).1.graph
+        → Leaves D.Disk old new (λ c. Holds c s.graph ⊎ Holds c (outcome_of seed s who request b).1.graph)
+        → ((c : Image) → left_now D.Disk old c → Holds c s.graph)
+        → CallSurvives D.Disk seed s (events.Ask who request (replies.Disk (Some moment))) old new }
+    // each image has the objects that stand
+    ensures loose { (seed : ℕ) (s t : State) (e : Event) (old new : D) → next seed s e ≡ Some t → t.graph ≡ s.graph
+        → Fits (D.blocks new) s.graph → Leaves D.Disk old new (λ c. Holds c s.graph)
+        → ((c : Image) → left_now D.Disk old c → Holds c s.graph) → CallSurvives D.Disk seed s e old new }
+    ensures none { (s : State) (old new : D) → Fits (D.blocks new) s.graph → Leaves D.Disk old new (λ c. Holds c s.graph)
+        → CallKeeps D.Disk s old new }
 {}

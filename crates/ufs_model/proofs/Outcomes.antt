@@ -23,7 +23,7 @@ use Rattle.ufs_model.specs.Object.{Fill, slot_of}
 use Rattle.ufs_model.specs.Graph.{Graph, IsLeastFreeRoot, has_block, is_free_root, object_at, with_object}
 use Rattle.ufs_model.specs.State.{State, changed_draft, draft_of, file_seen, grant_of, index_seen, named, object_of, put, seen}
 use Rattle.ufs_model.specs.Refusal.{conditions, is_range, is_unwanted_file, names_file, refusal_of, target, wanted}
-use Rattle.ufs_model.specs.Outcome.{closed, committed, created, creates, outcome_of, slot_reply, with_edge, with_start}
+use Rattle.ufs_model.specs.Outcome.{closed, committed, created, creates, draws, outcome_of, slot_reply, with_edge, with_start}
 use Rattle.ufs_model.specs.Plain.{IsPlainReply}
 use Rattle.ufs_model.specs.WellFormed.{IsState, is_open_so}
 use Rattle.ufs_model.specs.Word.{word}
@@ -100,13 +100,6 @@ closed_leaves s who t true = record { collection = λ none. none; words = refl; 
       | None ↦ has
       | Some d ↦ has_block-still b g.id d.object s.graph.objects has
     ]
-
--- how many words it draws
-abbrev draws : Request → ℕ
-draws (asks.CreateFile kind fill index slot) = 1
-draws (asks.CreateIndex slots index slot) = 1
-draws (asks.OpenFor id mode) = 1
-draws request = 0
 
 module _ (seed : ℕ) (s : State) (who : ℕ) (h : IsState s) where
   pub outcome_leaves : (request : Request) (b : ℕ) → refusal_of s who request ≡ None → (creates request ≡ true → is_free_root s.graph b ≡ true)

@@ -19,3 +19,4 @@ pub mod Spoken
 pub mod Turns
 pub mod Printed
 pub mod Plain
+pub mod Asks

@@ -102,6 +102,13 @@ creates (asks.CreateFile kind fill index slot) = true
 creates (asks.CreateIndex slots index slot) = true
 creates request = false
 
+-- how many words an outcome draws
+abbrev pub draws : Request → ℕ
+draws (asks.CreateFile kind fill index slot) = 1
+draws (asks.CreateIndex slots index slot) = 1
+draws (asks.OpenFor id mode) = 1
+draws request = 0
+
 -- the root block that a reply names
 abbrev pub block_named : Reply → ℕ
 block_named (replies.Id id) = id.block

@@ -4,6 +4,7 @@
 #![tactic(auto)]
 
 mod asked;
+mod asker;
 mod blocks;
 mod change;
 mod collection;
@@ -21,6 +22,7 @@ mod server;
 mod word;
 
 pub use asked::{Bound, Event, Ref, Reply, Request, Unread, Wanted};
+pub use asker::Asker;
 pub use change::Change;
 pub use collection::{Collection, Pairs};
 pub use limits::{

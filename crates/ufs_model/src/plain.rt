@@ -4,7 +4,7 @@ ghost use Rattle.ufs_model.specs.declared.asked.Reply.TheVariants as replies;
 ghost use Rattle.ufs_model.specs.declared.asked.Event.TheVariants as events;
 ghost use Rattle.ufs_model.specs.Plain.{IsAnswer, IsPlainReply};
 ghost use Rattle.ufs_model.specs.Graph.{IsLeastFreeRoot, fresh_graph};
-ghost use Rattle.ufs_model.specs.Outcome.{creates};
+ghost use Rattle.ufs_model.specs.Outcome.{creates, draws};
 ghost use Rattle.ufs_model.specs.State.{opening, is_running};
 ghost use Rattle.ufs_model.specs.Next.{next};
 
@@ -73,6 +73,8 @@ impl Plain {
         ensures answer { result ≢ replies.Memory → IsAnswer self.old.seed self.old.state who request.now result self.new.state }
         ensures seed { self.new.seed ≡ self.old.seed }
         ensures drawn { self.new.state.drawn ≤ self.old.state.drawn + 1 }
+        ensures kept { self.old.state.drawn ≤ self.new.state.drawn }
+        ensures draws { self.new.state.drawn ≤ self.old.state.drawn + draws request.now }
     {
         self.answer(alloc, who, request).unwrap_or(Reply::Memory)
     }
@@ -93,6 +95,8 @@ impl Plain {
         ensures running { IsTrue (is_running self.old.state) }
         ensures seed { self.new.seed ≡ self.old.seed }
         ensures drawn { self.new.state.drawn ≤ self.old.state.drawn + 1 }
+        ensures kept { self.old.state.drawn ≤ self.new.state.drawn }
+        ensures draws { self.new.state.drawn ≤ self.old.state.drawn + draws request.now }
     {
         self.server.is_quiet();
         if let Some(refused) = self.server.refusal(who, request) {

@@ -1,4 +1,4 @@
-use Rattle.std.proofs.Common.{ℕ, ◌+◌, ◌*◌, ◌/◌, ◌<◌, Err, length, refl, sym, ◌∙◌, ap, subst, arith}
+use Rattle.std.proofs.Common.{ℕ, ◌+◌, ◌*◌, ◌/◌, ◌<◌, Err, None, length, refl, sym, ◌∙◌, ap, subst, arith}
 use Rattle.std.specs.Prelude.{sum}
 use Rattle.cfs_base.specs.Refusals.{refused_by}
 use Rattle.cfs_base.specs.declared.refusal.Refused.{Refused}
@@ -95,14 +95,14 @@ returns-in-Ok-commit g c =
     let open_now = begun_open g.D.Disk graph ds id i c.args.index.0 c.args.slot c.args.what d0 d1 k0 was has c.in-Ok.ensures.begun reads in
     let becomes = c.in-Ok-true.ensures.filled graph _ id (objects.Index i) (begun_draft i) i begun has.there open_now refl in (
       c.fill.ensures.leaves graph _ id (objects.Index i) (begun_draft i) begun has.there open_now,
-      c.commit.ensures.leaves graph _ id (objects.Index i) (filled_draft i c.args.slot c.args.what (begun_draft i)) becomes.steps.store has.there becomes.is_open created,
+      c.commit.ensures.leaves graph _ id (objects.Index i) (filled_draft i c.args.slot c.args.what (begun_draft i)) None becomes.steps.store has.there becomes.is_open created,
     ))
     (λ graph ds id i has.
     let begun = c.in-Ok.ensures.store graph ds id (objects.Index i) has.store has.root has.there has.shut in
     let open_now = begun_open g.D.Disk graph ds id i c.args.index.0 c.args.slot c.args.what d0 d1 k0 was has c.in-Ok.ensures.begun reads in
     let becomes = c.in-Ok-true.ensures.filled graph _ id (objects.Index i) (begun_draft i) i begun has.there open_now refl in
     commit_done g.D.Disk graph ds id i c.args.index.0 c.args.slot c.args.what d0 d1 k0 was has c.in-Ok.ensures.begun reads c.fill.new.disk c.commit.new.disk c.fill.new.space c.commit.new.space c.fill.new.self becomes
-    (c.in-Ok-commit.ensures.done graph _ id (objects.Index i) (filled_draft i c.args.slot c.args.what (begun_draft i)) becomes.steps.store has.there becomes.is_open created))
+    (c.in-Ok-commit.ensures.done graph _ id (objects.Index i) (filled_draft i c.args.slot c.args.what (begun_draft i)) None becomes.steps.store has.there becomes.is_open created))
 
 pub returns-in-Err-commit : goal.returns-in-Err-commit
 returns-in-Err-commit g c =
@@ -120,11 +120,11 @@ returns-in-Err-commit g c =
     let open_now = begun_open g.D.Disk graph ds id i c.args.index.0 c.args.slot c.args.what d0 d1 k0 was has c.in-Ok.ensures.begun reads in
     let becomes = c.in-Ok-true.ensures.filled graph _ id (objects.Index i) (begun_draft i) i begun has.there open_now refl in (
       c.fill.ensures.leaves graph _ id (objects.Index i) (begun_draft i) begun has.there open_now,
-      c.commit.ensures.leaves graph _ id (objects.Index i) (filled_draft i c.args.slot c.args.what (begun_draft i)) becomes.steps.store has.there becomes.is_open created,
+      c.commit.ensures.leaves graph _ id (objects.Index i) (filled_draft i c.args.slot c.args.what (begun_draft i)) None becomes.steps.store has.there becomes.is_open created,
     ))
     c.in-Err-commit.trouble (subst (λ (n : ℕ). IsTrouble g.D.Disk n c.fill.new.disk c.commit.new.disk c.commit.new.space c.in-Err-commit.trouble) (c.fill.ensures.stays.at ∙ ap (λ (x : Drafting). x.at) c.in-Ok.ensures.begun) c.in-Err-commit.ensures.refused)
     (λ graph ds id i has.
     let begun = c.in-Ok.ensures.store graph ds id (objects.Index i) has.store has.root has.there has.shut in
     let open_now = begun_open g.D.Disk graph ds id i c.args.index.0 c.args.slot c.args.what d0 d1 k0 was has c.in-Ok.ensures.begun reads in
     let becomes = c.in-Ok-true.ensures.filled graph _ id (objects.Index i) (begun_draft i) i begun has.there open_now refl in
-    c.in-Err-commit.ensures.sound graph _ id (objects.Index i) (filled_draft i c.args.slot c.args.what (begun_draft i)) becomes.steps.store has.there becomes.is_open created))
+    c.in-Err-commit.ensures.sound graph _ id (objects.Index i) (filled_draft i c.args.slot c.args.what (begun_draft i)) None becomes.steps.store has.there becomes.is_open created))

@@ -1,6 +1,9 @@
 use Rattle.std.proofs.Common.{◌∙◌, length, refl, ap, sym, subst, arith}
+use Rattle.cfs_base.specs.Disk.{Image}
 use Rattle.cfs_base.proofs.Calls.{makes_then}
+use Rattle.claims.specs.Claims.{AreClaimed}
 use Rattle.normal_files.specs.Ends.{is_damaged}
+use Rattle.normal_files.specs.Order.{claims_of}
 use Rattle.normal_files.specs.WriteRefusal.{IsWriteRefusal, TellsNeed, needs}
 use Rattle.normal_files.proofs.Come.{makes_none}
 use Rattle.normal_files.proofs.WriteCall.{damage_same, file_of, images_on, images_read, parts_refused, parts_tell, parts_untried, read_refused, reads_make, room_refused, room_tells, stop_on, trouble_tells, writes_on}
@@ -39,6 +42,11 @@ returns-in-Err-has_room-clause-calls g c = makes_then g.D.Disk c.args.disk.now c
 
 pub returns-in-Ok-write_parts-clause-written : goal.returns-in-Ok-write_parts-clause-written
 returns-in-Ok-write_parts-clause-written g c = λ graph ds id f store there no_draft here inside. c.in-Ok-write_parts.ensures.written graph ds id f (writes_on g.D.Disk c.args.disk.now c.read.new.disk c.in-Ok.ensures.reads graph ds id f c.args.space.now c.args.at.0 c.args.offset c.args.bytes.now c.in-Ok.file.root c.in-Ok.file.low c.in-Ok.file.high store there no_draft here inside (g.met.D.Disk.of_blocks c.args.disk.now store.carries.tells.honest) (c.in-Ok.ensures.root store.carries.tells) (c.in-Ok.ensures.low_is store.carries.tells) (c.in-Ok.ensures.high_is store.carries.tells))
+
+pub returns-in-Ok-write_parts-clause-order : goal.returns-in-Ok-write_parts-clause-order
+returns-in-Ok-write_parts-clause-order g c = λ graph ds id f store there no_draft here inside.
+    subst (λ (i : Image). AreClaimed (claims_of c.args.at.0 f c.args.offset (length c.args.bytes.now)) i (g.D.Disk.content c.write_parts.new.disk)) c.in-Ok.ensures.reads.content
+    (c.in-Ok-write_parts.ensures.order graph ds id f (writes_on g.D.Disk c.args.disk.now c.read.new.disk c.in-Ok.ensures.reads graph ds id f c.args.space.now c.args.at.0 c.args.offset c.args.bytes.now c.in-Ok.file.root c.in-Ok.file.low c.in-Ok.file.high store there no_draft here inside (g.met.D.Disk.of_blocks c.args.disk.now store.carries.tells.honest) (c.in-Ok.ensures.root store.carries.tells) (c.in-Ok.ensures.low_is store.carries.tells) (c.in-Ok.ensures.high_is store.carries.tells)) c.in-Ok.ensures.some)
 
 pub returns-in-Ok-write_parts-clause-images : goal.returns-in-Ok-write_parts-clause-images
 returns-in-Ok-write_parts-clause-images g c = λ graph ds id f store there no_draft here inside. images_on g.D.Disk c.args.disk.now c.read.new.disk c.in-Ok.ensures.reads c.write_parts.new.disk _ (c.in-Ok-write_parts.ensures.images graph ds id f (writes_on g.D.Disk c.args.disk.now c.read.new.disk c.in-Ok.ensures.reads graph ds id f c.args.space.now c.args.at.0 c.args.offset c.args.bytes.now c.in-Ok.file.root c.in-Ok.file.low c.in-Ok.file.high store there no_draft here inside (g.met.D.Disk.of_blocks c.args.disk.now store.carries.tells.honest) (c.in-Ok.ensures.root store.carries.tells) (c.in-Ok.ensures.low_is store.carries.tells) (c.in-Ok.ensures.high_is store.carries.tells)))

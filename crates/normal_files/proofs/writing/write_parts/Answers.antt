@@ -3,7 +3,7 @@ use Rattle.normal_files.specs.Ends.{IsStop, is_damaged}
 use Rattle.cfs_base.proofs.Calls.{makes_then}
 use Rattle.normal_files.proofs.Come.{makes_none}
 use Rattle.normal_files.proofs.Ending.{stopped_sound}
-use Rattle.normal_files.proofs.WriteParts.{end_err, end_images, end_stores, gone_puts, may, partly, put_stops, put_untried}
+use Rattle.normal_files.proofs.WriteParts.{end_err, end_images, end_order, end_stores, gone_puts, may, partly, put_stops, put_untried}
 use Rattle.normal_files.proofs.writing.write_parts.Goals as goal
 
 -- ---- how it ends
@@ -45,6 +45,11 @@ pub returns-in-Ok-end_write-clause-written : goal.returns-in-Ok-end_write-clause
 returns-in-Ok-end_write-clause-written g c = λ graph ds id f is.
     let done = c.in-Ok-end_write.ensures.done (c.in-Ok-take_both.ensures.takes graph id f c.args.root.now _ c.args.disk.now (may g.D.Disk graph ds id f c.args.root.now c.args.at.0 c.args.offset c.args.bytes.now c.args.low.now c.args.high.now c.args.disk.now c.args.space.now is c.put_both.new.disk (c.in-Ok.ensures.written graph ds id f c.args.root.now c.args.at.0 c.args.space.now is).0 (c.in-Ok.ensures.written graph ds id f c.args.root.now c.args.at.0 c.args.space.now is).1)).0.tells in
     (end_stores g.D.Disk graph ds id f c.args.root.now c.args.at.0 c.args.offset c.args.bytes.now c.args.low.now c.args.high.now c.args.disk.now c.args.space.now is c.put_both.new.disk (c.in-Ok.ensures.written graph ds id f c.args.root.now c.args.at.0 c.args.space.now is).0 (c.in-Ok.ensures.written graph ds id f c.args.root.now c.args.at.0 c.args.space.now is).1 c.take_both.new.disk c.take_both.new.space (c.in-Ok-take_both.ensures.takes graph id f c.args.root.now _ c.args.disk.now (may g.D.Disk graph ds id f c.args.root.now c.args.at.0 c.args.offset c.args.bytes.now c.args.low.now c.args.high.now c.args.disk.now c.args.space.now is c.put_both.new.disk (c.in-Ok.ensures.written graph ds id f c.args.root.now c.args.at.0 c.args.space.now is).0 (c.in-Ok.ensures.written graph ds id f c.args.root.now c.args.at.0 c.args.space.now is).1)).0 c.in-Ok-take_both.both.low c.in-Ok-take_both.both.high (c.in-Ok-take_both.ensures.takes graph id f c.args.root.now _ c.args.disk.now (may g.D.Disk graph ds id f c.args.root.now c.args.at.0 c.args.offset c.args.bytes.now c.args.low.now c.args.high.now c.args.disk.now c.args.space.now is c.put_both.new.disk (c.in-Ok.ensures.written graph ds id f c.args.root.now c.args.at.0 c.args.space.now is).0 (c.in-Ok.ensures.written graph ds id f c.args.root.now c.args.at.0 c.args.space.now is).1)).1 _ c.requires.low c.requires.high c.requires.first c.requires.next c.requires.last c.requires.apart c.end_write.new.disk done.0 done.1, done.1)
+
+pub returns-in-Ok-end_write-clause-order : goal.returns-in-Ok-end_write-clause-order
+returns-in-Ok-end_write-clause-order g c = λ graph ds id f is some.
+    let done = c.in-Ok-end_write.ensures.done (c.in-Ok-take_both.ensures.takes graph id f c.args.root.now _ c.args.disk.now (may g.D.Disk graph ds id f c.args.root.now c.args.at.0 c.args.offset c.args.bytes.now c.args.low.now c.args.high.now c.args.disk.now c.args.space.now is c.put_both.new.disk (c.in-Ok.ensures.written graph ds id f c.args.root.now c.args.at.0 c.args.space.now is).0 (c.in-Ok.ensures.written graph ds id f c.args.root.now c.args.at.0 c.args.space.now is).1)).0.tells in
+    end_order g.D.Disk graph ds id f c.args.root.now c.args.at.0 c.args.offset c.args.bytes.now c.args.low.now c.args.high.now c.args.disk.now c.args.space.now is c.put_both.new.disk (c.in-Ok.ensures.written graph ds id f c.args.root.now c.args.at.0 c.args.space.now is).0 (c.in-Ok.ensures.written graph ds id f c.args.root.now c.args.at.0 c.args.space.now is).1 c.take_both.new.disk c.take_both.new.space (c.in-Ok-take_both.ensures.takes graph id f c.args.root.now _ c.args.disk.now (may g.D.Disk graph ds id f c.args.root.now c.args.at.0 c.args.offset c.args.bytes.now c.args.low.now c.args.high.now c.args.disk.now c.args.space.now is c.put_both.new.disk (c.in-Ok.ensures.written graph ds id f c.args.root.now c.args.at.0 c.args.space.now is).0 (c.in-Ok.ensures.written graph ds id f c.args.root.now c.args.at.0 c.args.space.now is).1)).0 c.in-Ok-take_both.both.low c.in-Ok-take_both.both.high (c.in-Ok-take_both.ensures.takes graph id f c.args.root.now _ c.args.disk.now (may g.D.Disk graph ds id f c.args.root.now c.args.at.0 c.args.offset c.args.bytes.now c.args.low.now c.args.high.now c.args.disk.now c.args.space.now is c.put_both.new.disk (c.in-Ok.ensures.written graph ds id f c.args.root.now c.args.at.0 c.args.space.now is).0 (c.in-Ok.ensures.written graph ds id f c.args.root.now c.args.at.0 c.args.space.now is).1)).1 _ c.requires.low c.requires.high c.requires.first c.requires.next c.requires.last c.requires.apart c.end_write.new.disk done.0 some
 
 pub returns-in-Ok-end_write-clause-images : goal.returns-in-Ok-end_write-clause-images
 returns-in-Ok-end_write-clause-images g c = λ graph ds id f is. end_images g.D.Disk graph ds id f c.args.root.now c.args.at.0 c.args.offset c.args.bytes.now c.args.low.now c.args.high.now c.args.disk.now c.args.space.now is c.put_both.new.disk (c.in-Ok.ensures.written graph ds id f c.args.root.now c.args.at.0 c.args.space.now is).0 (c.in-Ok.ensures.written graph ds id f c.args.root.now c.args.at.0 c.args.space.now is).1 c.take_both.new.disk c.take_both.new.space (c.in-Ok-take_both.ensures.takes graph id f c.args.root.now _ c.args.disk.now (may g.D.Disk graph ds id f c.args.root.now c.args.at.0 c.args.offset c.args.bytes.now c.args.low.now c.args.high.now c.args.disk.now c.args.space.now is c.put_both.new.disk (c.in-Ok.ensures.written graph ds id f c.args.root.now c.args.at.0 c.args.space.now is).0 (c.in-Ok.ensures.written graph ds id f c.args.root.now c.args.at.0 c.args.space.now is).1)).0 c.in-Ok-take_both.both.low c.in-Ok-take_both.both.high (c.in-Ok-take_both.ensures.takes graph id f c.args.root.now _ c.args.disk.now (may g.D.Disk graph ds id f c.args.root.now c.args.at.0 c.args.offset c.args.bytes.now c.args.low.now c.args.high.now c.args.disk.now c.args.space.now is c.put_both.new.disk (c.in-Ok.ensures.written graph ds id f c.args.root.now c.args.at.0 c.args.space.now is).0 (c.in-Ok.ensures.written graph ds id f c.args.root.now c.args.at.0 c.args.space.now is).1)).1 _ c.requires.low c.requires.high c.requires.first c.requires.next c.requires.last c.requires.apart c.end_write.new.disk (c.in-Ok-end_write.ensures.images (c.in-Ok-take_both.ensures.takes graph id f c.args.root.now _ c.args.disk.now (may g.D.Disk graph ds id f c.args.root.now c.args.at.0 c.args.offset c.args.bytes.now c.args.low.now c.args.high.now c.args.disk.now c.args.space.now is c.put_both.new.disk (c.in-Ok.ensures.written graph ds id f c.args.root.now c.args.at.0 c.args.space.now is).0 (c.in-Ok.ensures.written graph ds id f c.args.root.now c.args.at.0 c.args.space.now is).1)).0.tells)

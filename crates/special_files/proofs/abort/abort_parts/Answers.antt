@@ -1,26 +1,24 @@
-use Rattle.std.proofs.Common.{◌≡◌, ℕ, ◌+◌, ◌*◌, ◌<◌, false, length, Some, None, refl, sym, ◌∙◌, ap, subst, arith}
+use Rattle.std.proofs.Common.{◌≡◌, ℕ, ◌+◌, ◌*◌, ◌<◌, false, length, refl, sym, ◌∙◌, ap, subst, arith}
 use Rattle.std.specs.List.{All}
 use Rattle.cfs_base.specs.Disk.{Image}
 use Rattle.cfs_base.specs.declared.refusal.Trouble.{Trouble}
 use Rattle.cfs_base.proofs.Calls.{makes_then, reads_make, tells_on, tried_then}
-use Rattle.cfs_base.proofs.Runs.{still_tells, then, wider}
+use Rattle.cfs_base.proofs.Runs.{still_tells, then}
 use Rattle.intentions.proofs.Changes.{all_ok}
-use Rattle.vol_image.specs.Sound.{Holds}
 use Rattle.special_files.specs.Changed.{AreOnDisk, AreTaken}
 use Rattle.special_files.specs.Drafting.{opened_as}
 use Rattle.special_files.specs.Refusal.{IsTrouble, is_damage}
 use Rattle.special_files.proofs.Begun.{store_reads}
-use Rattle.special_files.proofs.CommitAbort.{dropped_since, store_still}
+use Rattle.special_files.proofs.CommitAbort.{abort_since, abort_stops, store_still}
 use Rattle.special_files.proofs.CommitDone.{makes_more}
-use Rattle.special_files.proofs.CommitDraft.{after_damage, below_all, far_trouble, finish_tried, nothing_left, nothing_made, shadow_below}
+use Rattle.special_files.proofs.CommitDraft.{after_damage, below_all, far_trouble, finish_tried, nothing_made, shadow_below}
+use Rattle.special_files.proofs.CommitStore.{made_below}
 use Rattle.special_files.proofs.Endings.{trouble_after_tried}
 use Rattle.special_files.proofs.abort.abort_parts.Goals as goal
 
 pub returns-in-Err : goal.returns-in-Err
 returns-in-Err g c = record {
-  done = λ graph ds id o was d store at opened parts none. tt;
-  leaves = λ graph ds id o was d store at opened parts none. nothing_left g.D.Disk c.args.disk.now (λ k. Holds k graph);
-  sound = λ graph ds id o was d store at opened parts none.
+  ends = λ graph ds id o was d store at opened parts.
       let far = c.in-Err.ensures.far.0 in
       let below = shadow_below g.D.Disk graph ds id o c.args.disk.now c.args.space.now was d far.n store at opened (parts.shadow_is ∙ far.is) in
       let size = g.met.D.Disk.sized c.args.disk.now store.carries.tells.honest in
@@ -33,9 +31,11 @@ returns-in-Err g c = record {
 
 pub returns-in-Err-part_on_disk : goal.returns-in-Err-part_on_disk
 returns-in-Err-part_on_disk g c = record {
-  done = λ graph ds id o was d store at opened parts none. tt;
-  leaves = λ graph ds id o was d store at opened parts none. nothing_left g.D.Disk c.args.disk.now (λ k. Holds k graph);
-  sound = λ graph ds id o was d store at opened parts none. (let no : None ≡ Some c.in-Err-part_on_disk.ensures.far.0.n = sym none ∙ c.in-Err-part_on_disk.ensures.far.0.is in cc);
+  ends = λ graph ds id o was d store at opened parts.
+      let far = c.in-Err-part_on_disk.ensures.far.0 in
+      let below = made_below g.D.Disk graph ds id o c.args.disk.now c.args.space.now was d far.n store opened (parts.created_is ∙ far.is) in
+      let size = g.met.D.Disk.sized c.args.disk.now store.carries.tells.honest in
+      absurd (omega (arith, below, size, far.far));
   refused = far_trouble g.D.Disk c.args.at.0 c.args.disk.now c.args.space.now c.in-Err-part_on_disk.trouble c.in-Err-part_on_disk.ensures.far.1;
   made = tt;
   cylinders = refl;
@@ -44,9 +44,7 @@ returns-in-Err-part_on_disk g c = record {
 
 pub returns-in-Err-barrier : goal.returns-in-Err-barrier
 returns-in-Err-barrier g c = record {
-  done = λ graph ds id o was d store at opened parts none. tt;
-  leaves = λ graph ds id o was d store at opened parts none. wider g.D.Disk c.args.disk.now c.barrier.new.disk (λ k. ⊥) (λ k. Holds k graph) c.barrier.ensures.images (λ k no. absurd no);
-  sound = λ graph ds id o was d store at opened parts none. ap is_damage c.in-Err-barrier.ensures.refused;
+  ends = λ graph ds id o was d store at opened parts. abort_stops g.D.Disk graph ds id was.created c.args.disk.now c.barrier.new.disk c.args.space.now c.in-Err-barrier.trouble c.barrier.ensures.images (ap is_damage c.in-Err-barrier.ensures.refused);
   refused = subst (IsTrouble g.D.Disk c.args.at.0 c.args.disk.now c.barrier.new.disk c.args.space.now) (sym c.in-Err-barrier.ensures.refused) c.in-Err-barrier.ensures.stopped;
   made = tt;
   cylinders = refl;
@@ -60,10 +58,9 @@ pub returns-in-Err-changed : goal.returns-in-Err-changed
 returns-in-Err-changed g c =
     let reads = c.changed.ensures.reads in
     record {
-      done = λ graph ds id o was d store at opened parts none. tt;
-      leaves = λ graph ds id o was d store at opened parts none. then g.D.Disk c.args.disk.now c.barrier.new.disk c.changed.new.disk (λ k. Holds k graph) (λ k. ⊥) (wider g.D.Disk c.args.disk.now c.barrier.new.disk (λ k. ⊥) (λ k. Holds k graph) c.barrier.ensures.images (λ k no. absurd no)) reads.images (λ k no. absurd no);
-      sound = λ graph ds id o was d store at opened parts none. subst (λ (t : Trouble). is_damage t ≡ false) (sym c.after_try.ensures)
-          (after_damage c.in-Err-changed.trouble (c.in-Err-changed.ensures.sound graph ds c.args.space.now id o was d (store_still g.D.Disk graph ds c.args.disk.now c.barrier.new.disk c.args.space.now store c.barrier.ensures.content c.barrier.ensures.told c.barrier.ensures.images c.barrier.ensures.calls.same) at opened parts.own_is parts.root_is));
+      ends = λ graph ds id o was d store at opened parts. abort_stops g.D.Disk graph ds id was.created c.args.disk.now c.changed.new.disk c.args.space.now _
+          (then g.D.Disk c.args.disk.now c.barrier.new.disk c.changed.new.disk (λ k. ⊥) (λ k. ⊥) c.barrier.ensures.images reads.images (λ k no. no))
+          (subst (λ (t : Trouble). is_damage t ≡ false) (sym c.after_try.ensures) (after_damage c.in-Err-changed.trouble (c.in-Err-changed.ensures.sound graph ds c.args.space.now id o was d (store_still g.D.Disk graph ds c.args.disk.now c.barrier.new.disk c.args.space.now store c.barrier.ensures.content c.barrier.ensures.told c.barrier.ensures.images c.barrier.ensures.calls.same) at opened parts.own_is parts.root_is)));
       refused = subst (λ (t : Trouble). IsTrouble g.D.Disk c.args.at.0 c.args.disk.now c.changed.new.disk c.args.space.now t) (sym c.after_try.ensures)
           (trouble_after_tried g.D.Disk c.args.at.0 0 c.args.disk.now c.barrier.new.disk c.changed.new.disk c.args.space.now 1 1 c.barrier.ensures.calls c.barrier.ensures.made c.barrier.ensures.told c.in-Err-changed.trouble (c.in-Err-changed.ensures.refused c.args.space.now));
       made = tt;
@@ -90,12 +87,13 @@ returns g c =
     let tried = tried_then g.D.Disk c.args.disk.now c.barrier.new.disk c.changed.new.disk 240 0 c.barrier.ensures.made (reads_make g.D.Disk c.barrier.new.disk c.changed.new.disk 240 reads) in
     let all_tried = tried_then g.D.Disk c.args.disk.now c.changed.new.disk c.give_up.new.disk (2 * nt + (2 + 2)) (nt + (1 + 1)) tried c.give_up.ensures.calls in
     record {
-      done = λ graph ds id o was d store at opened parts none. dropped_since g.D.Disk graph ds id c.args.disk.now c.changed.new.disk c.give_up.new.disk c.give_up.new.space (reads.content ∙ c.barrier.ensures.content) c.give_up.result
-          (c.give_up.ensures.done graph ds id o was d (store_reads g.D.Disk graph ds c.barrier.new.disk c.changed.new.disk c.args.space.now 240 (store_still g.D.Disk graph ds c.args.disk.now c.barrier.new.disk c.args.space.now store c.barrier.ensures.content c.barrier.ensures.told c.barrier.ensures.images c.barrier.ensures.calls.same) reads) at opened parts.shadow_is (parts.created_is ∙ none) none (subst (λ (i : Image). AreTaken i id (opened_as id was d) c.as_slice.result.now) (sym reads.content) (subst (AreTaken (g.D.Disk.content c.barrier.new.disk) id (opened_as id was d)) (sym c.as_slice.ensures) (c.in-Ok-changed.ensures.changed graph ds c.args.space.now id o was d (store_still g.D.Disk graph ds c.args.disk.now c.barrier.new.disk c.args.space.now store c.barrier.ensures.content c.barrier.ensures.told c.barrier.ensures.images c.barrier.ensures.calls.same) at opened parts.own_is parts.root_is).takes)));
-      leaves = λ graph ds id o was d store at opened parts none. then g.D.Disk c.args.disk.now c.changed.new.disk c.give_up.new.disk (λ k. Holds k graph) (λ k. Holds k graph)
-          (then g.D.Disk c.args.disk.now c.barrier.new.disk c.changed.new.disk (λ k. Holds k graph) (λ k. ⊥) (wider g.D.Disk c.args.disk.now c.barrier.new.disk (λ k. ⊥) (λ k. Holds k graph) c.barrier.ensures.images (λ k no. absurd no)) reads.images (λ k no. absurd no))
-          (c.give_up.ensures.leaves graph ds id o was d (store_reads g.D.Disk graph ds c.barrier.new.disk c.changed.new.disk c.args.space.now 240 (store_still g.D.Disk graph ds c.args.disk.now c.barrier.new.disk c.args.space.now store c.barrier.ensures.content c.barrier.ensures.told c.barrier.ensures.images c.barrier.ensures.calls.same) reads) at opened parts.shadow_is none (subst (λ (i : Image). AreTaken i id (opened_as id was d) c.as_slice.result.now) (sym reads.content) (subst (AreTaken (g.D.Disk.content c.barrier.new.disk) id (opened_as id was d)) (sym c.as_slice.ensures) (c.in-Ok-changed.ensures.changed graph ds c.args.space.now id o was d (store_still g.D.Disk graph ds c.args.disk.now c.barrier.new.disk c.args.space.now store c.barrier.ensures.content c.barrier.ensures.told c.barrier.ensures.images c.barrier.ensures.calls.same) at opened parts.own_is parts.root_is).takes))) (λ k h. h);
-      sound = λ graph ds id o was d store at opened parts none. c.give_up.ensures.sound graph ds id o was d (store_reads g.D.Disk graph ds c.barrier.new.disk c.changed.new.disk c.args.space.now 240 (store_still g.D.Disk graph ds c.args.disk.now c.barrier.new.disk c.args.space.now store c.barrier.ensures.content c.barrier.ensures.told c.barrier.ensures.images c.barrier.ensures.calls.same) reads) at opened parts.shadow_is none (subst (λ (i : Image). AreTaken i id (opened_as id was d) c.as_slice.result.now) (sym reads.content) (subst (AreTaken (g.D.Disk.content c.barrier.new.disk) id (opened_as id was d)) (sym c.as_slice.ensures) (c.in-Ok-changed.ensures.changed graph ds c.args.space.now id o was d (store_still g.D.Disk graph ds c.args.disk.now c.barrier.new.disk c.args.space.now store c.barrier.ensures.content c.barrier.ensures.told c.barrier.ensures.images c.barrier.ensures.calls.same) at opened parts.own_is parts.root_is).takes));
+      ends = λ graph ds id o was d store at opened parts.
+          let still = store_still g.D.Disk graph ds c.args.disk.now c.barrier.new.disk c.args.space.now store c.barrier.ensures.content c.barrier.ensures.told c.barrier.ensures.images c.barrier.ensures.calls.same in
+          let lists = (c.in-Ok-changed.ensures.changed graph ds c.args.space.now id o was d still at opened parts.own_is parts.root_is).takes in
+          abort_since g.D.Disk graph ds id was.created c.args.disk.now c.changed.new.disk c.give_up.new.disk c.give_up.new.space (reads.content ∙ c.barrier.ensures.content)
+          (then g.D.Disk c.args.disk.now c.barrier.new.disk c.changed.new.disk (λ k. ⊥) (λ k. ⊥) c.barrier.ensures.images reads.images (λ k no. no)) c.give_up.result
+          (c.give_up.ensures.ends graph ds id o was d (store_reads g.D.Disk graph ds c.barrier.new.disk c.changed.new.disk c.args.space.now 240 still reads) at opened parts.shadow_is parts.created_is
+          (subst (λ (i : Image). AreTaken i id (opened_as id was d) c.as_slice.result.now) (sym reads.content) (subst (AreTaken (g.D.Disk.content c.barrier.new.disk) id (opened_as id was d)) (sym c.as_slice.ensures) lists)));
       refused = finish_tried g.D.Disk c.args.at.0 c.args.disk.now c.changed.new.disk c.give_up.new.disk c.give_up.new.space 241 1 (2 * nt + (2 + 2)) (nt + (1 + 1)) first (λ tells. tells_on g.D.Disk c.barrier.new.disk c.changed.new.disk c.give_up.new.disk 240 reads (still_tells g.D.Disk tells c.barrier.ensures.told c.barrier.ensures.calls.same)) c.give_up.ensures.calls all_tried c.give_up.result (c.give_up.ensures.fails c.args.at.0);
       made = all_ok c.give_up.result all_tried;
       cylinders = c.give_up.ensures.cylinders;

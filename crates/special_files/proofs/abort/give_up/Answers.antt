@@ -2,9 +2,9 @@ use Rattle.std.proofs.Common.{ℕ, ◌+◌, ◌<◌, ◌*◌, length, Option, Ok
 use Rattle.std.specs.Prelude.{option_to_list}
 use Rattle.std.specs.List.{All}
 use Rattle.cyl_alloc.specs.Space.{Kept}
-use Rattle.special_files.specs.Committing.{Dropped, given_all}
+use Rattle.special_files.specs.Committing.{Flips, given_all, undoing}
 use Rattle.special_files.specs.Drafting.{number_of}
-use Rattle.special_files.proofs.CommitAbort.{abort_leaves, abort_sound, dropped, plan_flips}
+use Rattle.special_files.proofs.CommitAbort.{abort_ends}
 use Rattle.special_files.proofs.abort.give_up.Goals as goal
 
 pub give_all-requires : goal.give_all-requires
@@ -18,14 +18,12 @@ give_made-requires-in-Ok g c = record { on_disk = λ n is. subst (λ (k : ℕ). 
 
 pub returns-in-Ok : goal.returns-in-Ok
 returns-in-Ok g c = record {
-  done = λ graph ds id o was d store at opened shadow none no_made lists.
-      subst (Dropped g.D.Disk graph ds id c.args.disk.now c.undo_all.new.disk)
-      (sym (c.give_made-in-Ok.ensures.given ∙ ap (λ (x : Option ℕ). given_all c.give_made.new.space (option_to_list x)) no_made ∙ c.give_made.ensures.given ∙ ap (λ (k : Kept). given_all k (option_to_list (number_of c.args.shadow))) c.give_all.ensures.given ∙ ap (λ (x : Option ℕ). given_all (given_all c.args.space.now c.args.taken.now) (option_to_list x)) (sym shadow)))
-      (dropped g.D.Disk graph ds id o c.args.disk.now c.undo_all.new.disk c.args.space.now was d c.args.taken.now store at opened lists (2 * length c.args.taken.now + (2 + 2)) (length c.args.taken.now + (1 + 1)) none
-      (plan_flips g.D.Disk (2 * length c.args.taken.now + (2 + 2)) (length c.args.taken.now + (1 + 1)) c.args.disk.now c.undo_all.new.disk c.args.taken.now was.shadow (number_of c.args.shadow) (number_of c.args.created) shadow no_made (Ok tt) c.in-Ok.ensures.flips));
-  leaves = λ graph ds id o was d store at opened shadow no_made lists. abort_leaves g.D.Disk graph ds id o c.args.disk.now c.undo_all.new.disk c.args.space.now was d c.args.taken.now store at opened lists (2 * length c.args.taken.now + (2 + 2)) (length c.args.taken.now + (1 + 1)) (Ok tt)
-      (plan_flips g.D.Disk (2 * length c.args.taken.now + (2 + 2)) (length c.args.taken.now + (1 + 1)) c.args.disk.now c.undo_all.new.disk c.args.taken.now was.shadow (number_of c.args.shadow) (number_of c.args.created) shadow no_made (Ok tt) c.in-Ok.ensures.flips);
-  sound = λ graph ds id o was d store at opened shadow no_made lists. tt;
+  ends = λ graph ds id o was d store at opened shadow made lists.
+      let given = c.give_made-in-Ok.ensures.given ∙ ap (λ (k : Kept). given_all k (option_to_list (number_of c.args.created))) (c.give_made.ensures.given ∙ ap (λ (k : Kept). given_all k (option_to_list (number_of c.args.shadow))) c.give_all.ensures.given) in
+      abort_ends g.D.Disk graph ds id o c.args.disk.now c.undo_all.new.disk c.args.space.now was d c.args.taken.now store at opened lists (2 * length c.args.taken.now + (2 + 2)) (length c.args.taken.now + (1 + 1)) (Ok tt) c.give_made-in-Ok.new.space
+      (subst (λ (x : Option ℕ). Flips g.D.Disk (2 * length c.args.taken.now + (2 + 2)) (length c.args.taken.now + (1 + 1)) (undoing c.args.taken.now x was.created) c.args.disk.now c.undo_all.new.disk (Ok tt)) (sym shadow)
+      (subst (λ (x : Option ℕ). Flips g.D.Disk (2 * length c.args.taken.now + (2 + 2)) (length c.args.taken.now + (1 + 1)) (undoing c.args.taken.now (number_of c.args.shadow) x) c.args.disk.now c.undo_all.new.disk (Ok tt)) (sym made) c.in-Ok.ensures.flips))
+      (given ∙ (λ i. given_all (given_all (given_all c.args.space.now c.args.taken.now) (option_to_list (sym shadow i))) (option_to_list (sym made i))));
   fails = λ at. tt;
   cylinders = c.give_made-in-Ok.ensures.cylinders ∙ c.give_made.ensures.cylinders ∙ c.give_all.ensures.cylinders;
   calls = c.in-Ok.ensures.flips.calls;
@@ -33,11 +31,9 @@ returns-in-Ok g c = record {
 
 pub returns-in-Err : goal.returns-in-Err
 returns-in-Err g c = record {
-  done = λ graph ds id o was d store at opened shadow none no_made lists. tt;
-  leaves = λ graph ds id o was d store at opened shadow no_made lists. abort_leaves g.D.Disk graph ds id o c.args.disk.now c.undo_all.new.disk c.args.space.now was d c.args.taken.now store at opened lists (2 * length c.args.taken.now + (2 + 2)) (length c.args.taken.now + (1 + 1)) (Err c.in-Err.trouble)
-      (plan_flips g.D.Disk (2 * length c.args.taken.now + (2 + 2)) (length c.args.taken.now + (1 + 1)) c.args.disk.now c.undo_all.new.disk c.args.taken.now was.shadow (number_of c.args.shadow) (number_of c.args.created) shadow no_made (Err c.in-Err.trouble) c.in-Err.ensures.flips);
-  sound = λ graph ds id o was d store at opened shadow no_made lists. abort_sound g.D.Disk graph ds id o c.args.disk.now c.undo_all.new.disk c.args.space.now was d c.args.taken.now store at opened lists (2 * length c.args.taken.now + (2 + 2)) (length c.args.taken.now + (1 + 1)) (Err c.in-Err.trouble)
-      (plan_flips g.D.Disk (2 * length c.args.taken.now + (2 + 2)) (length c.args.taken.now + (1 + 1)) c.args.disk.now c.undo_all.new.disk c.args.taken.now was.shadow (number_of c.args.shadow) (number_of c.args.created) shadow no_made (Err c.in-Err.trouble) c.in-Err.ensures.flips);
+  ends = λ graph ds id o was d store at opened shadow made lists. abort_ends g.D.Disk graph ds id o c.args.disk.now c.undo_all.new.disk c.args.space.now was d c.args.taken.now store at opened lists (2 * length c.args.taken.now + (2 + 2)) (length c.args.taken.now + (1 + 1)) (Err c.in-Err.trouble) c.args.space.now
+      (subst (λ (x : Option ℕ). Flips g.D.Disk (2 * length c.args.taken.now + (2 + 2)) (length c.args.taken.now + (1 + 1)) (undoing c.args.taken.now x was.created) c.args.disk.now c.undo_all.new.disk (Err c.in-Err.trouble)) (sym shadow)
+      (subst (λ (x : Option ℕ). Flips g.D.Disk (2 * length c.args.taken.now + (2 + 2)) (length c.args.taken.now + (1 + 1)) (undoing c.args.taken.now (number_of c.args.shadow) x) c.args.disk.now c.undo_all.new.disk (Err c.in-Err.trouble)) (sym made) c.in-Err.ensures.flips)) tt;
   fails = λ at. c.in-Err.ensures.flips.fails at c.args.space.now;
   cylinders = refl;
   calls = c.in-Err.ensures.flips.calls;

@@ -1,12 +1,11 @@
-use Rattle.std.proofs.Common.{◌≡◌, ℕ, ◌+◌, ◌*◌, ◌<◌, ◌++◌, false, [], ◌∷◌, length, Option, sym, ◌∙◌, subst, arith}
-use Rattle.std.specs.Prelude.{option_to_list}
+use Rattle.std.proofs.Common.{◌≡◌, ℕ, ◌+◌, ◌*◌, ◌<◌, false, length, sym, ◌∙◌, subst, arith}
 use Rattle.std.specs.List.{All}
 use Rattle.cfs_base.proofs.Calls.{makes_then}
-use Rattle.intentions.specs.declared.change.Change.TheVariants.{ClearBit}
 use Rattle.ufs_model.specs.Graph.{with_object}
-use Rattle.special_files.specs.Committing.{Fails, Flips, flips, named, settling}
+use Rattle.special_files.specs.Committing.{Fails, named}
+use Rattle.special_files.specs.Drafting.{number_of}
 use Rattle.special_files.specs.Refusal.{is_damage}
-use Rattle.special_files.proofs.CommitDone.{committed1, done_by, fails_then, leaves_then, makes_more, settle_leaves, settle_sound}
+use Rattle.special_files.proofs.CommitDone.{committed1, done_by, fails_then, leaves_then, makes_more, passed_done, settle_leaves, settle_sound}
 use Rattle.special_files.proofs.CommitRuns.{fails_after}
 use Rattle.special_files.proofs.Refusals.{passed}
 use Rattle.special_files.proofs.carry.carry_out.Goals as goal
@@ -30,11 +29,12 @@ settle-requires g c =
 
 -- ---- the bit isn't set
 
-pub returns-in_err-decide-clause-leaves : goal.returns-in_err-decide-clause-leaves
-returns-in_err-decide-clause-leaves g c = λ graph word was o run ready none. c.decide.ensures.leaves graph word was o c.args.shadow.0 c.args.taken.now run ready
-
-pub returns-in_err-decide-clause-sound : goal.returns-in_err-decide-clause-sound
-returns-in_err-decide-clause-sound g c = λ graph word was o run ready none. passed (λ t. is_damage t ≡ false) _ _ c.from_residual.ensures.1 (c.in_err-decide.ensures.sound graph word was o c.args.shadow.0 c.args.taken.now run ready)
+pub returns-in_err-decide-clause-finishes : goal.returns-in_err-decide-clause-finishes
+returns-in_err-decide-clause-finishes g c = λ before. record {
+  done = λ graph full word was o run ready. passed_done _ _ _ c.from_residual.ensures.1;
+  leaves = λ graph full word was o run ready. c.decide.ensures.leaves graph full word was o c.args.shadow.0 c.args.taken.now (number_of c.args.created) run ready;
+  sound = λ graph full word was o run ready. passed (λ t. is_damage t ≡ false) _ _ c.from_residual.ensures.1 (c.in_err-decide.ensures.sound graph full word was o c.args.shadow.0 c.args.taken.now (number_of c.args.created) run ready);
+}
 
 pub returns-in_err-decide-clause-fails : goal.returns-in_err-decide-clause-fails
 returns-in_err-decide-clause-fails g c = λ kept. passed (Fails g.D.Disk c.args.at.0 c.args.disk.now c.decide.new.disk kept) _ _ c.from_residual.ensures.1 (c.in_err-decide.ensures.fails kept)
@@ -44,11 +44,13 @@ returns-in_err-decide-clause-calls g c = makes_more g.D.Disk c.args.disk.now c.d
 
 -- ---- the root isn't copied
 
-pub returns-in_err-copy-clause-leaves : goal.returns-in_err-copy-clause-leaves
-returns-in_err-copy-clause-leaves g c = λ graph word was o run ready none. leaves_then g.D.Disk graph (named c.args.at.0 word) o c.args.disk.now c.decide.new.disk c.copy.new.disk (c.decide.ensures.leaves graph word was o c.args.shadow.0 c.args.taken.now run ready) (c.copy.ensures.holds (with_object graph (named c.args.at.0 word) o) word o (c.in_ok-decide.ensures.settled run.tells) (committed1 g.D.Disk graph c.args.at.0 word was o c.args.shadow.0 c.args.taken.now c.args.dropped.now c.args.disk.now run ready c.decide.new.disk (c.in_ok-decide.ensures.put graph word was o c.args.shadow.0 c.args.taken.now run ready) (c.in_ok-decide.ensures.settled run.tells)))
-
-pub returns-in_err-copy-clause-sound : goal.returns-in_err-copy-clause-sound
-returns-in_err-copy-clause-sound g c = λ graph word was o run ready none. passed (λ t. is_damage t ≡ false) _ _ c.from_residual-in_err-copy.ensures.1 c.in_err-copy.ensures.sound
+pub returns-in_err-copy-clause-finishes : goal.returns-in_err-copy-clause-finishes
+returns-in_err-copy-clause-finishes g c = λ before. record {
+  done = λ graph full word was o run ready. passed_done _ _ _ c.from_residual-in_err-copy.ensures.1;
+  leaves = λ graph full word was o run ready. leaves_then g.D.Disk graph full (named c.args.at.0 word) o c.args.disk.now c.decide.new.disk c.copy.new.disk (c.decide.ensures.leaves graph full word was o c.args.shadow.0 c.args.taken.now (number_of c.args.created) run ready)
+      (c.copy.ensures.holds (with_object full (named c.args.at.0 word) o) word o (c.in_ok-decide.ensures.settled run.tells) (committed1 g.D.Disk c.args.disk.now run ready c.decide.new.disk (c.in_ok-decide.ensures.put graph full word was o c.args.shadow.0 c.args.taken.now (number_of c.args.created) run ready)));
+  sound = λ graph full word was o run ready. passed (λ t. is_damage t ≡ false) _ _ c.from_residual-in_err-copy.ensures.1 c.in_err-copy.ensures.sound;
+}
 
 pub returns-in_err-copy-clause-fails : goal.returns-in_err-copy-clause-fails
 returns-in_err-copy-clause-fails g c = λ kept. passed (Fails g.D.Disk c.args.at.0 c.args.disk.now c.copy.new.disk kept) _ _ c.from_residual-in_err-copy.ensures.1
@@ -59,17 +61,15 @@ returns-in_err-copy-clause-calls g c = makes_then g.D.Disk c.args.disk.now c.dec
 
 -- ---- the object settles
 
-pub returns-clause-done : goal.returns-clause-done
-returns-clause-done g c = λ graph word was o before run ready none.
-    done_by g.D.Disk graph c.args.at.0 word was o c.args.shadow.0 c.args.taken.now c.args.dropped.now c.args.disk.now run ready c.decide.new.disk (c.in_ok-decide.ensures.put graph word was o c.args.shadow.0 c.args.taken.now run ready) (c.in_ok-decide.ensures.settled run.tells) c.copy.new.disk (c.in_ok-copy.ensures.copied (c.in_ok-decide.ensures.settled run.tells).tells) (c.in_ok-copy.ensures.settled (c.in_ok-decide.ensures.settled run.tells).tells) c.settle.new.disk _ _ c.settle.result (subst (λ (x : Option ℕ). Flips g.D.Disk (2 * length c.args.taken.now + (2 * length c.args.dropped.now + (2 + 2)) + 4) (length c.args.taken.now + (length c.args.dropped.now + (1 + 1)) + 3) (settling c.args.taken.now c.args.dropped.now (option_to_list x) c.args.shadow.0 ++ flips ClearBit (c.args.at.0 ∷ [])) c.copy.new.disk c.settle.new.disk c.settle.result) none c.settle.ensures.flips) (c.settle.ensures.settled (c.in_ok-copy.ensures.settled (c.in_ok-decide.ensures.settled run.tells).tells).tells) before
-
-pub returns-clause-leaves : goal.returns-clause-leaves
-returns-clause-leaves g c = λ graph word was o run ready none.
-    leaves_then g.D.Disk graph (named c.args.at.0 word) o c.args.disk.now c.copy.new.disk c.settle.new.disk (leaves_then g.D.Disk graph (named c.args.at.0 word) o c.args.disk.now c.decide.new.disk c.copy.new.disk (c.decide.ensures.leaves graph word was o c.args.shadow.0 c.args.taken.now run ready) (c.copy.ensures.holds (with_object graph (named c.args.at.0 word) o) word o (c.in_ok-decide.ensures.settled run.tells) (committed1 g.D.Disk graph c.args.at.0 word was o c.args.shadow.0 c.args.taken.now c.args.dropped.now c.args.disk.now run ready c.decide.new.disk (c.in_ok-decide.ensures.put graph word was o c.args.shadow.0 c.args.taken.now run ready) (c.in_ok-decide.ensures.settled run.tells))))
-    (settle_leaves g.D.Disk graph c.args.at.0 word was o c.args.shadow.0 c.args.taken.now c.args.dropped.now c.args.disk.now run ready c.decide.new.disk (c.in_ok-decide.ensures.put graph word was o c.args.shadow.0 c.args.taken.now run ready) (c.in_ok-decide.ensures.settled run.tells) c.copy.new.disk (c.in_ok-copy.ensures.copied (c.in_ok-decide.ensures.settled run.tells).tells) (c.in_ok-copy.ensures.settled (c.in_ok-decide.ensures.settled run.tells).tells) c.settle.new.disk _ _ c.settle.result (subst (λ (x : Option ℕ). Flips g.D.Disk (2 * length c.args.taken.now + (2 * length c.args.dropped.now + (2 + 2)) + 4) (length c.args.taken.now + (length c.args.dropped.now + (1 + 1)) + 3) (settling c.args.taken.now c.args.dropped.now (option_to_list x) c.args.shadow.0 ++ flips ClearBit (c.args.at.0 ∷ [])) c.copy.new.disk c.settle.new.disk c.settle.result) none c.settle.ensures.flips))
-
-pub returns-clause-sound : goal.returns-clause-sound
-returns-clause-sound g c = λ graph word was o run ready none. settle_sound g.D.Disk graph c.args.at.0 word was o c.args.shadow.0 c.args.taken.now c.args.dropped.now c.args.disk.now run ready c.decide.new.disk (c.in_ok-decide.ensures.put graph word was o c.args.shadow.0 c.args.taken.now run ready) (c.in_ok-decide.ensures.settled run.tells) c.copy.new.disk (c.in_ok-copy.ensures.copied (c.in_ok-decide.ensures.settled run.tells).tells) (c.in_ok-copy.ensures.settled (c.in_ok-decide.ensures.settled run.tells).tells) c.settle.new.disk _ _ c.settle.result (subst (λ (x : Option ℕ). Flips g.D.Disk (2 * length c.args.taken.now + (2 * length c.args.dropped.now + (2 + 2)) + 4) (length c.args.taken.now + (length c.args.dropped.now + (1 + 1)) + 3) (settling c.args.taken.now c.args.dropped.now (option_to_list x) c.args.shadow.0 ++ flips ClearBit (c.args.at.0 ∷ [])) c.copy.new.disk c.settle.new.disk c.settle.result) none c.settle.ensures.flips)
+pub returns-clause-finishes : goal.returns-clause-finishes
+returns-clause-finishes g c = λ before. record {
+  done = λ graph full word was o run ready. done_by g.D.Disk c.args.disk.now run ready c.decide.new.disk (c.in_ok-decide.ensures.put graph full word was o c.args.shadow.0 c.args.taken.now (number_of c.args.created) run ready) c.copy.new.disk (c.in_ok-copy.ensures.copied (c.in_ok-decide.ensures.settled run.tells).tells) (c.in_ok-copy.ensures.settled (c.in_ok-decide.ensures.settled run.tells).tells) c.settle.new.disk _ _ c.settle.result c.settle.ensures.flips (c.settle.ensures.settled (c.in_ok-copy.ensures.settled (c.in_ok-decide.ensures.settled run.tells).tells).tells) before;
+  leaves = λ graph full word was o run ready. leaves_then g.D.Disk graph full (named c.args.at.0 word) o c.args.disk.now c.copy.new.disk c.settle.new.disk
+      (leaves_then g.D.Disk graph full (named c.args.at.0 word) o c.args.disk.now c.decide.new.disk c.copy.new.disk (c.decide.ensures.leaves graph full word was o c.args.shadow.0 c.args.taken.now (number_of c.args.created) run ready)
+      (c.copy.ensures.holds (with_object full (named c.args.at.0 word) o) word o (c.in_ok-decide.ensures.settled run.tells) (committed1 g.D.Disk c.args.disk.now run ready c.decide.new.disk (c.in_ok-decide.ensures.put graph full word was o c.args.shadow.0 c.args.taken.now (number_of c.args.created) run ready))))
+      (settle_leaves g.D.Disk c.args.disk.now run ready c.decide.new.disk (c.in_ok-decide.ensures.put graph full word was o c.args.shadow.0 c.args.taken.now (number_of c.args.created) run ready) c.copy.new.disk (c.in_ok-copy.ensures.copied (c.in_ok-decide.ensures.settled run.tells).tells) (c.in_ok-copy.ensures.settled (c.in_ok-decide.ensures.settled run.tells).tells) c.settle.new.disk _ _ c.settle.result c.settle.ensures.flips);
+  sound = λ graph full word was o run ready. settle_sound g.D.Disk c.args.disk.now run ready c.decide.new.disk (c.in_ok-decide.ensures.put graph full word was o c.args.shadow.0 c.args.taken.now (number_of c.args.created) run ready) c.copy.new.disk (c.in_ok-copy.ensures.copied (c.in_ok-decide.ensures.settled run.tells).tells) (c.in_ok-copy.ensures.settled (c.in_ok-decide.ensures.settled run.tells).tells) c.settle.new.disk _ _ c.settle.result c.settle.ensures.flips;
+}
 
 pub returns-clause-fails : goal.returns-clause-fails
 returns-clause-fails g c = λ kept. fails_then g.D.Disk c.args.at.0 c.args.disk.now c.copy.new.disk c.settle.new.disk kept _ _ _ _ (makes_then g.D.Disk c.args.disk.now c.decide.new.disk c.copy.new.disk (2 * length c.args.dropped.now + 4) 3 (2 * length c.args.dropped.now + 7) (length c.args.dropped.now + 3) 2 (length c.args.dropped.now + 5) c.decide.ensures.calls c.copy.ensures.calls (omega arith) (omega arith))

@@ -1,9 +1,9 @@
-use Rattle.std.proofs.Common.{◌≡◌, ◌+◌, ◌*◌, false, length, refl, sym, subst, arith}
+use Rattle.std.proofs.Common.{◌≡◌, ◌+◌, ◌*◌, false, length, Ok, Err, sym, subst, arith}
 use Rattle.cfs_base.specs.declared.refusal.Trouble.{Trouble}
 use Rattle.cfs_base.proofs.Calls.{makes_then}
 use Rattle.special_files.specs.Committing.{Fails, named}
 use Rattle.special_files.specs.Refusal.{is_damage}
-use Rattle.special_files.proofs.CommitDone.{bit_put, bit_sound, draft1, leaves_then, makes_more, release_leaves, release_sound, run1}
+use Rattle.special_files.proofs.CommitDone.{bit_leaves, bit_put, bit_sound, leaves_then, makes_more, release_leaves, release_sound}
 use Rattle.special_files.proofs.CommitRuns.{fails_after, map_fails}
 use Rattle.special_files.proofs.Refusals.{passed}
 use Rattle.special_files.proofs.carry.decide.Goals as goal
@@ -12,11 +12,11 @@ pub commit-requires : goal.commit-requires
 commit-requires g c = omega (arith, c.requires.on_disk, c.flip_all.ensures.flips.calls.same.size)
 
 pub returns-in_err-flip_all-clause-leaves : goal.returns-in_err-flip_all-clause-leaves
-returns-in_err-flip_all-clause-leaves g c = λ graph word was o s taken run ready. release_leaves g.D.Disk graph c.args.at.0 word was o s taken c.args.dropped.now c.args.disk.now run ready c.flip_all.new.disk _ _ _ c.flip_all.ensures.flips
+returns-in_err-flip_all-clause-leaves g c = λ graph full word was o s taken created run ready. release_leaves g.D.Disk c.args.disk.now run ready c.flip_all.new.disk _ _ _ c.flip_all.ensures.flips
 
 pub returns-in_err-flip_all-clause-sound : goal.returns-in_err-flip_all-clause-sound
-returns-in_err-flip_all-clause-sound g c = λ graph word was o s taken run ready. passed (λ t. is_damage t ≡ false) _ _ c.from_residual.ensures.1
-    (release_sound g.D.Disk graph c.args.at.0 word was o s taken c.args.dropped.now c.args.disk.now run ready c.flip_all.new.disk _ _ _ c.in_err-flip_all.ensures.flips)
+returns-in_err-flip_all-clause-sound g c = λ graph full word was o s taken created run ready. passed (λ t. is_damage t ≡ false) _ _ c.from_residual.ensures.1
+    (release_sound g.D.Disk c.args.disk.now run ready c.flip_all.new.disk _ _ _ c.in_err-flip_all.ensures.flips)
 
 pub returns-in_err-flip_all-clause-fails : goal.returns-in_err-flip_all-clause-fails
 returns-in_err-flip_all-clause-fails g c = λ kept. passed (Fails g.D.Disk c.args.at.0 c.args.disk.now c.flip_all.new.disk kept) _ _ c.from_residual.ensures.1 (c.in_err-flip_all.ensures.flips.fails c.args.at.0 kept)
@@ -30,12 +30,11 @@ pub returns-in-Ok : goal.returns-in-Ok
 returns-in-Ok g c =
     let n = length c.args.dropped.now in
     record {
-      put = λ graph word was o s taken run ready. bit_put g.D.Disk graph c.args.at.0 word was o s taken c.args.dropped.now c.args.disk.now run ready c.flip_all.new.disk _ _ c.in_ok-flip_all.ensures.flips c.commit.new.disk c.in-Ok.ensures.changes;
-      leaves = λ graph word was o s taken run ready. leaves_then g.D.Disk graph (named c.args.at.0 word) o c.args.disk.now c.flip_all.new.disk c.commit.new.disk
-          (release_leaves g.D.Disk graph c.args.at.0 word was o s taken c.args.dropped.now c.args.disk.now run ready c.flip_all.new.disk _ _ _ c.flip_all.ensures.flips)
-          (c.commit.ensures.holds graph (named c.args.at.0 word) was o s refl (run1 g.D.Disk graph c.args.at.0 word was o s taken c.args.dropped.now c.args.disk.now run ready c.flip_all.new.disk _ _ c.in_ok-flip_all.ensures.flips) ready.at
-          (draft1 g.D.Disk graph c.args.at.0 word was o s taken c.args.dropped.now c.args.disk.now run ready c.flip_all.new.disk _ _ c.in_ok-flip_all.ensures.flips));
-      sound = λ graph word was o s taken run ready. tt;
+      put = λ graph full word was o s taken created run ready. bit_put g.D.Disk c.args.disk.now run ready c.flip_all.new.disk _ _ c.in_ok-flip_all.ensures.flips c.commit.new.disk c.in-Ok.ensures.changes;
+      leaves = λ graph full word was o s taken created run ready. leaves_then g.D.Disk graph full (named c.args.at.0 word) o c.args.disk.now c.flip_all.new.disk c.commit.new.disk
+          (release_leaves g.D.Disk c.args.disk.now run ready c.flip_all.new.disk _ _ _ c.flip_all.ensures.flips)
+          (bit_leaves g.D.Disk c.args.disk.now run ready c.flip_all.new.disk _ _ c.in_ok-flip_all.ensures.flips c.commit.new.disk (Ok tt) c.in-Ok.ensures.changes);
+      sound = λ graph full word was o s taken created run ready. tt;
       settled = λ tells. c.in-Ok.ensures.changes.settled (c.in_ok-flip_all.ensures.flips.tells tells);
       fails = λ kept. tt;
       calls = makes_then g.D.Disk c.args.disk.now c.flip_all.new.disk c.commit.new.disk (2 * n) 4 (2 * n + 4) n 3 (n + 3) c.flip_all.ensures.flips.calls c.in-Ok.ensures.changes.calls (omega arith) (omega arith);
@@ -45,13 +44,12 @@ pub returns-in-Err : goal.returns-in-Err
 returns-in-Err g c =
     let n = length c.args.dropped.now in
     record {
-      put = λ graph word was o s taken run ready. tt;
-      leaves = λ graph word was o s taken run ready. leaves_then g.D.Disk graph (named c.args.at.0 word) o c.args.disk.now c.flip_all.new.disk c.commit.new.disk
-          (release_leaves g.D.Disk graph c.args.at.0 word was o s taken c.args.dropped.now c.args.disk.now run ready c.flip_all.new.disk _ _ _ c.flip_all.ensures.flips)
-          (c.commit.ensures.holds graph (named c.args.at.0 word) was o s refl (run1 g.D.Disk graph c.args.at.0 word was o s taken c.args.dropped.now c.args.disk.now run ready c.flip_all.new.disk _ _ c.in_ok-flip_all.ensures.flips) ready.at
-          (draft1 g.D.Disk graph c.args.at.0 word was o s taken c.args.dropped.now c.args.disk.now run ready c.flip_all.new.disk _ _ c.in_ok-flip_all.ensures.flips));
-      sound = λ graph word was o s taken run ready. subst (λ (t : Trouble). is_damage t ≡ false) (sym c.after_try.ensures)
-          (bit_sound g.D.Disk graph c.args.at.0 word was o s taken c.args.dropped.now c.args.disk.now run ready c.flip_all.new.disk _ _ c.in_ok-flip_all.ensures.flips c.commit.new.disk c.in-Err.trouble c.in-Err.ensures.changes.refused);
+      put = λ graph full word was o s taken created run ready. tt;
+      leaves = λ graph full word was o s taken created run ready. leaves_then g.D.Disk graph full (named c.args.at.0 word) o c.args.disk.now c.flip_all.new.disk c.commit.new.disk
+          (release_leaves g.D.Disk c.args.disk.now run ready c.flip_all.new.disk _ _ _ c.flip_all.ensures.flips)
+          (bit_leaves g.D.Disk c.args.disk.now run ready c.flip_all.new.disk _ _ c.in_ok-flip_all.ensures.flips c.commit.new.disk (Err c.in-Err.trouble) c.in-Err.ensures.changes);
+      sound = λ graph full word was o s taken created run ready. subst (λ (t : Trouble). is_damage t ≡ false) (sym c.after_try.ensures)
+          (bit_sound g.D.Disk c.args.disk.now run ready c.flip_all.new.disk _ _ c.in_ok-flip_all.ensures.flips c.commit.new.disk c.in-Err.trouble c.in-Err.ensures.changes.refused);
       settled = λ tells. tt;
       fails = λ kept. subst (λ (t : Trouble). Fails g.D.Disk c.args.at.0 c.args.disk.now c.commit.new.disk kept t) (sym c.after_try.ensures)
           (fails_after g.D.Disk c.args.at.0 c.args.disk.now c.flip_all.new.disk c.commit.new.disk kept (2 * n) n 4 3 c.flip_all.ensures.flips.calls c.in_ok-flip_all.ensures.flips.tells c.in-Err.ensures.changes.calls _

@@ -1,29 +1,26 @@
-use Rattle.std.proofs.Common.{◌≡◌, ℕ, ◌+◌, ◌*◌, ◌<◌, false, List, length, inl, refl, sym, ◌∙◌, ap, subst, arith}
+use Rattle.std.proofs.Common.{◌≡◌, ℕ, ◌+◌, ◌*◌, ◌<◌, false, List, length, None, refl, sym, ◌∙◌, ap, subst, arith}
 use Rattle.std.specs.List.{All}
 use Rattle.cfs_base.specs.Disk.{Image}
-use Rattle.cfs_base.specs.Run.{Leaves}
-use Rattle.cfs_base.specs.declared.identifier.Puid.{Puid}
 use Rattle.cfs_base.specs.declared.refusal.Trouble.{Trouble}
 use Rattle.cfs_base.proofs.Calls.{makes_then, reads_make, tells_on, tried_then}
-use Rattle.cfs_base.proofs.Runs.{still_tells, then, wider}
+use Rattle.cfs_base.proofs.Runs.{still_tells, then}
 use Rattle.block_tree.specs.Root.{root_spelling}
-use Rattle.intentions.proofs.Changes.{on_ok}
 use Rattle.vol_image.specs.Sound.{Holds}
 use Rattle.special_files.specs.Changed.{AreOnDisk, IsChanged}
-use Rattle.special_files.specs.Committing.{CarriedOut, IsOldOrNew, IsReady}
-use Rattle.special_files.specs.Drafting.{opened_as}
+use Rattle.special_files.specs.Committing.{IsReady}
+use Rattle.special_files.specs.Drafting.{number_of, opened_as}
 use Rattle.special_files.specs.Refusal.{IsTrouble, is_damage}
 use Rattle.special_files.proofs.Amid.{amid_reads}
-use Rattle.special_files.proofs.CommitDraft.{after_damage, amid1, below_all, finish_tried, named_is, owner_changes, ready1, shadow_leaves, store1, store_commits}
+use Rattle.special_files.proofs.CommitDraft.{after_damage, amid1, below_all, finish_tried, ready1, shadow_leaves, store1}
+use Rattle.special_files.proofs.CommitStore.{commit_ends, commit_stops}
 use Rattle.special_files.proofs.CommitDone.{makes_more}
 use Rattle.special_files.proofs.Endings.{trouble_after_tried}
 use Rattle.special_files.proofs.commit.commit_begun.Goals as goal
 
 pub returns-in-Err : goal.returns-in-Err
 returns-in-Err g c = record {
-  done = λ graph ds id o was d store at opened parts none. tt;
-  leaves = λ graph ds id o was d store at opened parts none. wider g.D.Disk c.args.disk.now c.write_own.new.disk (λ k. Holds k graph) (IsOldOrNew graph id d.object) (shadow_leaves g.D.Disk graph ds id o c.args.disk.now c.write_own.new.disk c.write_own.new.disk c.args.space.now was d c.args.shadow.0 c.encode.result store at opened parts.shadow_is c.write_own.ensures.images) (λ k h. inl h);
-  sound = λ graph ds id o was d store at opened parts none. refl;
+  commits = λ graph ds id o was d made store at opened parts makes. commit_stops g.D.Disk graph ds id d.object made c.args.disk.now c.write_own.new.disk c.args.space.now _
+      (shadow_leaves g.D.Disk graph ds id o c.args.disk.now c.write_own.new.disk c.write_own.new.disk c.args.space.now was d c.args.shadow.0 c.encode.result store at opened parts.shadow_is c.write_own.ensures.images) refl;
   refused = c.in-Err.ensures.stopped;
   made = c.write_own.ensures.tried;
   cylinders = refl;
@@ -38,11 +35,9 @@ returns-in-Err-changed g c =
     let told = c.in-Ok.ensures.told in
     let reads = c.changed.ensures.reads in
     record {
-      done = λ graph ds id o was d store at opened parts none. tt;
-      leaves = λ graph ds id o was d store at opened parts none. wider g.D.Disk c.args.disk.now c.changed.new.disk (λ k. Holds k graph) (IsOldOrNew graph id d.object)
-          (then g.D.Disk c.args.disk.now c.write_own.new.disk c.changed.new.disk (λ k. Holds k graph) (λ k. ⊥) (shadow_leaves g.D.Disk graph ds id o c.args.disk.now c.write_own.new.disk c.changed.new.disk c.args.space.now was d c.args.shadow.0 c.encode.result store at opened parts.shadow_is c.write_own.ensures.images) reads.images (λ k no. absurd no)) (λ k h. inl h);
-      sound = λ graph ds id o was d store at opened parts none. subst (λ (t : Trouble). is_damage t ≡ false) (sym c.after_try.ensures)
-          (after_damage c.in-Err-changed.trouble (c.in-Err-changed.ensures.sound graph ds c.args.space.now id o was d (store1 g.D.Disk graph ds id o c.args.disk.now c.write_own.new.disk c.changed.new.disk c.args.space.now was d c.args.shadow.0 c.encode.result store at opened parts.shadow_is c.write_own.ensures.images c.in-Ok.ensures.written told c.write_own.ensures.calls.same) at opened parts.own_is parts.root_is));
+      commits = λ graph ds id o was d made store at opened parts makes. commit_stops g.D.Disk graph ds id d.object made c.args.disk.now c.changed.new.disk c.args.space.now _
+          (then g.D.Disk c.args.disk.now c.write_own.new.disk c.changed.new.disk (λ k. Holds k graph) (λ k. ⊥) (shadow_leaves g.D.Disk graph ds id o c.args.disk.now c.write_own.new.disk c.changed.new.disk c.args.space.now was d c.args.shadow.0 c.encode.result store at opened parts.shadow_is c.write_own.ensures.images) reads.images (λ k no. absurd no))
+          (subst (λ (t : Trouble). is_damage t ≡ false) (sym c.after_try.ensures) (after_damage c.in-Err-changed.trouble (c.in-Err-changed.ensures.sound graph ds c.args.space.now id o was d (store1 g.D.Disk graph ds id o c.args.disk.now c.write_own.new.disk c.changed.new.disk c.args.space.now was d c.args.shadow.0 c.encode.result store at opened parts.shadow_is c.write_own.ensures.images c.in-Ok.ensures.written told c.write_own.ensures.calls.same) at opened parts.own_is parts.root_is)));
       refused = subst (λ (t : Trouble). IsTrouble g.D.Disk c.args.at.0 c.args.disk.now c.changed.new.disk c.args.space.now t) (sym c.after_try.ensures)
           (trouble_after_tried g.D.Disk c.args.at.0 0 c.args.disk.now c.write_own.new.disk c.changed.new.disk c.args.space.now 1 1 c.write_own.ensures.calls c.write_own.ensures.tried told c.in-Err-changed.trouble (c.in-Err-changed.ensures.refused c.args.space.now));
       made = tried_then g.D.Disk c.args.disk.now c.write_own.new.disk c.changed.new.disk 240 0 c.write_own.ensures.tried (reads_make g.D.Disk c.write_own.new.disk c.changed.new.disk 240 reads);
@@ -72,16 +67,15 @@ returns g c =
     let calls = makes_then g.D.Disk c.args.disk.now c.changed.new.disk c.finish.new.disk 241 (2 * length c.as_slice.result.now + 4 * length c.as_slice-2.result.now + 15) 93136 1 (length c.as_slice.result.now + 2 * length c.as_slice-2.result.now + 10) 46451 first c.finish.ensures.calls (omega (arith, room.0, room.1, ap (length {A = ℕ}) c.as_slice.ensures, ap (length {A = ℕ}) c.as_slice-2.ensures)) (omega (arith, room.0, room.1, ap (length {A = ℕ}) c.as_slice.ensures, ap (length {A = ℕ}) c.as_slice-2.ensures)) in
     let tried = tried_then g.D.Disk c.args.disk.now c.write_own.new.disk c.finish.new.disk 93136 46451 c.write_own.ensures.tried (makes_then g.D.Disk c.write_own.new.disk c.changed.new.disk c.finish.new.disk 240 (2 * length c.as_slice.result.now + 4 * length c.as_slice-2.result.now + 15) 93136 0 (length c.as_slice.result.now + 2 * length c.as_slice-2.result.now + 10) 46451 (reads_make g.D.Disk c.write_own.new.disk c.changed.new.disk 240 reads) c.finish.ensures.calls (omega (arith, room.0, room.1, ap (length {A = ℕ}) c.as_slice.ensures, ap (length {A = ℕ}) c.as_slice-2.ensures)) (omega (arith, room.0, room.1, ap (length {A = ℕ}) c.as_slice.ensures, ap (length {A = ℕ}) c.as_slice-2.ensures))) in
     record {
-      done = λ graph ds id o was d store at opened parts none. on_ok c.finish.result
-          (c.finish.ensures.done graph id.word o d.object (amid_reads g.D.Disk graph ds id o c.args.disk.now c.args.space.now store at c.write_own.new.disk c.changed.new.disk c.args.space.now 240 (amid1 g.D.Disk graph ds id o c.args.disk.now c.write_own.new.disk c.changed.new.disk c.args.space.now was d c.args.shadow.0 c.encode.result store at opened parts.shadow_is c.write_own.ensures.images c.in-Ok.ensures.written told c.write_own.ensures.calls.same) reads).carries (subst (λ (x : Puid). IsReady (g.D.Disk.content c.changed.new.disk) graph x o d.object c.args.shadow.0 c.as_slice.result.now c.as_slice-2.result.now) (named_is id c.args.at.0 (opened.at ∙ parts.at_is)) (subst (λ (i : Image). IsReady i graph id o d.object c.args.shadow.0 c.as_slice.result.now c.as_slice-2.result.now) (sym reads.content) (ready1 g.D.Disk graph ds id o c.args.disk.now c.write_own.new.disk c.changed.new.disk c.args.space.now was d c.args.shadow.0 c.encode.result store at opened parts.shadow_is c.write_own.ensures.images c.in-Ok.ensures.written told c.write_own.ensures.calls.same c.as_slice.result.now c.as_slice-2.result.now (c.encode.ensures.spelled ∙ ap root_spelling (sym parts.root_is)) (subst (λ (ns : List ℕ). IsChanged (g.D.Disk.content c.write_own.new.disk) id (opened_as id was d) ns c.as_slice-2.result.now) (sym c.as_slice.ensures) (subst (IsChanged (g.D.Disk.content c.write_own.new.disk) id (opened_as id was d) c.changed.new.taken) (sym c.as_slice-2.ensures) (c.in-Ok-changed.ensures.changed graph ds c.args.space.now id o was d (store1 g.D.Disk graph ds id o c.args.disk.now c.write_own.new.disk c.changed.new.disk c.args.space.now was d c.args.shadow.0 c.encode.result store at opened parts.shadow_is c.write_own.ensures.images c.in-Ok.ensures.written told c.write_own.ensures.calls.same) at opened parts.own_is parts.root_is)))))) none)
-          (λ done. store_commits g.D.Disk graph ds id o d.object (opened_as id was d) c.args.disk.now c.changed.new.disk c.finish.new.disk c.args.space.now c.args.space.now c.finish.new.space store at opened.alone (parts.created_is ∙ none)
-          (owner_changes id.block (g.D.Disk.content c.args.disk.now) (g.D.Disk.content c.changed.new.disk) (amid_reads g.D.Disk graph ds id o c.args.disk.now c.args.space.now store at c.write_own.new.disk c.changed.new.disk c.args.space.now 240 (amid1 g.D.Disk graph ds id o c.args.disk.now c.write_own.new.disk c.changed.new.disk c.args.space.now was d c.args.shadow.0 c.encode.result store at opened parts.shadow_is c.write_own.ensures.images c.in-Ok.ensures.written told c.write_own.ensures.calls.same) reads).only) (amid_reads g.D.Disk graph ds id o c.args.disk.now c.args.space.now store at c.write_own.new.disk c.changed.new.disk c.args.space.now 240 (amid1 g.D.Disk graph ds id o c.args.disk.now c.write_own.new.disk c.changed.new.disk c.args.space.now was d c.args.shadow.0 c.encode.result store at opened parts.shadow_is c.write_own.ensures.images c.in-Ok.ensures.written told c.write_own.ensures.calls.same) reads).counts
-          (subst (λ (x : Puid). CarriedOut g.D.Disk graph x d.object c.changed.new.disk c.finish.new.disk c.args.space.now c.finish.new.space) (sym (named_is id c.args.at.0 (opened.at ∙ parts.at_is))) done));
-      leaves = λ graph ds id o was d store at opened parts none. then g.D.Disk c.args.disk.now c.changed.new.disk c.finish.new.disk (IsOldOrNew graph id d.object) (IsOldOrNew graph id d.object)
-          (wider g.D.Disk c.args.disk.now c.changed.new.disk (λ k. Holds k graph) (IsOldOrNew graph id d.object) (amid_reads g.D.Disk graph ds id o c.args.disk.now c.args.space.now store at c.write_own.new.disk c.changed.new.disk c.args.space.now 240 (amid1 g.D.Disk graph ds id o c.args.disk.now c.write_own.new.disk c.changed.new.disk c.args.space.now was d c.args.shadow.0 c.encode.result store at opened parts.shadow_is c.write_own.ensures.images c.in-Ok.ensures.written told c.write_own.ensures.calls.same) reads).leaves (λ k h. inl h))
-          (subst (λ (x : Puid). Leaves g.D.Disk c.changed.new.disk c.finish.new.disk (IsOldOrNew graph x d.object)) (sym (named_is id c.args.at.0 (opened.at ∙ parts.at_is))) (c.finish.ensures.leaves graph id.word o d.object (amid_reads g.D.Disk graph ds id o c.args.disk.now c.args.space.now store at c.write_own.new.disk c.changed.new.disk c.args.space.now 240 (amid1 g.D.Disk graph ds id o c.args.disk.now c.write_own.new.disk c.changed.new.disk c.args.space.now was d c.args.shadow.0 c.encode.result store at opened parts.shadow_is c.write_own.ensures.images c.in-Ok.ensures.written told c.write_own.ensures.calls.same) reads).carries (subst (λ (x : Puid). IsReady (g.D.Disk.content c.changed.new.disk) graph x o d.object c.args.shadow.0 c.as_slice.result.now c.as_slice-2.result.now) (named_is id c.args.at.0 (opened.at ∙ parts.at_is)) (subst (λ (i : Image). IsReady i graph id o d.object c.args.shadow.0 c.as_slice.result.now c.as_slice-2.result.now) (sym reads.content) (ready1 g.D.Disk graph ds id o c.args.disk.now c.write_own.new.disk c.changed.new.disk c.args.space.now was d c.args.shadow.0 c.encode.result store at opened parts.shadow_is c.write_own.ensures.images c.in-Ok.ensures.written told c.write_own.ensures.calls.same c.as_slice.result.now c.as_slice-2.result.now (c.encode.ensures.spelled ∙ ap root_spelling (sym parts.root_is)) (subst (λ (ns : List ℕ). IsChanged (g.D.Disk.content c.write_own.new.disk) id (opened_as id was d) ns c.as_slice-2.result.now) (sym c.as_slice.ensures) (subst (IsChanged (g.D.Disk.content c.write_own.new.disk) id (opened_as id was d) c.changed.new.taken) (sym c.as_slice-2.ensures) (c.in-Ok-changed.ensures.changed graph ds c.args.space.now id o was d (store1 g.D.Disk graph ds id o c.args.disk.now c.write_own.new.disk c.changed.new.disk c.args.space.now was d c.args.shadow.0 c.encode.result store at opened parts.shadow_is c.write_own.ensures.images c.in-Ok.ensures.written told c.write_own.ensures.calls.same) at opened parts.own_is parts.root_is)))))) none))
-          (λ k h. h);
-      sound = λ graph ds id o was d store at opened parts none. c.finish.ensures.sound graph id.word o d.object (amid_reads g.D.Disk graph ds id o c.args.disk.now c.args.space.now store at c.write_own.new.disk c.changed.new.disk c.args.space.now 240 (amid1 g.D.Disk graph ds id o c.args.disk.now c.write_own.new.disk c.changed.new.disk c.args.space.now was d c.args.shadow.0 c.encode.result store at opened parts.shadow_is c.write_own.ensures.images c.in-Ok.ensures.written told c.write_own.ensures.calls.same) reads).carries (subst (λ (x : Puid). IsReady (g.D.Disk.content c.changed.new.disk) graph x o d.object c.args.shadow.0 c.as_slice.result.now c.as_slice-2.result.now) (named_is id c.args.at.0 (opened.at ∙ parts.at_is)) (subst (λ (i : Image). IsReady i graph id o d.object c.args.shadow.0 c.as_slice.result.now c.as_slice-2.result.now) (sym reads.content) (ready1 g.D.Disk graph ds id o c.args.disk.now c.write_own.new.disk c.changed.new.disk c.args.space.now was d c.args.shadow.0 c.encode.result store at opened parts.shadow_is c.write_own.ensures.images c.in-Ok.ensures.written told c.write_own.ensures.calls.same c.as_slice.result.now c.as_slice-2.result.now (c.encode.ensures.spelled ∙ ap root_spelling (sym parts.root_is)) (subst (λ (ns : List ℕ). IsChanged (g.D.Disk.content c.write_own.new.disk) id (opened_as id was d) ns c.as_slice-2.result.now) (sym c.as_slice.ensures) (subst (IsChanged (g.D.Disk.content c.write_own.new.disk) id (opened_as id was d) c.changed.new.taken) (sym c.as_slice-2.ensures) (c.in-Ok-changed.ensures.changed graph ds c.args.space.now id o was d (store1 g.D.Disk graph ds id o c.args.disk.now c.write_own.new.disk c.changed.new.disk c.args.space.now was d c.args.shadow.0 c.encode.result store at opened parts.shadow_is c.write_own.ensures.images c.in-Ok.ensures.written told c.write_own.ensures.calls.same) at opened parts.own_is parts.root_is)))))) none;
+      commits = λ graph ds id o was d made store at opened parts makes.
+          let amid = amid1 g.D.Disk graph ds id o c.args.disk.now c.write_own.new.disk c.changed.new.disk c.args.space.now was d c.args.shadow.0 c.encode.result store at opened parts.shadow_is c.write_own.ensures.images c.in-Ok.ensures.written told c.write_own.ensures.calls.same in
+          let lists = c.in-Ok-changed.ensures.changed graph ds c.args.space.now id o was d (store1 g.D.Disk graph ds id o c.args.disk.now c.write_own.new.disk c.changed.new.disk c.args.space.now was d c.args.shadow.0 c.encode.result store at opened parts.shadow_is c.write_own.ensures.images c.in-Ok.ensures.written told c.write_own.ensures.calls.same) at opened parts.own_is parts.root_is in
+          let ready = ready1 g.D.Disk graph ds id o c.args.disk.now c.write_own.new.disk c.changed.new.disk c.args.space.now was d c.args.shadow.0 c.encode.result store at opened parts.shadow_is c.write_own.ensures.images c.in-Ok.ensures.written told c.write_own.ensures.calls.same c.as_slice.result.now c.as_slice-2.result.now (c.encode.ensures.spelled ∙ ap root_spelling (sym parts.root_is))
+          (subst (λ (ns : List ℕ). IsChanged (g.D.Disk.content c.write_own.new.disk) id (opened_as id was d) ns c.as_slice-2.result.now) (sym c.as_slice.ensures) (subst (IsChanged (g.D.Disk.content c.write_own.new.disk) id (opened_as id was d) c.changed.new.taken) (sym c.as_slice-2.ensures) lists)) in
+          commit_ends g.D.Disk graph ds id o d.object (opened_as id was d) (number_of c.args.created) c.args.disk.now c.changed.new.disk c.args.space.now c.args.space.now c.args.shadow.0 c.as_slice.result.now c.as_slice-2.result.now store at opened.alone parts.created_is
+          (amid_reads g.D.Disk graph ds id o c.args.disk.now c.args.space.now store at c.write_own.new.disk c.changed.new.disk c.args.space.now 240 amid reads)
+          (subst (λ (i : Image). IsReady i graph id o d.object c.args.shadow.0 c.as_slice.result.now c.as_slice-2.result.now None) (sym reads.content) ready)
+          made makes c.args.at.0 (opened.at ∙ parts.at_is) c.finish.new.disk c.finish.new.space c.finish.result c.finish.ensures.finishes;
       refused = finish_tried g.D.Disk c.args.at.0 c.args.disk.now c.changed.new.disk c.finish.new.disk c.finish.new.space 241 1 _ _ first (λ tells. tells_on g.D.Disk c.write_own.new.disk c.changed.new.disk c.finish.new.disk 240 reads (still_tells g.D.Disk tells told c.write_own.ensures.calls.same)) c.finish.ensures.calls tried c.finish.result c.finish.ensures.fails;
       made = tried;
       cylinders = c.finish.ensures.cylinders;

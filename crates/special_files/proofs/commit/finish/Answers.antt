@@ -1,8 +1,9 @@
-use Rattle.std.proofs.Common.{ℕ, ◌<◌, ◌*◌, length, refl, sym, ◌∙◌, ap, subst}
+use Rattle.std.proofs.Common.{ℕ, ◌<◌, ◌*◌, length, Ok, refl, sym, ◌∙◌, ap, subst}
 use Rattle.std.proofs.Math.ListN.{length-set}
 use Rattle.std.specs.List.{All}
 use Rattle.cyl_alloc.specs.Space.{Kept, after_giving}
-use Rattle.special_files.specs.Committing.{CarriedOut, named}
+use Rattle.special_files.specs.Committing.{Finishes}
+use Rattle.special_files.specs.Drafting.{number_of}
 use Rattle.special_files.proofs.commit.finish.Goals as goal
 
 pub give_all-requires : goal.give_all-requires
@@ -15,21 +16,19 @@ pub returns-in-Ok : goal.returns-in-Ok
 returns-in-Ok g c =
     let given = c.gave.ensures.given ∙ ap (λ (k : Kept). after_giving k c.args.shadow.0 1) c.give_all.ensures.given in
     record {
-      done = λ graph word was o run ready none. subst (CarriedOut g.D.Disk graph (named c.args.at.0 word) o c.args.disk.now c.carry_out.new.disk c.args.space.now) (sym given)
-          (c.in-Ok.ensures.done graph word was o c.args.space.now run ready none);
-      leaves = λ graph word was o run ready none. c.carry_out.ensures.leaves graph word was o run ready none;
-      sound = λ graph word was o run ready none. tt;
+      finishes = subst (λ (k : Kept). Finishes g.D.Disk c.args.at.0 c.args.shadow.0 c.args.taken.now c.args.dropped.now (number_of c.args.created) c.args.disk.now c.carry_out.new.disk c.args.space.now k (Ok tt)) (sym given)
+          (c.in-Ok.ensures.finishes c.args.space.now);
       fails = tt;
       cylinders = ap (λ (k : Kept). length k.free) c.gave.ensures.given ∙ length-set _ _ _ ∙ c.give_all.ensures.cylinders;
       calls = c.carry_out.ensures.calls;
     }
 
 pub returns-in-Err : goal.returns-in-Err
-returns-in-Err g c = record {
-  done = λ graph word was o run ready none. tt;
-  leaves = λ graph word was o run ready none. c.carry_out.ensures.leaves graph word was o run ready none;
-  sound = λ graph word was o run ready none. c.in-Err.ensures.sound graph word was o run ready none;
-  fails = c.in-Err.ensures.fails c.args.space.now;
-  cylinders = refl;
-  calls = c.carry_out.ensures.calls;
-}
+returns-in-Err g c =
+    let end = c.in-Err.ensures.finishes c.args.space.now in
+    record {
+      finishes = record { done = λ graph full word was o run ready. tt; leaves = end.leaves; sound = end.sound };
+      fails = c.in-Err.ensures.fails c.args.space.now;
+      cylinders = refl;
+      calls = c.carry_out.ensures.calls;
+    }

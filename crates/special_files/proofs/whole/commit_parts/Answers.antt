@@ -1,8 +1,9 @@
 use Rattle.std.proofs.Common.{Option, refl, ◌∙◌, ap, subst, arith}
 use Rattle.cfs_base.specs.declared.identifier.BlockNo.{BlockNo}
-use Rattle.special_files.specs.Committing.{AreParts, IsOldOrNew}
+use Rattle.special_files.specs.Committing.{AreParts}
 use Rattle.special_files.specs.Drafting.{number_of}
-use Rattle.special_files.proofs.CommitDraft.{far_trouble, nothing_left, nothing_made, shadow_below}
+use Rattle.special_files.proofs.CommitDraft.{far_trouble, nothing_made, shadow_below}
+use Rattle.special_files.proofs.CommitStore.{made_below}
 use Rattle.special_files.proofs.whole.commit_parts.Goals as goal
 
 pub commit_direct-requires : goal.commit_direct-requires
@@ -13,9 +14,11 @@ commit_begun-requires g c = record { on_disk = c.requires.on_disk; size = c.requ
 
 pub returns-in-Err : goal.returns-in-Err
 returns-in-Err g c = record {
-  done = λ graph ds id o was d store at opened parts none. tt;
-  leaves = λ graph ds id o was d store at opened parts none. nothing_left g.D.Disk c.args.disk.now (IsOldOrNew graph id d.object);
-  sound = λ graph ds id o was d store at opened parts none. absurd (c.in-Err.ensures.far.0 none);
+  commits = λ graph ds id o was d made store at opened parts makes.
+      let far = c.in-Err.ensures.far.0 in
+      let below = made_below g.D.Disk graph ds id o c.args.disk.now c.args.space.now was d far.n store opened (parts.created_is ∙ far.is) in
+      let size = g.met.D.Disk.sized c.args.disk.now store.carries.tells.honest in
+      absurd (omega (arith, below, size, far.far));
   refused = far_trouble g.D.Disk c.args.at.0 c.args.disk.now c.args.space.now c.in-Err.trouble c.in-Err.ensures.far.1;
   made = tt;
   cylinders = refl;
@@ -24,9 +27,7 @@ returns-in-Err g c = record {
 
 pub returns-in-Err-is_on_disk : goal.returns-in-Err-is_on_disk
 returns-in-Err-is_on_disk g c = record {
-  done = λ graph ds id o was d store at opened parts none. tt;
-  leaves = λ graph ds id o was d store at opened parts none. nothing_left g.D.Disk c.args.disk.now (IsOldOrNew graph id d.object);
-  sound = λ graph ds id o was d store at opened parts none.
+  commits = λ graph ds id o was d made store at opened parts makes.
       let below = shadow_below g.D.Disk graph ds id o c.args.disk.now c.args.space.now was d c.in-Some.block.0 store at opened (parts.shadow_is ∙ ap number_of c.in-Some.is) in
       let size = g.met.D.Disk.sized c.args.disk.now store.carries.tells.honest in
       absurd (omega (arith, below, size, c.in-Err-is_on_disk.ensures.far.0));
@@ -36,18 +37,10 @@ returns-in-Err-is_on_disk g c = record {
   calls = nothing_made g.D.Disk c.args.disk.now 93138 46452;
 }
 
-pub returns-in_default-clause-leaves : goal.returns-in_default-clause-leaves
-returns-in_default-clause-leaves g c = λ graph ds id o was d store at opened parts none. c.commit_direct.ensures.leaves graph ds id o was d store at opened
-    (subst (λ (x : Option BlockNo). AreParts was c.args.at.0 (number_of x) c.args.own.now c.args.root.now (number_of c.args.created)) c.in_default.is parts) none
+pub returns-in_default-clause-commits : goal.returns-in_default-clause-commits
+returns-in_default-clause-commits g c = λ graph ds id o was d made store at opened parts makes. c.commit_direct.ensures.commits graph ds id o was d made store at opened
+    (subst (λ (x : Option BlockNo). AreParts was c.args.at.0 (number_of x) c.args.own.now c.args.root.now (number_of c.args.created)) c.in_default.is parts) makes
 
-pub returns-in_default-clause-sound : goal.returns-in_default-clause-sound
-returns-in_default-clause-sound g c = λ graph ds id o was d store at opened parts none. c.commit_direct.ensures.sound graph ds id o was d store at opened
-    (subst (λ (x : Option BlockNo). AreParts was c.args.at.0 (number_of x) c.args.own.now c.args.root.now (number_of c.args.created)) c.in_default.is parts) none
-
-pub returns-in-Ok-is_on_disk-clause-leaves : goal.returns-in-Ok-is_on_disk-clause-leaves
-returns-in-Ok-is_on_disk-clause-leaves g c = λ graph ds id o was d store at opened parts none. c.commit_begun.ensures.leaves graph ds id o was d store at opened
-    (subst (λ (x : Option BlockNo). AreParts was c.args.at.0 (number_of x) c.args.own.now c.args.root.now (number_of c.args.created)) c.in-Some.is parts) none
-
-pub returns-in-Ok-is_on_disk-clause-sound : goal.returns-in-Ok-is_on_disk-clause-sound
-returns-in-Ok-is_on_disk-clause-sound g c = λ graph ds id o was d store at opened parts none. c.commit_begun.ensures.sound graph ds id o was d store at opened
-    (subst (λ (x : Option BlockNo). AreParts was c.args.at.0 (number_of x) c.args.own.now c.args.root.now (number_of c.args.created)) c.in-Some.is parts) none
+pub returns-in-Ok-is_on_disk-clause-commits : goal.returns-in-Ok-is_on_disk-clause-commits
+returns-in-Ok-is_on_disk-clause-commits g c = λ graph ds id o was d made store at opened parts makes. c.commit_begun.ensures.commits graph ds id o was d made store at opened
+    (subst (λ (x : Option BlockNo). AreParts was c.args.at.0 (number_of x) c.args.own.now c.args.root.now (number_of c.args.created)) c.in-Some.is parts) makes

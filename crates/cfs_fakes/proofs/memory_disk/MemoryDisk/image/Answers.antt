@@ -1,6 +1,6 @@
 use Rattle.std.proofs.Common.{◌∙◌, ap, length}
 use Rattle.cfs_base.specs.Disk.{Image}
-use Rattle.cfs_fakes.proofs.Lifts.{base_size}
+use Rattle.cfs_fakes.specs.Sizes.{base_size}
 use Rattle.cfs_fakes.proofs.memory_disk.MemoryDisk.image.Goals as goal
 
 pub returns-clause-size : goal.returns-clause-size

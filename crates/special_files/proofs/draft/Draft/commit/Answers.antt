@@ -1,18 +1,14 @@
-use Rattle.std.proofs.Common.{◌∙◌, sym, ap}
+use Rattle.std.proofs.Common.{sym, subst}
+use Rattle.special_files.specs.Committing.{Makes}
 use Rattle.special_files.specs.Drafting.{Drafting}
+use Rattle.special_files.proofs.CommitStore.{parts_of}
 use Rattle.special_files.proofs.draft.Draft.commit.Goals as goal
 
-pub returns-clause-leaves : goal.returns-clause-leaves
-returns-clause-leaves g c = λ graph ds id o d store at opened none. c.commit_parts.ensures.leaves graph ds id o c.args.self d store at opened
-    (record { at_is = ap (λ (w : Drafting). w.at) (sym c.draft.view_is); shadow_is = ap (λ (w : Drafting). w.shadow) (sym c.draft.view_is); own_is = ap (λ (w : Drafting). w.own) (sym c.draft.view_is); root_is = ap (λ (w : Drafting). w.root) (sym c.draft.view_is); created_is = ap (λ (w : Drafting). w.created) (sym c.draft.view_is) })
-    (ap (λ (w : Drafting). w.created) c.draft.view_is ∙ none)
-
 pub returns-clause-done : goal.returns-clause-done
-returns-clause-done g c = λ graph ds id o d store at opened none. c.commit_parts.ensures.done graph ds id o c.args.self d store at opened
-    (record { at_is = ap (λ (w : Drafting). w.at) (sym c.draft.view_is); shadow_is = ap (λ (w : Drafting). w.shadow) (sym c.draft.view_is); own_is = ap (λ (w : Drafting). w.own) (sym c.draft.view_is); root_is = ap (λ (w : Drafting). w.root) (sym c.draft.view_is); created_is = ap (λ (w : Drafting). w.created) (sym c.draft.view_is) })
-    (ap (λ (w : Drafting). w.created) c.draft.view_is ∙ none)
+returns-clause-done g c = λ graph ds id o d made store at opened makes. (c.commit_parts.ensures.commits graph ds id o c.args.self d made store at opened (parts_of c.args.self _ c.draft.view_is) (subst (λ (w : Drafting). Makes (g.D.Disk.content c.args.disk.now) w.created made) (sym c.draft.view_is) makes)).done
+
+pub returns-clause-leaves : goal.returns-clause-leaves
+returns-clause-leaves g c = λ graph ds id o d made store at opened makes. (c.commit_parts.ensures.commits graph ds id o c.args.self d made store at opened (parts_of c.args.self _ c.draft.view_is) (subst (λ (w : Drafting). Makes (g.D.Disk.content c.args.disk.now) w.created made) (sym c.draft.view_is) makes)).leaves
 
 pub returns-clause-sound : goal.returns-clause-sound
-returns-clause-sound g c = λ graph ds id o d store at opened none. c.commit_parts.ensures.sound graph ds id o c.args.self d store at opened
-    (record { at_is = ap (λ (w : Drafting). w.at) (sym c.draft.view_is); shadow_is = ap (λ (w : Drafting). w.shadow) (sym c.draft.view_is); own_is = ap (λ (w : Drafting). w.own) (sym c.draft.view_is); root_is = ap (λ (w : Drafting). w.root) (sym c.draft.view_is); created_is = ap (λ (w : Drafting). w.created) (sym c.draft.view_is) })
-    (ap (λ (w : Drafting). w.created) c.draft.view_is ∙ none)
+returns-clause-sound g c = λ graph ds id o d made store at opened makes. (c.commit_parts.ensures.commits graph ds id o c.args.self d made store at opened (parts_of c.args.self _ c.draft.view_is) (subst (λ (w : Drafting). Makes (g.D.Disk.content c.args.disk.now) w.created made) (sym c.draft.view_is) makes)).sound

@@ -1,10 +1,11 @@
-use Rattle.std.proofs.Common.{◌≡◌, ℕ, Bool, true, ◌*◌, ◌/◌, ◌%◌, ◌<◌, false, sym, ◌∙◌, ap, subst, arith}
+use Rattle.std.proofs.Common.{◌≡◌, Bool, true, ◌/◌, false, sym, subst, arith}
 use Rattle.cfs_base.specs.Disk.{Image}
+use Rattle.claims.specs.Claims.{AreClaimed}
 use Rattle.cfs_base.proofs.Runs.{then}
 use Rattle.cfs_base.proofs.Calls.{reads_make, then_tried}
-use Rattle.special_files.specs.Drafting.{leaf_takes, node_of}
-use Rattle.special_files.specs.Ends.{Ends}
-use Rattle.special_files.specs.Nodes.{IsNear, IsRead}
+use Rattle.special_files.specs.Drafting.{leaf_takes}
+use Rattle.special_files.specs.Nodes.{IsRead}
+use Rattle.special_files.specs.Order.{leaf_claims}
 use Rattle.special_files.specs.Puts.{FitsLeaf}
 use Rattle.special_files.specs.Refusal.{is_damaged, is_full}
 use Rattle.special_files.proofs.Begun.{store_reads}
@@ -73,6 +74,19 @@ returns-in-Ok-clause-filled g c = λ graph ds id o d i store at opened index.
     slot_put g.D.Disk graph ds id o d0 d1 c.args.space.now was d i store at opened index 2 reads c.args.slot c.args.what c.requires.within
     c.in_ok-content.content same c.is_empty_already.result c.is_empty_already.ensures c.if-is_empty_already.false c.requires.slot c.put_leaf.new.disk c.put_leaf.new.space c.put_leaf.new.self c.put_leaf.new.read c.put_slot.new.block c.put_slot.ensures.put c.put_leaf.ensures.stays
     (c.in-Ok.ensures.put graph ds id o d (store_reads g.D.Disk graph ds d0 d1 c.args.space.now 2 store reads) at opened is (subst (FitsLeaf was.root (c.args.slot / 64)) (sym c.put_slot.ensures.put) fits))
+
+pub returns-in-Ok-clause-order : goal.returns-in-Ok-clause-order
+returns-in-Ok-clause-order g c = λ graph ds id o d i store at opened index done.
+    let d0 = c.args.disk.now in
+    let d1 = c.leaf_bytes.new.disk in
+    let was = c.args.self.now in
+    let reads = c.in_ok-content.ensures.reads in
+    let none : IsRead (g.D.Disk.content d0) was c.nothing-read.result = λ few. absurd (omega (arith, few, c.nothing-read.ensures)) in
+    let same = c.in_ok-content.ensures.bytes store.carries.tells (root_fits g.D.Disk graph ds id o d0 d1 c.args.space.now was d i store at opened index 2 reads c.args.slot c.args.what c.requires.within) none in
+    let is = subst (λ (a : Image). IsRead a was c.leaf_bytes.new.read) (sym reads.content) (c.in_ok-content.ensures.node store.carries.tells none) in
+    let fits = put_fits g.D.Disk graph ds id o d0 d1 c.args.space.now was d i store at opened index 2 reads c.args.slot c.args.what c.requires.within c.in_ok-content.content same in
+    subst (λ (a : Image). AreClaimed (leaf_claims was.at was.leaves was.nodes (c.args.slot / 64)) a (g.D.Disk.content c.put_leaf.new.disk)) reads.content
+    (c.in-Ok.ensures.put graph ds id o d (store_reads g.D.Disk graph ds d0 d1 c.args.space.now 2 store reads) at opened is (subst (FitsLeaf was.root (c.args.slot / 64)) (sym c.put_slot.ensures.put) fits)).order
 
 pub returns-in-Ok-clause-leaves : goal.returns-in-Ok-clause-leaves
 returns-in-Ok-clause-leaves g c = λ graph ds id o d store at opened.

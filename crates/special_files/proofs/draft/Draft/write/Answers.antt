@@ -1,11 +1,13 @@
-use Rattle.std.proofs.Common.{◌≡◌, ℕ, ◌+◌, ◌-◌, ◌*◌, ◌/◌, ◌≤◌, List, length, Err, refl, sym, ◌∙◌, ap, subst, arith}
+use Rattle.std.proofs.Common.{ℕ, ◌+◌, ◌-◌, ◌*◌, ◌/◌, length, Err, refl, sym, ◌∙◌, ap, subst, arith}
 use Rattle.std.specs.Prelude.{nat_lt, sum}
 use Rattle.std.proofs.lemmas.Bool.{both_ways, ltb-false, ltb-true}
 use Rattle.cfs_base.specs.declared.refusal.Refused.{Refused}
 use Rattle.cfs_base.specs.declared.refusal.Refused.TheVariants as refused
+use Rattle.claims.specs.Claims.{AreClaimed}
 use Rattle.ufs_model.specs.Object.{leaves_in}
 use Rattle.special_files.specs.Drafting.{Drafting}
 use Rattle.special_files.specs.Ends.{Ends}
+use Rattle.special_files.specs.Order.{claims_from}
 use Rattle.special_files.specs.Refusal.{is_damaged, is_full, told_after}
 use Rattle.special_files.proofs.WriteRuns.{err_ends, err_kept, images_then, leaf_room, need_told, run_begin, run_ends, run_more, run_written, sound_then, stays_then, still_room, still_sound}
 use Rattle.special_files.proofs.draft.Draft.write.Goals as goal
@@ -93,3 +95,8 @@ pub returns-clause-ends : goal.returns-clause-ends
 returns-clause-ends g c =
     run_ends g.D.Disk c.args.offset c.args.bytes.now c.loop-leaf.leaf c.leaves_in-to.result c.args.disk.now c.loop-leaf.disk c.args.space.now c.loop-leaf.space c.args.self.now c.loop-leaf.self c.loop-leaf.read c.loop-leaf.invariant
     (omega (arith, c.loop-leaf-test.false)) c.leaves_in-to.ensures c.args.floor
+
+pub returns-clause-order : goal.returns-clause-order
+returns-clause-order g c = λ graph ds id o d store at opened.
+    subst (λ (n : ℕ). AreClaimed (claims_from c.args.self.now.at c.args.self.now.leaves c.args.self.now.nodes (c.args.offset / 512) n) (g.D.Disk.content c.args.disk.now) (g.D.Disk.content c.loop-leaf.disk))
+    (omega (arith, c.loop-leaf-test.false, c.loop-leaf.invariant.upto, c.leaves_in-to.ensures)) ((c.loop-leaf.invariant.model graph ds id o d store at opened c.requires.within).order 0 _ (λ m. refl))

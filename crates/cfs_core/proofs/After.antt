@@ -1,0 +1,89 @@
+-- A call that reads, and then goes on.
+use Rattle.std.proofs.Common.{◌≡◌, ℕ, ◌<◌, length, true, false, Some, None, Result, Ok, Err, refl, ◌∙◌, subst, arith}
+use Rattle.std.specs.Prelude.{IfErr, sum}
+use Rattle.cfs_base.specs.Calls.{OnlyReads}
+use Rattle.cfs_base.specs.Disk.{Image}
+use Rattle.cfs_base.specs.Run.{Leaves}
+use Rattle.cfs_base.specs.declared.disk.Disk.{Ghosts}
+use Rattle.cfs_base.specs.declared.identifier.Puid.{Puid}
+use Rattle.cfs_base.specs.declared.refusal.Refused.{Refused}
+use Rattle.cfs_base.specs.declared.refusal.Refused.TheVariants as refusals
+use Rattle.cfs_base.proofs.Calls.{stopped_after_reads}
+use Rattle.cfs_base.proofs.Runs.{then, wider}
+use Rattle.puid_space.specs.Directory.{kind_in}
+use Rattle.ufs_model.specs.declared.asked.Reply.{Reply}
+use Rattle.ufs_model.specs.declared.asked.Reply.TheVariants as replies
+use Rattle.ufs_model.specs.declared.asked.Request.{Request}
+use Rattle.ufs_model.specs.declared.object.Index.{Index}
+use Rattle.ufs_model.specs.declared.object.Object.{Object}
+use Rattle.ufs_model.specs.declared.object.Object.TheVariants as objects
+use Rattle.ufs_model.specs.Graph.{object_at}
+use Rattle.ufs_model.specs.Refusal.{refusal_of}
+use Rattle.ufs_model.specs.State.{State}
+use Rattle.cfs_core.specs.Calls.{Answers, EndsSo, IsCause, Owes, Tries, TriesOn}
+use Rattle.cfs_core.specs.Kernel.{Kernel}
+use Rattle.cfs_core.specs.Looks.{unfit_of}
+use Rattle.cfs_core.specs.Makes.{IsMaking, TriesToMake}
+use Rattle.cfs_core.specs.StandsFor.{Serves}
+use Rattle.cfs_core.proofs.Answering.{known}
+use Rattle.cfs_core.proofs.Serving.{serves_on}
+
+module _ {D : Type 0} (g : Ghosts D) (n : ℕ) (old : Kernel D) (d : D) (new : Kernel D) (reads : OnlyReads g n old.disk d) (request : Request) where
+  abbrev mid : Kernel D
+  mid = record old { disk = d }
+
+  first : (P : Image → Type 0) → Leaves g d new.disk P → Leaves g old.disk new.disk P
+  first P leaves = then g old.disk d new.disk P P (wider g old.disk d _ P reads.images (λ c no. absurd no)) leaves (λ c p. p)
+
+  module _ (s : State) (who : ℕ) where
+    answers : (reply : Reply) → Answers g mid new s who request reply → Answers g old new s who request reply
+    answers reply is = record {
+      event = record { after = is.event.after; step = is.event.step; stands = is.event.stands; survives = record { crashes = first _ is.event.survives.crashes; now = is.event.survives.now } };
+      still = λ all. is.still all ∙ reads.content;
+      owed = subst (λ (i : Image). Owes old.words.seed s who request i (sum old.space.free) reply) reads.content is.owed;
+    }
+
+    ends : (r : Result Reply Refused) → EndsSo g mid new s who request r → EndsSo g old new s who request r
+    ends (Ok reply) is = answers reply is
+    ends (Err (refusals.Full need)) is = answers (replies.Full need) is
+    ends (Err (refusals.Disk false)) is = answers (replies.Disk None) is
+    ends (Err (refusals.Disk true)) is = record { block = is.block; allowed = is.allowed; names = is.names; same = is.same; fits = is.fits; leaves = first _ is.leaves }
+    ends (Err (refusals.Damaged damage)) is = is
+    ends (Err refusals.Memory) is = answers replies.Memory is
+
+  cause : (r : Result Reply Refused) → IfErr r (IsCause g d new.disk) → IfErr r (IsCause g old.disk new.disk)
+  cause (Ok reply) is = tt
+  cause (Err (refusals.Full need)) is = tt
+  cause (Err (refusals.Disk tried)) is = stopped_after_reads g old.disk d new.disk n tried reads is
+  cause (Err (refusals.Damaged damage)) is = tt
+  cause (Err refusals.Memory) is = tt
+
+  pub tries_then : (index : Puid) (slot : ℕ) (result : Result Reply Refused) → unfit_of (kind_in old.names.named index) ≡ None → TriesOn g mid new index slot request result
+      → ((s : State) (who : ℕ) (i : Index) → Serves g old s → object_at s.graph index ≡ Some (objects.Index i) → (slot < length i.slots) × (refusal_of s who request ≡ None)) → Tries g old new request result
+  tries_then index slot result fit tries goes = record {
+    ends = λ s who serves none.
+        let i = known g old index fit s serves in
+        let may = goes s who i.0 serves i.1 in
+        ends s who result (tries.ends s who i.0 (serves_on g n old mid reads refl s serves) none i.1 may.0 may.1);
+    plain = tries.plain;
+    cause = cause result tries.cause;
+    size = tries.size ∙ reads.same.size;
+    stop = tries.stop;
+    seed = tries.seed;
+    kept = tries.kept;
+    drawn = tries.drawn;
+  }
+
+  -- the same of a request that makes an object
+  pub makes_then : (index : Puid) (slot : ℕ) (o : Object) → IsMaking request index slot o → (result : Result Reply Refused) → unfit_of (kind_in old.names.named index) ≡ None → TriesToMake g mid new index slot o result
+      → ((s : State) (who : ℕ) (i : Index) → Serves g old s → object_at s.graph index ≡ Some (objects.Index i) → (slot < length i.slots) × (refusal_of s who request ≡ None)) → Tries g old new request result
+  makes_then index slot o making result fit tries goes = tries_then index slot result fit (record {
+    ends = tries.ends request making;
+    plain = tries.plain;
+    cause = tries.cause;
+    size = tries.size;
+    stop = tries.stop;
+    seed = tries.seed;
+    kept = tries.kept;
+    drawn = omega (arith, tries.drawn, making.draw);
+  }) goes

@@ -1,0 +1,209 @@
+-- How a call ends that makes an object, and puts its identifier into a slot, as one commit.
+use Rattle.std.proofs.Common.{◌≡◌, ◌≢◌, ◌⊎◌, inl, inr, ℕ, zero, suc, ◌+◌, ◌<◌, ◌≤◌, List, [], ◌∷◌, length, Bool, true, false, cond, not, ◌||◌, Option, Some, None, refl, sym, ◌∙◌, ap, subst, arith}
+use Rattle.std.specs.Prelude.{◌==◌, option_map, sum}
+use Rattle.std.specs.List.{range_with_len, sum_by}
+use Rattle.std.specs.Ordering.{match_ordering}
+use Rattle.std.specs.BTreeMap.{insert_entry}
+use Rattle.std.specs.declared.cmp.Ordering.TheVariants.{Less, Equal, Greater}
+use Rattle.std.proofs.lemmas.Bool.{and_parts, both_ways, cases_lt, false_from_ne_true, not-true, or_cases}
+use Rattle.std.proofs.lemmas.Bool.Decides.{nat_tests}
+use Rattle.std.proofs.lemmas.List.Sums.{sum_by-cons}
+use Rattle.cfs_base.specs.Disk.{Image}
+use Rattle.cfs_base.specs.declared.disk.Disk.{Ghosts}
+use Rattle.cfs_base.specs.declared.identifier.Puid.{Puid}
+use Rattle.cfs_base.specs.declared.kind.Kind.{Kind}
+use Rattle.cfs_base.specs.declared.kind.Kind.TheVariants as kinds
+use Rattle.cyl_alloc.specs.Space.{IsLeastFree, Kept}
+use Rattle.cyl_map.specs.declared.entry.MapEntry.{MapEntry}
+use Rattle.cyl_map.specs.Volume.{entry_in, free_from, is_free_entry, is_free_in}
+use Rattle.index_ops.specs.Changes.{index_with}
+use Rattle.index_ops.specs.Creates.{with_made}
+use Rattle.puid_space.specs.Directory.{has_root_in}
+use Rattle.puid_space.specs.Kinds.{kind_of, kinds_of}
+use Rattle.puid_space.proofs.Graphs.{insert_entry-same, keys_of-kinds_in, kind_in-kinds_in, kinds_in-insert_entry}
+use Rattle.ufs_model.specs.declared.asked.Ref.TheVariants.{Direct}
+use Rattle.ufs_model.specs.declared.asked.Reply.TheVariants as replies
+use Rattle.ufs_model.specs.declared.asked.Request.{Request}
+use Rattle.ufs_model.specs.declared.collection.Collection.{Collection}
+use Rattle.ufs_model.specs.declared.collection.Collection.TheVariants as collections
+use Rattle.ufs_model.specs.declared.object.Index.{Index}
+use Rattle.ufs_model.specs.declared.object.Object.{Object}
+use Rattle.ufs_model.specs.declared.object.Object.TheVariants as objects
+use Rattle.ufs_model.specs.Graph.{Graph, has_block, ids_of, is_free_root, object_at, with_object}
+use Rattle.ufs_model.specs.Identifier.{puid_cmp, rises, same_puid}
+use Rattle.ufs_model.specs.Object.{blocks_of}
+use Rattle.ufs_model.specs.Outcome.{created, with_edge}
+use Rattle.ufs_model.specs.Need.{need_of}
+use Rattle.ufs_model.specs.Refusal.{refusal_of}
+use Rattle.ufs_model.specs.State.{State}
+use Rattle.ufs_model.specs.Word.{word}
+use Rattle.ufs_model.proofs.Graphs.{object_at-with_object, rises-with_object}
+use Rattle.ufs_model.proofs.RootBlocks.{has_block-still}
+use Rattle.vol_image.specs.Sound.{Holds}
+use Rattle.vol_image.proofs.Parts.{in_image}
+use Rattle.vol_image.proofs.Reached.{same_puid_is, same_puid_itself}
+use Rattle.vol_owners.specs.Change.{IsOfThese, of_owners}
+use Rattle.vol_owners.specs.Owner.{is_placed, is_taken, owner_of}
+use Rattle.vol_owners.proofs.Keys.{block_there}
+use Rattle.vol_owners.proofs.Rooms.{free_is_root}
+use Rattle.cfs_core.specs.Kernel.{Kernel}
+use Rattle.cfs_core.specs.Makes.{IsMaking}
+use Rattle.cfs_core.specs.StandsFor.{HasCollection, Serves, drafts_of_seats}
+use Rattle.cfs_core.proofs.Changed.{of_this}
+use Rattle.cfs_core.proofs.Committed.{IsBeside, IsOutcome}
+use Rattle.cfs_core.proofs.Grown.{filled_blocks, replaced_blocks}
+
+-- ---- an object more
+
+abbrev blocks : Puid × Object → ℕ
+blocks e = blocks_of e.1
+
+more_sum : (k : Puid) (o : Object) (es : List (Puid × Object)) → sum_by (λ e. blocks_of e.1) (insert_entry puid_cmp es k o) ≤ sum_by (λ e. blocks_of e.1) es + blocks_of o
+more_sum k o [] = omega (arith, sum_by-cons blocks (k, o) [])
+more_sum k o (e ∷ es) = elim (puid_cmp k e.0) as (λ r. sum_by blocks (match_ordering r ((k, o) ∷ e ∷ es) ((e.0, o) ∷ es) (e ∷ insert_entry puid_cmp es k o)) ≤ sum_by blocks (e ∷ es) + blocks_of o) [
+  | Less ↦ omega (arith, sum_by-cons blocks (k, o) (e ∷ es))
+  | Equal ↦ omega (arith, sum_by-cons blocks (e.0, o) es, sum_by-cons blocks e es)
+  | Greater ↦ omega (arith, sum_by-cons blocks e (insert_entry puid_cmp es k o), sum_by-cons blocks e es, more_sum k o es)
+]
+
+-- ---- the least Free block
+
+pub least_one : (image : Image) (a b : ℕ) → IsLeastFree image a → IsLeastFree image b → a ≡ b
+least_one image a b one two = elim (cases_lt a b) [
+  | inl below ↦ absurd (both_ways _ (two.least a below) one.free)
+  | inr above ↦ elim (cases_lt b a) [ inl below ↦ absurd (both_ways _ (one.least b below) two.free) | inr same ↦ omega (arith, above, same) ]
+]
+
+pub least_there : (image : Image) (w n : ℕ) → ((m : ℕ) → m < n → is_free_in image m ≡ false) → 1 ≤ free_from image n w → (b : ℕ) × IsLeastFree image b
+least_there image zero n none some = absurd (omega (arith, some))
+least_there image (suc w) n none some = elim (is_free_in image n) as (λ t. is_free_in image n ≡ t → (b : ℕ) × IsLeastFree image b) [
+  | true ↦ λ free. (n, record { free = free; least = none })
+  | false ↦ λ taken. least_there image w (n + 1) (λ m below. elim (cases_lt m n) [ inl less ↦ none m less | inr same ↦ (let is : m ≡ n = omega (arith, below, same) in rw is taken) ]) (omega (arith, some, sum_by-cons (λ (m : ℕ). cond (is_free_in image m) 1 0) n (range_with_len (n + 1) w), ap {B = ℕ} (λ (t : Bool). cond t 1 0) taken))
+] refl
+
+free_inside : (image : Image) (g : Graph) (n : ℕ) → Holds image g → is_free_in image n ≡ true → n < length image
+free_inside image g n holds free = at (entry_in image n) refl free
+  where
+    at : (e : Option MapEntry) → entry_in image n ≡ e → is_free_entry e ≡ true → n < length image
+    at None is none = cc
+    at (Some e) is free = in_image image g holds n e is
+
+pub need_is : (s : State) (who : ℕ) (index : Puid) (i : Index) (slot : ℕ) (o : Object) (request : Request) → IsMaking request index slot o → object_at s.graph index ≡ Some (objects.Index i) → need_of s who request ≡ 4
+need_is s who index i slot o request making found = making.need s who ∙ rw found refl
+
+-- ---- an object is made, with block b as its root
+
+module _ {D : Type 0} (g : Ghosts D) (k : Kernel D) (s : State) (who : ℕ) (serves : Serves g k s) (idle : k.collecting ≡ None) (seats : k.seats ≡ []) (index : Puid) (i : Index) (slot : ℕ) (o : Object) (one : blocks_of o ≡ 1) (request : Request) (making : IsMaking request index slot o)
+    (found : object_at s.graph index ≡ Some (objects.Index i)) (goes : refusal_of s who request ≡ None) (enough : 8 ≤ sum k.space.free) (b : ℕ) (least : IsLeastFree (g.content k.disk) b) where
+  abbrev id : Puid
+  id = record { block = b; word = word k.words.seed (s.drawn + 1) }
+
+  abbrev after : State
+  after = (created k.words.seed s who (Direct index) slot o b).1
+
+  abbrev with_new : Graph
+  with_new = with_object s.graph id o
+
+  abbrev h : Graph
+  h = with_made s.graph index i slot id o
+
+  free_root : is_free_root s.graph b ≡ true
+  free_root = free_is_root (g.content k.disk) s.graph (drafts_of_seats k.seats s.grants) serves.store.account serves.store.ordered b least.free
+
+  pub not_zero : b ≢ 0
+  not_zero zero_is = let no = (and_parts (not (b == 0)) (not (has_block s.graph.objects b)) free_root).0 in let is : (b == 0) ≡ true = grind (arith, nat_tests) in both_ways (b == 0) (not-true _ no) is
+
+  pub no_root : has_block s.graph.objects b ≡ false
+  no_root = not-true _ (and_parts (not (b == 0)) (not (has_block s.graph.objects b)) free_root).1
+
+  pub inside : b < length (g.content k.disk)
+  inside = free_inside (g.content k.disk) s.graph b serves.store.account.holds least.free
+
+  apart : same_puid index id ≡ false
+  apart = false_from_ne_true _ (λ same.
+      let eq : index.block ≡ b = ap (λ (x : Puid). x.block) (same_puid_is index id same) in
+      both_ways _ no_root (subst (λ (n : ℕ). has_block s.graph.objects n ≡ true) eq (block_there s.graph index (objects.Index i) found)))
+
+  still : object_at with_new index ≡ Some (objects.Index i)
+  still = object_at-with_object s.graph id o index ∙ rw apart found
+
+  up : rises (ids_of with_new) ≡ true
+  up = rises-with_object s.graph id o serves.store.ordered
+
+  pub outcome : IsOutcome k s who b request (replies.Id id) after h 3
+  outcome = record {
+    allowed = goes;
+    names = λ _. free_root;
+    speaks = making.speaks who (replies.Id id);
+    out = making.outcome k.words.seed s who b;
+    graph = rw found refl;
+    few = omega (arith, replaced_blocks with_new index (objects.Index i) (index_with i slot (Some id)) 2 up still (filled_blocks i slot (Some id)), more_sum id o s.graph.objects, one);
+    free = omega (arith, enough);
+  }
+
+  names_are : insert_entry puid_cmp k.names.named id (kind_of o) ≡ kinds_of h
+  names_are =
+      ap (λ named. insert_entry puid_cmp named id (kind_of o)) serves.front.names ∙ sym (kinds_in-insert_entry s.graph.objects id o)
+      ∙ sym (kinds_in-insert_entry with_new.objects index (index_with i slot (Some id))
+      ∙ insert_entry-same _ index kinds.Index (ap rises (keys_of-kinds_in with_new.objects) ∙ up) (kind_in-kinds_in with_new.objects index ∙ ap (option_map kind_of) still))
+
+  module _ (d : D) (space : Kept) where
+    abbrev new : Kernel D
+    new = record k {
+      disk = d;
+      space = space;
+      names = record { named = insert_entry puid_cmp k.names.named id (kind_of o); room = k.names.room };
+      words = record { seed = k.words.seed; drawn = k.words.drawn + 1 };
+    }
+
+    quiet : (c : Collection) → c ≡ collections.None → with_edge (Some index) id c ≡ c
+    quiet c none = rw none refl
+
+    pub beside : IsBeside k new s after h
+    beside = record {
+      grants = refl;
+      stopped = refl;
+      collection = quiet s.collection (subst (HasCollection (g.content k.disk) s) idle serves.collecting);
+      rooted = refl;
+      seats = refl;
+      root = refl;
+      collecting = refl;
+      stop = refl;
+      drawn = ap (λ n. n + 1) serves.front.drawn;
+      named = names_are;
+    }
+
+  pub theirs : IsOfThese (λ entry. of_owners (index.block ∷ b ∷ []) entry) s.graph h
+  theirs = record {
+    there = λ entry is made.
+        let two = and_parts (is_placed is_taken entry) _ is in
+        let second = of_this with_new index (index_with i slot (Some id)) in
+        either entry (or_cases (index.block == owner_of entry) _ two.1);
+    more = λ r has. has_block-still r index (index_with i slot (Some id)) with_new.objects (has_block-still r id o s.graph.objects has);
+  }
+    where
+      at_index : has_block h.objects index.block ≡ true
+      at_index = block_there h index (index_with i slot (Some id)) (object_at-with_object with_new index (index_with i slot (Some id)) index ∙ rw (same_puid_itself index) refl)
+
+      at_new : has_block h.objects b ≡ true
+      at_new = has_block-still b index (index_with i slot (Some id)) with_new.objects (block_there with_new id o (object_at-with_object s.graph id o id ∙ rw (same_puid_itself id) refl))
+
+      either : (entry : Option MapEntry) → ((index.block == owner_of entry) ≡ true) ⊎ (((b == owner_of entry) || false) ≡ true) → has_block h.objects (owner_of entry) ≡ true
+      either entry (inl is) = let same : index.block ≡ owner_of entry = grind (arith, nat_tests) in subst (λ (n : ℕ). has_block h.objects n ≡ true) same at_index
+      either entry (inr is) = elim (or_cases (b == owner_of entry) false is) [
+        | inl here ↦ (let same : b ≡ owner_of entry = grind (arith, nat_tests) in subst (λ (n : ℕ). has_block h.objects n ≡ true) same at_new)
+        | inr nothing ↦ cc
+      ]
+
+-- a name more, of another block than 0
+pub none_more : (k : Puid) (kind : Kind) (es : List (Puid × Kind)) → (k.block == 0) ≡ false → has_root_in es 0 ≡ false → has_root_in (insert_entry puid_cmp es k kind) 0 ≡ false
+none_more k kind [] other none = rw other refl
+none_more k kind (e ∷ es) other none = elim (puid_cmp k e.0) as (λ c. has_root_in (match_ordering c ((k, kind) ∷ e ∷ es) ((e.0, kind) ∷ es) (e ∷ insert_entry puid_cmp es k kind)) 0 ≡ false) [
+  | Less ↦ rw other none
+  | Equal ↦ none
+  | Greater ↦ (let two = none_of (e.0.block == 0) (has_root_in es 0) none in rw two.0 (none_more k kind es other two.1))
+]
+  where
+    none_of : (a b : Bool) → (a || b) ≡ false → (a ≡ false) × (b ≡ false)
+    none_of true b is = cc
+    none_of false b is = (refl, is)

@@ -1,0 +1,13 @@
+mod Serving
+mod Refusing
+mod Answering
+mod Grown
+mod Committed
+mod Changed
+mod Putting
+mod Created
+mod Placed
+mod After
+mod Makings
+mod Asked
+mod Opened

@@ -1,0 +1,134 @@
+-- What a core that serves knows of its disk, and what it goes on to know after calls that only read.
+use Rattle.std.proofs.Common.{◌≡◌, ◌≢◌, cond, ℕ, ◌+◌, ◌*◌, ◌/◌, ◌≤◌, List, [], ◌∷◌, length, Bool, true, false, Option, Some, None, refl, sym, ◌∙◌, ap, subst, arith}
+use Rattle.std.specs.Prelude.{◌==◌, ◌||◌, is_some, map, option_map, sum}
+use Rattle.std.proofs.lemmas.Bool.{eq-eqb}
+use Rattle.cfs_base.specs.Calls.{OnlyReads}
+use Rattle.cfs_base.specs.Disk.{Image}
+use Rattle.cfs_base.specs.Run.{left_now}
+use Rattle.cfs_base.specs.declared.disk.Disk.{Ghosts}
+use Rattle.cfs_base.specs.declared.identifier.Puid.{Puid}
+use Rattle.cfs_base.specs.declared.kind.Kind.{Kind}
+use Rattle.cfs_base.proofs.Runs.{wider}
+use Rattle.cyl_alloc.proofs.Counted.{sum_is}
+use Rattle.puid_space.specs.Directory.{has_root_in, kind_in}
+use Rattle.puid_space.specs.Kinds.{kind_of}
+use Rattle.puid_space.proofs.Graphs.{kind_in-kinds_in}
+use Rattle.special_files.proofs.Begun.{store_reads}
+use Rattle.survival.specs.Held.{Fits}
+use Rattle.survival.proofs.Calls.{loose}
+use Rattle.ufs_model.specs.declared.asked.Event.{Event}
+use Rattle.ufs_model.specs.declared.object.Grant.{Grant}
+use Rattle.ufs_model.specs.declared.object.Object.{Object}
+use Rattle.ufs_model.specs.Graph.{Graph, is_there, object_at}
+use Rattle.ufs_model.specs.Identifier.{same_puid}
+use Rattle.ufs_model.specs.Next.{next}
+use Rattle.ufs_model.specs.State.{State, is_running}
+use Rattle.ufs_model.proofs.WellGraphs.{closed_graph}
+use Rattle.vol_image.specs.Sound.{Holds, IsClosedGraph, graph_blocks}
+use Rattle.vol_image.proofs.Law.{frames_hold}
+use Rattle.vol_image.proofs.Reached.{same_puid_is}
+use Rattle.vol_owners.specs.Account.{IsSwept, Opened}
+use Rattle.vol_owners.specs.Room.{blocks_taken}
+use Rattle.vol_owners.proofs.Rooms.{no_strays, room}
+use Rattle.cfs_core.specs.Calls.{Makes}
+use Rattle.cfs_core.specs.Kernel.{Kernel, Seat}
+use Rattle.cfs_core.specs.StandsFor.{HasCollection, Serves, Stands, StandsFor, bare, drafts_of_seats, is_sweeping}
+
+-- ---- the directory
+
+-- an identifier that is named has a root block
+named_root : (named : List (Puid × Kind)) (id : Puid) (kind : Kind) → kind_in named id ≡ Some kind → has_root_in named id.block ≡ true
+named_root [] id kind found = cc
+named_root (e ∷ es) id kind found = elim (same_puid id e.0) as (λ b. same_puid id e.0 ≡ b → cond b (Some e.1) (kind_in es id) ≡ Some kind → has_root_in (e ∷ es) id.block ≡ true) [
+  | true ↦ λ is here. rw (same_puid_is id e.0 is, eq-eqb e.0.block e.0.block refl) refl
+  | false ↦ λ other rest. rw (named_root es id kind rest) (or_true (e.0.block == id.block))
+] refl found
+  where
+    or_true : (b : Bool) → (b || true) ≡ true
+    or_true true = refl
+    or_true false = refl
+
+pub named_some : (named : List (Puid × Kind)) (id : Puid) (kind : Kind) → has_root_in named 0 ≡ false → kind_in named id ≡ Some kind → id.block ≢ 0
+named_some named id kind none found = λ zero_is. let has = named_root named id kind found in let no : has_root_in named 0 ≡ true = subst (λ (n : ℕ). has_root_in named n ≡ true) zero_is has in cc
+
+-- ---- a core without a grant
+
+pub empty_map : (grants : List Grant) → [] ≡ map bare grants → grants ≡ []
+empty_map [] is = refl
+empty_map (grant ∷ grants) is = cc
+
+pub serves_from : {D : Type 0} (g : Ghosts D) (k : Kernel D) (s : State) → k.stop ≡ None → StandsFor g k s → Serves g k s
+serves_from g k s none stands = subst (Stands g k s) none stands
+
+pub stands_from : {D : Type 0} (g : Ghosts D) (k : Kernel D) (s : State) → k.stop ≡ None → Serves g k s → StandsFor g k s
+stands_from g k s none serves = subst (Stands g k s) (sym none) serves
+
+module _ {D : Type 0} (g : Ghosts D) (k : Kernel D) (s : State) (serves : Serves g k s) where
+  abbrev drafts : List Opened
+  drafts = drafts_of_seats k.seats s.grants
+
+  pub running : k.stop ≡ None → is_running s ≡ true
+  running none = rw (serves.front.stopped, none) refl
+
+  pub no_grants : k.seats ≡ [] → s.grants ≡ []
+  no_grants none = empty_map s.grants (sym (ap (map (λ (seat : Seat). seat.grant)) none) ∙ serves.front.grants)
+
+  pub kind_there : (id : Puid) → kind_in k.names.named id ≡ option_map kind_of (object_at s.graph id)
+  kind_there id = ap (λ named. kind_in named id) serves.front.names ∙ kind_in-kinds_in s.graph.objects id
+
+  pub there_is : (id : Puid) → is_there s.graph id ≡ is_some (kind_in k.names.named id)
+  there_is id = sym (ap is_some (kind_there id) ∙ at (object_at s.graph id))
+    where
+      at : (o : Option Object) → is_some (option_map kind_of o) ≡ is_some o
+      at None = refl
+      at (Some o) = refl
+
+  -- whatever a crash leaves now holds the objects
+  pub pending : (c : Image) → left_now g k.disk c → Holds c s.graph
+  pending c left = frames_hold (g.content k.disk) c s.graph serves.store.account.holds (serves.store.carries.here c left)
+
+  -- the room by the formula, while nothing sweeps; and what the objects take at most
+  pub room_is : (free : ℕ) → is_sweeping s.collection ≡ false → free ≡ sum k.space.free → free + blocks_taken s.graph drafts + 1 ≡ 63 * length k.space.free
+  room_is free none is =
+      let image = g.content k.disk in
+      omega (arith, room image s.graph drafts serves.store.account serves.store.ordered, no_strays image s.graph (serves.swept none), sum_is image k.space serves.store.counts, serves.store.counts.size, is)
+
+  pub taken_less : sum k.space.free + graph_blocks s.graph + 1 ≤ 63 * (length (g.content k.disk) / 64)
+  taken_less = omega (arith, room (g.content k.disk) s.graph drafts serves.store.account serves.store.ordered, sum_is (g.content k.disk) k.space serves.store.counts)
+
+  -- objects that take n blocks more fit, where n and four are Free
+  pub may_fit : (h : Graph) (n size : ℕ) → IsClosedGraph h → graph_blocks h ≤ graph_blocks s.graph + n → n + 4 ≤ sum k.space.free → length (g.content k.disk) ≡ size → Fits size h
+  may_fit h n size closed few free wide = record {
+    closed = closed;
+    room = omega (arith, few, free, taken_less, ap (λ (m : ℕ). m / 64) wide);
+  }
+
+  pub fits : (size : ℕ) → length (g.content k.disk) ≡ size → Fits size s.graph
+  fits size wide = may_fit s.graph 0 size (closed_graph s.graph serves.state.graph) (omega arith) serves.four wide
+
+-- ---- after calls that only read
+
+module _ {D : Type 0} (g : Ghosts D) (n : ℕ) (old new : Kernel D) (reads : OnlyReads g n old.disk new.disk) (same : new ≡ record old { disk = new.disk }) (s : State) (serves : Serves g old s) where
+  pub serves_on : Serves g new s
+  serves_on =
+      subst (λ (k : Kernel D). Serves g k s) (sym same) (record {
+        front = record { drawn = serves.front.drawn; names = serves.front.names; grants = serves.front.grants; stopped = serves.front.stopped };
+        state = serves.state;
+        root = serves.root;
+        store = store_reads g s.graph (drafts_of_seats old.seats s.grants) old.disk new.disk old.space n serves.store reads;
+        drafts = serves.drafts;
+        swept = λ none. subst (λ (i : Image). IsSwept i s.graph) (sym reads.content) (serves.swept none);
+        four = serves.four;
+        collecting = subst (λ (i : Image). HasCollection i s old.collecting) (sym reads.content) serves.collecting;
+      })
+
+  module _ (left_sized : (d : D) (t : ℕ) (c : Image) → g.left_since d t c → length c ≡ g.blocks d) (wide : length (g.content old.disk) ≡ g.blocks old.disk) where
+    -- an event that leaves the state, as a refusal
+    pub stays : old.stop ≡ None → (e : Event) → next old.words.seed s e ≡ Some s → Makes g old new s e
+    stays none e step = record {
+      after = s;
+      step = step;
+      stands = stands_from g new s (ap (λ (k : Kernel D). k.stop) same ∙ none) serves_on;
+      survives = loose g left_sized old.words.seed s old.disk new.disk (fits g old s serves (g.blocks new.disk) (wide ∙ sym reads.same.size)) e s step refl
+          (wider g old.disk new.disk _ _ reads.images (λ c no. absurd no)) (pending g old s serves);
+    }

@@ -1,0 +1,16 @@
+use Rattle.std.proofs.Common.{◌≡◌, ◌≢◌, ℕ, false, ◌∙◌, ap, arith}
+use Rattle.std.specs.Prelude.{◌==◌}
+use Rattle.std.proofs.lemmas.Bool.Decides.{nat_tests}
+use Rattle.puid_space.specs.Directory.{has_root_in}
+use Rattle.cfs_core.proofs.Created.{none_more}
+use Rattle.cfs_core.proofs.kernel.Core.name.Goals as goal
+
+other : (n : ℕ) → n ≢ 0 → (n == 0) ≡ false
+other n is = grind (arith, nat_tests)
+
+pub invariant_of-self : goal.invariant_of-self
+invariant_of-self g c = record {
+  size = c.self.invariant.size;
+  room = c.add.ensures.room ∙ c.self.invariant.room;
+  some = ap (λ named. has_root_in named 0) c.add.ensures.named ∙ none_more c.args.id c.args.kind c.self.inside.names.named (other c.args.id.block c.if-id-eq0.false) c.self.invariant.some;
+}

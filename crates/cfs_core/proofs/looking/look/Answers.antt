@@ -1,0 +1,35 @@
+use Rattle.std.proofs.Common.{◌≡◌, ◌<◌, ◌≤◌, ℕ, true, false, Option, Some, None, length, refl, sym, ◌∙◌, ap, arith}
+use Rattle.std.specs.Prelude.{nat_le}
+use Rattle.std.proofs.lemmas.Bool.Decides.{nat_tests}
+use Rattle.cfs_base.specs.declared.identifier.Puid.{Puid}
+use Rattle.ufs_model.specs.declared.asked.Reply.TheVariants as replies
+use Rattle.ufs_model.specs.declared.object.Index.{Index}
+use Rattle.ufs_model.specs.Object.{slot_of}
+use Rattle.ufs_model.specs.Outcome.{slot_reply}
+use Rattle.cfs_core.specs.Calls.{looked}
+use Rattle.cfs_core.proofs.looking.look.Goals as goal
+
+beyond : (i : Index) (slot n : ℕ) → n ≡ length i.slots → n ≤ slot → replies.Slot ≡ looked i slot
+beyond i slot n is le = let past : nat_le (length i.slots) slot ≡ true = grind (arith, nat_tests) in rw past refl
+
+inside : (i : Index) (slot n : ℕ) (what : Option Puid) → n ≡ length i.slots → slot < n → what ≡ slot_of i slot → slot_reply what ≡ looked i slot
+inside i slot n what is less here = let below : nat_le (length i.slots) slot ≡ false = grind (arith, nat_tests) in rw below (ap slot_reply here)
+
+pub returns-then-slot-count-clause-exact : goal.returns-then-slot-count-clause-exact
+returns-then-slot-count-clause-exact g c = λ i knows.
+    let count = c.in-Ok.ensures.count knows.graph knows.drafts knows.space knows.id i knows.store knows.root knows.there in
+    beyond i c.args.slot c.in-Ok.count count (omega (arith, c.if-slot-count.true))
+
+pub returns-in-Ok-Some-clause-exact : goal.returns-in-Ok-Some-clause-exact
+returns-in-Ok-Some-clause-exact g c = λ i knows.
+    let count = c.in-Ok.ensures.count knows.graph knows.drafts knows.space knows.id i knows.store knows.root knows.there in
+    let store = c.in-Ok.ensures.store knows.graph knows.drafts knows.space knows.store in
+    let what = c.in-Ok-Some.ensures.slot knows.graph knows.drafts knows.space knows.id i store knows.root knows.there (omega (arith, count, c.if-slot-count.false)) in
+    inside i c.args.slot c.in-Ok.count (Some c.in-Ok-Some.id) count (omega (arith, c.if-slot-count.false)) (sym c.in-Ok-Some.field-0-is ∙ what)
+
+pub returns-in-Ok-None-clause-exact : goal.returns-in-Ok-None-clause-exact
+returns-in-Ok-None-clause-exact g c = λ i knows.
+    let count = c.in-Ok.ensures.count knows.graph knows.drafts knows.space knows.id i knows.store knows.root knows.there in
+    let store = c.in-Ok.ensures.store knows.graph knows.drafts knows.space knows.store in
+    let what = c.in-Ok-None.ensures.slot knows.graph knows.drafts knows.space knows.id i store knows.root knows.there (omega (arith, count, c.if-slot-count.false)) in
+    inside i c.args.slot c.in-Ok.count None count (omega (arith, c.if-slot-count.false)) (sym c.in-Ok-None.field-0-is ∙ what)

@@ -1,0 +1,71 @@
+-- A request that was asked.
+use Rattle.std.specs.Prelude.{◌≡◌, ℕ, ◌+◌, ◌-◌, ◌≤◌, true, false, sum, Result, Ok, Err, Option, Some, None}
+use Rattle.cfs_base.specs.Calls.{HasStopped}
+use Rattle.cfs_base.specs.declared.disk.Disk.{Ghosts}
+use Rattle.cfs_base.specs.declared.refusal.Refused.{Refused}
+use Rattle.cfs_base.specs.declared.refusal.Refused.TheVariants as refusals
+use Rattle.survival.specs.Call.{Survived}
+use Rattle.ufs_model.specs.declared.asked.Event.{Event}
+use Rattle.ufs_model.specs.declared.asked.Event.TheVariants as events
+use Rattle.ufs_model.specs.declared.asked.Reply.{Reply}
+use Rattle.ufs_model.specs.declared.asked.Reply.TheVariants as replies
+use Rattle.ufs_model.specs.declared.asked.Request.{Request}
+use Rattle.ufs_model.specs.Next.{next}
+use Rattle.ufs_model.specs.Outcome.{draws}
+use Rattle.ufs_model.specs.State.{State}
+use Rattle.cfs_core.specs.declared.kernel.Halt.{Halt}
+use Rattle.cfs_core.specs.declared.kernel.Stop.{Stop}
+use Rattle.cfs_core.specs.Calls.{Owes}
+use Rattle.cfs_core.specs.Kernel.{Kernel}
+use Rattle.cfs_core.specs.StandsFor.{StandsFor}
+
+-- ---- what is told of a refusal from below, at this moment of the disk
+
+abbrev pub told : Refused → ℕ → Reply
+told (refusals.Full need) moment = replies.Full need
+told (refusals.Disk false) moment = replies.Disk None
+told (refusals.Disk true) moment = replies.Disk (Some (moment - 1))
+told (refusals.Damaged damage) moment = replies.Damaged damage moment
+told refusals.Memory moment = replies.Memory
+
+-- and whether the core stops
+abbrev pub stopped_by : Reply → Option Stop → Option Stop
+stopped_by (replies.Disk (Some moment)) before = Some (record { moment = moment; damage = None })
+stopped_by (replies.Damaged damage moment) before = Some (record { moment = moment; damage = Some damage })
+stopped_by reply before = before
+
+-- the moment at which it stopped while a session left, if it did
+abbrev pub halted : Result (Unit {0}) Halt → Option ℕ
+halted (Ok u) = None
+halted (Err halt) = Some halt.moment
+
+-- ---- one event
+
+-- the event may come in the state, the core stands for the state after it, and what a crash leaves survives
+pub record Happens {D : Type 0} (g : Ghosts D) (old new : Kernel D) (s : State) (e : Event) : Type 0 where
+  pub after : State
+  pub step : next old.words.seed s e ≡ Some after
+  pub stands : StandsFor g new after
+  pub survives : Survived g old.words.seed s e old.disk new.disk
+
+-- A device call failed in this call. With a doubt something had been tried, and the moment is the one before that which the
+-- disk has now.
+abbrev pub IsToldCause : {D : Type 0} → Ghosts D → D → D → Reply → Type 0
+IsToldCause g old new (replies.Disk None) = HasStopped g false old new
+IsToldCause g old new (replies.Disk (Some moment)) = HasStopped g true old new × (moment ≡ g.moment new - 1)
+IsToldCause g old new reply = Unit {0}
+
+pub record Asks {D : Type 0} (g : Ghosts D) (old new : Kernel D) (who : ℕ) (request : Request) (reply : Reply) : Type 0 where
+  -- one event, for each state that it stood for
+  pub event : (s : State) → StandsFor g old s → Happens g old new s (events.Ask who request reply)
+  -- and the reply is exact
+  pub owed : old.stop ≡ None → (s : State) → StandsFor g old s → Owes old.words.seed s who request (g.content old.disk) (sum old.space.free) reply
+  -- one that stopped makes no call of the disk
+  pub stopped : (stop : Stop) → old.stop ≡ Some stop → (new ≡ old) × (reply ≡ replies.Stopped stop.moment)
+  -- it stops after a doubt and at a damage alone
+  pub stops : old.stop ≡ None → new.stop ≡ stopped_by reply None
+  pub cause : old.stop ≡ None → IsToldCause g old.disk new.disk reply
+  -- on any disk
+  pub seed : new.words.seed ≡ old.words.seed
+  pub kept : old.words.drawn ≤ new.words.drawn
+  pub drawn : new.words.drawn ≤ old.words.drawn + draws request

@@ -1,0 +1,7 @@
+pub mod Kernel
+pub mod StandsFor
+pub mod Calls
+pub mod Looks
+pub mod Makes
+pub mod Asked
+pub mod Opened

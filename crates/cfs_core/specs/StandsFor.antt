@@ -1,0 +1,97 @@
+-- When a core stands for a state: a relation, since no field of a core has all that a collection remembers.
+use Rattle.std.specs.Prelude.{◌≡◌, ◌≤◌, Bool, true, false, List, [], ◌∷◌, ◌++◌, map, sum, Option, Some, None, option_map}
+use Rattle.cfs_base.specs.Disk.{Image}
+use Rattle.cfs_base.specs.declared.disk.Disk.{Ghosts}
+use Rattle.collector_steps.specs.Collecting.{Collecting, Collects}
+use Rattle.intentions.specs.Store.{StoreHas}
+use Rattle.open_table.specs.declared.grant.Grant as seats
+use Rattle.puid_space.specs.Kinds.{kinds_of}
+use Rattle.special_files.specs.Drafting.{Drafting, IsOpen, opened_as}
+use Rattle.ufs_model.specs.declared.collection.Collection.{Collection}
+use Rattle.ufs_model.specs.declared.collection.Collection.TheVariants as collections
+use Rattle.ufs_model.specs.declared.object.Draft.{Draft}
+use Rattle.ufs_model.specs.declared.object.Grant.{Grant}
+use Rattle.ufs_model.specs.Limits.{reserve}
+use Rattle.ufs_model.specs.State.{State}
+use Rattle.ufs_model.specs.WellFormed.{IsState}
+use Rattle.vol_owners.specs.Account.{IsSwept, Opened}
+use Rattle.cfs_core.specs.declared.kernel.Stop.{Stop}
+use Rattle.cfs_core.specs.Kernel.{Kernel, Seat}
+
+-- ---- grants
+
+-- the grant without its draft
+abbrev pub bare : Grant → seats.Grant
+bare g = record { tuid = g.tuid; session = g.session; id = g.id; mode = g.mode }
+
+-- the drafts that the grants have, as the store accounts for them
+abbrev drafts_at : Seat → Option Drafting → Option Draft → List Opened
+drafts_at seat (Some drafting) (Some d) = opened_as seat.grant.id drafting d ∷ []
+drafts_at seat (Some drafting) None = []
+drafts_at seat None draft = []
+
+abbrev pub drafts_of_seats : List Seat → List Grant → List Opened
+drafts_of_seats (seat ∷ seats) (grant ∷ grants) = drafts_at seat seat.drafting grant.draft ++ drafts_of_seats seats grants
+drafts_of_seats [] grants = []
+drafts_of_seats (seat ∷ seats) [] = []
+
+-- the core has a draft exactly where the grant has one, and that is this one
+abbrev HasDraftOf : List Opened → Seat → Option Drafting → Option Draft → Type 0
+HasDraftOf ds seat None None = Unit {0}
+HasDraftOf ds seat (Some drafting) (Some d) = IsOpen ds seat.grant.id drafting d
+HasDraftOf ds seat None (Some d) = ⊥
+HasDraftOf ds seat (Some drafting) None = ⊥
+
+abbrev pub AreDraftsOf : List Opened → List Seat → List Grant → Type 0
+AreDraftsOf ds (seat ∷ seats) (grant ∷ grants) = HasDraftOf ds seat seat.drafting grant.draft × AreDraftsOf ds seats grants
+AreDraftsOf ds [] [] = Unit {0}
+AreDraftsOf ds [] (grant ∷ grants) = ⊥
+AreDraftsOf ds (seat ∷ seats) [] = ⊥
+
+-- ---- the collection
+
+abbrev pub is_sweeping : Collection → Bool
+is_sweeping collections.None = false
+is_sweeping (collections.Marking edges starts) = false
+is_sweeping collections.Sweeping = true
+
+-- a core without a collector has no collection
+abbrev pub HasCollection : Image → State → Option Collecting → Type 0
+HasCollection image s None = s.collection ≡ collections.None
+HasCollection image s (Some k) = Collects image s k
+
+-- ---- standing for
+
+-- what a core that stopped says too
+pub record IsFront {D : Type 0} (k : Kernel D) (s : State) : Type 0 where
+  pub drawn : s.drawn ≡ k.words.drawn
+  pub names : k.names.named ≡ kinds_of s.graph
+  pub grants : map (λ seat. seat.grant) k.seats ≡ map bare s.grants
+  pub stopped : s.stopped ≡ option_map (λ stop. stop.moment) k.stop
+
+-- The store has the graph and the drafts, whatever writes wait for a barrier; the blocks of vanished objects are gone but
+-- in a sweep; and four blocks are Free.
+pub record Serves {D : Type 0} (g : Ghosts D) (k : Kernel D) (s : State) : Type 0 where
+  pub front : IsFront k s
+  pub state : IsState s
+  pub root : s.graph.root ≡ k.root
+  pub store : StoreHas g s.graph (drafts_of_seats k.seats s.grants) k.disk k.space
+  pub drafts : AreDraftsOf (drafts_of_seats k.seats s.grants) k.seats s.grants
+  pub swept : is_sweeping s.collection ≡ false → IsSwept (g.content k.disk) s.graph
+  pub four : reserve ≤ sum k.space.free
+  pub collecting : HasCollection (g.content k.disk) s k.collecting
+
+abbrev pub Stands : {D : Type 0} → Ghosts D → Kernel D → State → Option Stop → Type 0
+Stands g k s None = Serves g k s
+Stands g k s (Some stop) = IsFront k s
+
+abbrev pub StandsFor : {D : Type 0} → Ghosts D → Kernel D → State → Type 0
+StandsFor g k s = Stands g k s k.stop
+
+-- what it says of any core, stopped or not
+pub front_of : {D : Type 0} (g : Ghosts D) (k : Kernel D) (s : State) → StandsFor g k s → IsFront k s
+front_of g k s stands = at k.stop stands
+  where
+    at : (o : Option Stop) → Stands g k s o → IsFront k s
+    at None serves = serves.front
+    at (Some stop) front = front

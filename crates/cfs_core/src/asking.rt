@@ -1,0 +1,111 @@
+//! A request, answered.
+ghost use Rattle.std.specs.Prelude.{◌≡◌, ◌<◌, [], true};
+ghost use Rattle.cfs_core.specs.Asked.{Asks, stopped_by, told};
+ghost use Rattle.cfs_core.specs.Calls.{Tries, serves};
+ghost use Rattle.ufs_model.specs.declared.asked.Reply.TheVariants as replies;
+
+use crate::kernel::{Core, Stop};
+use cfs_base::{Disk, Refused, Session};
+use std::alloc::Global;
+use ufs_model::{Ref, Reply, Request};
+
+impl<D: Disk> Core<D> {
+    /// Answers a request of a session, as one event of the definitions. Memory is taken before anything is written. After
+    /// `Disk` without a doubt, `Full` and `Memory` all is as it was. After `Disk` with one, and after `Damaged`, the core
+    /// has stopped, and answers `Stopped` from then on, with no call of the disk.
+    pub fn ask(&mut self, alloc: Global, who: Session, request: &Request) -> Reply
+        requires served { serves request.now ≡ true }
+        requires words { self.old.words.drawn < 4294967295 }
+        ensures { Asks D.Disk self.old self.new who request.now result }
+    {
+        if let Some(stop) = self.stop {
+            return Reply::Stopped {
+                moment: stop.moment,
+            };
+        }
+        match self.answer(alloc, request) {
+            Ok(reply) => reply,
+            Err(refused) => self.refuse(refused),
+        }
+    }
+
+    /// Tries to answer a request.
+    fn answer(&mut self, alloc: Global, request: &Request) -> Result<Reply, Refused>
+        requires served { serves request.now ≡ true }
+        requires words { self.old.words.drawn < 4294967295 }
+        ensures { Tries D.Disk self.old self.new request.now result }
+    {
+        match request {
+            Request::Retain { index, slot, id } => match index {
+                Ref::Direct(index) => self.retain(alloc, *index, *slot, *id),
+                Ref::Through(_) => Ok(self.no_grant()),
+            },
+            Request::Retrieve { index, slot } => match index {
+                Ref::Direct(index) => self.retrieve(*index, *slot),
+                Ref::Through(_) => Ok(self.no_grant()),
+            },
+            Request::Delete { index, slot } => match index {
+                Ref::Direct(index) => self.delete(alloc, *index, *slot),
+                Ref::Through(_) => Ok(self.no_grant()),
+            },
+            Request::Slots { index } => match index {
+                Ref::Direct(index) => self.slots(*index),
+                Ref::Through(_) => Ok(self.no_grant()),
+            },
+            Request::CreateFile {
+                kind,
+                fill,
+                index,
+                slot,
+            } => match index {
+                Ref::Direct(index) => self.create_file(alloc, *kind, *fill, *index, *slot),
+                Ref::Through(_) => Ok(self.no_grant()),
+            },
+            Request::CreateIndex { slots, index, slot } => match index {
+                Ref::Direct(index) => self.create_index(alloc, *slots, *index, *slot),
+                Ref::Through(_) => Ok(self.no_grant()),
+            },
+            _ => Ok(Reply::NoGrant),
+        }
+    }
+
+    /// Nothing is open, so no session has a grant.
+    fn no_grant(&self) -> Reply
+        ensures none { self.now.seats ≡ [] }
+        ensures reply { result ≡ replies.NoGrant }
+    {
+        let _disk = &self.disk;
+        Reply::NoGrant
+    }
+
+    /// The reply to a request that was refused by what lies below. The core stops where what was asked may have been done,
+    /// and at a damage.
+    fn refuse(&mut self, refused: Refused) -> Reply
+        ensures told { result ≡ told refused (D.moment self.old.disk) }
+        ensures stop { self.new ≡ record self.old { stop = stopped_by (told refused (D.moment self.old.disk)) self.old.stop } }
+    {
+        match refused {
+            Refused::Full(need) => Reply::Full(need),
+            Refused::Memory => Reply::Memory,
+            Refused::Disk { tried: false } => Reply::Disk { doubt: None },
+            Refused::Disk { tried: true } => {
+                let moment = self.disk.moment().saturating_sub(1);
+                self.stop = Some(Stop {
+                    moment,
+                    damage: None,
+                });
+                Reply::Disk {
+                    doubt: Some(moment),
+                }
+            }
+            Refused::Damaged(damage) => {
+                let moment = self.disk.moment();
+                self.stop = Some(Stop {
+                    moment,
+                    damage: Some(damage),
+                });
+                Reply::Damaged { damage, moment }
+            }
+        }
+    }
+}

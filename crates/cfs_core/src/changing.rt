@@ -1,0 +1,113 @@
+//! Requests that change an index.
+ghost use Rattle.std.specs.Prelude.{◌≡◌, ◌≢◌, ◌<◌};
+ghost use Rattle.cfs_core.specs.Calls.{Tries, TriesOn};
+ghost use Rattle.ufs_model.specs.Plain.{is_id};
+ghost use Rattle.ufs_model.specs.declared.asked.Ref.TheVariants.{Direct};
+ghost use Rattle.ufs_model.specs.declared.asked.Request.TheVariants as asks;
+
+use crate::kernel::Core;
+use crate::looking::{has_slot, look};
+use cfs_base::{BlockNo, Damage, Disk, Puid, Refused, code};
+use index_ops::{delete, retain};
+use std::alloc::Global;
+use ufs_model::Reply;
+
+/// Whether this reply tells that a slot holds an identifier.
+fn holds_something(reply: &Reply) -> bool
+    ensures { result ≡ is_id reply.now }
+{
+    match reply {
+        Reply::Id(_) => true,
+        _ => false,
+    }
+}
+
+impl<D: Disk> Core<D> {
+    /// Puts an identifier of an object into a slot.
+    pub(crate) fn retain(
+        &mut self,
+        alloc: Global,
+        index: Puid,
+        slot: u64,
+        id: Puid,
+    ) -> Result<Reply, Refused>
+        ensures { Tries D.Disk self.old self.new (asks.Retain (Direct index) slot id) result }
+    {
+        if self.kind(id).is_none() {
+            return Ok(Reply::NoObject);
+        }
+        if let Some(reply) = self.unfit(index) {
+            return Ok(reply);
+        }
+        match has_slot(&mut self.disk, BlockNo(index.block), slot) {
+            Ok(true) => self.put(alloc, index, slot, id),
+            Ok(false) => Ok(Reply::Slot),
+            Err(trouble) => Err(Refused::from(trouble)),
+        }
+    }
+
+    /// Empties a slot.
+    pub(crate) fn delete(&mut self, alloc: Global, index: Puid, slot: u64) -> Result<Reply, Refused>
+        ensures { Tries D.Disk self.old self.new (asks.Delete (Direct index) slot) result }
+    {
+        if let Some(reply) = self.unfit(index) {
+            return Ok(reply);
+        }
+        match look(&mut self.disk, BlockNo(index.block), slot) {
+            Ok(reply) => {
+                if holds_something(&reply) {
+                    self.empty(alloc, index, slot)
+                } else {
+                    Ok(reply)
+                }
+            }
+            Err(trouble) => Err(Refused::from(trouble)),
+        }
+    }
+
+    /// Puts an identifier into a slot that the index has.
+    fn put(&mut self, alloc: Global, index: Puid, slot: u64, id: Puid) -> Result<Reply, Refused>
+        requires on_disk { index.block < D.blocks self.old.disk }
+        requires some { index.block ≢ 0 }
+        requires few { slot < 983040 }
+        requires id { id.block ≢ 0 }
+        ensures { TriesOn D.Disk self.old self.new index slot (asks.Retain (Direct index) slot id) result }
+    {
+        match retain(
+            alloc,
+            &mut self.disk,
+            &mut self.space,
+            BlockNo(index.block),
+            slot,
+            id,
+        ) {
+            Ok(()) => Ok(Reply::Done),
+            Err(refused) => Err(refused),
+        }
+    }
+
+    /// Empties a slot that holds something. On a disk that lies too few blocks may be Free for it.
+    fn empty(&mut self, alloc: Global, index: Puid, slot: u64) -> Result<Reply, Refused>
+        requires on_disk { index.block < D.blocks self.old.disk }
+        requires some { index.block ≢ 0 }
+        requires few { slot < 983040 }
+        ensures { TriesOn D.Disk self.old self.new index slot (asks.Delete (Direct index) slot) result }
+    {
+        if self.space.free() < 3 {
+            return Err(Refused::Damaged(Damage {
+                block: 0,
+                code: code::TOO_FULL,
+            }));
+        }
+        match delete(
+            alloc,
+            &mut self.disk,
+            &mut self.space,
+            BlockNo(index.block),
+            slot,
+        ) {
+            Ok(()) => Ok(Reply::Done),
+            Err(refused) => Err(refused),
+        }
+    }
+}

@@ -1,0 +1,126 @@
+//! Requests that make an object.
+ghost use Rattle.std.specs.Prelude.{◌≡◌, ◌≢◌, ◌+◌, ◌*◌, ◌<◌, ◌≤◌, ℕ, length, sum, Err};
+ghost use Rattle.cfs_base.specs.declared.refusal.Refused.TheVariants as refusals;
+ghost use Rattle.cfs_core.specs.Calls.{Tries};
+ghost use Rattle.cfs_core.specs.Makes.{Names, TriesToMake, file_kind};
+ghost use Rattle.index_ops.specs.Creates.{MayBeMade, PutsObject, made_of};
+ghost use Rattle.ufs_model.specs.declared.asked.Ref.TheVariants.{Direct};
+ghost use Rattle.ufs_model.specs.declared.asked.Request.TheVariants as asks;
+
+use crate::kernel::Core;
+use crate::looking::has_slot;
+use cfs_base::{BlockNo, Damage, Disk, FileKind, Kind, Puid, Refused, code};
+use index_ops::create;
+use std::alloc::Global;
+use ufs_model::{MOST_SLOTS, Reply};
+
+/// The kind of an object that is such a file.
+fn kind_of(kind: FileKind) -> Kind
+    ensures { result ≡ file_kind kind }
+{
+    match kind {
+        FileKind::Normal => Kind::Normal,
+        FileKind::Special => Kind::Special,
+    }
+}
+
+impl<D: Disk> Core<D> {
+    /// Makes a file of no bytes.
+    pub(crate) fn create_file(
+        &mut self,
+        alloc: Global,
+        kind: FileKind,
+        fill: u8,
+        index: Puid,
+        slot: u64,
+    ) -> Result<Reply, Refused>
+        requires words { self.old.words.drawn < 4294967295 }
+        ensures { Tries D.Disk self.old self.new (asks.CreateFile kind fill (Direct index) slot) result }
+    {
+        if let Some(reply) = self.unfit(index) {
+            return Ok(reply);
+        }
+        match has_slot(&mut self.disk, BlockNo(index.block), slot) {
+            Ok(true) => self.make(alloc, index, slot, kind_of(kind), fill, 0),
+            Ok(false) => Ok(Reply::Slot),
+            Err(trouble) => Err(Refused::from(trouble)),
+        }
+    }
+
+    /// Makes an index of empty slots.
+    pub(crate) fn create_index(
+        &mut self,
+        alloc: Global,
+        slots: u64,
+        index: Puid,
+        slot: u64,
+    ) -> Result<Reply, Refused>
+        requires words { self.old.words.drawn < 4294967295 }
+        ensures { Tries D.Disk self.old self.new (asks.CreateIndex slots (Direct index) slot) result }
+    {
+        if let Some(reply) = self.unfit(index) {
+            return Ok(reply);
+        }
+        match has_slot(&mut self.disk, BlockNo(index.block), slot) {
+            Ok(true) => {
+                if slots == 0 || slots > MOST_SLOTS {
+                    return Ok(Reply::Range);
+                }
+                self.make(alloc, index, slot, Kind::Index, 0, 8 * slots)
+            }
+            Ok(false) => Ok(Reply::Slot),
+            Err(trouble) => Err(Refused::from(trouble)),
+        }
+    }
+
+    /// Makes an object whose identifier is put into a slot that the index has.
+    fn make(
+        &mut self,
+        alloc: Global,
+        index: Puid,
+        slot: u64,
+        kind: Kind,
+        fill: u8,
+        size: u64,
+    ) -> Result<Reply, Refused>
+        requires on_disk { index.block < D.blocks self.old.disk }
+        requires some { index.block ≢ 0 }
+        requires few { slot < 983040 }
+        requires made { MayBeMade kind fill size }
+        requires words { self.old.words.drawn < 4294967295 }
+        ensures { TriesToMake D.Disk self.old self.new index slot (made_of kind fill size) result }
+    {
+        let word = self.words.ahead();
+        match create(
+            alloc,
+            &mut self.disk,
+            &mut self.space,
+            BlockNo(index.block),
+            slot,
+            kind,
+            fill,
+            size,
+            word,
+        ) {
+            Ok(id) => self.name(id, kind),
+            Err(refused) => Err(refused),
+        }
+    }
+
+    /// Names an object that was made, with the word that is drawn for it. On a disk that lies its root block may be another
+    /// object's, or past the disk's end.
+    fn name(&mut self, id: Puid, kind: Kind) -> Result<Reply, Refused>
+        requires words { self.old.words.drawn < 4294967295 }
+        ensures { Names self.old self.new id kind result }
+    {
+        if id.block == 0 || id.block >= self.names.room() || self.names.has_root(id.block) {
+            return Err(Refused::Damaged(Damage {
+                block: id.block,
+                code: code::NOT_OWNED,
+            }));
+        }
+        self.names.add(id, kind);
+        self.words.next();
+        Ok(Reply::Id(id))
+    }
+}

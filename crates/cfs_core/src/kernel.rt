@@ -1,0 +1,170 @@
+//! A core, and what it tells of itself.
+ghost use Rattle.std.specs.Prelude.{◌≡◌, ◌≢◌, ◌+◌, ◌*◌, ◌<◌, length, false, IsOk, IsSome, option_map, option_and_then};
+ghost use Rattle.cfs_core.specs.Asked.{Happens, halted};
+ghost use Rattle.cfs_core.specs.StandsFor.{Serves, StandsFor, drafts_of_seats, is_sweeping};
+ghost use Rattle.cyl_map.specs.Volume.{free_from};
+ghost use Rattle.puid_space.specs.Directory.{kind_in};
+ghost use Rattle.ufs_model.specs.State.{State};
+ghost use Rattle.ufs_model.specs.declared.asked.Event.TheVariants as events;
+ghost use Rattle.vol_owners.specs.Room.{blocks_taken};
+
+use cfs_base::{Damage, Disk, Kind, Puid, Session};
+use cyl_alloc::Space;
+use puid_space::{Directory, Draw};
+use std::alloc::Global;
+use std::marker::Model;
+use ufs_model::{Asker, Reply, Request};
+
+/// Why a core stopped: at which moment of the disk, and the damage if one was the cause.
+#[derive(Clone, Copy, Debug, PartialEq, Eq)]
+pub struct Stop {
+    pub moment: u64,
+    pub damage: Option<Damage>,
+}
+
+/// A session left, and the core stopped at this moment of the disk, since a call of the disk failed or a block was damaged.
+#[derive(Clone, Copy, Debug, PartialEq, Eq)]
+pub struct Halt {
+    pub moment: u64,
+}
+
+/// What a core tells of itself: how many objects, grants and Free blocks there are; whether a collection runs, how many
+/// were called for and how many are finished; and the moment at which it stopped, with the damage if one was the cause.
+#[derive(Clone, Copy, Debug, PartialEq, Eq)]
+pub struct Status {
+    pub objects: u32,
+    pub grants: u32,
+    pub free: u32,
+    pub running: bool,
+    pub called: u32,
+    pub finished: u32,
+    pub stopped: Option<u64>,
+    pub damage: Option<Damage>,
+}
+
+/// The file server on one disk.
+#[derive(Drop)]
+pub struct Core<D: Disk> {
+    pub(crate) disk: D,
+    pub(crate) root: Puid,
+    pub(crate) names: Directory,
+    pub(crate) space: Space,
+    pub(crate) words: Draw,
+    pub(crate) stop: Option<Stop>,
+}
+
+impl<D: Disk> Model for Core<D> {
+    ghost use Rattle.std.specs.Prelude.{[], None};
+    ghost use Rattle.cfs_core.specs.Kernel.{IsSized, Kernel};
+
+    ghost Value = { Kernel D };
+
+    ghost view = { λ c. record {
+      disk = c.disk;
+      root = c.root;
+      names = c.names;
+      space = c.space;
+      words = c.words;
+      seats = [];
+      collecting = None;
+      stop = c.stop;
+    } };
+
+    ghost invariant = { λ c. IsSized D.blocks c.disk c.names c.space };
+}
+
+impl<D: Disk> Core<D> {
+    /// What it tells of itself. `free` is the number of Free blocks of the maps.
+    pub fn status(&self) -> Status
+        ensures objects { result.objects ≡ length self.now.names.named }
+        ensures counted { (s : State) → Serves D.Disk self.now s
+            → result.free ≡ free_from (D.content self.now.disk) 0 (length (D.content self.now.disk)) }
+        // No block is lost.
+        ensures room { (s : State) → Serves D.Disk self.now s → is_sweeping s.collection ≡ false
+            → result.free + blocks_taken s.graph (drafts_of_seats self.now.seats s.grants) + 1
+            ≡ 63 * length self.now.space.free }
+        ensures stopped { result.stopped ≡ option_map (λ stop. stop.moment) self.now.stop }
+        ensures damage { result.damage ≡ option_and_then (λ stop. stop.damage) self.now.stop }
+        ensures grants { result.grants ≡ length self.now.seats }
+        ensures running { result.running ≡ false }
+        ensures called { result.called ≡ 0 }
+        ensures finished { result.finished ≡ 0 }
+    {
+        Status {
+            objects: self.names.len(),
+            grants: 0,
+            free: self.space.free(),
+            running: false,
+            called: 0,
+            finished: 0,
+            stopped: self.stop.map(|stop| stop.moment),
+            damage: self.stop.and_then(|stop| stop.damage),
+        }
+    }
+
+    /// A session leaves. Nothing is open, so all is as it was. A core that stopped is left as well.
+    pub fn leave(&mut self, who: Session) -> Result<(), Halt>
+        ensures event { (s : State) → StandsFor D.Disk self.old s
+            → Happens D.Disk self.old self.new s (events.Leave who (halted result)) }
+        ensures same { self.new ≡ self.old }
+        ensures left { IsOk result }
+    {
+        let _who = who;
+        let _disk = &self.disk;
+        Ok(())
+    }
+
+    /// The disk's clock.
+    pub fn moment(&self) -> u64
+        ensures { result ≡ D.moment self.now.disk }
+    {
+        self.disk.moment()
+    }
+
+    /// How many words were drawn.
+    pub fn drawn(&self) -> u32
+        ensures { result ≡ self.now.words.drawn }
+    {
+        self.words.drawn()
+    }
+
+    /// The disk.
+    pub fn into_disk(self) -> D
+        ensures { result ≡ self.disk }
+    {
+        self.disk
+    }
+
+    /// The kind of an object. Its root block is one of the disk's, and not block 0.
+    pub(crate) fn kind(&self, id: Puid) -> Option<Kind>
+        ensures kind { result ≡ kind_in self.now.names.named id }
+        ensures on_disk { IsSome result → id.block < D.blocks self.now.disk }
+        ensures some { IsSome result → id.block ≢ 0 }
+    {
+        self.names.room();
+        self.names.kind(id)
+    }
+}
+
+impl<D: Disk> Asker for Core<D> {
+    ghost use Rattle.cfs_core.specs.StandsFor.{StandsFor, front_of};
+    ghost use Rattle.cfs_core.specs.Calls as calls;
+
+    ghost stands = { λ k s. StandsFor D.Disk k s };
+
+    ghost seed = { λ k. k.words.seed };
+
+    ghost words = { λ k. k.words.drawn };
+
+    ghost serves = { calls.serves };
+
+    ghost counted = { λ k s stands. (front_of D.Disk k s stands).drawn };
+
+    fn ask(&mut self, alloc: Global, who: Session, request: &Request) -> Reply {
+        Core::ask(self, alloc, who, request)
+    }
+
+    fn drawn(&self) -> u32 {
+        Core::drawn(self)
+    }
+}

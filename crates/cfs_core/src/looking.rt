@@ -1,0 +1,103 @@
+//! Requests that read an index.
+ghost use Rattle.std.specs.Prelude.{◌≡◌, ◌≢◌, ◌<◌, nat_lt, length, true, IfOk, None};
+ghost use Rattle.cfs_core.specs.Calls.{Tries, looked};
+ghost use Rattle.cfs_core.specs.Looks.{IsCalm, Knows, counted, unfit_of};
+ghost use Rattle.puid_space.specs.Directory.{kind_in};
+ghost use Rattle.ufs_model.specs.declared.asked.Ref.TheVariants.{Direct};
+ghost use Rattle.ufs_model.specs.declared.asked.Request.TheVariants as asks;
+ghost use Rattle.ufs_model.specs.Plain.{IsPlainReply, is_id};
+ghost use Rattle.ufs_model.specs.declared.object.Index.{Index};
+
+use crate::kernel::Core;
+use cfs_base::{BlockNo, Disk, Kind, Puid, Refused, Trouble};
+use index_ops::{retrieve, slots};
+use ufs_model::Reply;
+
+/// What a slot of the index at a block holds, as a reply: `Slot` where it has no such slot, `Empty` where it holds nothing.
+pub(crate) fn look<D: Disk>(disk: &mut D, index: BlockNo, slot: u64) -> Result<Reply, Trouble>
+    requires { index.0 < D.blocks disk.old }
+    ensures exact { (i : Index) → Knows D.Disk disk.old index.0 i → IfOk result (λ reply. reply ≡ looked i slot) }
+    ensures few { IfOk result (λ reply. is_id reply ≡ true → slot < 983040) }
+    ensures plain { IfOk result IsPlainReply }
+    ensures calm { IsCalm D.Disk 4 index.0 disk.old disk.new result }
+{
+    let count = match slots(disk, index) {
+        Ok(count) => count,
+        Err(trouble) => return Err(trouble),
+    };
+    if slot >= count {
+        return Ok(Reply::Slot);
+    }
+    match retrieve(disk, index, slot) {
+        Ok(Some(id)) => Ok(Reply::Id(id)),
+        Ok(None) => Ok(Reply::Empty),
+        Err(trouble) => Err(trouble),
+    }
+}
+
+/// Whether the index at a block has such a slot.
+pub(crate) fn has_slot<D: Disk>(disk: &mut D, index: BlockNo, slot: u64) -> Result<bool, Trouble>
+    requires { index.0 < D.blocks disk.old }
+    ensures exact { (i : Index) → Knows D.Disk disk.old index.0 i → IfOk result (λ has. has ≡ nat_lt slot (length i.slots)) }
+    ensures few { IfOk result (λ has. has ≡ true → slot < 983040) }
+    ensures calm { IsCalm D.Disk 1 index.0 disk.old disk.new result }
+{
+    match slots(disk, index) {
+        Ok(count) => Ok(slot < count),
+        Err(trouble) => Err(trouble),
+    }
+}
+
+/// How many slots the index at a block has, as a reply.
+fn count<D: Disk>(disk: &mut D, index: BlockNo) -> Result<Reply, Trouble>
+    requires { index.0 < D.blocks disk.old }
+    ensures exact { (i : Index) → Knows D.Disk disk.old index.0 i → IfOk result (λ reply. reply ≡ counted i) }
+    ensures plain { IfOk result IsPlainReply }
+    ensures calm { IsCalm D.Disk 1 index.0 disk.old disk.new result }
+{
+    match slots(disk, index) {
+        Ok(count) => Ok(Reply::Number(count)),
+        Err(trouble) => Err(trouble),
+    }
+}
+
+impl<D: Disk> Core<D> {
+    /// The refusal of a request on an index that names what is no index, if it is one.
+    pub(crate) fn unfit(&self, index: Puid) -> Option<Reply>
+        ensures unfit { result ≡ unfit_of (kind_in self.now.names.named index) }
+        ensures on_disk { result ≡ None → index.block < D.blocks self.now.disk }
+        ensures some { result ≡ None → index.block ≢ 0 }
+    {
+        match self.kind(index) {
+            None => Some(Reply::NoObject),
+            Some(Kind::Index) => None,
+            Some(_) => Some(Reply::NotIndex),
+        }
+    }
+
+    /// The identifier in a slot.
+    pub(crate) fn retrieve(&mut self, index: Puid, slot: u64) -> Result<Reply, Refused>
+        ensures { Tries D.Disk self.old self.new (asks.Retrieve (Direct index) slot) result }
+    {
+        if let Some(reply) = self.unfit(index) {
+            return Ok(reply);
+        }
+        match look(&mut self.disk, BlockNo(index.block), slot) {
+            Ok(reply) => Ok(reply),
+            Err(trouble) => Err(Refused::from(trouble)),
+        }
+    }
+
+    /// The number of slots.
+    pub(crate) fn slots(&mut self, index: Puid) -> Result<Reply, Refused>
+        ensures { Tries D.Disk self.old self.new (asks.Slots (Direct index)) result }
+    {
+        if let Some(reply) = self.unfit(index) {
+            return Ok(reply);
+        }
+        match count(&mut self.disk, BlockNo(index.block)) {
+            Ok(reply) => Ok(reply),
+            Err(trouble) => Err(Refused::from(trouble)),
+        }
+    }
+}

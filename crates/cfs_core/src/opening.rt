@@ -1,0 +1,84 @@
+//! A volume opened.
+ghost use Rattle.std.specs.Prelude.{◌≡◌, ◌⊎◌, ◌+◌, ◌*◌, ◌/◌, ◌%◌, ◌≤◌, false, IfErr, IfOk, IsErr, IsTrue, OnOk};
+ghost use Rattle.cfs_base.specs.Calls.{HasFailed, MakesAtMost};
+ghost use Rattle.cfs_base.specs.Run.{Leaves};
+ghost use Rattle.puid_space.specs.Directory.{has_root_in};
+ghost use Rattle.cfs_core.specs.Opened.{HasLeft, IsOpened};
+ghost use Rattle.ufs_model.specs.Graph.{Graph, IsGraph};
+ghost use Rattle.ufs_model.specs.Word.{word};
+ghost use Rattle.vol_format.specs.Fresh.{IsFormatted, MayBeFresh};
+ghost use Rattle.vol_image.specs.Sound.{IsSound, IsSoundAs};
+
+use crate::kernel::Core;
+use cfs_base::{Damage, Disk, Failed, code};
+use cfs_recover::{RecoverFault, Recovered, recover};
+use puid_space::{Draw, root_word};
+use std::alloc::Global;
+use vol_format::format_volume;
+
+/// Why a volume wasn't opened, and the disk.
+#[derive(Drop)]
+pub struct OpenFault<D: Disk> {
+    pub why: RecoverFault,
+    pub disk: D,
+}
+
+/// What only a disk that lies can give: identifiers past its end, or of block 0.
+fn is_astray(recovered: &Recovered, blocks: u32) -> bool
+    ensures not { result ≡ false → (recovered.now.names.room ≡ blocks) × (has_root_in recovered.now.names.named 0 ≡ false) }
+    ensures is { recovered.now.names.room ≡ blocks → has_root_in recovered.now.names.named 0 ≡ false → result ≡ false }
+{
+    recovered.names.room() != blocks || recovered.names.has_root(0)
+}
+
+impl<D: Disk> Core<D> {
+    /// Makes a fresh volume of a disk with 64 blocks a cylinder, whose root index is named by the seed's first word, as
+    /// `format_volume` does. Takes no memory. `Failed` where a call of the disk failed: what it held may then be lost.
+    pub fn format(disk: &mut D, seed: u64) -> Result<(), Failed>
+        requires whole { D.blocks disk.old % 64 ≡ 0 }
+        requires some { 1 ≤ D.blocks disk.old }
+        requires most { D.blocks disk.old ≤ 64 * 65536 }
+        ensures made { IsTrue (D.honest disk.old) → OnOk result (IsFormatted D.Disk disk.new (word seed 0)) }
+        // A crash on the way leaves what it might have left before, or no volume, or the fresh one.
+        ensures images { IsTrue (D.honest disk.old) → Leaves D.Disk disk.old disk.new (MayBeFresh (word seed 0)) }
+        ensures cause { IsErr result → HasFailed D.Disk disk.old disk.new }
+        ensures calls { MakesAtMost D.Disk (D.blocks disk.old / 64 + 6) (D.blocks disk.old / 64 + 6) disk.old disk.new }
+    {
+        format_volume(disk, root_word(seed))
+    }
+
+    /// Opens the volume on a disk that a crash left, as `recover` does. Nothing is open on it, and no word of the seed is
+    /// drawn.
+    pub fn open(alloc: Global, disk: D, seed: u64) -> Result<Core<D>, OpenFault<D>>
+        ensures opened { IsTrue (D.honest disk) → (graph : Graph) → IsSoundAs (D.content disk) graph → IsGraph graph
+            → IfOk result (IsOpened D.Disk graph seed) }
+        ensures free { IsTrue (D.honest disk) → IsSound (D.content disk)
+            → IfErr result (λ e. (e.why ≡ RecoverFault.Disk) ⊎ (e.why ≡ RecoverFault.Memory)) }
+        ensures images { IsTrue (D.honest disk) → (graph : Graph) → IsSoundAs (D.content disk) graph
+            → HasLeft D.Disk disk graph result }
+    {
+        let mut disk = disk;
+        match recover(alloc, &mut disk) {
+            Ok(recovered) => {
+                if is_astray(&recovered, disk.blocks()) {
+                    return Err(OpenFault {
+                        why: RecoverFault::Damaged(Damage {
+                            block: 0,
+                            code: code::NO_ROOT,
+                        }),
+                        disk,
+                    });
+                }
+                Ok(Core {
+                    disk,
+                    root: recovered.label.root,
+                    names: recovered.names,
+                    space: recovered.space,
+                    words: Draw::new(seed),
+                    stop: None,
+                })
+            }
+            Err(why) => Err(OpenFault { why, disk }),
+        }
+    }
+}

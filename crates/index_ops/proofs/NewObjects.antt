@@ -1,0 +1,555 @@
+-- An object made, with the index that its identifier is put into.
+use Rattle.std.proofs.Common.{◌≡◌, ◌≢◌, ◌⊎◌, inl, inr, ⊎_elim, ℕ, zero, suc, ◌+◌, ◌-◌, ◌/◌, ◌%◌, ◌<◌, ◌≤◌, ◌^◌, Bool, true, false, List, [], ◌∷◌, ◌++◌, length, get_or, set, Option, Some, None, Ok, Err, refl, sym, ◌∙◌, ap, subst, eq-eqb, lt-ltb, arith}
+use Rattle.std.specs.Prelude.{◌==◌, not, sum, OnOk, IfErr, Result, option_to_list, replicate}
+use Rattle.std.proofs.lemmas.Bool.{and_from, and_parts, both_ways, false_from_ne_true, ne_eqb}
+use Rattle.std.proofs.lemmas.List.{get_or-set_same}
+use Rattle.std.proofs.lemmas.List.Sums.{sum_by-cons}
+use Rattle.cfs_base.specs.Calls.{HasTried, MakesAtMost, OnlyReads}
+use Rattle.cfs_base.specs.Disk.{Image, Nothing, block_at}
+use Rattle.cfs_base.specs.Refusals.{after_try, refused_by, trouble_after_try, trouble_had_tried}
+use Rattle.cfs_base.specs.Run.{Leaves}
+use Rattle.cfs_base.specs.declared.disk.Disk.{Ghosts}
+use Rattle.cfs_base.specs.declared.identifier.Puid.{Puid}
+use Rattle.cfs_base.specs.declared.kind.Kind.{Kind}
+use Rattle.cfs_base.specs.declared.kind.Kind.TheVariants as kinds
+use Rattle.cfs_base.specs.declared.kind.Place.TheVariants.{Root}
+use Rattle.cfs_base.specs.declared.refusal.Refused.{Refused}
+use Rattle.cfs_base.specs.declared.refusal.Refused.TheVariants as refused
+use Rattle.cfs_base.specs.declared.refusal.Trouble.{Trouble}
+use Rattle.cfs_base.specs.declared.refusal.Trouble.TheVariants as trouble
+use Rattle.cfs_base.proofs.Calls.{makes_then, reads_make, reads_then, reads_within, tried_then}
+use Rattle.cfs_base.proofs.Runs.{then, wider}
+use Rattle.block_tree.specs.Pointers.{node_pointers, pointers_of}
+use Rattle.block_tree.specs.Root.{IsRootBlock, root_spelling}
+use Rattle.block_tree.specs.declared.root.Root as roots
+use Rattle.cyl_alloc.specs.Refusals.{IsFindRefusal, IsMapTrouble}
+use Rattle.cyl_alloc.specs.Space.{AreCounts, IsBadMap, IsLeastFree, Kept, after_taking, intended}
+use Rattle.cyl_alloc.proofs.Counted.{counts_taken}
+use Rattle.cyl_map.specs.Entry.{IsEntry}
+use Rattle.cyl_map.specs.Volume.{entry_in, is_free_entry, map_of, with_entry}
+use Rattle.cyl_map.specs.declared.entry.MapEntry.{MapEntry}
+use Rattle.cyl_map.specs.declared.state.BlockState.TheVariants.{Free}
+use Rattle.cyl_map.proofs.Volumes.{entry_in-set, entry_in-with_entry_other, entry_in-with_entry_same, length-with_entry, same_or_not}
+use Rattle.index_ops.specs.Changes.{HasSlot, IsIndexRefusal, index_with}
+use Rattle.index_ops.specs.Creates.{Creates, HasImage, IsBare, IsOpenMap, MakeEnds, MayBeMade, PutsObject, RootEnds, Spells, begun_of, made_of, with_made, with_root}
+use Rattle.index_ops.proofs.Putting.{from_refusal, without_begun}
+use Rattle.intentions.specs.Calls.{ChangesEntry}
+use Rattle.intentions.specs.Course.{Frame, MayPut}
+use Rattle.intentions.specs.Store.{StoreHas}
+use Rattle.intentions.specs.declared.change.Change.TheVariants.{Claim}
+use Rattle.intentions.proofs.Courses.{keeps_frame, on_entry}
+use Rattle.intentions.proofs.Settling.{may_claim}
+use Rattle.special_files.specs.Becomes.{Becomes}
+use Rattle.special_files.specs.Calls.{WritesBlock}
+use Rattle.special_files.specs.Committing.{Committed, Makes, Making, named}
+use Rattle.special_files.specs.Drafting.{Drafting, IsOpen, begun_at, fresh_of, opened_as}
+use Rattle.special_files.specs.Ends.{Ends}
+use Rattle.special_files.specs.Fills.{filled_draft}
+use Rattle.special_files.specs.Refusal.{IsRefusal, IsTrouble, NoMap, OtherCount, is_damage, is_damaged, is_full}
+use Rattle.special_files.specs.Store.{replaced}
+use Rattle.special_files.proofs.Amid.{framed_carries, framed_holds, written_framed}
+use Rattle.special_files.proofs.Begun.{begun_fresh}
+use Rattle.special_files.proofs.CommitFlips.{first_number, more_numbers}
+use Rattle.special_files.proofs.CommitRuns.{no_damage}
+use Rattle.special_files.proofs.CommitStore.{owners_change}
+use Rattle.special_files.proofs.Levels.{length-none}
+use Rattle.special_files.proofs.Lists.{first_here, first_others}
+use Rattle.special_files.proofs.Made.{bare_kept, content_kept, made_kept}
+use Rattle.special_files.proofs.Meant.{counts_content, free_is, meant_open}
+use Rattle.special_files.proofs.PutStore.{the_draft}
+use Rattle.special_files.proofs.CommitDone.{makes_more}
+use Rattle.special_files.proofs.Endings.{ends_then_err, ends_then_ok, trouble_after_tried, write_ends}
+use Rattle.special_files.proofs.Refusals.{refusal_after_reads, refusal_of}
+use Rattle.ufs_model.specs.Graph.{Graph, has_block, object_at}
+use Rattle.ufs_model.specs.Numbers.{has_number}
+use Rattle.ufs_model.specs.declared.object.Index.{Index}
+use Rattle.ufs_model.specs.declared.object.Object.{Object}
+use Rattle.ufs_model.specs.declared.object.Object.TheVariants as objects
+use Rattle.vol_image.specs.Frame.{Frames, IsLoose, StandsForNone}
+use Rattle.vol_image.specs.Part.{is_fixed, part_of, reserved}
+use Rattle.vol_image.specs.Reading.{bare_object}
+use Rattle.vol_image.specs.Sound.{Holds, IsBareRoot}
+use Rattle.vol_image.proofs.AtRest.{loose_stays}
+use Rattle.vol_image.proofs.AtRoot.{bare_index, bare_normal, bare_special}
+use Rattle.vol_image.proofs.Parts.{free_is_loose, in_image}
+use Rattle.vol_image.proofs.Steps.{frames_begin, frames_content, not_map}
+use Rattle.vol_owners.specs.Account.{HasDraft, HasDrafts, HasItsBlocks, IsMade, Opened, created_of, drafts_of, numbers_differ}
+use Rattle.vol_owners.specs.Change.{ChangesOnly, IsOpenTo, SameBut, SameOthers, of_draft, of_drafts, of_owners}
+use Rattle.vol_owners.specs.Owner.{is_had, is_made, is_meant, is_of, is_placed, is_taken, owner_of}
+use Rattle.vol_owners.proofs.Changes.{changes_content, changes_entry, changes_then, changes_wider}
+use Rattle.vol_owners.proofs.Entries.{made_not_free, of_taken}
+use Rattle.vol_owners.proofs.Keys.{block_there, object_of_block}
+use Rattle.vol_owners.proofs.Kept.{draft_kept}
+use Rattle.vol_owners.proofs.Owners.{drafts_miss, list_misses}
+use Rattle.vol_owners.proofs.Rooms.{owns_nothing}
+use Rattle.vol_owners.proofs.Steps.{making_goes_on}
+
+-- ---- why no block is found
+
+module _ {D : Type 0} (g : Ghosts D) (old new : D) (space : Kept) where
+  pub find_why : (e : Refused) → IsFindRefusal g old new space e → OnlyReads g 1 old new → 1 ≤ sum space.free → (at : ℕ) → IsRefusal g at 0 old new space e × (is_full e ≡ false)
+  find_why (refused.Full need) is reads some at = absurd (none is.2)
+    where
+      none : sum space.free ≡ 0 → ⊥
+      none is_zero = omega (arith, is_zero, some)
+  find_why (refused.Disk tried) is reads some at = (is, refl)
+  find_why (refused.Damaged damage) is reads some at = (
+    ⊎_elim
+        (λ no_map. NoMap no_map.0 (omega (arith, is.on_disk, reads.same.size)) (λ tells. subst (λ (c : Image). IsBadMap c damage.block) (sym reads.content) (no_map.1 tells)))
+        (λ other. OtherCount other.0 (λ tells. subst (λ (c : Image). ¬ AreCounts c space) (sym reads.content) (other.1 tells))) is.why,
+    refl,
+  )
+  find_why refused.Memory is reads some at = absurd is
+
+-- block 0 is a map, and not Free
+pub zero_taken : {D : Type 0} (g : Ghosts D) (graph : Graph) (ds : List Opened) (d : D) (space : Kept) → StoreHas g graph ds d space → ¬ IsLeastFree (g.content d) 0
+zero_taken g graph ds d space store least =
+    let was = free_is (g.content d) 0 least.free in
+    let same = store.account.holds.fixed 0 (in_image (g.content d) graph store.account.holds 0 was.0 was.1) refl in
+    let no : is_free_entry (Some reserved) ≡ true = ap is_free_entry (sym same) ∙ least.free in cc
+
+-- ---- the root is claimed
+
+pub root_entry : (n : ℕ) → n ≢ 0 → n < 2 ^ 32 → IsEntry (intended Root n)
+root_entry n some small = record { in_table = rw (lt-ltb 0 n (omega (arith, some)), lt-ltb n (2 ^ 32) small) refl }
+
+abbrev itself : ℕ → ℕ
+itself n = n
+
+one_less : (xs : List ℕ) (i : ℕ) → sum xs ≤ sum (set xs i (get_or xs i 0 - 1)) + 1
+one_less [] i = omega arith
+one_less (x ∷ xs) zero = omega (arith, sum_by-cons itself x xs, sum_by-cons itself (x - 1) xs)
+one_less (x ∷ xs) (suc i) = omega (arith, sum_by-cons itself x xs, sum_by-cons itself x (set xs i (get_or xs i 0 - 1)), one_less xs i)
+
+trouble_sound : (t : Trouble) → is_damage (trouble_after_try t) ≡ false → is_damaged (refused_by t) ≡ false
+trouble_sound (trouble.Disk tried) is = refl
+trouble_sound (trouble.Damaged damage) is = is
+
+pub not_full : (t : Trouble) → is_full (refused_by t) ≡ false
+not_full (trouble.Disk tried) = refl
+not_full (trouble.Damaged damage) = refl
+
+module _ {D : Type 0} (g : Ghosts D) (n : ℕ) (d0 d1 : D) (k0 : Kept) where
+  -- on any disk
+  pub claim_done : {A : Type 0} (x : A) → ChangesEntry g n (λ e. intended Root n) d0 d1 (Ok x) → (k1 : Kept) → k1 ≡ after_taking k0 n → length k1.free ≡ length k0.free → (at : ℕ) → Ends {A = Unit {0}} g at 0 2 1 1 d0 d1 k0 k1 (Ok tt)
+  claim_done x is k1 taken cylinders at = record {
+    told = is.told;
+    refused = tt;
+    untried = tt;
+    cylinders = cylinders;
+    takes = subst (λ (k : Kept). sum k0.free ≤ sum k.free + 1) (sym taken) (one_less k0.free (n / 64));
+    calls = is.calls;
+  }
+
+  pub claim_failed : (A : Type 0) → n < g.blocks d0 → (t : Trouble) → ChangesEntry {A = A} g n (λ e. intended Root n) d0 d1 (Err t) → (at : ℕ) → Ends {A = Unit {0}} g at 0 2 1 1 d0 d1 k0 k0 (Err (refused_by t))
+  claim_failed A below t is at = record {
+    told = tt;
+    refused = why t is.refused is.unless_tried;
+    untried = λ same. (refl, reads_within g d0 d1 1 2 (omega arith) (is.unless_tried (untried t same)));
+    cylinders = refl;
+    takes = omega arith;
+    calls = is.calls;
+  }
+    where
+      untried : (t : Trouble) → refused_by t ≡ refused.Disk false → trouble_had_tried t ≡ false
+      untried (trouble.Disk tried) same = ap had same
+        where
+          had : Refused → Bool
+          had (refused.Disk b) = b
+          had (refused.Full need) = false
+          had (refused.Damaged damage) = false
+          had refused.Memory = false
+      untried (trouble.Damaged damage) same = refl
+
+      why : (t : Trouble) → IsMapTrouble g d0 d1 n t → (trouble_had_tried t ≡ false → OnlyReads g 1 d0 d1) → IsRefusal g at 0 d0 d1 k0 (refused_by t)
+      why (trouble.Disk tried) is only = is
+      why (trouble.Damaged damage) is only = NoMap is.code (omega (arith, is.block, below, (only refl).same.size))
+          (λ tells. subst (λ (m : ℕ). IsBadMap (g.content d1) m) (sym is.block) (subst (λ (i : Image). IsBadMap i (map_of n)) (sym (only refl).content) (bad (is.bad tells))))
+        where
+          bad : IsBadMap (g.content d0) n → IsBadMap (g.content d0) (map_of n)
+          bad b = (b.0, b.1, ap (λ (m : ℕ). entry_in (g.content d0) (m + b.0)) (omega arith) ∙ b.2)
+
+  -- where the store has the objects
+  module _ (graph : Graph) (ds : List Opened) (store : StoreHas g graph ds d0 k0) (least : IsLeastFree (g.content d0) n) (is_entry : IsEntry (intended Root n)) where
+    abbrev a : Image
+    a = g.content d0
+
+    abbrev b : Image
+    b = with_entry a n (intended Root n)
+
+    abbrev holds : Holds a graph
+    holds = store.account.holds
+
+    was : (e : MapEntry) × (entry_in a n ≡ Some e) × (e.state ≡ Free)
+    was = free_is a n least.free
+
+    pub loose : IsLoose a graph n
+    loose = free_is_loose a graph holds n was.0 was.1 was.2
+
+    none_stands : (e : MapEntry) → StandsForNone a graph e
+    none_stands e x p found bit = absurd (both_ways _ (store.account.objects x p found).no_bit bit)
+
+    may : MayPut (Frame a graph) n was.0 (intended Root n)
+    may = may_claim a graph n was.0 loose (none_stands was.0) Root n is_entry (λ root. refl) (none_stands (intended Root n))
+
+    framed : Frames a graph b
+    framed = on_entry (Frame a graph) a n was.0 (intended Root n) holds (frames_begin a graph holds) was.1 may
+
+    pub claimed : {A : Type 0} (x : A) (k1 : Kept) → ChangesEntry g n (λ e. intended Root n) d0 d1 (Ok x) → k1 ≡ after_taking k0 n → RootEnds g graph d0 d1 k1 b (Ok tt)
+    claimed x k1 is taken =
+        let content = is.put store.carries.tells was.0 was.1 in
+        let counts = (counts_taken a k0 n was.0 (intended Root n) store.counts was.1 is_entry (ap is_free_entry (sym was.1) ∙ least.free) refl).0 in
+        record {
+          done = record {
+            carries = is.carries graph was.0 store.carries was.1 may;
+            counts = subst (λ (i : Image). AreCounts i k1) (sym content) (subst (AreCounts b) (sym taken) counts);
+            content = content;
+          };
+          leaves = is.holds graph was.0 store.carries was.1 may;
+          sound = tt;
+        }
+
+    pub unclaimed : (A : Type 0) (t : Trouble) (k1 : Kept) → ChangesEntry {A = A} g n (λ e. intended Root n) d0 d1 (Err t) → RootEnds g graph d0 d1 k1 b (Err (refused_by t))
+    unclaimed A t k1 is = record {
+      done = tt;
+      leaves = is.holds graph was.0 store.carries was.1 may;
+      sound = trouble_sound t (no_damage g n (Claim Root n) d0 d1 (Frame a graph) holds (keeps_frame g graph d0 store.carries) was.0 was.1 t is.refused);
+    }
+
+    -- and then written
+    module _ (d2 : D) (k1 : Kept) (root : roots.Root) (has : HasImage g graph d1 k1 b) (first : Leaves g d0 d1 (λ c. Holds c graph)) where
+      loose_now : IsLoose (g.content d1) graph n
+      loose_now = subst (λ (i : Image). IsLoose i graph n) (sym has.content) (loose_stays a b graph n framed loose)
+
+      below : n < length (g.content d1)
+      below = subst (λ (i : Image). n < length i) (sym has.content) (omega (arith, in_image a graph holds n was.0 was.1, length-with_entry a n (intended Root n)))
+
+      written : Frames (g.content d1) graph (set (g.content d1) n (root_spelling root))
+      written = frames_content (g.content d1) graph (g.content d1) n (root_spelling root) (frames_begin (g.content d1) graph has.carries.holds) loose_now
+
+      pub root_written : (r : Result (Unit {0}) Refused) → WritesBlock g n (root_spelling root) d1 d2 r → RootEnds g graph d0 d2 k1 (with_root a n root) r
+      root_written r is = record {
+        done = done r is;
+        leaves = then g d0 d1 d2 (λ c. Holds c graph) (λ c. Holds c graph) first (framed_holds g graph d1 d2 has.carries images) (λ c h. h);
+        sound = sound r is;
+      }
+        where
+          images : Leaves g d1 d2 (Frames (g.content d1) graph)
+          images = wider g d1 d2 _ _ is.images (written_framed g graph d1 d2 has.carries n (root_spelling root) below written)
+
+          done : (r : Result (Unit {0}) Refused) → WritesBlock g n (root_spelling root) d1 d2 r → OnOk r (HasImage g graph d2 k1 (with_root a n root))
+          done (Ok u) w = record {
+            carries = framed_carries g graph d1 d2 has.carries images (subst (Frames (g.content d1) graph) (sym w.written) written) w.told w.calls.same;
+            counts = subst (λ (i : Image). AreCounts i k1) (sym w.written) (counts_content (g.content d1) k1 n (root_spelling root) (not_map n loose_now.apart) has.counts);
+            content = w.written ∙ ap (λ (i : Image). set i n (root_spelling root)) has.content;
+          }
+          done (Err e) w = tt
+
+          sound : (r : Result (Unit {0}) Refused) → WritesBlock g n (root_spelling root) d1 d2 r → IfErr r (λ e. is_damaged e ≡ false)
+          sound (Ok u) w = tt
+          sound (Err e) w = ap is_damaged w.refused
+
+    -- the same of what the claim gave
+    pub root_made : (d2 : D) (k1 : Kept) (root : roots.Root) → RootEnds g graph d0 d1 k1 b (Ok (tt {0})) → (r : Result (Unit {0}) Refused) → WritesBlock g n (root_spelling root) d1 d2 r → RootEnds g graph d0 d2 k1 (with_root a n root) r
+    root_made d2 k1 root first r is = root_written d2 k1 root first.done first.leaves r is
+
+-- on any disk
+module _ {D : Type 0} (g : Ghosts D) (at : ℕ) where
+  pub make_ends : (n : ℕ) (d0 d1 d2 : D) (k0 k1 : Kept) (root : roots.Root) → Ends {A = Unit {0}} g at 0 2 1 1 d0 d1 k0 k1 (Ok tt) → HasTried g d0 d1 → (r : Result (Unit {0}) Refused) → WritesBlock g n (root_spelling root) d1 d2 r → Ends g at 0 3 2 1 d0 d2 k0 k1 r
+  make_ends n d0 d1 d2 k0 k1 root first tried (Ok u) is =
+      ends_then_ok {A = Unit {0}} {B = Unit {0}} g at 0 d0 d1 d2 k0 k1 k1 tt u 2 1 1 1 1 0 first (write_ends g at 0 d1 d2 k1 n (root_spelling root) (Ok u) is) 3 2 1 (omega arith) (omega arith) (omega arith)
+  make_ends n d0 d1 d2 k0 k1 root first tried (Err e) is =
+      subst (λ (x : Refused). Ends {A = Unit {0}} g at 0 3 2 1 d0 d2 k0 k1 (Err x)) (ap after_try is.refused ∙ sym is.refused)
+      (ends_then_err {A = Unit {0}} {B = Unit {0}} g at 0 d0 d1 d2 k0 k1 k1 tt e 2 1 1 1 1 0 first tried (write_ends g at 0 d1 d2 k1 n (root_spelling root) (Err e) is) 3 2 1 (omega arith) (omega arith) (omega arith))
+
+  pub make_stops : (d0 d1 : D) (k0 k1 : Kept) (e : Refused) → Ends {A = Unit {0}} g at 0 2 1 1 d0 d1 k0 k1 (Err e) → Ends {A = Unit {0}} g at 0 3 2 1 d0 d1 k0 k1 (Err e)
+  make_stops d0 d1 k0 k1 e is = record {
+    told = tt;
+    refused = is.refused;
+    untried = λ same. (let two = is.untried same in (two.0, reads_within g d0 d1 2 3 (omega arith) two.1));
+    cylinders = is.cylinders;
+    takes = is.takes;
+    calls = makes_more g d0 d1 2 1 3 2 (omega arith) (omega arith) is.calls;
+  }
+
+-- ---- the draft makes it
+
+module _ {D : Type 0} (g : Ghosts D) (graph : Graph) (ds : List Opened) (id : Puid) (i : Index) (d0 d2 : D) (k0 k2 : Kept) (was : Drafting) (c : ℕ) (root : roots.Root)
+    (store : StoreHas g graph (opened_as id was (begun_of i) ∷ ds) d0 k0) (at : object_at graph id ≡ Some (objects.Index i)) (here : id.block ≡ was.at) (shut : drafts_of ds id ≡ []) (begun : was ≡ begun_at was.at None was.own)
+    (least : IsLeastFree (g.content d0) c) (is_entry : IsEntry (intended Root c)) (has : HasImage g graph d2 k2 (with_root (g.content d0) c root)) (spelled : Spells root) (bare : IsBare root) where
+  abbrev o : Object
+  o = objects.Index i
+
+  abbrev now : Drafting
+  now = record was { created = Some c }
+
+  abbrev es : List Opened
+  es = opened_as id was (begun_of i) ∷ ds
+
+  abbrev fs : List Opened
+  fs = opened_as id (record was { created = Some c }) (begun_of i) ∷ ds
+
+  abbrev before : Image
+  before = g.content d0
+
+  abbrev after : Image
+  after = g.content d2
+
+  abbrev mid : Image
+  mid = with_entry before c (intended Root c)
+
+  no_created : was.created ≡ None
+  no_created = ap (λ (x : Drafting). x.created) begun
+
+  open_as : (x : Drafting) → x.at ≡ was.at → x.leaves ≡ was.leaves → x.nodes ≡ was.nodes → IsOpen (opened_as id x (begun_of i) ∷ ds) id x (begun_of i)
+  open_as x at_is leaves nodes = record {
+    at = here ∙ sym at_is;
+    alone = first_here (opened_as id x (begun_of i)) ds shut;
+    leaf_flags = ap (length {A = Bool}) leaves ∙ ap (λ (y : Drafting). length y.leaves) begun ∙ length-none 15360;
+    node_flags = ap (length {A = Bool}) nodes ∙ ap (λ (y : Drafting). length y.nodes) begun ∙ length-none 120;
+    fresh = λ k. begun_fresh was.at None was.own k ∙ ap (λ (y : Drafting). get_or (fresh_of y) k []) (sym begun) ∙ (λ j. get_or (fresh_of (record was { leaves = sym leaves j; nodes = sym nodes j })) k []);
+  }
+
+  pub open_now : IsOpen fs id (record was { created = Some c }) (begun_of i)
+  open_now = open_as now refl refl refl
+
+  free : (e : MapEntry) × (entry_in before c ≡ Some e) × (e.state ≡ Free)
+  free = free_is before c least.free
+
+  apart_maps : is_fixed c ≡ false
+  apart_maps = (free_is_loose before graph store.account.holds c free.0 free.1 free.2).apart
+
+  real : c % 64 ≢ 0
+  real = not_map c apart_maps
+
+  entry_here : entry_in after c ≡ Some (intended Root c)
+  entry_here = ap (λ (x : Image). entry_in x c) has.content ∙ entry_in-set mid c (root_spelling root) c real ∙ entry_in-with_entry_same before c (intended Root c) free.0 free.1 is_entry
+
+  entry_other : (n : ℕ) → n ≢ c → entry_in after n ≡ entry_in before n
+  entry_other n other = ap (λ (x : Image). entry_in x n) has.content ∙ entry_in-set mid c (root_spelling root) n real ∙ entry_in-with_entry_other before c (intended Root c) free.0 n free.1 other
+
+  below_mid : c < length mid
+  below_mid = omega (arith, in_image before graph store.account.holds c free.0 free.1, length-with_entry before c (intended Root c))
+
+  block_here : block_at after c ≡ root_spelling root
+  block_here = ap (λ (x : Image). block_at x c) has.content ∙ get_or-set_same mid c (root_spelling root) [] below_mid
+
+  opens : IsOpenTo (λ e. of_draft c e) (Some (intended Root c))
+  opens = meant_open c (Some (intended Root c)) (eq-eqb c c refl)
+
+  only_root : ChangesOnly (λ e. of_draft c e) before after
+  only_root =
+      let entry = changes_entry (λ e. of_draft c e) before c (intended Root c) free.0 store.account.holds.maps store.account.holds.own apart_maps free.1 is_entry (λ r. refl) (inl (ap is_free_entry (sym free.1) ∙ least.free)) opens in
+      subst (ChangesOnly (λ e. of_draft c e) before) (sym has.content) (changes_then (λ e. of_draft c e) before mid (with_root before c root) entry
+      (changes_content (λ e. of_draft c e) mid c (root_spelling root) entry.maps entry.own apart_maps (subst (IsOpenTo (λ e. of_draft c e)) (sym (entry_in-with_entry_same before c (intended Root c) free.0 free.1 is_entry)) opens)))
+
+  nothing : (n : ℕ) → is_of is_taken c (entry_in before n) ≡ false
+  nothing n = owns_nothing before graph es store.account c least.free n
+
+  pub made : IsMade (g.content d2) c
+  made = record {
+    entered = ap is_made entry_here;
+    alone = λ n of_c. ⊎_elim (λ is. is) (λ other. absurd (both_ways _ (nothing n) (ap (is_of is_taken c) (sym (entry_other n other)) ∙ of_c))) (same_or_not n c);
+  }
+
+  fresh : has_block graph.objects c ≡ false
+  fresh = false_from_ne_true _ (λ there.
+      let x = object_of_block graph store.ordered c there in
+      both_ways _ (nothing c) (of_taken is_had refl c (entry_in before c) ((subst (HasItsBlocks before) x.3 (store.account.objects x.0 x.1 x.2)).each c (inl refl))))
+
+  pub apart : c ≢ id.block
+  apart same = both_ways _ fresh (ap (has_block graph.objects) same ∙ block_there graph id o at)
+
+  draft_was : HasDraft before id (opened_as id was (begun_of i))
+  draft_was = the_draft before es id was (begun_of i) (open_as was refl refl refl) (store.account.drafts id o at)
+
+  draft_now : HasDraft after id (opened_as id now (begun_of i))
+  draft_now =
+      let kept = draft_kept (λ e. of_draft c e) before after graph es store.account only_root id o at (drafts_miss is_had refl (c ∷ []) id.block)
+      (list_misses is_meant is_meant (c ∷ []) id.block (rw (ne_eqb c id.block apart) refl)) (opened_as id was (begun_of i)) draft_was in
+      record { own = kept.own; same_kind = kept.same_kind; same_word = kept.same_word; tree = kept.tree; shadow = kept.shadow; fresh = kept.fresh; no_other = kept.no_other }
+
+  absent : has_number c (created_of ds) ≡ false
+  absent = false_from_ne_true _ (λ there. made_not_free (entry_in before c)
+      (store.account.made c (subst (λ (x : Option ℕ). has_number c (option_to_list x ++ created_of ds) ≡ true) (sym no_created) there)).entered least.free)
+
+  but : SameBut c es fs
+  but = record {
+    others = λ n other. more n other ∙ ap (λ (x : Option ℕ). has_number n (option_to_list x ++ created_of ds)) (sym no_created);
+    once = and_from _ _ (ap not absent) (subst (λ (x : Option ℕ). numbers_differ (option_to_list x ++ created_of ds) ≡ true) no_created store.account.made_once);
+  }
+    where
+      more : (n : ℕ) → (n == c) ≡ false → has_number n (c ∷ created_of ds) ≡ has_number n (created_of ds)
+      more n other = rw (ne_eqb c n (λ same. both_ways _ other (eq-eqb n c (sym same)))) refl
+
+  others_same : SameOthers id es fs
+  others_same x other = first_others (opened_as id now (begun_of i)) ds x other ∙ sym (first_others (opened_as id was (begun_of i)) ds x other)
+
+  wide : ChangesOnly (λ e. of_drafts (id.block ∷ c ∷ []) e) before after
+  wide = changes_wider (λ e. of_draft c e) (λ e. of_drafts (id.block ∷ c ∷ []) e) before after (λ entry is.
+      let two = and_parts (is_placed is_meant entry) _ is in
+      and_from _ _ two.0 (more_numbers id.block (owner_of entry) (c ∷ []) two.1)) only_root
+
+  -- the store has the draft with the object that it makes
+  pub store_makes : StoreHas g graph fs d2 k2
+  store_makes = record {
+    carries = has.carries;
+    account = making_goes_on before after graph es fs id o store.account at (subst (HasDrafts after id) (sym (first_here (opened_as id now (begun_of i)) ds shut)) draft_now) others_same store.account.on_objects
+        c wide fresh (inl (made, first_number c (created_of ds))) but;
+    counts = has.counts;
+    ordered = store.ordered;
+  }
+
+  abbrev new : Puid
+  new = named c root.word
+
+  bare_now : IsBareRoot after new root
+  bare_now = record {
+    part = ap part_of entry_here;
+    spelled = subst (λ (x : List ℕ). IsRootBlock x root) (sym block_here) (spelled.spelled bare.good);
+    word = refl;
+    no_node = ap (pointers_of node_pointers) block_here ∙ sym spelled.nodes ∙ bare.no_node;
+  }
+
+  abbrev making : Making
+  making = record { id = named c root.word; object = bare_object root }
+
+  -- ---- the slot is filled, and both are committed
+
+  module _ (slot : ℕ) (d3 d4 : D) (k3 k4 : Kept) (then3 : Drafting) (becomes : Becomes g graph fs id (filled_draft i slot (Some (named c root.word)) (begun_of i)) d2 d3 k3 then3) (stays : then3.created ≡ Some c) where
+    abbrev e : Opened
+    e = opened_as id then3 (filled_draft i slot (Some (named c root.word)) (begun_of i))
+
+    pub still_makes : Makes (g.content d3) then3.created (Some (record { id = named c root.word; object = bare_object root }))
+    still_makes = (
+      stays,
+      (
+        root,
+        bare_kept after (g.content d3) new root bare_now (record {
+          part = ap part_of (made_kept after store_makes.account.holds.own c made (g.content d3) id.block apart becomes.steps.only);
+          content = content_kept after store_makes.account.holds.own c made (g.content d3) id.block apart becomes.steps.only apart_maps;
+        }),
+        refl,
+      ),
+    )
+
+    pub created : Committed g graph (replaced e fs) id (index_with i slot (Some (named c root.word))) (Some (record { id = named c root.word; object = bare_object root })) d3 d4 k4
+        → Creates g graph ds id i slot (named c root.word) (bare_object root) d0 d4 k4
+    created ch =
+        let rs = id.block ∷ c ∷ [] in
+        record {
+          least = least;
+          store = subst (λ (xs : List Opened). StoreHas g (with_made graph id i slot new (bare_object root)) xs d4 k4) (without_begun e (opened_as id now (begun_of i)) ds refl shut) ch.store;
+          settled = ch.settled;
+          only = changes_then _ before (g.content d3) (g.content d4) (changes_then _ before after (g.content d3) (owners_change c rs before after (more_numbers id.block c (c ∷ []) (first_number c [])) only_root)
+              (owners_change id.block rs after (g.content d3) (first_number id.block (c ∷ [])) becomes.steps.only)) ch.only;
+        }
+
+-- ---- how the call ends
+
+module _ {D : Type 0} (g : Ghosts D) (at slot : ℕ) (d0 : D) (k0 : Kept) where
+  -- refused when only reads were made
+  pub err_reads : (made : Object) (word : ℕ) (d1 : D) (k1 : Kept) (n : ℕ) (e : Refused) → n ≤ 9 → OnlyReads g n d0 d1 → k1 ≡ k0 → IsIndexRefusal g at slot d0 d1 k1 e ⊎ IsOpenMap g d0 k0 e
+      → ((graph : Graph) (ds : List Opened) (id : Puid) (i : Index) → HasSlot g graph ds d0 k0 at id i slot → is_damaged e ≡ false) → PutsObject g at slot made word d0 d1 k0 k1 (Err e)
+  err_reads made word d1 k1 n e few reads kept why sound = record {
+    done = λ graph ds id i has. tt;
+    leaves = λ graph ds id i has. wider g d0 d1 Nothing _ reads.images (λ c none. absurd none);
+    sound = sound;
+    refused = why;
+    memory = λ same. (kept, reads_within g d0 d1 n 9 few reads);
+    untried = λ same. (kept, reads_within g d0 d1 n 9 few reads);
+    cylinders = ap (λ (k : Kept). length k.free) kept;
+    calls = made_within d1 n 0 (reads_make g d0 d1 n reads) (omega (arith, few)) (omega arith);
+  }
+    where
+      made_within : (d : D) (n t : ℕ) → MakesAtMost g n t d0 d → n ≤ 30 → t ≤ 30 → MakesAtMost g 93200 46500 d0 d
+      made_within d n t m few fewer = record { later = m.later; keeps = m.keeps; same = m.same; faults = m.faults; calls = omega (arith, m.calls, few); tries = omega (arith, m.tries, fewer); no_fewer = m.no_fewer }
+
+  -- made after reads, or not
+  module _ (d2 d3 : D) (k1 k3 : Kept) (c : ℕ) (root : roots.Root) (reads : OnlyReads g 2 d0 d2) (kept : k1 ≡ k0) (cylinders : length k3.free ≡ length k1.free) (made : MakesAtMost g 93149 46458 d2 d3)
+      (least : (graph : Graph) (ds : List Opened) (id : Puid) (i : Index) → HasSlot g graph ds d0 k0 at id i slot → IsLeastFree (g.content d0) c) where
+    abbrev Ends3 : Result Puid Refused → Type 0
+    Ends3 r = (graph : Graph) (ds : List Opened) (id : Puid) (i : Index) → HasSlot g graph ds d0 k0 at id i slot → MakeEnds g graph ds id i slot (named c root.word) (bare_object root) d2 d3 k3 r
+
+    images : (r : Result Puid Refused) → Ends3 r → (graph : Graph) (ds : List Opened) (id : Puid) (i : Index) → HasSlot g graph ds d0 k0 at id i slot
+        → Leaves g d0 d3 (λ x. Holds x graph ⊎ ((b : ℕ) × IsLeastFree (g.content d0) b × Holds x (with_made graph id i slot (named b root.word) (bare_object root))))
+    images r ends graph ds id i has = then g d0 d2 d3 _ (λ x. Holds x graph ⊎ Holds x (with_made graph id i slot (named c root.word) (bare_object root))) (wider g d0 d2 Nothing _ reads.images (λ x none. absurd none)) (ends graph ds id i has).leaves
+        (λ x h. ⊎_elim (λ old. inl old) (λ both. inr (c, least graph ds id i has, both)) h)
+
+    all : MakesAtMost g 93200 46500 d0 d3
+    all = makes_then g d0 d2 d3 2 93149 93200 0 46458 46500 (reads_make g d0 d2 2 reads) made (omega arith) (omega arith)
+
+    pub made_done : (p : Puid) → p ≡ named c root.word → Ends3 (Ok p) → PutsObject g at slot (bare_object root) root.word d0 d3 k0 k3 (Ok p)
+    made_done p is ends = record {
+      done = λ graph ds id i has.
+          let done = (ends graph ds id i has).done in (
+            ap (λ (x : Puid). x.word) is,
+            subst (λ (x : Puid). Creates g graph ds id i slot x (bare_object root) d0 d3 k3) (sym is) (record {
+              least = least graph ds id i has;
+              store = done.store;
+              settled = done.settled;
+              only = subst (λ (x : Image). ChangesOnly (λ entry. of_owners (id.block ∷ c ∷ []) entry) x (g.content d3)) reads.content done.only;
+            }),
+          );
+      leaves = images (Ok p) ends;
+      sound = λ graph ds id i has. tt;
+      refused = tt;
+      memory = tt;
+      untried = tt;
+      cylinders = cylinders ∙ ap (λ (k : Kept). length k.free) kept;
+      calls = all;
+    }
+
+    pub made_err : (e : Refused) → IsRefusal g at 0 d2 d3 k3 e × (is_full e ≡ false) → (e ≡ refused.Disk false → (k3 ≡ k1) × OnlyReads g 3 d2 d3) → Ends3 (Err e) → PutsObject g at slot (bare_object root) root.word d0 d3 k0 k3 (Err e)
+    made_err e why untried ends = record {
+      done = λ graph ds id i has. tt;
+      leaves = images (Err e) ends;
+      sound = λ graph ds id i has. (ends graph ds id i has).sound;
+      refused = inl (from_refusal g at slot d0 d3 k3 e (refusal_after_reads g at d0 d2 d3 k3 0 2 e reads why.0) why.1);
+      memory = λ same. absurd (subst (IsRefusal g at 0 d2 d3 k3) same why.0);
+      untried = λ same. let two = untried same in (two.0 ∙ kept, reads_then g d0 d2 d3 2 3 9 reads two.1 (omega arith));
+      cylinders = cylinders ∙ ap (λ (k : Kept). length k.free) kept;
+      calls = all;
+    }
+
+-- ---- the root made, the slot filled, and both committed, on any disk
+
+full_stays : (e : Refused) → is_full e ≡ false → is_full (after_try e) ≡ false
+full_stays (refused.Full need) is = is
+full_stays (refused.Disk tried) is = refl
+full_stays (refused.Damaged damage) is = refl
+full_stays refused.Memory is = refl
+
+module _ {D : Type 0} (g : Ghosts D) (at : ℕ) (d0 d1 d2 : D) (k0 k1 k2 : Kept) (j : ℕ) (first : Ends {A = Unit {0}} g at 0 3 2 1 d0 d1 k0 k1 (Ok tt)) (tried : HasTried g d0 d1) where
+  pub fill_refused : (e : Refused) → Ends {A = Bool} g at 0 8 4 j d1 d2 k1 k2 (Err e) → is_full e ≡ false → IsRefusal g at 0 d0 d2 k2 (after_try e) × (is_full (after_try e) ≡ false)
+  fill_refused e ended spare =
+      let both : Ends {A = Bool} g at 0 11 6 (1 + j) d0 d2 k0 k2 (Err (after_try e)) = ends_then_err {A = Unit {0}} {B = Bool} g at 0 d0 d1 d2 k0 k1 k2 tt e 3 2 1 8 4 j first tried ended 11 6 (1 + j) (omega arith) (omega arith) (omega arith) in
+      (both.refused, full_stays e spare)
+
+  module _ (b : Bool) (second : Ends {A = Bool} g at 0 8 4 j d1 d2 k1 k2 (Ok b)) (d3 : D) (k3 : Kept) where
+    both : Ends {A = Bool} g at 0 11 6 (1 + j) d0 d2 k0 k2 (Ok b)
+    both = ends_then_ok {A = Unit {0}} {B = Bool} g at 0 d0 d1 d2 k0 k1 k2 tt b 3 2 1 8 4 j first second 11 6 (1 + j) (omega arith) (omega arith) (omega arith)
+
+    pub commit_refused : (t : Trouble) → IsTrouble g at d2 d3 k3 t → IsRefusal g at 0 d0 d3 k3 (refused_by (trouble_after_try t)) × (is_full (refused_by (trouble_after_try t)) ≡ false)
+    commit_refused t why = (
+      refusal_of g at 0 d0 d3 k3 (trouble_after_try t) (trouble_after_tried g at 0 d0 d2 d3 k3 11 6 both.calls (tried_then g d0 d1 d2 8 4 tried second.calls) both.told t why),
+      not_full (trouble_after_try t),
+    )
+
+    pub commit_calls : MakesAtMost g 93138 46452 d2 d3 → MakesAtMost g 93149 46458 d0 d3
+    commit_calls commit = makes_then g d0 d2 d3 11 93138 93149 6 46452 46458 both.calls commit (omega arith) (omega arith)
+
+-- ---- the root of a new object
+
+abbrev root_with : Kind → (fill size word : ℕ) → roots.Root
+root_with kind fill size word = record { kind = kind; fill = fill; word = word; size = size; nodes = replicate 120 0 }
+
+pub bare_is : (kind : Kind) (fill size word : ℕ) → MayBeMade kind fill size → IsBare (root_with kind fill size word)
+bare_is kinds.Normal fill size word may = record { good = record { fill = λ no. cc; size = record { limit = omega (arith, may); slots = λ no. cc } }; no_node = refl }
+bare_is kinds.Special fill size word may = record { good = record { fill = λ no. cc; size = record { limit = omega (arith, may); slots = λ no. cc } }; no_node = refl }
+bare_is kinds.Index fill size word may = record { good = record { fill = λ is. may.0; size = record { limit = may.2; slots = λ is. (may.1, may.3) } }; no_node = refl }
+
+pub bare_made : (kind : Kind) (fill size word : ℕ) → MayBeMade kind fill size → bare_object (root_with kind fill size word) ≡ made_of kind fill size
+bare_made kinds.Normal fill size word may = bare_normal (root_with kinds.Normal fill size word) refl may
+bare_made kinds.Special fill size word may = bare_special (root_with kinds.Special fill size word) refl may
+bare_made kinds.Index fill size word may = bare_index (root_with kinds.Index fill size word) (size / 8) refl may.0 (omega (arith, may.3))

@@ -1,0 +1,257 @@
+use Rattle.std.proofs.Common.{◌≡◌, ◌⊎◌, inl, ℕ, ◌/◌, ◌∷◌, Bool, false, Some, Ok, Err, refl, sym, ◌∙◌, ap, subst, arith}
+use Rattle.cfs_base.specs.Disk.{Image}
+use Rattle.cfs_base.specs.Refusals.{after_try, refused_by, trouble_after_try}
+use Rattle.cfs_base.specs.declared.refusal.Refused.{Refused}
+use Rattle.cfs_base.specs.declared.refusal.Refused.TheVariants as refusals
+use Rattle.cfs_base.specs.declared.refusal.Trouble.{Trouble}
+use Rattle.cfs_base.specs.declared.refusal.Trouble.TheVariants as trouble
+use Rattle.cfs_base.proofs.Calls.{makes_then}
+use Rattle.cfs_base.proofs.Runs.{then, wider}
+use Rattle.index_ops.specs.Creates.{begun_of, with_made}
+use Rattle.special_files.specs.Committing.{Making, named}
+use Rattle.special_files.specs.Drafting.{Drafting, IsOpen, leaf_takes, opened_as}
+use Rattle.special_files.specs.Ends.{Ends}
+use Rattle.special_files.specs.Fills.{filled_draft}
+use Rattle.special_files.specs.Refusal.{IsRefusal, IsTrouble, is_damage, is_damaged, is_full}
+use Rattle.ufs_model.specs.declared.object.Object.TheVariants as objects
+use Rattle.vol_image.specs.Reading.{bare_object}
+use Rattle.vol_image.specs.Sound.{Holds}
+use Rattle.index_ops.proofs.NewObjects.{commit_calls, commit_refused, created, fill_refused, open_now, root_entry, still_makes, store_makes}
+use Rattle.index_ops.proofs.Putting.{takes_two}
+use Rattle.index_ops.proofs.creating.make_at.Goals as goal
+
+tried_sound : (e : Refused) → is_damaged e ≡ false → is_damaged (after_try e) ≡ false
+tried_sound (refusals.Full need) is = refl
+tried_sound (refusals.Disk tried) is = refl
+tried_sound (refusals.Damaged damage) is = is
+tried_sound refusals.Memory is = refl
+
+trouble_sound : (t : Trouble) → is_damage t ≡ false → is_damaged (refused_by (trouble_after_try t)) ≡ false
+trouble_sound (trouble.Disk tried) is = refl
+trouble_sound (trouble.Damaged damage) is = is
+
+pub returns-in-Err-clause-makes : goal.returns-in-Err-clause-makes
+returns-in-Err-clause-makes g c = λ graph ds id i store at here shut least bare.
+    let ends = c.in-Err.ensures.made graph (opened_as id c.args.draft (begun_of i) ∷ ds) store least in
+    record { done = tt; leaves = wider g.D.Disk c.args.disk.now c.make_root.new.disk _ _ ends.leaves (λ x h. inl h); sound = ends.sound }
+
+pub returns-in-Err-clause-refused : goal.returns-in-Err-clause-refused
+returns-in-Err-clause-refused g c = ((c.in-Err.ensures.ends c.args.draft.at).refused, c.in-Err.ensures.spare)
+
+pub returns-in-Err-clause-untried : goal.returns-in-Err-clause-untried
+returns-in-Err-clause-untried g c = (c.in-Err.ensures.ends 0).untried
+
+pub returns-in-Err-clause-cylinders : goal.returns-in-Err-clause-cylinders
+returns-in-Err-clause-cylinders g c = (c.in-Err.ensures.ends 0).cylinders
+
+pub returns-in-Err-clause-calls : goal.returns-in-Err-clause-calls
+returns-in-Err-clause-calls g c =
+    let m = (c.in-Err.ensures.ends 0).calls in
+    record { later = m.later; keeps = m.keeps; same = m.same; faults = m.faults; calls = omega (arith, m.calls); tries = omega (arith, m.tries); no_fewer = m.no_fewer }
+
+pub fill-requires-clause-on_disk : goal.fill-requires-clause-on_disk
+fill-requires-clause-on_disk g c = omega (arith, ap (λ (x : Drafting). x.at) c.adopt.ensures, c.requires.at, (c.in-Ok.ensures.ends 0).calls.same.size)
+
+pub fill-requires-clause-size : goal.fill-requires-clause-size
+fill-requires-clause-size g c = omega (arith, c.requires.size, (c.in-Ok.ensures.ends 0).calls.same.size, (c.in-Ok.ensures.ends 0).cylinders)
+
+pub fill-requires-clause-slot : goal.fill-requires-clause-slot
+fill-requires-clause-slot g c = (omega (arith, c.requires.some), omega arith, c.fits.ensures)
+
+pub returns-in-Err-fill-clause-makes : goal.returns-in-Err-fill-clause-makes
+returns-in-Err-fill-clause-makes g c = λ graph ds id i store at here shut least bare.
+    let G = g.D.Disk in
+    let d0 = c.args.disk.now in
+    let k0 = c.args.space.now in
+    let d1 = c.make_root.new.disk in
+    let k1 = c.make_root.new.space in
+    let was = c.args.draft in
+    let n = c.args.block.0 in
+    let root = c.args.root.now in
+    let d2 = c.fill.new.disk in
+    let k2 = c.fill.new.space in
+    let j = leaf_takes c.adopt.new.self (c.args.slot / 64) in
+    let first = c.in-Ok.ensures.ends was.at in
+    let at_is = ap (λ (x : Drafting). x.at) c.adopt.ensures in
+    let es = opened_as id was (begun_of i) ∷ ds in
+    let fs = opened_as id (record was { created = Some n }) (begun_of i) ∷ ds in
+    let root_ends = c.in-Ok.ensures.made graph es store least in
+    let entry = root_entry n c.requires.some (omega arith) in
+    let store1 = store_makes G graph ds id i d0 d1 k0 k1 was n root store at here shut c.requires.begun least entry root_ends.done c.in-Ok.ensures.spelled bare in
+    let open1 = subst (λ (x : Drafting). IsOpen fs id x (begun_of i)) (sym c.adopt.ensures) (open_now G graph ds id i d0 d1 k0 k1 was n root store at here shut c.requires.begun least entry root_ends.done c.in-Ok.ensures.spelled bare) in
+    let P : Image → Type 0 = (λ x. Holds x graph ⊎ Holds x (with_made graph id i c.args.slot (named n root.word) (bare_object root))) in
+    let left1 = wider G d0 d1 _ P root_ends.leaves (λ x h. inl h) in
+    let left2 = then G d0 d1 d2 P _ left1 (c.fill.ensures.leaves graph fs id (objects.Index i) (begun_of i) store1 at open1) (λ x h. inl h) in
+    record { done = tt; leaves = left2; sound = subst (λ (e : Refused). is_damaged e ≡ false) (sym c.after_try.ensures) (tried_sound c.in-Err-fill.error (c.in-Err-fill.ensures.sound graph fs id (objects.Index i) (begun_of i) store1 at open1)) }
+
+pub returns-in-Err-fill-clause-refused : goal.returns-in-Err-fill-clause-refused
+returns-in-Err-fill-clause-refused g c =
+    let G = g.D.Disk in
+    let d0 = c.args.disk.now in
+    let k0 = c.args.space.now in
+    let d1 = c.make_root.new.disk in
+    let k1 = c.make_root.new.space in
+    let was = c.args.draft in
+    let n = c.args.block.0 in
+    let root = c.args.root.now in
+    let d2 = c.fill.new.disk in
+    let k2 = c.fill.new.space in
+    let j = leaf_takes c.adopt.new.self (c.args.slot / 64) in
+    let first = c.in-Ok.ensures.ends was.at in
+    let at_is = ap (λ (x : Drafting). x.at) c.adopt.ensures in
+    let second = subst (λ (a : ℕ). Ends {A = Bool} G a 0 8 4 j d1 d2 k1 k2 (Err c.in-Err-fill.error)) at_is c.in-Err-fill.ensures.ends in
+    let spare = c.in-Err-fill.ensures.room (omega (arith, c.requires.room, takes_two c.adopt.new.self (c.args.slot / 64), first.takes)) in
+    subst (λ (e : Refused). IsRefusal G was.at 0 d0 d2 k2 e × (is_full e ≡ false)) (sym c.after_try.ensures) (fill_refused G was.at d0 d1 d2 k0 k1 k2 j first c.in-Ok.ensures.tried c.in-Err-fill.error second spare)
+
+pub returns-in-Err-fill-clause-cylinders : goal.returns-in-Err-fill-clause-cylinders
+returns-in-Err-fill-clause-cylinders g c = c.in-Err-fill.ensures.ends.cylinders ∙ (c.in-Ok.ensures.ends 0).cylinders
+
+pub returns-in-Err-fill-clause-calls : goal.returns-in-Err-fill-clause-calls
+returns-in-Err-fill-clause-calls g c = makes_then g.D.Disk c.args.disk.now c.make_root.new.disk c.fill.new.disk 3 8 93149 2 4 46458 (c.in-Ok.ensures.ends 0).calls c.in-Err-fill.ensures.ends.calls (omega arith) (omega arith)
+
+pub commit-requires-clause-on_disk : goal.commit-requires-clause-on_disk
+commit-requires-clause-on_disk g c = omega (arith, c.fill.ensures.stays.at, ap (λ (x : Drafting). x.at) c.adopt.ensures, c.requires.at, (c.in-Ok.ensures.ends 0).calls.same.size, c.in-Ok-fill.ensures.ends.calls.same.size)
+
+pub commit-requires-clause-size : goal.commit-requires-clause-size
+commit-requires-clause-size g c = omega (arith, c.requires.size, (c.in-Ok.ensures.ends 0).calls.same.size, (c.in-Ok.ensures.ends 0).cylinders, c.in-Ok-fill.ensures.ends.calls.same.size, c.in-Ok-fill.ensures.ends.cylinders)
+
+pub commit-requires-clause-room : goal.commit-requires-clause-room
+commit-requires-clause-room g c = λ none. omega (arith, c.requires.room, takes_two c.adopt.new.self (c.args.slot / 64), c.in-Ok-fill.ensures.ends.takes, (c.in-Ok.ensures.ends 0).takes)
+
+pub returns-in-Ok-commit-clause-makes : goal.returns-in-Ok-commit-clause-makes
+returns-in-Ok-commit-clause-makes g c = λ graph ds id i store at here shut least bare.
+    let G = g.D.Disk in
+    let d0 = c.args.disk.now in
+    let k0 = c.args.space.now in
+    let d1 = c.make_root.new.disk in
+    let k1 = c.make_root.new.space in
+    let was = c.args.draft in
+    let n = c.args.block.0 in
+    let root = c.args.root.now in
+    let d2 = c.fill.new.disk in
+    let k2 = c.fill.new.space in
+    let j = leaf_takes c.adopt.new.self (c.args.slot / 64) in
+    let first = c.in-Ok.ensures.ends was.at in
+    let at_is = ap (λ (x : Drafting). x.at) c.adopt.ensures in
+    let es = opened_as id was (begun_of i) ∷ ds in
+    let fs = opened_as id (record was { created = Some n }) (begun_of i) ∷ ds in
+    let root_ends = c.in-Ok.ensures.made graph es store least in
+    let entry = root_entry n c.requires.some (omega arith) in
+    let store1 = store_makes G graph ds id i d0 d1 k0 k1 was n root store at here shut c.requires.begun least entry root_ends.done c.in-Ok.ensures.spelled bare in
+    let open1 = subst (λ (x : Drafting). IsOpen fs id x (begun_of i)) (sym c.adopt.ensures) (open_now G graph ds id i d0 d1 k0 k1 was n root store at here shut c.requires.begun least entry root_ends.done c.in-Ok.ensures.spelled bare) in
+    let P : Image → Type 0 = (λ x. Holds x graph ⊎ Holds x (with_made graph id i c.args.slot (named n root.word) (bare_object root))) in
+    let left1 = wider G d0 d1 _ P root_ends.leaves (λ x h. inl h) in
+    let left2 = then G d0 d1 d2 P _ left1 (c.fill.ensures.leaves graph fs id (objects.Index i) (begun_of i) store1 at open1) (λ x h. inl h) in
+    let d3 = c.commit.new.disk in
+    let k3 = c.commit.new.space in
+    let made : Making = record { id = named n root.word; object = bare_object root } in
+    let becomes = c.in-Ok-fill.ensures.filled graph fs id (objects.Index i) (begun_of i) i store1 at open1 refl in
+    let stays = c.fill.ensures.stays.created ∙ ap (λ (x : Drafting). x.created) c.adopt.ensures in
+    let still = still_makes G graph ds id i d0 d1 k0 k1 was n root store at here shut c.requires.begun least entry root_ends.done c.in-Ok.ensures.spelled bare c.args.slot d2 d3 k2 k3 c.fill.new.self becomes stays in
+    let committed = c.in-Ok-commit.ensures.done graph _ id (objects.Index i) (filled_draft i c.args.slot (Some (named n root.word)) (begun_of i)) (Some made) becomes.steps.store at becomes.is_open still in
+    let left = c.commit.ensures.leaves graph _ id (objects.Index i) (filled_draft i c.args.slot (Some (named n root.word)) (begun_of i)) (Some made) becomes.steps.store at becomes.is_open still in
+    record {
+      done = created G graph ds id i d0 d1 k0 k1 was n root store at here shut c.requires.begun least entry root_ends.done c.in-Ok.ensures.spelled bare c.args.slot d2 d3 k2 k3 c.fill.new.self becomes stays committed;
+      leaves = then G d0 d2 d3 P _ left2 left (λ x h. h);
+      sound = tt;
+    }
+
+pub returns-in-Ok-commit-clause-cylinders : goal.returns-in-Ok-commit-clause-cylinders
+returns-in-Ok-commit-clause-cylinders g c = c.in-Ok-commit.ensures.cylinders ∙ c.in-Ok-fill.ensures.ends.cylinders ∙ (c.in-Ok.ensures.ends 0).cylinders
+
+pub returns-in-Ok-commit-clause-calls : goal.returns-in-Ok-commit-clause-calls
+returns-in-Ok-commit-clause-calls g c =
+    let G = g.D.Disk in
+    let d0 = c.args.disk.now in
+    let k0 = c.args.space.now in
+    let d1 = c.make_root.new.disk in
+    let k1 = c.make_root.new.space in
+    let was = c.args.draft in
+    let n = c.args.block.0 in
+    let root = c.args.root.now in
+    let d2 = c.fill.new.disk in
+    let k2 = c.fill.new.space in
+    let j = leaf_takes c.adopt.new.self (c.args.slot / 64) in
+    let first = c.in-Ok.ensures.ends was.at in
+    let at_is = ap (λ (x : Drafting). x.at) c.adopt.ensures in
+    let second = subst (λ (a : ℕ). Ends {A = Bool} G a 0 8 4 j d1 d2 k1 k2 (Ok c.in-Ok-fill.field-0)) at_is c.in-Ok-fill.ensures.ends in
+    commit_calls G was.at d0 d1 d2 k0 k1 k2 j first c.in-Ok.ensures.tried c.in-Ok-fill.field-0 second c.commit.new.disk c.commit.new.space c.in-Ok-commit.ensures.calls
+
+pub returns-in-Err-commit-clause-makes : goal.returns-in-Err-commit-clause-makes
+returns-in-Err-commit-clause-makes g c = λ graph ds id i store at here shut least bare.
+    let G = g.D.Disk in
+    let d0 = c.args.disk.now in
+    let k0 = c.args.space.now in
+    let d1 = c.make_root.new.disk in
+    let k1 = c.make_root.new.space in
+    let was = c.args.draft in
+    let n = c.args.block.0 in
+    let root = c.args.root.now in
+    let d2 = c.fill.new.disk in
+    let k2 = c.fill.new.space in
+    let j = leaf_takes c.adopt.new.self (c.args.slot / 64) in
+    let first = c.in-Ok.ensures.ends was.at in
+    let at_is = ap (λ (x : Drafting). x.at) c.adopt.ensures in
+    let es = opened_as id was (begun_of i) ∷ ds in
+    let fs = opened_as id (record was { created = Some n }) (begun_of i) ∷ ds in
+    let root_ends = c.in-Ok.ensures.made graph es store least in
+    let entry = root_entry n c.requires.some (omega arith) in
+    let store1 = store_makes G graph ds id i d0 d1 k0 k1 was n root store at here shut c.requires.begun least entry root_ends.done c.in-Ok.ensures.spelled bare in
+    let open1 = subst (λ (x : Drafting). IsOpen fs id x (begun_of i)) (sym c.adopt.ensures) (open_now G graph ds id i d0 d1 k0 k1 was n root store at here shut c.requires.begun least entry root_ends.done c.in-Ok.ensures.spelled bare) in
+    let P : Image → Type 0 = (λ x. Holds x graph ⊎ Holds x (with_made graph id i c.args.slot (named n root.word) (bare_object root))) in
+    let left1 = wider G d0 d1 _ P root_ends.leaves (λ x h. inl h) in
+    let left2 = then G d0 d1 d2 P _ left1 (c.fill.ensures.leaves graph fs id (objects.Index i) (begun_of i) store1 at open1) (λ x h. inl h) in
+    let d3 = c.commit.new.disk in
+    let k3 = c.commit.new.space in
+    let made : Making = record { id = named n root.word; object = bare_object root } in
+    let becomes = c.in-Ok-fill.ensures.filled graph fs id (objects.Index i) (begun_of i) i store1 at open1 refl in
+    let stays = c.fill.ensures.stays.created ∙ ap (λ (x : Drafting). x.created) c.adopt.ensures in
+    let still = still_makes G graph ds id i d0 d1 k0 k1 was n root store at here shut c.requires.begun least entry root_ends.done c.in-Ok.ensures.spelled bare c.args.slot d2 d3 k2 k3 c.fill.new.self becomes stays in
+    let left = c.commit.ensures.leaves graph _ id (objects.Index i) (filled_draft i c.args.slot (Some (named n root.word)) (begun_of i)) (Some made) becomes.steps.store at becomes.is_open still in
+    let sound = c.in-Err-commit.ensures.sound graph _ id (objects.Index i) (filled_draft i c.args.slot (Some (named n root.word)) (begun_of i)) (Some made) becomes.steps.store at becomes.is_open still in
+    record {
+      done = tt;
+      leaves = then G d0 d2 d3 P _ left2 left (λ x h. h);
+      sound = subst (λ (e : Refused). is_damaged e ≡ false) (sym (c.from.ensures ∙ ap refused_by c.after_try-in-Err-commit.ensures)) (trouble_sound c.in-Err-commit.trouble sound);
+    }
+
+pub returns-in-Err-commit-clause-refused : goal.returns-in-Err-commit-clause-refused
+returns-in-Err-commit-clause-refused g c =
+    let G = g.D.Disk in
+    let d0 = c.args.disk.now in
+    let k0 = c.args.space.now in
+    let d1 = c.make_root.new.disk in
+    let k1 = c.make_root.new.space in
+    let was = c.args.draft in
+    let n = c.args.block.0 in
+    let root = c.args.root.now in
+    let d2 = c.fill.new.disk in
+    let k2 = c.fill.new.space in
+    let j = leaf_takes c.adopt.new.self (c.args.slot / 64) in
+    let first = c.in-Ok.ensures.ends was.at in
+    let at_is = ap (λ (x : Drafting). x.at) c.adopt.ensures in
+    let second = subst (λ (a : ℕ). Ends {A = Bool} G a 0 8 4 j d1 d2 k1 k2 (Ok c.in-Ok-fill.field-0)) at_is c.in-Ok-fill.ensures.ends in
+    let why = subst (λ (a : ℕ). IsTrouble G a d2 c.commit.new.disk c.commit.new.space c.in-Err-commit.trouble) (c.fill.ensures.stays.at ∙ at_is) c.in-Err-commit.ensures.refused in
+    subst (λ (e : Refused). IsRefusal G was.at 0 d0 c.commit.new.disk c.commit.new.space e × (is_full e ≡ false)) (sym (c.from.ensures ∙ ap refused_by c.after_try-in-Err-commit.ensures))
+    (commit_refused G was.at d0 d1 d2 k0 k1 k2 j first c.in-Ok.ensures.tried c.in-Ok-fill.field-0 second c.commit.new.disk c.commit.new.space c.in-Err-commit.trouble why)
+
+pub returns-in-Err-commit-clause-cylinders : goal.returns-in-Err-commit-clause-cylinders
+returns-in-Err-commit-clause-cylinders g c = c.in-Err-commit.ensures.cylinders ∙ c.in-Ok-fill.ensures.ends.cylinders ∙ (c.in-Ok.ensures.ends 0).cylinders
+
+pub returns-in-Err-commit-clause-calls : goal.returns-in-Err-commit-clause-calls
+returns-in-Err-commit-clause-calls g c =
+    let G = g.D.Disk in
+    let d0 = c.args.disk.now in
+    let k0 = c.args.space.now in
+    let d1 = c.make_root.new.disk in
+    let k1 = c.make_root.new.space in
+    let was = c.args.draft in
+    let n = c.args.block.0 in
+    let root = c.args.root.now in
+    let d2 = c.fill.new.disk in
+    let k2 = c.fill.new.space in
+    let j = leaf_takes c.adopt.new.self (c.args.slot / 64) in
+    let first = c.in-Ok.ensures.ends was.at in
+    let at_is = ap (λ (x : Drafting). x.at) c.adopt.ensures in
+    let second = subst (λ (a : ℕ). Ends {A = Bool} G a 0 8 4 j d1 d2 k1 k2 (Ok c.in-Ok-fill.field-0)) at_is c.in-Ok-fill.ensures.ends in
+    commit_calls G was.at d0 d1 d2 k0 k1 k2 j first c.in-Ok.ensures.tried c.in-Ok-fill.field-0 second c.commit.new.disk c.commit.new.space c.in-Err-commit.ensures.calls

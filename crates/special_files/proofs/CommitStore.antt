@@ -1,0 +1,204 @@
+-- The store once a draft is its object, with what was made.
+use Rattle.std.proofs.Common.{◌≡◌, ◌≢◌, inl, ℕ, ◌<◌, Bool, true, false, cond, List, [], ◌∷◌, length, Option, Some, None, Err, refl, sym, ◌∙◌, ap, subst}
+use Rattle.std.specs.Prelude.{Result, option_to_list}
+use Rattle.std.specs.List.{list_all}
+use Rattle.std.proofs.lemmas.Bool.{and_from, and_parts, false_from_ne_true}
+use Rattle.std.proofs.lemmas.Option.{same_Some}
+use Rattle.cfs_base.specs.Disk.{Image}
+use Rattle.cfs_base.specs.Run.{Leaves}
+use Rattle.cfs_base.specs.declared.disk.Disk.{Ghosts}
+use Rattle.cfs_base.specs.declared.identifier.Puid.{Puid}
+use Rattle.cfs_base.specs.declared.refusal.Trouble.{Trouble}
+use Rattle.cfs_base.proofs.Runs.{then, wider}
+use Rattle.block_tree.specs.declared.root.Root as roots
+use Rattle.cyl_alloc.specs.Space.{Kept}
+use Rattle.ufs_model.specs.declared.object.Draft as models
+use Rattle.ufs_model.specs.declared.object.Object.{Object}
+use Rattle.ufs_model.specs.Graph.{Graph, is_there, object_at, with_object}
+use Rattle.ufs_model.specs.Identifier.{same_puid}
+use Rattle.ufs_model.specs.Numbers.{has_number}
+use Rattle.ufs_model.proofs.Graphs.{rises-with_object}
+use Rattle.vol_image.specs.Part.{part_of}
+use Rattle.vol_image.specs.Reading.{bare_object}
+use Rattle.vol_image.specs.Sight.{sight}
+use Rattle.vol_image.specs.Sound.{Holds, IsBareRoot, ReadsAs}
+use Rattle.vol_image.proofs.AtRoot.{bare_reads}
+use Rattle.vol_image.proofs.Changes.{object_made}
+use Rattle.vol_image.proofs.Graphs.{object_at-with_object}
+use Rattle.vol_image.proofs.Parts.{in_image, taken_apart}
+use Rattle.vol_image.proofs.Reached.{same_puid_is}
+use Rattle.vol_image.proofs.Steps.{frames_begin}
+use Rattle.vol_owners.specs.Account.{HasDrafts, IsMade, Opened, drafts_of}
+use Rattle.vol_owners.specs.Change.{ChangesOnly, of_draft, of_owners}
+use Rattle.vol_owners.specs.Owner.{is_meant, is_placed, owner_of}
+use Rattle.vol_owners.proofs.Changes.{changes_then, changes_wider}
+use Rattle.vol_owners.proofs.Entries.{placed_taken}
+use Rattle.vol_owners.proofs.Steps.{creation_goes_on, object_changes_on}
+use Rattle.intentions.specs.Store.{StoreHas}
+use Rattle.intentions.proofs.Changes.{on_ok}
+use Rattle.intentions.proofs.Committed.{object_at_put}
+use Rattle.special_files.specs.Committing.{AreParts, CarriedOut, CommitEnds, Committed, Finishes, IsOldOrNew, IsReady, Makes, Making, with_made}
+use Rattle.special_files.specs.Drafting.{Drafting, IsOpen, opened_as}
+use Rattle.special_files.specs.Refusal.{is_damage}
+use Rattle.special_files.specs.Store.{without_draft}
+use Rattle.special_files.proofs.Amid.{IsAmid}
+use Rattle.special_files.proofs.CommitDraft.{there_still, without_created, without_here, without_others, without_there}
+use Rattle.special_files.proofs.CommitFlips.{first_number, option_is}
+use Rattle.special_files.proofs.Made.{bare_has, bare_kept, bare_unmeant, content_kept, made_apart, made_kept, made_root, no_object, still_made}
+use Rattle.special_files.proofs.Making.{created_there, without_it}
+
+-- what only a draft changed, these owners did
+pub owners_change : (r : ℕ) (rs : List ℕ) (a b : Image) → has_number r rs ≡ true → ChangesOnly (λ e. of_draft r e) a b → ChangesOnly (λ e. of_owners rs e) a b
+owners_change r rs a b among only = changes_wider (λ e. of_draft r e) (λ e. of_owners rs e) a b (λ entry is.
+    let two = and_parts (is_placed is_meant entry) _ is in
+    and_from _ _ (placed_taken is_meant refl entry two.0) (subst (λ (n : ℕ). has_number n rs ≡ true) (same_Some _ _ (option_is (Some r) (owner_of entry) two.1)) among)) only
+
+all_there : (g : Graph) (id : Puid) (o : Object) (ds : List Opened) → list_all (λ f. is_there g f.id) ds ≡ true → list_all (λ f. is_there (with_object g id o) f.id) ds ≡ true
+all_there g id o [] all = refl
+all_there g id o (f ∷ ds) all = let two = and_parts (is_there g f.id) (list_all (λ h. is_there g h.id) ds) all in and_from _ _ (there_still g id o f.id two.0) (all_there g id o ds two.1)
+
+-- of the objects with another one
+other_at : (g : Graph) (x id : Puid) (p o : Object) → same_puid id x ≡ false → object_at g id ≡ Some o → object_at (with_object g x p) id ≡ Some o
+other_at g x id p o other at = object_at-with_object g x p id ∙ ap (λ (b : Bool). cond b (Some p) (object_at g id)) other ∙ at
+
+module _ {D : Type 0} (g : Ghosts D) (graph : Graph) (ds : List Opened) (id : Puid) (was o : Object) (d : Opened) (created : Option ℕ) (d0 d1 : D) (k0 k1 : Kept) (s : ℕ) (taken dropped : List ℕ)
+    (store : StoreHas g graph ds d0 k0) (at : object_at graph id ≡ Some was) (alone : drafts_of ds id ≡ d ∷ []) (created_is : d.created ≡ created) (amid : IsAmid g graph id d0 d1 k1) (ready : IsReady (g.content d1) graph id was o s taken dropped None) where
+  abbrev a : Image
+  a = g.content d0
+
+  abbrev b : Image
+  b = g.content d1
+
+  -- with the objects that there are then
+  ready_for : (full : Graph) → Holds (g.content d1) full → object_at full id ≡ Some was → ((c : ℕ) → created ≡ Some c → IsMade (g.content d1) c) → IsReady (g.content d1) full id was o s taken dropped created
+  ready_for full holds at_full made = record {
+    holds = holds;
+    at = at_full;
+    has = ready.has;
+    draft = ready.draft;
+    meant = ready.meant;
+    stands = ready.stands;
+    all = ready.all;
+    once = ready.once;
+    own = ready.own;
+    gone = ready.gone;
+    others = ready.others;
+    dropped_once = ready.dropped_once;
+    made = made;
+  }
+
+  -- ---- an object is made
+
+  module _ (m : Making) (is : created ≡ Some m.id.block) (root : roots.Root) (bare : IsBareRoot (g.content d0) m.id root) (same : bare_object root ≡ m.object) where
+    abbrev c : ℕ
+    c = m.id.block
+
+    abbrev full : Graph
+    full = with_object graph m.id m.object
+
+    was_made : IsMade (g.content d0) m.id.block
+    was_made = store.account.made m.id.block (created_there id d m.id.block ds alone (created_is ∙ is))
+
+    apart : m.id.block ≢ id.block
+    apart = made_apart a store.account.holds.own c was_made id.block (store.account.objects id was at)
+
+    bare_now : IsBareRoot (g.content d1) m.id root
+    bare_now = bare_kept a b m.id root bare (record {
+      part = ap part_of (made_kept a store.account.holds.own c was_made b id.block apart amid.only);
+      content = content_kept a store.account.holds.own c was_made b id.block apart amid.only (taken_apart a graph store.account.holds c c (made_root a store.account.holds.own c was_made).at.taken);
+    })
+
+    other : same_puid id m.id ≡ false
+    other = false_from_ne_true _ (λ one. apart (ap (λ (x : Puid). x.block) (sym (same_puid_is id m.id one))))
+
+    new_other : same_puid m.id id ≡ false
+    new_other = false_from_ne_true _ (λ one. apart (ap (λ (x : Puid). x.block) (same_puid_is m.id id one)))
+
+    ready_made : IsReady (g.content d1) (with_object graph m.id m.object) id was o s taken dropped created
+    ready_made = ready_for full
+        (object_made b b graph m.id m.object amid.carries.holds (frames_begin b graph amid.carries.holds) (subst (ReadsAs (length b) m.id (sight b c)) same (bare_reads b m.id root bare_now)))
+        (other_at graph m.id id m.object was other at)
+        (λ n at_n. subst (IsMade b) (same_Some _ _ (sym is ∙ at_n)) (still_made a store.account.holds.own c was_made b id.block apart amid.only))
+
+    store_made : (d2 : D) (k2 : Kept) → CarriedOut g (with_object graph m.id m.object) id o created d1 d2 k1 k2 → Committed g graph ds id o (Some m) d0 d2 k2
+    store_made d2 k2 done =
+        let all = changes_then _ a b (g.content d2) (owners_change id.block (id.block ∷ c ∷ []) a b (first_number id.block (c ∷ [])) amid.only) (subst (λ (x : Option ℕ). ChangesOnly (λ e. of_owners (id.block ∷ option_to_list x) e) b (g.content d2)) is done.only) in
+        let without = without_it id d c ds alone (created_is ∙ is) store.account.made_once in
+        let reads = λ (x : Puid) (p : Object) (found : object_at (with_object full id o) x ≡ Some p). subst (λ (n : ℕ). ReadsAs n x (sight (g.content d2) x.block) p) all.size (done.carries.holds.objects x p found) in
+        record {
+          store = record {
+            carries = done.carries;
+            account = creation_goes_on a (g.content d2) graph ds (without_draft id ds) id was o store.account at (reads id o (object_at_put full id o))
+                done.has (subst (HasDrafts (g.content d2) id) (sym (without_here id ds)) done.none_meant) (without_others id ds)
+                m.id m.object (no_object a graph ds store.account store.ordered c was_made) (reads m.id m.object (other_at full id m.id o m.object new_other (object_at_put graph m.id m.object)))
+                (bare_has b (g.content d2) m.id root bare_now (done.made c is)) (bare_unmeant b (g.content d2) m.id root bare_now (done.made c is))
+                all without.gone without.but (without_there full id o ds (all_there graph m.id m.object ds store.account.on_objects));
+            counts = done.counts amid.counts;
+            ordered = rises-with_object full id o (rises-with_object graph m.id m.object store.ordered);
+          };
+          settled = done.settled;
+          only = all;
+        }
+
+  -- ---- none is made
+
+  store_alone : created ≡ None → (d2 : D) (k2 : Kept) → CarriedOut g graph id o created d1 d2 k1 k2 → Committed g graph ds id o None d0 d2 k2
+  store_alone none d2 k2 done =
+      let all = changes_then _ a b (g.content d2) (owners_change id.block (id.block ∷ []) a b (first_number id.block []) amid.only) (subst (λ (x : Option ℕ). ChangesOnly (λ e. of_owners (id.block ∷ option_to_list x) e) b (g.content d2)) none done.only) in
+      record {
+        store = record {
+          carries = done.carries;
+          account = object_changes_on a (g.content d2) graph ds (without_draft id ds) id was o store.account at
+              (subst (λ (n : ℕ). ReadsAs n id (sight (g.content d2) id.block) o) all.size (done.carries.holds.objects id o (object_at_put graph id o)))
+              done.has (subst (HasDrafts (g.content d2) id) (sym (without_here id ds)) done.none_meant) (without_others id ds) all (without_created id d ds alone (created_is ∙ none)) (without_there graph id o ds store.account.on_objects);
+          counts = done.counts amid.counts;
+          ordered = rises-with_object graph id o store.ordered;
+        };
+        settled = done.settled;
+        only = all;
+      }
+
+  -- ---- either
+
+  full_ready : (made : Option Making) → Makes (g.content d0) created made → IsReady (g.content d1) (with_made graph made) id was o s taken dropped created
+  full_ready None none = ready_for graph ready.holds at (λ c is. (let no : None ≡ Some c = sym none ∙ is in cc))
+  full_ready (Some m) makes = ready_made m makes.0 makes.1.0 makes.1.1 makes.1.2
+
+  committed : (made : Option Making) → Makes (g.content d0) created made → (d2 : D) (k2 : Kept) → CarriedOut g (with_made graph made) id o created d1 d2 k1 k2 → Committed g graph ds id o made d0 d2 k2
+  committed None none d2 k2 done = store_alone none d2 k2 done
+  committed (Some m) makes d2 k2 done = store_made m makes.0 makes.1.0 makes.1.1 makes.1.2 d2 k2 done
+
+  pub commit_ends : (made : Option Making) → Makes (g.content d0) created made → (n : ℕ) → id.block ≡ n → (d2 : D) (k2 : Kept) (r : Result (Unit {0}) Trouble) → Finishes g n s taken dropped created d1 d2 k1 k2 r → CommitEnds g graph ds id o made d0 d2 k2 r
+  commit_ends made makes n root d2 k2 r finishes =
+      let f = subst (λ (x : ℕ). Finishes g x s taken dropped created d1 d2 k1 k2 r) (sym root) finishes in
+      let full = with_made graph made in
+      let stands = full_ready made makes in
+      record {
+        done = on_ok r (f.done graph full id.word was o amid.carries stands) (committed made makes d2 k2);
+        leaves = then g d0 d1 d2 (IsOldOrNew graph full id o) (IsOldOrNew graph full id o) (wider g d0 d1 (λ x. Holds x graph) (IsOldOrNew graph full id o) amid.leaves (λ x h. inl h)) (f.leaves graph full id.word was o amid.carries stands) (λ x h. h);
+        sound = f.sound graph full id.word was o amid.carries stands;
+      }
+
+-- a commit that was refused with the objects as they were
+pub commit_stops : {D : Type 0} (g : Ghosts D) (graph : Graph) (ds : List Opened) (id : Puid) (o : Object) (made : Option Making) (old new : D) (space : Kept) (e : Trouble) → Leaves g old new (λ c. Holds c graph) → is_damage e ≡ false → CommitEnds g graph ds id o made old new space (Err e)
+commit_stops g graph ds id o made old new space e leaves sound = record {
+  done = tt;
+  leaves = wider g old new (λ c. Holds c graph) (IsOldOrNew graph (with_made graph made) id o) leaves (λ c h. inl h);
+  sound = sound;
+}
+
+-- the root of an object that is made is a block of the image
+pub made_below : {D : Type 0} (g : Ghosts D) (graph : Graph) (ds : List Opened) (id : Puid) (o : Object) (d0 : D) (k0 : Kept) (drafting : Drafting) (m : models.Draft) (c : ℕ) → StoreHas g graph ds d0 k0 → IsOpen ds id drafting m → drafting.created ≡ Some c → c < length (g.content d0)
+made_below g graph ds id o d0 k0 drafting m c store opened is =
+    let root = (made_root (g.content d0) store.account.holds.own c (store.account.made c (created_there id (opened_as id drafting m) c ds opened.alone is))).at in
+    in_image (g.content d0) graph store.account.holds c root.taken.is root.taken.here
+
+-- the parts of a draft
+pub parts_of : (was now : Drafting) → now ≡ was → AreParts was now.at now.shadow now.own now.root now.created
+parts_of was now same = record {
+  at_is = ap (λ (w : Drafting). w.at) (sym same);
+  shadow_is = ap (λ (w : Drafting). w.shadow) (sym same);
+  own_is = ap (λ (w : Drafting). w.own) (sym same);
+  root_is = ap (λ (w : Drafting). w.root) (sym same);
+  created_is = ap (λ (w : Drafting). w.created) (sym same);
+}
