@@ -1,5 +1,8 @@
-//! The core tried on small volumes. Nothing stands above this crate; its use is its tests.
+//! The core tried on small volumes, beside the slow server, and in what crashes leave. Nothing stands above this crate; its
+//! use is its tests.
 #![tactic(auto)]
 
+#[cfg(test)]
+mod script;
 #[cfg(test)]
 mod tests;
