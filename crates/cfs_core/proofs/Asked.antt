@@ -15,8 +15,8 @@ use Rattle.ufs_model.specs.Next.{next}
 use Rattle.ufs_model.specs.Plain.{IsPlainReply}
 use Rattle.ufs_model.specs.State.{State, stopped_at}
 use Rattle.cfs_core.specs.declared.kernel.Stop.{Stop}
-use Rattle.cfs_core.specs.Asked.{Asks, Happens, IsToldCause, stopped_by, told}
-use Rattle.cfs_core.specs.Calls.{Answers, EndsSo, IsCause, IsInDoubt, Owes, Tries}
+use Rattle.cfs_core.specs.Asked.{Asks, Happens, IsShortContent, IsToldCause, stopped_by, told}
+use Rattle.cfs_core.specs.Calls.{Answers, EndsSo, IsCause, IsInDoubt, Owes, Tries, leaves_all}
 use Rattle.cfs_core.specs.Kernel.{Kernel, Seat}
 use Rattle.cfs_core.specs.StandsFor.{IsFront, Serves, Stands, StandsFor, front_of}
 use Rattle.cfs_core.proofs.Serving.{empty_map, fits, pending, running, serves_from}
@@ -30,6 +30,17 @@ plain_cause : {D : Type 0} (g : Ghosts D) (old new : D) (reply : Reply) → IsPl
 plain_cause g old new (replies.Disk doubt) plain = absurd plain
 plain_cause g old new reply plain = tt
 
+plain_short : (reply : Reply) → IsPlainReply reply → IsShortContent reply
+plain_short (replies.Content bytes) plain = plain
+plain_short reply plain = tt
+
+told_short : (refused : Refused) (moment : ℕ) → IsShortContent (told refused moment)
+told_short (refusals.Full need) moment = tt
+told_short (refusals.Disk false) moment = tt
+told_short (refusals.Disk true) moment = tt
+told_short (refusals.Damaged damage) moment = tt
+told_short refusals.Memory moment = tt
+
 happens : {D : Type 0} (g : Ghosts D) (old new : Kernel D) (s : State) (who : ℕ) (request : Request) (reply : Reply) → Answers g old new s who request reply → Happens g old new s (events.Ask who request reply)
 happens g old new s who request reply is = record { after = is.event.after; step = is.event.step; stands = is.event.stands; survives = inl is.event.survives }
 
@@ -38,9 +49,12 @@ pub asks_stopped : {D : Type 0} (g : Ghosts D) (k : Kernel D) (who : ℕ) (reque
 asks_stopped g k who request stop is = record {
   event = λ s stands. record { after = s; step = step s (subst (Stands g k s) is stands); stands = stands; survives = inr (record { disk = refl; after = s; step = step s (subst (Stands g k s) is stands); graph = refl }) };
   owed = λ none. cc;
+  still = λ none. cc;
   stopped = λ other same. let one : stop ≡ other = cc in (refl, ap (λ (x : Stop). replies.Stopped x.moment) one);
   stops = λ none. cc;
   cause = λ none. tt;
+  size = refl;
+  short = tt;
   seed = refl;
   kept = omega arith;
   drawn = omega arith;
@@ -54,9 +68,12 @@ pub asks_answered : {D : Type 0} (g : Ghosts D) (old new : Kernel D) (who : ℕ)
 asks_answered g old new who request reply none tries = record {
   event = λ s stands. happens g old new s who request reply (tries.ends s who (serves_from g old s none stands) none);
   owed = λ _ s stands. (tries.ends s who (serves_from g old s none stands) none).owed;
+  still = λ _ s stands. (tries.ends s who (serves_from g old s none stands) none).still;
   stopped = λ stop is. cc;
   stops = λ _. tries.stop ∙ none ∙ sym (plain_goes_on reply tries.plain None);
   cause = λ _. plain_cause g old.disk new.disk reply tries.plain;
+  size = tries.size;
+  short = plain_short reply tries.plain;
   seed = tries.seed;
   kept = tries.kept;
   drawn = tries.drawn;
@@ -96,6 +113,13 @@ module _ {D : Type 0} (g : Ghosts D) (left_sized : (d : D) (t : ℕ) (c : Image)
   told_owed (refusals.Damaged damage) moment s is = absurd is
   told_owed refusals.Memory moment s is = tt
 
+  told_still : (refused : Refused) (moment : ℕ) (s : State) → EndsSo g old mid s who request (Err refused) → leaves_all (told refused moment) ≡ true → g.content mid.disk ≡ g.content old.disk
+  told_still (refusals.Full need) moment s is leaves = is.still leaves
+  told_still (refusals.Disk false) moment s is leaves = is.still leaves
+  told_still (refusals.Disk true) moment s is leaves = absurd (cc leaves)
+  told_still (refusals.Damaged damage) moment s is leaves = absurd (cc leaves)
+  told_still refusals.Memory moment s is leaves = is.still leaves
+
   told_cause : (refused : Refused) → IsCause g old.disk mid.disk refused → IsToldCause g old.disk mid.disk (told refused (g.moment mid.disk))
   told_cause (refusals.Full need) is = tt
   told_cause (refusals.Disk false) is = is
@@ -106,10 +130,13 @@ module _ {D : Type 0} (g : Ghosts D) (left_sized : (d : D) (t : ℕ) (c : Image)
   pub asks_refused : (refused : Refused) (new : Kernel D) → new ≡ stopped_as (told refused (g.moment mid.disk)) → Tries g old mid request (Err refused) → Asks g old new who request (told refused (g.moment mid.disk))
   asks_refused refused new is tries = subst (λ (k : Kernel D). Asks g old k who request (told refused (g.moment mid.disk))) (sym is) (record {
     event = λ s stands. let serves = serves_from g old s none stands in told_happens refused (g.moment mid.disk) s serves (tries.ends s who serves none);
+    still = λ _ s stands. told_still refused (g.moment mid.disk) s (tries.ends s who (serves_from g old s none stands) none);
     owed = λ _ s stands. told_owed refused (g.moment mid.disk) s (tries.ends s who (serves_from g old s none stands) none);
     stopped = λ stop same. cc;
     stops = λ _. ap (λ (o : Option Stop). stopped_by (told refused (g.moment mid.disk)) o) (tries.stop ∙ none);
     cause = λ _. told_cause refused tries.cause;
+    size = size;
+    short = told_short refused (g.moment mid.disk);
     seed = tries.seed;
     kept = tries.kept;
     drawn = tries.drawn;

@@ -10,4 +10,5 @@ mod Placed
 mod After
 mod Makings
 mod Asked
+mod SoundGraph
 mod Opened

@@ -1,5 +1,5 @@
 -- A request that was asked.
-use Rattle.std.specs.Prelude.{◌≡◌, ℕ, ◌+◌, ◌-◌, ◌≤◌, true, false, sum, Result, Ok, Err, Option, Some, None}
+use Rattle.std.specs.Prelude.{◌≡◌, ℕ, ◌+◌, ◌-◌, ◌≤◌, true, false, length, sum, Result, Ok, Err, Option, Some, None}
 use Rattle.cfs_base.specs.Calls.{HasStopped}
 use Rattle.cfs_base.specs.declared.disk.Disk.{Ghosts}
 use Rattle.cfs_base.specs.declared.refusal.Refused.{Refused}
@@ -10,12 +10,13 @@ use Rattle.ufs_model.specs.declared.asked.Event.TheVariants as events
 use Rattle.ufs_model.specs.declared.asked.Reply.{Reply}
 use Rattle.ufs_model.specs.declared.asked.Reply.TheVariants as replies
 use Rattle.ufs_model.specs.declared.asked.Request.{Request}
+use Rattle.ufs_model.specs.Limits.{most_at_once}
 use Rattle.ufs_model.specs.Next.{next}
 use Rattle.ufs_model.specs.Outcome.{draws}
 use Rattle.ufs_model.specs.State.{State}
 use Rattle.cfs_core.specs.declared.kernel.Halt.{Halt}
 use Rattle.cfs_core.specs.declared.kernel.Stop.{Stop}
-use Rattle.cfs_core.specs.Calls.{Owes}
+use Rattle.cfs_core.specs.Calls.{Owes, leaves_all}
 use Rattle.cfs_core.specs.Kernel.{Kernel}
 use Rattle.cfs_core.specs.StandsFor.{StandsFor}
 
@@ -39,6 +40,11 @@ abbrev pub halted : Result (Unit {0}) Halt → Option ℕ
 halted (Ok u) = None
 halted (Err halt) = Some halt.moment
 
+-- a content is no longer than one read gives
+abbrev pub IsShortContent : Reply → Type 0
+IsShortContent (replies.Content bytes) = length bytes ≤ most_at_once
+IsShortContent reply = Unit {0}
+
 -- ---- one event
 
 -- the event may come in the state, the core stands for the state after it, and what a crash leaves survives
@@ -60,12 +66,16 @@ pub record Asks {D : Type 0} (g : Ghosts D) (old new : Kernel D) (who : ℕ) (re
   pub event : (s : State) → StandsFor g old s → Happens g old new s (events.Ask who request reply)
   -- and the reply is exact
   pub owed : old.stop ≡ None → (s : State) → StandsFor g old s → Owes old.words.seed s who request (g.content old.disk) (sum old.space.free) reply
+  -- a refusal, Full and Memory leave the disk's content as it was
+  pub still : old.stop ≡ None → (s : State) → StandsFor g old s → leaves_all reply ≡ true → g.content new.disk ≡ g.content old.disk
   -- one that stopped makes no call of the disk
   pub stopped : (stop : Stop) → old.stop ≡ Some stop → (new ≡ old) × (reply ≡ replies.Stopped stop.moment)
   -- it stops after a doubt and at a damage alone
   pub stops : old.stop ≡ None → new.stop ≡ stopped_by reply None
   pub cause : old.stop ≡ None → IsToldCause g old.disk new.disk reply
   -- on any disk
+  pub size : g.blocks new.disk ≡ g.blocks old.disk
+  pub short : IsShortContent reply
   pub seed : new.words.seed ≡ old.words.seed
   pub kept : old.words.drawn ≤ new.words.drawn
   pub drawn : new.words.drawn ≤ old.words.drawn + draws request

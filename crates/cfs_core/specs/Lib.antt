@@ -1,5 +1,6 @@
 pub mod Kernel
 pub mod StandsFor
+pub mod Room
 pub mod Calls
 pub mod Looks
 pub mod Makes

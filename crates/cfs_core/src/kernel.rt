@@ -1,11 +1,13 @@
 //! A core, and what it tells of itself.
-ghost use Rattle.std.specs.Prelude.{◌≡◌, ◌≢◌, ◌+◌, ◌*◌, ◌<◌, length, false, IsOk, IsSome, option_map, option_and_then};
+ghost use Rattle.std.specs.Prelude.{◌≡◌, [], ◌≢◌, ◌+◌, ◌*◌, ◌<◌, length, false, IsOk, IsSome, option_map, option_and_then, sum};
 ghost use Rattle.cfs_core.specs.Asked.{Happens, halted};
+ghost use Rattle.cfs_core.specs.Room.{IsRoom};
 ghost use Rattle.cfs_core.specs.StandsFor.{Serves, StandsFor, drafts_of_seats, is_sweeping};
 ghost use Rattle.cyl_map.specs.Volume.{free_from};
 ghost use Rattle.puid_space.specs.Directory.{kind_in};
 ghost use Rattle.ufs_model.specs.State.{State};
 ghost use Rattle.ufs_model.specs.declared.asked.Event.TheVariants as events;
+ghost use Rattle.ufs_model.specs.declared.collection.Collection.TheVariants as collections;
 ghost use Rattle.vol_owners.specs.Room.{blocks_taken};
 
 use cfs_base::{Damage, Disk, Kind, Puid, Session};
@@ -100,6 +102,18 @@ impl<D: Disk> Core<D> {
             stopped: self.stop.map(|stop| stop.moment),
             damage: self.stop.and_then(|stop| stop.damage),
         }
+    }
+
+    /// The Free blocks that the core counts are the room, as long as nothing sweeps; and nothing is open yet, and no
+    /// collection runs. This does nothing: it is a law.
+    pub fn has_room(&self)
+        ensures size { D.blocks self.now.disk ≡ 64 * length self.now.space.free }
+        ensures closed { (s : State) → Serves D.Disk self.now s → s.grants ≡ [] }
+        ensures idle { (s : State) → Serves D.Disk self.now s → s.collection ≡ collections.None }
+        ensures room { (s : State) → Serves D.Disk self.now s → is_sweeping s.collection ≡ false
+            → IsRoom (length self.now.space.free) s (sum self.now.space.free) }
+    {
+        let _disk = &self.disk;
     }
 
     /// A session leaves. Nothing is open, so all is as it was. A core that stopped is left as well.

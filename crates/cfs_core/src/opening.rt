@@ -1,10 +1,13 @@
 //! A volume opened.
-ghost use Rattle.std.specs.Prelude.{◌≡◌, ◌⊎◌, ◌+◌, ◌*◌, ◌/◌, ◌%◌, ◌≤◌, false, IfErr, IfOk, IsErr, IsTrue, OnOk};
+ghost use Rattle.std.specs.Prelude.{◌≡◌, ◌≢◌, ◌⊎◌, ◌+◌, ◌*◌, ◌/◌, ◌%◌, ◌≤◌, false, IfErr, IfOk, IsErr, IsTrue, OnOk, length};
 ghost use Rattle.cfs_base.specs.Calls.{HasFailed, MakesAtMost};
 ghost use Rattle.cfs_base.specs.Run.{Leaves};
+ghost use Rattle.cfs_recover.specs.Grounds.{IsOpenFault};
+ghost use Rattle.cfs_recover.specs.Recovered.{IsUntouched, LeavesSinceBarrier};
+ghost use Rattle.cfs_recover.specs.Refusals.{IsCaused};
 ghost use Rattle.puid_space.specs.Directory.{has_root_in};
-ghost use Rattle.cfs_core.specs.Opened.{HasLeft, IsOpened};
-ghost use Rattle.ufs_model.specs.Graph.{Graph, IsGraph};
+ghost use Rattle.cfs_core.specs.Opened.{IsOpened, disk_of};
+ghost use Rattle.ufs_model.specs.Graph.{Graph};
 ghost use Rattle.ufs_model.specs.Word.{word};
 ghost use Rattle.vol_format.specs.Fresh.{IsFormatted, MayBeFresh};
 ghost use Rattle.vol_image.specs.Sound.{IsSound, IsSoundAs};
@@ -50,12 +53,24 @@ impl<D: Disk> Core<D> {
     /// Opens the volume on a disk that a crash left, as `recover` does. Nothing is open on it, and no word of the seed is
     /// drawn.
     pub fn open(alloc: Global, disk: D, seed: u64) -> Result<Core<D>, OpenFault<D>>
-        ensures opened { IsTrue (D.honest disk) → (graph : Graph) → IsSoundAs (D.content disk) graph → IsGraph graph
+        ensures opened { IsTrue (D.honest disk) → (graph : Graph) → IsSoundAs (D.content disk) graph
             → IfOk result (IsOpened D.Disk graph seed) }
+        // A volume that isn't sound is refused for what is wrong with it, and a sound one for nothing of the kind.
+        ensures sound { IsTrue (D.honest disk) → IfOk result (λ core. IsSound (D.content disk)) }
+        ensures refused { IsTrue (D.honest disk) → IfErr result (λ e. IsOpenFault (D.content disk) e.why) }
         ensures free { IsTrue (D.honest disk) → IsSound (D.content disk)
             → IfErr result (λ e. (e.why ≡ RecoverFault.Disk) ⊎ (e.why ≡ RecoverFault.Memory)) }
+        // Nothing was written where it is refused for another reason than a device call, or the volume isn't sound.
+        ensures untouched { IsTrue (D.honest disk)
+            → IfErr result (λ e. e.why ≢ RecoverFault.Disk → IsUntouched D.Disk disk e.disk) }
+        ensures unsound { IsTrue (D.honest disk) → ¬ IsSound (D.content disk)
+            → IsUntouched D.Disk disk (disk_of result) }
+        // A sound one reads as it did in each image since the first barrier, Ok or not.
         ensures images { IsTrue (D.honest disk) → (graph : Graph) → IsSoundAs (D.content disk) graph
-            → HasLeft D.Disk disk graph result }
+            → LeavesSinceBarrier D.Disk disk (disk_of result) (λ c. IsSoundAs c graph) }
+        ensures cause { IfErr result (λ e. IsCaused D.Disk disk e.disk e.why) }
+        ensures calls { MakesAtMost D.Disk (15485 * D.blocks disk + 4) (2 * D.blocks disk + 3) disk (disk_of result) }
+        ensures size { IfOk result (λ k. D.blocks disk ≡ 64 * length k.space.free) }
     {
         let mut disk = disk;
         match recover(alloc, &mut disk) {

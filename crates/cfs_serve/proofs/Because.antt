@@ -11,7 +11,8 @@ use Rattle.cfs_serve.specs.declared.report.Cause.{Cause}
 use Rattle.cfs_serve.specs.declared.report.Cause.TheVariants as causes
 use Rattle.cfs_serve.specs.declared.report.Report.{Report}
 use Rattle.cfs_serve.specs.Report.{report_text}
-use Rattle.cfs_serve.specs.Session.{Replied, wants_memory}
+use Rattle.cfs_ports.specs.Port.{Replied}
+use Rattle.cfs_serve.specs.Events.{wants_memory}
 use Rattle.cfs_serve.specs.declared.page.Page.{Page}
 use Rattle.cfs_serve.specs.Words.{Asked, Shows, Nothing, is_service}
 use Rattle.cfs_serve.specs.Whole.{ended}

@@ -1,28 +1,25 @@
 -- What `top` says of a run, from what the run came to.
-use Rattle.std.proofs.Common.{◌≡◌, ◌↔◌, inl, inr, ℕ, ◌+◌, ◌<◌, ◌≤◌, Bool, true, false, ◌&&◌, List, [], ◌∷◌, ◌++◌, length, map, filter, Option, Some, None, is_some, refl, sym, ap, ◌∙◌, arith, length-append}
+use Rattle.std.proofs.Common.{◌≡◌, ◌↔◌, inl, inr, ℕ, ◌+◌, ◌<◌, ◌≤◌, Bool, true, false, cond, not, ◌&&◌, List, [], ◌∷◌, ◌++◌, length, map, filter, Option, Some, None, is_some, unwrap_or, refl, sym, ap, ◌∙◌, arith}
 use Rattle.std.specs.List.{list_any, list_all}
 use Rattle.cfs_base.specs.Outside.{Intake, Supply}
-use Rattle.cfs_script.specs.Language.{built_forms}
 use Rattle.cfs_streams.proofs.WriteLaws.{nothing}
 use Rattle.ufs_model.specs.declared.asked.Event.{Event}
 use Rattle.ufs_model.specs.declared.asked.Event.TheVariants as events
 use Rattle.ufs_model.specs.State.{State}
 use Rattle.ufs_model.specs.Run.{replay}
 use Rattle.ufs_model.specs.Script.{request_lines}
-use Rattle.ufs_model.specs.Turns.{is_turn_of, turns_in}
+use Rattle.ufs_model.specs.Turns.{turns_in}
 use Rattle.cfs_serve.specs.Limits.{most_script, most_lines}
-use Rattle.cfs_serve.specs.declared.report.Counts.{Counts}
 use Rattle.cfs_serve.specs.declared.report.Cause.{Cause}
 use Rattle.cfs_serve.specs.declared.report.Cause.TheVariants as causes
 use Rattle.cfs_serve.specs.declared.report.Report.{Report}
-use Rattle.cfs_serve.specs.Session.{wants_memory}
+use Rattle.cfs_serve.specs.Events.{events_of, is_calm, is_finish, is_of, is_sessions, wants_memory}
 use Rattle.cfs_serve.specs.declared.page.Page.{Page}
 use Rattle.cfs_serve.specs.Words.{Asked, Play, Shows, Serves, Nothing}
-use Rattle.cfs_serve.specs.Played.{IsPlayed, IsScript, IsCause, IsRunOf, spoiled_by}
+use Rattle.cfs_serve.specs.Played.{IsPlayed, IsScript, IsCause, IsRunOf, opened, report_on, spoiled_by}
 use Rattle.cfs_serve.specs.Whole.{HasPlaces, Asks}
-use Rattle.cfs_serve.specs.Top.{Outside, AreWithin, opened, IsServedFrom, is_reply, is_finish, counts_of, took_all, Did}
+use Rattle.cfs_serve.specs.Top.{Outside, AreWithin, IsServedFrom, counts_of, took_all, Did}
 use Rattle.cfs_serve.proofs.Because.{Because}
-use Rattle.cfs_serve.proofs.Playing.{only_turns, turns_in-leave}
 
 -- what a run did and told, and what its cause shows
 abbrev pub Facts : Asked → (old new : Outside) → Report → List Event → Type 0
@@ -86,6 +83,9 @@ of_nothing report report_after = (
     leaves = λ served. absurd (clash-sym served);
     legal = tt;
     calm = refl;
+    sessions = refl;
+    others = λ k past. refl;
+    exact = tt;
     turns = tt;
     replied = tt;
     broken = λ served. absurd (clash-sym served);
@@ -108,6 +108,9 @@ of_page shown report report_after = (
     leaves = λ served. absurd (clash-sym served);
     legal = tt;
     calm = refl;
+    sessions = refl;
+    others = λ k past. refl;
+    exact = tt;
     turns = tt;
     replied = tt;
     broken = λ served. absurd (clash-sym served);
@@ -136,6 +139,9 @@ module _ (play : Play) (source source_after : Supply) (sink report report_after 
       leaves = λ served. absurd (clash-sym served);
       legal = refl;
       calm = refl;
+      sessions = refl;
+      others = λ k past. refl;
+      exact = tt;
       turns = λ served. absurd (clash-sym served);
       replied = (rw took (nothing sink), tt);
       broken = λ served. absurd (clash-sym served);
@@ -176,105 +182,114 @@ module _ (play : Play) (source source_after : Supply) (sink report report_after 
 
 -- ---- a session was served
 
+off : (b : Bool) → not b ≡ true → b ≡ false
+off true is = absurd (clash-sym is)
+off false is = refl
+
+on : (b : Bool) → not b ≡ false → b ≡ true
+on true is = refl
+on false is = absurd (clash is)
+
 and_right : (a b : Bool) → (a && b) ≡ true → b ≡ true
 and_right true b all = all
 and_right false b all = absurd (clash-sym all)
 
--- each turn is a reply, and none is the end of a collection
-pub replies_are : (turns : List Event) → list_all (is_turn_of 0) turns ≡ true → filter is_reply (turns ++ events.Leave 0 None ∷ []) ≡ turns
-replies_are [] all = refl
-replies_are (events.Unread who why ∷ turns) all = ap (λ es. events.Unread who why ∷ es) (replies_are turns (and_right _ _ all))
-replies_are (events.Ask who request reply ∷ turns) all = ap (λ es. events.Ask who request reply ∷ es) (replies_are turns (and_right _ _ all))
-replies_are (e ∷ turns) all = absurd (clash-sym all)
+-- no event of a session is the end of a collection
+no_finish : (trail : List Event) → list_all is_sessions trail ≡ true → filter is_finish trail ≡ []
+no_finish [] all = refl
+no_finish (events.Unread who why ∷ trail) all = no_finish trail all
+no_finish (events.Ask who request reply ∷ trail) all = no_finish trail all
+no_finish (events.Leave who stopped ∷ trail) all = no_finish trail all
+no_finish (e ∷ trail) all = absurd (clash-sym all)
 
-pub finishes_none : (turns : List Event) → list_all (is_turn_of 0) turns ≡ true → filter is_finish (turns ++ events.Leave 0 None ∷ []) ≡ []
-finishes_none [] all = refl
-finishes_none (events.Unread who why ∷ turns) all = finishes_none turns (and_right _ _ all)
-finishes_none (events.Ask who request reply ∷ turns) all = finishes_none turns (and_right _ _ all)
-finishes_none (e ∷ turns) all = absurd (clash-sym all)
+-- what all events have, all of a session's have
+all_of : (test of : Event → Bool) (trail : List Event) → list_all test trail ≡ true → list_all test (filter of trail) ≡ true
+all_of test of [] all = refl
+all_of test of (e ∷ trail) all =
+    elim (of e) as (λ b. list_all test (cond b (e ∷ filter of trail) (filter of trail)) ≡ true) [
+      | true ↦ elim (test e) as (λ b. (b && list_all test trail) ≡ true → (b && list_all test (filter of trail)) ≡ true) [
+        | true ↦ λ rest. all_of test of trail rest
+        | false ↦ λ rest. rest
+      ] all
+      | false ↦ all_of test of trail (and_right (test e) (list_all test trail) all)
+    ]
+
+-- a leave behind which is no failed call
+calm_end : (turns : List Event) (who : ℕ) (stopped : Option ℕ) → list_all is_calm (turns ++ events.Leave who stopped ∷ []) ≡ true → stopped ≡ None
+calm_end [] who None all = refl
+calm_end [] who (Some moment) all = absurd (clash-sym all)
+calm_end (e ∷ turns) who stopped all = calm_end turns who stopped (and_right (is_calm e) (list_all is_calm (turns ++ events.Leave who stopped ∷ [])) all)
 
 module _ (play : Play) (source source_after : Supply) (sink sink_after report report_after : Intake) (script : List ℕ) (whole : IsScript source script)
-    (short : length script ≤ most_script) (few : length (request_lines script) ≤ most_lines)
-    (trail : List Event) (objects replies : ℕ) (counts_all : length trail ≡ replies + 1) where
+    (short : length script ≤ most_script) (few : length (request_lines script) ≤ most_lines) (trail : List Event) where
   abbrev Played : Bool → Bool → Type 0
-  Played starved all = IsPlayed built_forms play.seed script sink sink_after trail objects starved all
+  Played starved failed = IsPlayed play.cylinders play.seed (request_lines script) sink sink_after trail starved failed
 
-  abbrev counts : Counts
-  counts = record { sessions = 1; replies = replies; collections = 0; objects = objects }
+  abbrev Session : Bool → Bool → State → Type 0
+  Session starved failed last = Facts (Serves play) (places (source ∷ []) (sink ∷ []) report) (places (source_after ∷ []) (sink_after ∷ []) report_after)
+      (report_on play.cylinders last trail starved failed) trail
 
-  abbrev Session : Bool → Bool → Type 0
-  Session starved all = Facts (Serves play) (places (source ∷ []) (sink ∷ []) report) (places (source_after ∷ []) (sink_after ∷ []) report_after)
-      (record { counts = Some counts; cause = spoiled_by starved all }) trail
+  leaves : (starved failed : Bool) (played : Played starved failed) → events_of 0 trail ≡ turns_in 0 trail ++ events.Leave 0 None ∷ []
+  leaves starved failed played =
+      let none = calm_end (turns_in 0 trail) 0 played.over.stopped (rw (← played.over.leaves) (all_of is_calm (is_of 0) trail played.calm)) in
+      played.over.leaves ∙ ap (λ s. turns_in 0 trail ++ events.Leave 0 s ∷ []) none
 
-  turns_are : (starved all : Bool) (played : Played starved all) → turns_in 0 trail ≡ played.turns
-  turns_are starved all played = ap (turns_in 0) played.leaves ∙ turns_in-leave played.turns ∙ only_turns played.turns played.alone
-
-  leaves : (starved all : Bool) → Played starved all → trail ≡ turns_in 0 trail ++ events.Leave 0 None ∷ []
-  leaves starved all played = played.leaves ∙ ap (λ es. es ++ events.Leave 0 None ∷ []) (sym (turns_are starved all played))
-
-  -- the trail has the leave beside the turns
-  one_more : (starved all : Bool) → Played starved all → length trail ≡ length (turns_in 0 trail) + 1
-  one_more starved all played = ap length (leaves starved all played) ∙ length-append (turns_in 0 trail) (events.Leave 0 None ∷ [])
-
-  answered : (starved all : Bool) → Played starved all → all ≡ true → length (turns_in 0 trail) ≡ length (request_lines script)
-  answered starved all played is = omega (arith, one_more starved all played, played.answered is)
-
-  from : (starved all : Bool) → Played starved all → IsServedFrom play.seed trail all 0 source
-  from starved all played = record {
+  from : (starved failed : Bool) → Played starved failed → IsServedFrom play.seed trail (not failed) 0 source
+  from starved failed played = record {
     script = script;
     whole = whole;
     short = short;
     few = few;
-    turns = played.of_script;
-    answered = answered starved all played;
+    turns = played.over.turns;
+    answered = λ all. played.over.answered (off failed all);
   }
 
-  counted : (starved all : Bool) → Played starved all → (last : State) → replay play.seed (opened play.seed) trail ≡ Some last → counts ≡ counts_of 1 trail last.graph
-  counted starved all played last ran =
+  counted : (starved failed : Bool) (played : Played starved failed) (last : State) → replay play.seed (opened play.seed) trail ≡ Some last
+      → unwrap_or (report_on play.cylinders played.last trail starved failed).counts (counts_of play.cylinders 1 trail last.graph) ≡ counts_of play.cylinders 1 trail last.graph
+  counted starved failed played last ran =
       let same : played.last ≡ last = some (sym played.legal ∙ ran) in
-      let few : length (filter is_reply trail) ≡ replies =
-      ap (λ es. length (filter is_reply es)) played.leaves ∙ ap length (replies_are played.turns played.alone) ∙ ap length (sym (turns_are starved all played))
-      ∙ omega (arith, one_more starved all played, counts_all) in
-      let none : length (filter is_finish trail) ≡ 0 = ap (λ es. length (filter is_finish es)) played.leaves ∙ ap length (finishes_none played.turns played.alone) in
-      let left : length last.graph.objects ≡ objects = ap (λ s. length s.graph.objects) (sym same) ∙ played.objects_left in
-      rw (few, none, left) refl
+      rw (same, no_finish trail played.sessions) refl
     where
       some : {x y : State} → Some x ≡ Some y → x ≡ y
       some e = cc
 
-  session : (starved all : Bool) (played : Played starved all) → took_all (spoiled_by starved all) ≡ all → ¬ (spoiled_by starved all ≡ causes.Words) → ((page : Page) → ¬ (spoiled_by starved all ≡ causes.Page page))
-      → (all ≡ true → ((spoiled_by starved all ≡ causes.Memory) ↔ (list_any wants_memory trail ≡ true)))
-      → Because (Serves play) (places (source ∷ []) (sink ∷ []) report) (places (source_after ∷ []) (sink_after ∷ []) report_after) (Some counts) trail (spoiled_by starved all)
-      → Session starved all
-  session starved all played took other paged memory because = (
+  session : (starved failed : Bool) (played : Played starved failed) → took_all (spoiled_by starved failed) ≡ not failed → ¬ (spoiled_by starved failed ≡ causes.Words)
+      → ((page : Page) → ¬ (spoiled_by starved failed ≡ causes.Page page))
+      → (not failed ≡ true → ((spoiled_by starved failed ≡ causes.Memory) ↔ (list_any wants_memory trail ≡ true)))
+      → Because (Serves play) (places (source ∷ []) (sink ∷ []) report) (places (source_after ∷ []) (sink_after ∷ []) report_after) (report_on play.cylinders played.last trail starved failed).counts trail (spoiled_by starved failed)
+      → Session starved failed played.last
+  session starved failed played took other paged memory because = (
     record {
       places = (refl, refl);
       unserved = λ none. absurd (clash none);
       unasked = λ no. absurd (clash no);
-      leaves = λ served. leaves starved all played;
+      leaves = λ served. (leaves starved failed played, tt);
       legal = ap is_some played.legal;
       calm = played.calm;
-      turns = λ served. (rw took (from starved all played), tt);
-      replied = (rw took played.replied, tt);
-      broken = λ served no. (rw (turns_are starved all played) (played.broken (sym took ∙ no)), tt);
+      sessions = played.sessions;
+      others = played.none;
+      exact = played.exact;
+      turns = λ served. (rw took (from starved failed played), tt);
+      replied = (rw took played.over.replied, tt);
+      broken = λ served no. (played.over.broken (on failed (sym took ∙ no)), tt);
       words = ((λ is. absurd (other is)), (λ is. cc));
       page = λ page. ((λ is. absurd (paged page is)), (λ is. cc));
-      counted = counted starved all played;
+      counted = counted starved failed played;
       cause = λ none. absurd (clash none);
       memory = λ served is. memory (sym took ∙ is);
     },
     because,
   )
 
-  pub of_session : (starved all : Bool) → Played starved all → Session starved all
-  of_session starved false played = session starved false played refl (λ e. cc) (λ page e. cc) (λ is. absurd (clash-sym is))
-      (refl, within source script whole short few, inl played.replied.failed)
-  of_session true true played = session true true played refl (λ e. cc) (λ page e. cc) (λ is. ((λ m. sym played.wanting), (λ m. refl))) tt
-  of_session false true played = session false true played refl (λ e. cc) (λ page e. cc) (λ is. ((λ m. absurd (clash-memory m)), (λ m. absurd (clash-sym (played.wanting ∙ m))))) (record {
+  pub of_session : (starved failed : Bool) (played : Played starved failed) → Session starved failed played.last
+  of_session starved true played = session starved true played refl (λ e. cc) (λ page e. cc) (λ is. absurd (clash-sym is))
+      (refl, within source script whole short few, inl played.over.replied.failed)
+  of_session true false played = session true false played refl (λ e. cc) (λ page e. cc) (λ is. ((λ m. sym played.wanting), (λ m. refl))) tt
+  of_session false false played = session false false played refl (λ e. cc) (λ page e. cc) (λ is. ((λ m. absurd (clash-memory m)), (λ m. absurd (clash-sym (played.wanting ∙ m))))) (record {
     served = refl;
     within = within source script whole short few;
-    answered = ((λ left is. answered false true played refl ∙ ap (λ s. length (request_lines s)) (whole left is)), tt);
-    replied = (played.replied, tt);
+    answered = ((λ left is. played.over.answered refl ∙ ap (λ s. length (request_lines s)) (whole left is)), tt);
+    replied = (played.over.replied, tt);
     memory = sym played.wanting;
   })
     where
@@ -288,18 +303,18 @@ no_items [] none = refl
 no_items (x ∷ xs) none = absurd (omega (arith, none))
 
 of_run : (play : Play) (source source_after : Supply) (sink sink_after report report_after : Intake) (told : Report) (trail : List Event)
-    → IsRunOf built_forms play.seed source source_after sink sink_after told trail
+    → IsRunOf play.cylinders play.seed source source_after sink sink_after told trail
     → Facts (Serves play) (places (source ∷ []) (sink ∷ []) report) (places (source_after ∷ []) (sink_after ∷ []) report_after) told trail
 of_run play source source_after sink sink_after report report_after told trail (inl s) =
     rw s.served.told (of_session play source source_after sink sink_after report report_after s.script s.whole s.short s.few
-    trail s.served.objects s.served.replies s.served.counted s.served.starved s.served.all s.served.played)
+    trail s.served.starved s.served.failed s.served.played)
 of_run play source source_after sink sink_after report report_after told trail (inr n) =
     rw (n.nothing.told, n.nothing.no_event, n.nothing.untouched) (of_none play source source_after sink report report_after n.cause n.is)
 
 module _ (sources sources_after : List Supply) (sinks sinks_after : List Intake) (report report_after : Intake) (told : Report) (trail : List Event) where
   abbrev From : Asked → Type 0
   From asked = HasPlaces asked (length sources) (length sinks)
-      → Asks built_forms asked (record { sources = sources; sinks = sinks }) (record { sources = sources_after; sinks = sinks_after }) told trail
+      → Asks asked (record { sources = sources; sinks = sinks }) (record { sources = sources_after; sinks = sinks_after }) told trail
       → Facts asked (places sources sinks report) (places sources_after sinks_after report_after) told trail
 
   pub facts : (asked : Asked) → From asked

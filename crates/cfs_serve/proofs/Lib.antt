@@ -1,8 +1,13 @@
-pub mod Kept
-pub mod Texts
-pub mod Playing
-pub mod Replies
-pub mod Because
-pub mod Facts
-pub mod Saying
-pub mod NothingLost
+mod Asking
+mod Journals
+mod Sessions
+mod Served
+mod SureDisks
+mod Counting
+mod Texts
+mod Because
+mod Facts
+mod Saying
+mod Owed
+mod Playing
+mod Volumes

@@ -1,58 +1,74 @@
--- A session that was served, once it has left.
-use Rattle.std.proofs.Common.{◌≡◌, ℕ, ◌+◌, List, [], ◌∷◌, ◌++◌, length, refl, sym, ap, ◌∙◌, true, false, Bool, cond, None, length-append}
-use Rattle.std.specs.Prelude.{◌||◌, ◌&&◌, option_and_then}
-use Rattle.std.specs.List.{list_any, list_all}
-use Rattle.std.proofs.lemmas.List.{append-nil}
-use Rattle.std.proofs.lemmas.List.Folds.{list_all-append, list_any-append}
+-- A service of one session.
+use Rattle.std.proofs.Common.{◌≡◌, ℕ, zero, suc, ◌+◌, ◌-◌, ◌*◌, ◌<◌, ◌≤◌, Bool, true, false, List, [], ◌∷◌, ◌++◌, length, map, Some, None, Option, slice_get, refl, sym, ap, ◌∙◌, subst, arith, length-append}
+use Rattle.std.specs.Prelude.{is_some, sum}
+use Rattle.std.specs.List.{list_any, sum_by}
+use Rattle.std.proofs.lemmas.List.{length-map}
+use Rattle.cfs_base.specs.declared.disk.Disk.{Ghosts}
+use Rattle.cfs_base.specs.declared.identifier.Puid.{Puid}
+use Rattle.cfs_core.specs.declared.kernel.Stop.{Stop}
+use Rattle.cfs_core.specs.Kernel.{Kernel, Seat}
+use Rattle.cfs_core.specs.StandsFor.{Serves, Stands, StandsFor, drafts_of_seats}
+use Rattle.cfs_ports.specs.Port.{IsNew, Reading}
 use Rattle.ufs_model.specs.declared.asked.Event.{Event}
-use Rattle.ufs_model.specs.declared.asked.Event.TheVariants as events
-use Rattle.ufs_model.specs.Graph.{fresh_graph}
-use Rattle.ufs_model.specs.State.{opening, after_leave}
-use Rattle.ufs_model.specs.Next.{next}
-use Rattle.ufs_model.specs.Spoken.{Form}
-use Rattle.ufs_model.specs.Turns.{is_turn_of, turns_in, turns_of}
-use Rattle.ufs_model.specs.Printed.{printed_replies}
-use Rattle.ufs_model.proofs.Legal.{replay_from-push}
-use Rattle.cfs_base.specs.Outside.{Intake}
+use Rattle.ufs_model.specs.Run.{replay}
+use Rattle.ufs_model.specs.State.{State, opening}
+use Rattle.vol_image.specs.Sound.{graph_blocks}
+use Rattle.vol_owners.specs.Room.{blocks_taken}
+use Rattle.cfs_serve.specs.declared.report.Report.{Report}
+use Rattle.cfs_serve.specs.Calls.{AreExact, NeverFails}
+use Rattle.cfs_serve.specs.Events.{wants_memory}
+use Rattle.cfs_serve.specs.Hall.{AreNew, AreOver, IsOver, seat_of, turns_left}
+use Rattle.cfs_serve.specs.Journal.{IsRunOn}
+use Rattle.cfs_serve.specs.Played.{IsPlayed, ServesSession, opened, report_on}
+use Rattle.cfs_serve.specs.Volume.{IsNewCore}
 use Rattle.cfs_serve.specs.Words.{root_of}
-use Rattle.cfs_serve.specs.Session.{Session, IsServedSo, terms, is_calm, wants_memory}
-use Rattle.cfs_serve.specs.Played.{IsPlayed}
-use Rattle.cfs_serve.proofs.Kept.{printed_replies-push}
+use Rattle.cfs_serve.proofs.Journals.{some_same}
 
--- events of the session alone are all of its turns
-pub only_turns : (trail : List Event) → list_all (is_turn_of 0) trail ≡ true → turns_in 0 trail ≡ trail
-only_turns [] all = refl
-only_turns (e ∷ trail) all =
-    elim (is_turn_of 0 e) as (λ b. (b && list_all (is_turn_of 0) trail) ≡ true → cond b (e ∷ turns_in 0 trail) (turns_in 0 trail) ≡ e ∷ trail) [
-      | true ↦ λ rest. ap (λ es. e ∷ es) (only_turns trail rest)
-      | false ↦ λ wrong. cc
-    ] all
+pub one_new : (root : Puid) (p : Reading) → IsNew root p → AreNew root (p ∷ [])
+one_new root p new zero q at = subst (IsNew root) (some_same p q at) new
+one_new root p new (suc k) q at = absurd (cc at)
 
-pub turns_in-leave : (trail : List Event) → turns_in 0 (trail ++ events.Leave 0 None ∷ []) ≡ turns_in 0 trail
-turns_in-leave [] = refl
-turns_in-leave (e ∷ trail) = ap (λ es. cond (is_turn_of 0 e) (e ∷ es) es) (turns_in-leave trail)
+pub one_room : (root : Puid) (p : Reading) → IsNew root p → sum_by turns_left (p ∷ []) ≡ length p.lines + 1
+one_room root p new = rw new.stays (omega arith)
 
-or-false : (b : Bool) → (b || false) ≡ b
-or-false true = refl
-or-false false = refl
+-- the last of one is that one
+pub only_one : {A : Type 0} (xs ys : List A) (x : A) → length xs ≡ 1 → xs ≡ ys ++ x ∷ [] → xs ≡ x ∷ []
+only_one xs [] x one is = is
+only_one xs (y ∷ ys) x one is = absurd (omega (arith, one, ap length is, length-append (y ∷ ys) (x ∷ [])))
 
-module _ (forms : List Form) (seed : ℕ) (script : List ℕ) (sink : Intake) (h : Session) (all : Bool)
-    (served : IsServedSo (terms forms seed script sink) h all) where
-  pub played : IsPlayed forms seed script sink h.sink (h.events ++ events.Leave 0 None ∷ []) (length h.server.state.graph.objects) h.starved all
-  played = record {
-    last = after_leave h.server.state 0;
-    legal = replay_from-push seed (opening (fresh_graph (root_of seed))) h.events (events.Leave 0 None)
-        ∙ ap (option_and_then (λ s. next seed s (events.Leave 0 None))) served.run.legal;
-    objects_left = refl;
-    turns = h.events;
-    leaves = refl;
-    alone = served.run.alone;
-    of_script =
-        let whole = turns_in-leave h.events ∙ only_turns h.events served.run.alone in
-        whole ∙ sym served.turns ∙ ap (λ es. turns_of forms 0 (root_of seed) script es) (sym whole);
-    calm = rw (list_all-append is_calm h.events (events.Leave 0 None ∷ []), served.run.calm) refl;
-    wanting = served.run.starved ∙ sym (list_any-append wants_memory h.events (events.Leave 0 None ∷ []) ∙ or-false (list_any wants_memory h.events));
-    replied = rw (printed_replies-push h.events (events.Leave 0 None) ∙ append-nil (printed_replies 0 h.events)) served.replied;
-    broken = served.broken;
-    answered = λ is. length-append h.events (events.Leave 0 None ∷ []) ∙ ap (λ n. n + 1) (served.answered is);
-  }
+pub no_drafts : (seats : List Seat) → drafts_of_seats seats [] ≡ []
+no_drafts [] = refl
+no_drafts (seat ∷ seats) = refl
+
+pub running_core : (stop : Option Stop) → is_some stop ≡ false → stop ≡ None
+running_core None is = refl
+running_core (Some stop) is = absurd (cc is)
+
+pub played : {D : Type 0} (g : Ghosts D) (cylinders seed : ℕ) (core server : Kernel D) (root : Puid) (p q : Reading) (ports : List Reading) (trail : List Event) (starved : Bool) (report : Report)
+    → IsNewCore g cylinders seed core → root ≡ root_of seed → ports ≡ q ∷ []
+    → ((graph : _) → StandsFor g core (opening graph) → IsRunOn (λ k s. StandsFor g k s) (λ (k : Kernel D). g.faults k.disk) (λ (k : Kernel D). is_some k.stop) core.words.seed (length core.space.free) graph server trail)
+    → length server.space.free ≡ length core.space.free
+    → NeverFails (λ (k : Kernel D). g.faults k.disk) → AreOver root (map seat_of (p ∷ [])) trail ports → starved ≡ list_any wants_memory trail
+    → ((s : State) → Serves g server s → report ≡ report_on (length server.space.free) s trail starved q.failed)
+    → ServesSession cylinders seed p.lines p.sink q.sink report trail
+played g cylinders seed core server root p q ports trail starved report new root_is one runs size never over wanting reports =
+    let run = runs (opened seed) new.stands in
+    let words : core.words.seed ≡ seed = ap (λ w. w.seed) new.words in
+    let quiet = run.quiet never in
+    let serves = subst (Stands g server run.last) (running_core server.stop quiet.runs) run.standing in
+    record {
+      starved = starved;
+      failed = q.failed;
+      played = record {
+        last = run.last;
+        legal = subst (λ w. replay w (opened seed) trail ≡ Some run.last) words run.legal;
+        exact = subst (λ w. AreExact cylinders w (opening (opened seed)) trail) words
+            (subst (λ n. AreExact n core.words.seed (opening (opened seed)) trail) new.size (run.exact (omega (arith, new.some, new.size))));
+        calm = quiet.calm;
+        wanting = wanting;
+        over = subst (λ r. IsOver r trail 0 (seat_of p) q.sink q.failed) root_is (over.each 0 (seat_of p) q refl (ap (λ w. slice_get w 0) one));
+        none = over.none;
+        sessions = over.sessions;
+      };
+      told = subst (λ n. report ≡ report_on n run.last trail starved q.failed) (size ∙ new.size) (reports run.last serves);
+    }

@@ -1,6 +1,5 @@
 -- What `top` says follows from the steps of the run.
 use Rattle.std.proofs.Common.{◌≡◌, ℕ, List, length, sym, ◌∙◌}
-use Rattle.cfs_script.specs.Language.{built_forms}
 use Rattle.ufs_model.specs.declared.asked.Event.{Event}
 use Rattle.cfs_serve.specs.declared.report.Report.{Report}
 use Rattle.cfs_serve.specs.Words.{Asked}
@@ -11,7 +10,7 @@ use Rattle.cfs_serve.proofs.Facts.{facts}
 
 pub said : (asked : Asked) (old new : Outside) (told : Report) (status : ℕ) (trail : List Event)
     → HasPlaces asked (length old.sources) (length old.sinks)
-    → IsWhole built_forms asked (record { sources = old.sources; sinks = old.sinks }) (record { sources = new.sources; sinks = new.sinks }) old.report new.report told status trail
+    → IsWhole asked (record { sources = old.sources; sinks = old.sinks }) (record { sources = new.sources; sinks = new.sinks }) old.report new.report told status trail
     → Said asked old new told status trail
 said asked old new told status trail given whole =
     let f = facts old.sources new.sources old.sinks new.sinks old.report new.report told trail asked given whole.run in

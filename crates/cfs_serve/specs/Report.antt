@@ -17,11 +17,14 @@ status_of causes.Memory = 7
 status_of (causes.Long i) = 9
 status_of causes.LongTotal = 9
 
-abbrev pub counts_text : Option Counts → List ℕ
-counts_text None = []
-counts_text (Some c) =
+abbrev pub served_text : Counts → List ℕ
+served_text c =
     told (codes "sessions") c.sessions ++ told (codes "replies") c.replies
     ++ told (codes "collections") c.collections ++ told (codes "objects") c.objects
+
+abbrev pub counts_text : Option Counts → List ℕ
+counts_text None = []
+counts_text (Some c) = served_text c ++ told (codes "free") c.free
 
 abbrev pub cause_text : Cause → List ℕ
 cause_text causes.Nothing = []

@@ -1,17 +1,19 @@
 -- What a whole run comes to, for whoever started it: the trail, the sinks, what is told, and what the status says.
-use Rattle.std.specs.Prelude.{◌≡◌, ◌↔◌, ℕ, ◌+◌, ◌<◌, ◌≤◌, ◌⊎◌, Bool, true, false, List, [], ◌∷◌, ◌++◌, map, length, get_or, All, filter, sum_by, slice_index_or, Some, None, IfSome, IsSome, IsNone}
+use Rattle.std.specs.Prelude.{◌≡◌, ◌↔◌, ℕ, ◌+◌, ◌-◌, ◌*◌, ◌<◌, ◌≤◌, ◌⊎◌, Bool, true, false, List, [], ◌∷◌, ◌++◌, map, length, get_or, All, filter, sum_by, slice_index_or, Some, None, IfSome, IsSome, IsNone}
 use Rattle.std.specs.List.{list_any, list_all}
 use Rattle.cfs_base.specs.Outside.{Intake, Supply, Rose}
+use Rattle.cfs_ports.specs.Port.{Replied}
 use Rattle.cfs_script.specs.Language.{built_forms}
 use Rattle.cfs_streams.specs.Writing.{Wrote, WroteSome}
 use Rattle.ufs_model.specs.declared.asked.Event.{Event}
 use Rattle.ufs_model.specs.declared.asked.Event.TheVariants as events
-use Rattle.ufs_model.specs.Graph.{Graph, fresh_graph}
-use Rattle.ufs_model.specs.State.{State}
+use Rattle.ufs_model.specs.Graph.{Graph}
+use Rattle.ufs_model.specs.State.{State, opening}
 use Rattle.ufs_model.specs.Run.{IsLegalRun, replay}
 use Rattle.ufs_model.specs.Script.{request_lines}
 use Rattle.ufs_model.specs.Turns.{AreTurns, turns_in}
 use Rattle.ufs_model.specs.Printed.{printed_replies}
+use Rattle.vol_image.specs.Sound.{graph_blocks}
 use Rattle.cfs_serve.specs.Limits.{most_script, most_lines}
 use Rattle.cfs_serve.specs.declared.run.Bay.{Bay}
 use Rattle.cfs_serve.specs.declared.run.Ended.{Ended}
@@ -22,7 +24,9 @@ use Rattle.cfs_serve.specs.declared.report.Report.{Report}
 use Rattle.cfs_serve.specs.declared.page.Page.{Page}
 use Rattle.cfs_serve.specs.Pages.{page_text}
 use Rattle.cfs_serve.specs.Report.{report_text, status_of}
-use Rattle.cfs_serve.specs.Session.{BreaksOff, Replied, is_calm, wants_memory}
+use Rattle.cfs_serve.specs.Calls.{AreExact}
+use Rattle.cfs_serve.specs.Events.{BreaksOff, events_of, is_calm, is_finish, is_reply, is_sessions, wants_memory}
+use Rattle.cfs_serve.specs.Played.{opened}
 use Rattle.cfs_serve.specs.Whole.{HasPlaces}
 use Rattle.cfs_serve.specs.Words.{Asked, Shows, Nothing, IfServes, is_service, root_of}
 
@@ -89,10 +93,6 @@ AreWithin scripts = AreShort scripts × (lines_in scripts ≤ most_lines)
 
 -- ---- the trail
 
--- the graph of a new volume: a root index of empty slots
-abbrev pub opened : ℕ → Graph
-opened seed = fresh_graph (root_of seed)
-
 -- A session was served from a script: all that its source had left, where it tells that.
 pub record IsServedFrom (seed : ℕ) (trail : List Event) (all : Bool) (session : ℕ) (source : Supply) : Type 0 where
   pub script : List ℕ
@@ -105,31 +105,15 @@ pub record IsServedFrom (seed : ℕ) (trail : List Event) (all : Bool) (session 
 
 -- ---- what is counted
 
-abbrev pub is_reply : Event → Bool
-is_reply (events.Unread who why) = true
-is_reply (events.Ask who request reply) = true
-is_reply (events.Leave who stopped) = false
-is_reply events.Began = false
-is_reply (events.Vanish ids) = false
-is_reply events.Finished = false
-is_reply (events.Halted moment) = false
-
-abbrev pub is_finish : Event → Bool
-is_finish (events.Unread who why) = false
-is_finish (events.Ask who request reply) = false
-is_finish (events.Leave who stopped) = false
-is_finish events.Began = false
-is_finish (events.Vanish ids) = false
-is_finish events.Finished = true
-is_finish (events.Halted moment) = false
-
--- the counts of a service of so many sessions, by its trail and its last graph
-abbrev pub counts_of : ℕ → List Event → Graph → Counts
-counts_of sessions trail graph = record {
+-- the counts of a service of so many sessions, by its trail and its last graph: what is Free is all but the map of each
+-- cylinder, the label, and the blocks of the objects
+abbrev pub counts_of : (cylinders sessions : ℕ) → List Event → Graph → Counts
+counts_of cylinders sessions trail graph = record {
   sessions = sessions;
   replies = length (filter is_reply trail);
   collections = length (filter is_finish trail);
   objects = length graph.objects;
+  free = 63 * cylinders - 1 - graph_blocks graph;
 }
 
 -- ---- what is told
@@ -229,10 +213,15 @@ pub record Did (asked : Asked) (old new : Outside) (told : Report) (trail : List
   -- nothing was served, and then there is no event and no sink took a byte; or one session was, and left
   pub unserved : IsNone told.counts → (trail ≡ []) × (new.sinks ≡ old.sinks)
   pub unasked : is_service asked ≡ false → IsNone told.counts
-  pub leaves : WasServed told → trail ≡ turns_in 0 trail ++ events.Leave 0 None ∷ []
-  -- the events are one legal run on the opened graph, with no disk and no stop behind any of them
+  pub leaves : WasServed told → EachSource (λ session _ _. events_of session trail ≡ turns_in session trail ++ events.Leave session None ∷ []) old new
+  -- the events are one legal run on the opened graph, all of them the sessions', with no failed call of the disk and no stop
+  -- behind any of them
   pub legal : IfServes asked (λ play. IsLegalRun play.seed (opened play.seed) trail)
   pub calm : list_all is_calm trail ≡ true
+  pub sessions : list_all is_sessions trail ≡ true
+  pub others : (k : ℕ) → length old.sources ≤ k → events_of k trail ≡ []
+  -- each Full names the room of the state before it, and each request that was done left four blocks of it beside its need
+  pub exact : IfServes asked (λ play. AreExact play.cylinders play.seed (opening (opened play.seed)) trail)
   -- they are the turns of the script that the source had
   pub turns : IfServes asked (λ play. WasServed told → EachSource (λ session source _.
       IsServedFrom play.seed trail (took_all told.cause) session source) old new)
@@ -246,7 +235,7 @@ pub record Did (asked : Asked) (old new : Outside) (told : Report) (trail : List
   pub page : (page : Page) → (told.cause ≡ causes.Page page) ↔ (asked ≡ Shows page)
   -- the counts are those of the trail and of the last graph
   pub counted : IfServes asked (λ play. IfSome told.counts (λ counts. (last : State)
-      → replay play.seed (opened play.seed) trail ≡ Some last → counts ≡ counts_of (length old.sources) trail last.graph))
+      → replay play.seed (opened play.seed) trail ≡ Some last → counts ≡ counts_of play.cylinders (length old.sources) trail last.graph))
   -- where nothing was served it is told why
   pub cause : IsNone told.counts → ¬ (told.cause ≡ causes.Nothing)
   -- a service whose sinks took all tells want of memory exactly where a reply told it

@@ -1,14 +1,13 @@
 -- A whole run, step by step: the words, the sources and the sinks, the report and the status. What `top` says follows from it.
 use Rattle.std.specs.Prelude.{◌≡◌, ℕ, Bool, true, false, List, [], ◌∷◌, None}
 use Rattle.cfs_base.specs.Outside.{Intake, Supply}
+use Rattle.cfs_ports.specs.Port.{Replied}
 use Rattle.ufs_model.specs.declared.asked.Event.{Event}
-use Rattle.ufs_model.specs.Spoken.{Form}
 use Rattle.cfs_serve.specs.declared.report.Cause.{Cause}
 use Rattle.cfs_serve.specs.declared.report.Cause.TheVariants as causes
 use Rattle.cfs_serve.specs.declared.report.Report.{Report}
-use Rattle.cfs_serve.specs.Words.{Asked, Shows, Serves, Nothing}
+use Rattle.cfs_serve.specs.Words.{Asked, Play, Shows, Serves, Nothing}
 use Rattle.cfs_serve.specs.Report.{status_of, report_text}
-use Rattle.cfs_serve.specs.Session.{Replied}
 use Rattle.cfs_serve.specs.Played.{IsRunOf}
 
 -- what is outside: what is known of the sources, and of the sinks
@@ -29,19 +28,19 @@ pub record AsksNone (cause : Cause) (old new : Places) (report : Report) (trail 
   pub told : report ≡ record { counts = None; cause = cause }
 
 -- one session was asked for, and so it went
-pub record AsksOne (forms : List Form) (seed : ℕ) (old new : Places) (report : Report) (trail : List Event) : Type 0 where
+pub record AsksOne (play : Play) (old new : Places) (report : Report) (trail : List Event) : Type 0 where
   pub source : Supply
   pub source_after : Supply
   pub sink : Intake
   pub sink_after : Intake
   pub sources : (old.sources ≡ source ∷ []) × (new.sources ≡ source_after ∷ [])
   pub sinks : (old.sinks ≡ sink ∷ []) × (new.sinks ≡ sink_after ∷ [])
-  pub run : IsRunOf forms seed source source_after sink sink_after report trail
+  pub run : IsRunOf play.cylinders play.seed source source_after sink sink_after report trail
 
-abbrev pub Asks : List Form → Asked → (old new : Places) → Report → List Event → Type 0
-Asks forms (Serves play) old new report trail = AsksOne forms play.seed old new report trail
-Asks forms (Shows page) old new report trail = AsksNone (causes.Page page) old new report trail
-Asks forms Nothing old new report trail = AsksNone causes.Words old new report trail
+abbrev pub Asks : Asked → (old new : Places) → Report → List Event → Type 0
+Asks (Serves play) old new report trail = AsksOne play old new report trail
+Asks (Shows page) old new report trail = AsksNone (causes.Page page) old new report trail
+Asks Nothing old new report trail = AsksNone causes.Words old new report trail
 
 -- the status: that of the cause, but for a report that could not be written where nothing worse is told
 abbrev pub ended : (written : Bool) → Cause → ℕ
@@ -56,8 +55,8 @@ ended false (causes.Long i) = 9
 ended false causes.LongTotal = 9
 
 -- the report of the run is this one, and so it was written
-pub record IsWhole (forms : List Form) (asked : Asked) (old new : Places) (report report_after : Intake) (told : Report) (status : ℕ) (trail : List Event) : Type 0 where
-  pub run : Asks forms asked old new told trail
+pub record IsWhole (asked : Asked) (old new : Places) (report report_after : Intake) (told : Report) (status : ℕ) (trail : List Event) : Type 0 where
+  pub run : Asks asked old new told trail
   -- the sink of the report has taken all of it, or some of its beginning
   pub written : Bool
   pub reported : Replied report report_after (report_text told) written

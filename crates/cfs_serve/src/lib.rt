@@ -1,26 +1,30 @@
 //! A whole run: words are read, a source is read whole, a session is served, and a report is written. The program above
-//! uses one contract, that of `top`.
+//! uses one contract, that of `top`. Below it, `serve` serves any number of sessions on whatever server.
 #![tactic(auto)]
 
-mod binding;
-mod hearing;
+mod hall;
+mod journal;
 mod limits;
 mod page;
 mod paths;
 mod play;
 mod report;
 mod run;
-mod session;
-mod trail;
+mod server;
+mod sure_disk;
+mod volume;
 mod words;
 
+pub use hall::{Parts, serve};
 pub use limits::{MOST_CYLINDERS, MOST_LINES, MOST_SCRIPT};
 pub use page::Page;
 pub use paths::{Names, Path, Paths, WordsFault};
 pub use report::{Cause, Counts, Report};
 pub use run::{Bay, Ended, top};
-pub use trail::Trail;
+pub use server::Server;
 pub use words::names;
 
+#[cfg(test)]
+mod beside;
 #[cfg(test)]
 mod tests;

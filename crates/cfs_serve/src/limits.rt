@@ -7,4 +7,4 @@ pub const MOST_CYLINDERS: u64 = 1_024;
 pub const MOST_SCRIPT: usize = 16_777_216;
 
 /// The request lines of all files together.
-pub const MOST_LINES: usize = 500_000;
+pub const MOST_LINES: u64 = 500_000;

@@ -18,6 +18,8 @@ pub struct Counts {
     pub collections: u64,
     /// Objects in the graph.
     pub objects: u64,
+    /// Blocks that are Free.
+    pub free: u64,
 }
 
 /// What ended a run before its end, or spoiled it; or that a page was asked for.
@@ -108,11 +110,19 @@ fn write_number<K: Sink>(sink: &mut K, word: &[u8], number: u64) -> Result<(), F
 
 impl Counts {
     ghost use Rattle.std.specs.Prelude.{Some};
-    ghost use Rattle.cfs_serve.specs.Report.{counts_text};
+    ghost use Rattle.cfs_serve.specs.Report.{counts_text, served_text};
 
     /// Writes a line for each.
     fn write<K: Sink>(self, sink: &mut K) -> Result<(), Failed>
         ensures { WritesWhole (K.intake sink.old) (K.intake sink.new) (counts_text (Some self)) result }
+    {
+        self.write_served(sink)?;
+        write_number(sink, b"free", self.free)
+    }
+
+    /// Writes a line for each but the last.
+    fn write_served<K: Sink>(self, sink: &mut K) -> Result<(), Failed>
+        ensures { WritesWhole (K.intake sink.old) (K.intake sink.new) (served_text self) result }
     {
         write_number(sink, b"sessions", self.sessions)?;
         write_number(sink, b"replies", self.replies)?;

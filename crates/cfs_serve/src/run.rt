@@ -1,15 +1,14 @@
 //! A whole run, and the one public call that makes it.
 ghost use Rattle.std.specs.Prelude.{◌≡◌, map, length};
-ghost use Rattle.cfs_script.specs.Language.{built_forms};
 ghost use Rattle.cfs_serve.specs.Words.{asked_by};
 ghost use Rattle.cfs_serve.specs.Whole.{Asks, HasPlaces, IsWhole, ended};
 ghost use Rattle.cfs_serve.specs.Top.{Said, before, after};
 
 use crate::play::{Played, nothing, play};
 use crate::report::{Cause, Report};
-use crate::trail::Trail;
 use crate::words::{page_asked, play_asked};
 use cfs_base::{Disk, Gate, Sink, Source};
+use cfs_trail::Trail;
 use std::alloc::Global;
 
 /// What is outside a run: its volume, and where bytes come from and go.
@@ -55,7 +54,7 @@ fn do_asked<S: Source, K: Sink>(
     sinks: &mut Vec<K>,
 ) -> Played
     requires { HasPlaces (asked_by words.now) (length sources.old.items) (length sinks.old.items) }
-    ensures { Asks built_forms (asked_by words.now)
+    ensures { Asks (asked_by words.now)
         (record { sources = map S.supply sources.old.items; sinks = map K.intake sinks.old.items })
         (record { sources = map S.supply sources.new.items; sinks = map K.intake sinks.new.items }) result.report result.trail.events }
 {
@@ -63,7 +62,18 @@ fn do_asked<S: Source, K: Sink>(
         return nothing(alloc, Cause::Page(page));
     }
     match play_asked(words) {
-        Some(asked) => play(alloc, asked.seed, &mut sources[0], &mut sinks[0]),
+        Some(asked) => {
+            let sink = sinks.take_last();
+            let (played, sink) = play(
+                alloc,
+                asked.cylinders as u32,
+                asked.seed,
+                &mut sources[0],
+                sink,
+            );
+            sinks.push_reserved(sink);
+            played
+        }
         None => nothing(alloc, Cause::Words),
     }
 }
@@ -76,7 +86,7 @@ fn run<D: Disk, S: Source, K: Sink>(
 ) -> Ended<D, S, K>
     requires places { HasPlaces (asked_by words.now) (length bay.sources.items) (length bay.sinks.items) }
     ensures disk { result.disk ≡ bay.disk }
-    ensures whole { IsWhole built_forms (asked_by words.now)
+    ensures whole { IsWhole (asked_by words.now)
         (record { sources = map S.supply bay.sources.items; sinks = map K.intake bay.sinks.items })
         (record { sources = map S.supply result.sources.items; sinks = map K.intake result.sinks.items })
         (K.intake bay.report) (K.intake result.report) result.told result.status result.trail.events }

@@ -5,6 +5,7 @@ ghost use Rattle.cfs_serve.specs.Whole.{HasPlaces};
 use crate::{Bay, Cause, Ended, Page, WordsFault, names, top};
 use cfs_base::{Failed, Sink};
 use cfs_fakes::{MemoryDisk, MemorySink, MemorySource, OpenGate};
+use itoa::Buffer;
 use std::alloc::{AllocError, Global};
 use std::process::Abort;
 use std::test::Fail;
@@ -16,7 +17,8 @@ const STORED: &[u8] =
 const STORED_REPLIES: &[u8] =
     b"ok 00000003903df1a0\nok 00000003903df1a0\nok 4\nno empty\nno slot\n";
 
-const STORED_REPORT: &[u8] = b"sessions 1\nreplies 5\ncollections 0\nobjects 2\nstatus 0\n";
+const STORED_REPORT: &[u8] =
+    b"sessions 1\nreplies 5\ncollections 0\nobjects 2\nfree 58\nstatus 0\n";
 
 type Run = Ended<MemoryDisk, MemorySource, MemorySink>;
 
@@ -102,7 +104,7 @@ fn the_stored_run(rt: HostRuntime) -> Result<(), Fail> {
 fn an_empty_script_leaves_the_root_index(rt: HostRuntime) -> Result<(), Fail> {
     let ended = run(&rt, rt.alloc(), b"", &[], &[], &[])?;
     assert_eq!(rt; taken(&ended), b"".as_slice());
-    let report = b"sessions 1\nreplies 0\ncollections 0\nobjects 1\nstatus 0\n";
+    let report = b"sessions 1\nreplies 0\ncollections 0\nobjects 1\nfree 61\nstatus 0\n";
     assert_eq!(rt; ended.report.bytes(), report.as_slice());
     assert_eq!(rt; ended.status, 0);
     Ok(())
@@ -127,6 +129,36 @@ fn objects_that_are_cut_off_stay(rt: HostRuntime) -> Result<(), Fail> {
     let replies = b"ok 00000003903df1a0\nok\nok\nok 00000003903df1a0\nno empty\nok\nok 4\n";
     let ended = run(&rt, rt.alloc(), script, &[], &[], &[])?;
     assert_eq!(rt; taken(&ended), replies.as_slice());
+    Ok(())
+}
+
+/// Appends the number in digits.
+fn put_number(text: &mut Vec<u8>, number: u64) -> Result<(), AllocError> {
+    let mut digits = Buffer::new();
+    text.extend_from_slice(digits.format(number).as_bytes())
+}
+
+/// The script that makes an index for each slot of the root up to one, which doesn't fit.
+fn filling(alloc: Global) -> Result<Vec<u8>, AllocError> {
+    let mut script = Vec::new(alloc);
+    for slot in 0..53 {
+        script.extend_from_slice(b"create-index i 1 root ")?;
+        put_number(&mut script, slot)?;
+        script.push(b'\n')?;
+    }
+    script.extend_from_slice(b"retain root 52 root\ndelete root 0\n")?;
+    Ok(script)
+}
+
+#[test]
+fn a_full_volume_keeps_four_blocks_for_deletes(rt: HostRuntime) -> Result<(), Fail> {
+    let alloc = rt.alloc();
+    let script = filling(alloc)?;
+    let ended = run(&rt, alloc, script.as_slice(), &[], &[], &[])?;
+    assert!(rt; taken(&ended).ends_with(b"\nno full 7 4\nok\nok\n"));
+    let report = b"sessions 1\nreplies 55\ncollections 0\nobjects 53\nfree 7\nstatus 0\n";
+    assert_eq!(rt; ended.report.bytes(), report.as_slice());
+    assert_eq!(rt; ended.status, 0);
     Ok(())
 }
 
@@ -161,7 +193,7 @@ fn a_source_that_fails_serves_nothing(rt: HostRuntime) -> Result<(), Fail> {
 fn a_sink_that_fails_ends_its_session(rt: HostRuntime) -> Result<(), Fail> {
     let first = run(&rt, rt.alloc(), STORED, &[], &[0], &[])?;
     assert_eq!(rt; taken(&first), b"".as_slice());
-    let report = b"sessions 1\nreplies 1\ncollections 0\nobjects 2\nsink\nstatus 5\n";
+    let report = b"sessions 1\nreplies 1\ncollections 0\nobjects 2\nfree 58\nsink\nstatus 5\n";
     assert_eq!(rt; first.report.bytes(), report.as_slice());
     assert_eq!(rt; first.status, 5);
     assert_eq!(rt; first.trail.len(), 2);

@@ -1,5 +1,5 @@
 //! The words of a command.
-ghost use Rattle.std.specs.Prelude.{◌≡◌, ◌↔◌, List, ℕ, [], ◌∷◌, length, map, Some, None, IsNone, IfSome, IfOk, Err, string_bytes};
+ghost use Rattle.std.specs.Prelude.{◌≡◌, ◌↔◌, ◌≤◌, List, ℕ, [], ◌∷◌, length, map, Some, None, IsNone, IfSome, IfOk, Err, string_bytes};
 ghost use Rattle.ufs_model.specs.Spoken.{number_in};
 ghost use Rattle.cfs_serve.specs.Whole.{HasPlaces};
 ghost use Rattle.cfs_serve.specs.Words.{read_or_none, Play, Serves, Nothing, asked_in, page_in, play_in};
@@ -38,6 +38,7 @@ fn six_words<'a>(
     ensures none { IsNone result ↔ (play_in (verb.now ∷ cylinders.now ∷ seed.now ∷ collections.now ∷ input.now ∷ output.now ∷ []) ≡ None) }
     ensures some { IfSome result (λ a. play_in (verb.now ∷ cylinders.now ∷ seed.now ∷ collections.now ∷ input.now ∷ output.now ∷ [])
         ≡ Some (record { cylinders = a.cylinders; seed = a.seed; input = a.input.now; output = a.output.now })) }
+    ensures sized { IfSome result (λ a. (1 ≤ a.cylinders) × (a.cylinders ≤ 1024)) }
 {
     if verb != "play" {
         return None;
@@ -64,6 +65,7 @@ pub(crate) fn play_asked(words: &[String]) -> Option<Played<'_>>
     ensures none { IsNone result ↔ (play_in (map string_bytes words.now) ≡ None) }
     ensures some { IfSome result (λ a. play_in (map string_bytes words.now)
         ≡ Some (record { cylinders = a.cylinders; seed = a.seed; input = a.input.now; output = a.output.now })) }
+    ensures sized { IfSome result (λ a. (1 ≤ a.cylinders) × (a.cylinders ≤ 1024)) }
 {
     let [verb, cylinders, seed, collections, input, output] = words else {
         return None;

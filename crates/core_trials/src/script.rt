@@ -5,6 +5,7 @@ ghost use Rattle.cfs_core.specs.Calls.{serves};
 use cfs_base::{FileKind, Puid};
 use cfs_core::Core;
 use cfs_fakes::MemoryDisk;
+use cfs_recover::RecoverFault;
 use std::alloc::Global;
 use ufs_model::{Plain, Ref, Reply, Request};
 
@@ -124,6 +125,14 @@ pub fn request(step: Step, on_disk: bool) -> Request
         Step::Slots(index) => Request::Slots {
             index: index_of(index, on_disk),
         },
+    }
+}
+
+/// A core on this disk, of seed 0.
+pub fn opened(alloc: Global, disk: MemoryDisk) -> Result<Core<MemoryDisk>, RecoverFault> {
+    match Core::open(alloc, disk, 0) {
+        Ok(core) => Ok(core),
+        Err(fault) => Err(fault.why),
     }
 }
 

@@ -2,7 +2,7 @@
 use Rattle.std.proofs.Common.{◌≡◌, ◌≢◌, ◌⊎◌, inl, inr, ⊎_elim, ℕ, zero, suc, ◌+◌, ◌-◌, ◌/◌, ◌%◌, ◌<◌, ◌≤◌, ◌^◌, Bool, true, false, List, [], ◌∷◌, ◌++◌, length, get_or, set, Option, Some, None, Ok, Err, refl, sym, ◌∙◌, ap, subst, eq-eqb, lt-ltb, arith}
 use Rattle.std.specs.Prelude.{◌==◌, not, sum, OnOk, IfErr, Result, option_to_list, replicate}
 use Rattle.std.proofs.lemmas.Bool.{and_from, and_parts, both_ways, false_from_ne_true, ne_eqb}
-use Rattle.std.proofs.lemmas.List.{get_or-set_same}
+use Rattle.std.proofs.lemmas.List.{get_or-set_other, get_or-set_same}
 use Rattle.std.proofs.lemmas.List.Sums.{sum_by-cons}
 use Rattle.cfs_base.specs.Calls.{HasTried, MakesAtMost, OnlyReads}
 use Rattle.cfs_base.specs.Disk.{Image, Nothing, block_at}
@@ -26,13 +26,14 @@ use Rattle.cyl_alloc.specs.Refusals.{IsFindRefusal, IsMapTrouble}
 use Rattle.cyl_alloc.specs.Space.{AreCounts, IsBadMap, IsLeastFree, Kept, after_taking, intended}
 use Rattle.cyl_alloc.proofs.Counted.{counts_taken}
 use Rattle.cyl_map.specs.Entry.{IsEntry}
-use Rattle.cyl_map.specs.Volume.{entry_in, is_free_entry, map_of, with_entry}
+use Rattle.cyl_map.specs.Volume.{entry_in, is_free_entry, is_free_in, map_of, with_entry}
 use Rattle.cyl_map.specs.declared.entry.MapEntry.{MapEntry}
 use Rattle.cyl_map.specs.declared.state.BlockState.TheVariants.{Free}
-use Rattle.cyl_map.proofs.Volumes.{entry_in-set, entry_in-with_entry_other, entry_in-with_entry_same, length-with_entry, same_or_not}
-use Rattle.index_ops.specs.Changes.{HasSlot, IsIndexRefusal, index_with}
+use Rattle.cyl_map.proofs.Volumes.{block_at-with_entry, entry_in-set, entry_in-with_entry_other, entry_in-with_entry_same, length-with_entry, same_or_not}
+use Rattle.index_ops.specs.Changes.{HasSlot, IsIndexRefusal, IsOneLeaf, Takes, index_with, leaf_and_node}
 use Rattle.index_ops.specs.Creates.{Creates, HasImage, IsBare, IsOpenMap, MakeEnds, MayBeMade, PutsObject, RootEnds, Spells, begun_of, made_of, with_made, with_root}
-use Rattle.index_ops.proofs.Putting.{from_refusal, without_begun}
+use Rattle.claims.specs.Claims.{AreClaimed}
+use Rattle.index_ops.proofs.Putting.{begun_claims, from_refusal, leaf_alone, without_begun}
 use Rattle.intentions.specs.Calls.{ChangesEntry}
 use Rattle.intentions.specs.Course.{Frame, MayPut}
 use Rattle.intentions.specs.Store.{StoreHas}
@@ -45,6 +46,8 @@ use Rattle.special_files.specs.Committing.{Committed, Makes, Making, named}
 use Rattle.special_files.specs.Drafting.{Drafting, IsOpen, begun_at, fresh_of, opened_as}
 use Rattle.special_files.specs.Ends.{Ends}
 use Rattle.special_files.specs.Fills.{filled_draft}
+use Rattle.special_files.specs.Leaves.{SameBeside}
+use Rattle.special_files.specs.Order.{leaf_claims}
 use Rattle.special_files.specs.Refusal.{IsRefusal, IsTrouble, NoMap, OtherCount, is_damage, is_damaged, is_full}
 use Rattle.special_files.specs.Store.{replaced}
 use Rattle.special_files.proofs.Amid.{framed_carries, framed_holds, written_framed}
@@ -57,6 +60,7 @@ use Rattle.special_files.proofs.Lists.{first_here, first_others}
 use Rattle.special_files.proofs.Made.{bare_kept, content_kept, made_kept}
 use Rattle.special_files.proofs.Meant.{counts_content, free_is, meant_open}
 use Rattle.special_files.proofs.PutStore.{the_draft}
+use Rattle.special_files.proofs.Puts.{taken_not_free}
 use Rattle.special_files.proofs.CommitDone.{makes_more}
 use Rattle.special_files.proofs.Endings.{ends_then_err, ends_then_ok, trouble_after_tried, write_ends}
 use Rattle.special_files.proofs.Refusals.{refusal_after_reads, refusal_of}
@@ -68,11 +72,13 @@ use Rattle.ufs_model.specs.declared.object.Object.TheVariants as objects
 use Rattle.vol_image.specs.Frame.{Frames, IsLoose, StandsForNone}
 use Rattle.vol_image.specs.Part.{is_fixed, part_of, reserved}
 use Rattle.vol_image.specs.Reading.{bare_object}
+use Rattle.vol_image.specs.Seen.{tree_in}
 use Rattle.vol_image.specs.Sound.{Holds, IsBareRoot}
 use Rattle.vol_image.proofs.AtRest.{loose_stays}
 use Rattle.vol_image.proofs.AtRoot.{bare_index, bare_normal, bare_special}
-use Rattle.vol_image.proofs.Parts.{free_is_loose, in_image}
+use Rattle.vol_image.proofs.Parts.{free_is_loose, in_image, taken_apart, tree_placed}
 use Rattle.vol_image.proofs.Steps.{frames_begin, frames_content, not_map}
+use Rattle.vol_image.proofs.Views.{same_tree}
 use Rattle.vol_owners.specs.Account.{HasDraft, HasDrafts, HasItsBlocks, IsMade, Opened, created_of, drafts_of, numbers_differ}
 use Rattle.vol_owners.specs.Change.{ChangesOnly, IsOpenTo, SameBut, SameOthers, of_draft, of_drafts, of_owners}
 use Rattle.vol_owners.specs.Owner.{is_had, is_made, is_meant, is_of, is_placed, is_taken, owner_of}
@@ -433,9 +439,22 @@ module _ {D : Type 0} (g : Ghosts D) (graph : Graph) (ds : List Opened) (id : Pu
       ),
     )
 
-    pub created : Committed g graph (replaced e fs) id (index_with i slot (Some (named c root.word))) (Some (record { id = named c root.word; object = bare_object root })) d3 d4 k4
+    -- the index's own tree stands as it stood
+    own_tree : tree_in after (root_spelling was.root) ≡ tree_in before (root_spelling was.root)
+    own_tree = same_tree before after (root_spelling was.root) (λ p h v.
+        let taken = (tree_placed before (length before) id.block (root_spelling was.root) was.root o draft_was.tree p h v).taken in
+        let other : h.block ≢ c = λ same. taken_not_free before h.block id.block taken (subst (λ (n : ℕ). is_free_in before n ≡ true) (sym same) least.free) in
+        let no_map = not_map h.block (taken_apart before graph store.account.holds h.block id.block taken) in
+        record {
+          part = ap part_of (entry_other h.block other);
+          content = ap (λ (x : Image). block_at x h.block) has.content ∙ get_or-set_other mid c h.block (root_spelling root) [] other ∙ block_at-with_entry before c (intended Root c) h.block (λ map. no_map (omega (arith, map)));
+        })
+
+    pub created : (claims : AreClaimed (leaf_claims was.at was.leaves was.nodes (slot / 64)) after (g.content d3))
+        → SameBeside (slot / 64) (tree_in after (root_spelling was.root)) (tree_in (g.content d3) (root_spelling then3.root))
+        → Committed g graph (replaced e fs) id (index_with i slot (Some (named c root.word))) (Some (record { id = named c root.word; object = bare_object root })) d3 d4 k4
         → Creates g graph ds id i slot (named c root.word) (bare_object root) d0 d4 k4
-    created ch =
+    created claims beside ch =
         let rs = id.block ∷ c ∷ [] in
         record {
           least = least;
@@ -443,6 +462,17 @@ module _ {D : Type 0} (g : Ghosts D) (graph : Graph) (ds : List Opened) (id : Pu
           settled = ch.settled;
           only = changes_then _ before (g.content d3) (g.content d4) (changes_then _ before after (g.content d3) (owners_change c rs before after (more_numbers id.block c (c ∷ []) (first_number c [])) only_root)
               (owners_change id.block rs after (g.content d3) (first_number id.block (c ∷ [])) becomes.steps.only)) ch.only;
+          beside = leaf_alone (slot / 64) id.block before (g.content d4) (tree_in after (root_spelling was.root)) (tree_in (g.content d3) (root_spelling then3.root))
+              (own_tree ∙ ap (tree_in before) (ap (λ (x : Drafting). root_spelling x.root) begun ∙ sym draft_was.own.spelled)) beside (ch.tree e becomes.is_open.alone);
+          takes = record {
+            mid = g.content d3;
+            in_order = (
+              after,
+              record { block = c; least = least; here = entry_here; others = entry_other },
+              subst (λ (es : List MapEntry). AreClaimed es after (g.content d3)) (begun_claims was.at None was.own (slot / 64) was begun ∙ ap (leaf_and_node (slot / 64)) (sym here)) claims,
+            );
+            only = ch.only;
+          };
         }
 
 -- ---- how the call ends
@@ -489,6 +519,8 @@ module _ {D : Type 0} (g : Ghosts D) (at slot : ℕ) (d0 : D) (k0 : Kept) where
               store = done.store;
               settled = done.settled;
               only = subst (λ (x : Image). ChangesOnly (λ entry. of_owners (id.block ∷ c ∷ []) entry) x (g.content d3)) reads.content done.only;
+              beside = subst (λ (x : Image). IsOneLeaf (slot / 64) id.block x (g.content d3)) reads.content done.beside;
+              takes = subst (λ (x : Image). Takes (intended Root c ∷ leaf_and_node (slot / 64) id.block) (id.block ∷ c ∷ []) x (g.content d3)) reads.content done.takes;
             }),
           );
       leaves = images (Ok p) ends;

@@ -14,11 +14,13 @@ use Rattle.cfs_base.specs.declared.refusal.Trouble.{Trouble}
 use Rattle.cfs_base.specs.declared.refusal.Trouble.TheVariants as trouble
 use Rattle.cfs_base.proofs.Calls.{makes_then, reads_make, reads_then, reads_within, stopped_after_reads, then_tried}
 use Rattle.cfs_base.proofs.Runs.{then, wider}
-use Rattle.block_tree.specs.Root.{IsRootBlock}
+use Rattle.block_tree.specs.Root.{IsRootBlock, root_spelling}
 use Rattle.block_tree.specs.declared.root.Root.{Root}
 use Rattle.cyl_map.specs.declared.entry.MapEntry.{MapEntry}
-use Rattle.cyl_alloc.specs.Space.{AreCounts, Kept}
-use Rattle.index_ops.specs.Changes.{Changes, HasSlot, IsIndexRefusal, PutsSlot, Settles, index_with, short_at}
+use Rattle.claims.specs.Claims.{AreClaimed}
+use Rattle.cfs_base.specs.declared.kind.Place.TheVariants.{Leaf, Node}
+use Rattle.cyl_alloc.specs.Space.{AreCounts, Kept, intended}
+use Rattle.index_ops.specs.Changes.{Changes, ChangesLeaf, HasSlot, IsIndexRefusal, IsOneLeaf, PutsSlot, Settles, Takes, index_with, leaf_and_node, short_at}
 use Rattle.index_ops.proofs.Indices.{slots_are}
 use Rattle.intentions.specs.Store.{StoreHas}
 use Rattle.special_files.specs.Becomes.{Becomes}
@@ -26,12 +28,13 @@ use Rattle.special_files.specs.Committing.{Committed, IsOldOrNew}
 use Rattle.special_files.specs.Drafting.{Drafting, IsOpen, begun_at, fresh_of, is_fresh_leaf, is_fresh_node, leaf_takes, one_unless, opened_as}
 use Rattle.special_files.specs.Ends.{Ends}
 use Rattle.special_files.specs.Fills.{filled_draft}
-use Rattle.special_files.specs.Leaves.{leaves_of}
+use Rattle.special_files.specs.Leaves.{SameBeside, leaves_of}
+use Rattle.special_files.specs.Order.{leaf_claims}
 use Rattle.special_files.specs.Refusal.{IsRefusal, IsRefusalOrMemory, IsTrouble, is_damage, is_damaged, is_full}
 use Rattle.special_files.specs.Store.{replaced, without_draft}
 use Rattle.special_files.proofs.Begun.{begun_fresh, store_reads}
 use Rattle.special_files.proofs.Endings.{trouble_after_tried}
-use Rattle.special_files.proofs.Levels.{length-none}
+use Rattle.special_files.proofs.Levels.{length-none, none_is}
 use Rattle.special_files.proofs.Lists.{first_here}
 use Rattle.special_files.proofs.PutStore.{the_draft}
 use Rattle.special_files.proofs.Refusals.{refusal_after_reads}
@@ -43,12 +46,13 @@ use Rattle.ufs_model.specs.declared.object.Object.{Object}
 use Rattle.ufs_model.specs.declared.object.Object.TheVariants as objects
 use Rattle.ufs_model.proofs.Graphs.{object_at-with_object, rises-with_object, same_entries}
 use Rattle.vol_image.specs.Reading.{object_with}
+use Rattle.vol_image.specs.Seen.{Tree, tree_in}
 use Rattle.vol_image.specs.Sound.{Holds}
 use Rattle.vol_image.proofs.Unique.{one_root_block}
 use Rattle.vol_image.proofs.Carries.{carries_on}
 use Rattle.vol_image.proofs.Reached.{same_puid_is, same_puid_itself}
 use Rattle.vol_owners.specs.Account.{Accounts, Opened, drafts_of}
-use Rattle.vol_owners.specs.Change.{ChangesOnly, of_draft, of_owner}
+use Rattle.vol_owners.specs.Change.{ChangesOnly, of_draft, of_owner, of_owners}
 use Rattle.vol_owners.specs.Owner.{is_meant, is_placed, is_taken}
 use Rattle.vol_owners.proofs.Changes.{changes_begin, changes_then, changes_wider}
 use Rattle.vol_owners.proofs.Entries.{placed_taken}
@@ -91,6 +95,18 @@ same_graph g id o up at = λ i. record g { objects = same_entries (with_object g
 draft_owned : (r : ℕ) (entry : Option MapEntry) → of_draft r entry ≡ true → of_owner r entry ≡ true
 draft_owned r entry is = let two = and_parts (is_placed is_meant entry) _ is in and_from (is_placed is_taken entry) _ (placed_taken is_meant refl entry two.0) two.1
 
+-- ---- one leaf, and its node
+
+-- a leaf of a draft that was begun takes two blocks
+pub begun_claims : (at : ℕ) (shadow : Option ℕ) (own : Root) (leaf : ℕ) (was : Drafting) → was ≡ begun_at at shadow own → leaf_claims was.at was.leaves was.nodes leaf ≡ leaf_and_node leaf at
+begun_claims at shadow own leaf was begun =
+    ap (λ (x : Drafting). leaf_claims x.at x.leaves x.nodes leaf) begun
+    ∙ (λ j. cond (none_is 15360 leaf j) [] (intended (Leaf leaf) at ∷ cond (none_is 120 (leaf / 128) j) [] (intended (Node (leaf / 128)) at ∷ [])))
+
+-- what changed in a draft's tree changed in its object's, once that is the draft
+pub leaf_alone : (leaf at : ℕ) (a b : Image) (old new : Tree) → old ≡ tree_in a (block_at a at) → SameBeside leaf old new → tree_in b (block_at b at) ≡ new → IsOneLeaf leaf at a b
+leaf_alone leaf at a b old new before beside after path not_node not_leaf = ap (λ (t : Tree). t.below path) after ∙ beside path not_node not_leaf ∙ ap (λ (t : Tree). t.below path) before
+
 -- ---- the draft of an index that was begun
 
 -- as the model has it
@@ -129,6 +145,22 @@ module _ {D : Type 0} (g : Ghosts D) (graph : Graph) (ds : List Opened) (id : Pu
       only = changes_then _ (g.content d0) (g.content d2) (g.content d3)
           (changes_wider (λ entry. of_draft id.block entry) (λ entry. of_owner id.block entry) (g.content d0) (g.content d2) (draft_owned id.block)
           (subst (λ (a : Image). ChangesOnly (λ entry. of_draft id.block entry) a (g.content d2)) reads.content becomes.steps.only)) ch.only;
+    }
+
+    -- its leaf and node alone are others then
+    pub commit_leaf : IsRootBlock (block_at (g.content d0) at) was.own → AreClaimed (leaf_claims was.at was.leaves was.nodes (slot / 64)) (g.content d1) (g.content d2)
+        → SameBeside (slot / 64) (tree_in (g.content d1) (root_spelling was.root)) (tree_in (g.content d2) (root_spelling now.root))
+        → Committed g graph (replaced e es) id (index_with i slot what) None d2 d3 k3 → ChangesLeaf g (slot / 64) at what d0 d3
+    commit_leaf own claims beside ch = record {
+      beside = subst (λ (n : ℕ). IsOneLeaf (slot / 64) n (g.content d0) (g.content d3)) has.root (leaf_alone (slot / 64) id.block (g.content d0) (g.content d3)
+          (tree_in (g.content d1) (root_spelling was.root)) (tree_in (g.content d2) (root_spelling now.root))
+          ((λ j. tree_in (reads.content j) (root_spelling (begun j).root)) ∙ ap (tree_in (g.content d0)) (sym own.spelled ∙ ap (block_at (g.content d0)) (sym has.root))) beside (ch.tree e becomes.is_open.alone));
+      takes = inr (record {
+        mid = g.content d2;
+        in_order = subst (λ (a : Image). AreClaimed (leaf_and_node (slot / 64) at) a (g.content d2)) reads.content
+            (subst (λ (es : List MapEntry). AreClaimed es (g.content d1) (g.content d2)) (begun_claims at None was.own (slot / 64) was begun) claims);
+        only = subst (λ (n : ℕ). ChangesOnly (λ entry. of_owners (n ∷ []) entry) (g.content d2) (g.content d3)) has.root ch.only;
+      });
     }
 
   -- nothing was to be done
@@ -203,6 +235,7 @@ module _ {D : Type 0} (g : Ghosts D) (at slot : ℕ) (what : Option Puid) (d0 : 
       → ((graph : Graph) (ds : List Opened) (id : Puid) (i : Index) → HasSlot g graph ds d0 k0 at id i slot → is_damaged e ≡ false) → PutsSlot g at slot what d0 d1 k0 k1 (Err e)
   err_read d1 k1 n e few reads kept why sound = record {
     done = λ graph ds id i has. tt;
+    leaf = λ graph ds id i has. tt;
     leaves = λ graph ds id i has. wider g d0 d1 Nothing _ reads.images (λ c none. absurd none);
     sound = sound;
     refused = why;
@@ -230,6 +263,7 @@ module _ {D : Type 0} (g : Ghosts D) (at slot : ℕ) (what : Option Puid) (d0 : 
         → ((graph : Graph) (ds : List Opened) (id : Puid) (i : Index) → HasSlot g graph ds d0 k0 at id i slot → Leaves g d1 d2 (λ c. Holds c graph) × (is_damaged e ≡ false)) → PutsSlot g at slot what d0 d2 k0 k2 (Err e)
     err_fill e here told spare on = record {
       done = λ graph ds id i has. tt;
+      leaf = λ graph ds id i has. tt;
       leaves = λ graph ds id i has. then g d0 d1 d2 _ (λ c. Holds c graph) (wider g d0 d1 Nothing _ reads.images (λ c none. absurd none)) (on graph ds id i has).0 (λ c h. inl h);
       sound = λ graph ds id i has. (on graph ds id i has).1;
       refused = from_refusal g at slot d0 d2 k2 e why spare;
@@ -264,13 +298,15 @@ module _ {D : Type 0} (g : Ghosts D) (at slot : ℕ) (what : Option Puid) (d0 : 
           let two = leaves graph ds id i has in
           then g d0 d2 d3 P P (then g d0 d1 d2 P (λ c. Holds c graph) (wider g d0 d1 Nothing P reads.images (λ c none. absurd none)) two.0 (λ c h. inl h)) two.1 (λ c h. h)
 
-      pub ok_commit : ((graph : Graph) (ds : List Opened) (id : Puid) (i : Index) → HasSlot g graph ds d0 k0 at id i slot → Changes g graph ds id (index_with i slot what) d0 d3 k3) → PutsSlot g at slot what d0 d3 k0 k3 (Ok tt)
-      ok_commit done = record { done = done; leaves = images; sound = λ graph ds id i has. tt; refused = tt; memory = tt; untried = tt; cylinders = cylinders ∙ ends.cylinders; calls = all }
+      pub ok_commit : ((graph : Graph) (ds : List Opened) (id : Puid) (i : Index) → HasSlot g graph ds d0 k0 at id i slot → Changes g graph ds id (index_with i slot what) d0 d3 k3)
+          → ((graph : Graph) (ds : List Opened) (id : Puid) (i : Index) → HasSlot g graph ds d0 k0 at id i slot → ChangesLeaf g (slot / 64) at what d0 d3) → PutsSlot g at slot what d0 d3 k0 k3 (Ok tt)
+      ok_commit done leaf = record { done = done; leaf = leaf; leaves = images; sound = λ graph ds id i has. tt; refused = tt; memory = tt; untried = tt; cylinders = cylinders ∙ ends.cylinders; calls = all }
 
       pub err_commit : (t : Trouble) → IsTrouble g at d2 d3 k3 t → ((graph : Graph) (ds : List Opened) (id : Puid) (i : Index) → HasSlot g graph ds d0 k0 at id i slot → is_damage t ≡ false)
           → PutsSlot g at slot what d0 d3 k0 k3 (Err (refused_by (trouble_after_try t)))
       err_commit t why sound = record {
         done = λ graph ds id i has. tt;
+        leaf = λ graph ds id i has. tt;
         leaves = images;
         sound = λ graph ds id i has. sound_by t (sound graph ds id i has);
         refused = from_trouble g at slot d0 d3 k3 (trouble_after_try t)
@@ -282,7 +318,7 @@ module _ {D : Type 0} (g : Ghosts D) (at slot : ℕ) (what : Option Puid) (d0 : 
       }
 
   -- nothing was to be done
-  module _ (d1 d2 d3 : D) (k2 : Kept) (reads : OnlyReads g 1 d0 d1) (more : OnlyReads g 2 d1 d2) (kept : k2 ≡ k0) where
+  module _ (d1 d2 d3 : D) (k2 : Kept) (reads : OnlyReads g 1 d0 d1) (more : OnlyReads g 2 d1 d2) (kept : k2 ≡ k0) (none : what ≡ None) where
     both : OnlyReads g 3 d0 d2
     both = reads_then g d0 d1 d2 1 2 3 reads more (omega arith)
 
@@ -307,6 +343,9 @@ module _ {D : Type 0} (g : Ghosts D) (at slot : ℕ) (what : Option Puid) (d0 : 
                 counts = subst (λ (a : Image). AreCounts a k0) (sym is.content) store.counts;
                 ordered = store.ordered;
               });
+          leaf = λ graph ds id i has.
+              let same = is.content ∙ both.content in
+              record { beside = λ path not_node not_leaf. ap (λ (a : Image). (tree_in a (block_at a at)).below path) same; takes = inl (none, same) };
           leaves = λ graph ds id i has. images _ is.images;
           sound = λ graph ds id i has. tt;
           refused = tt;
@@ -317,6 +356,7 @@ module _ {D : Type 0} (g : Ghosts D) (at slot : ℕ) (what : Option Puid) (d0 : 
         }
         by (Err e) is = record {
           done = λ graph ds id i has. tt;
+          leaf = λ graph ds id i has. tt;
           leaves = λ graph ds id i has. images _ is.images;
           sound = λ graph ds id i has. ap is_damaged is.refused;
           refused = subst (IsIndexRefusal g at slot d0 d3 k2) (sym is.refused) (stopped_after_reads g d0 d2 d3 3 true both is.stopped);

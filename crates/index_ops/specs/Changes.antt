@@ -1,27 +1,32 @@
 -- An index changed as one commit.
-use Rattle.std.specs.Prelude.{◌≡◌, ◌⊎◌, ℕ, ◌+◌, ◌*◌, ◌<◌, false, List, [], length, Option, IfErr, OnErr, OnOk, IsTrue, Result, Some, true}
+use Rattle.std.specs.Prelude.{◌≡◌, ◌⊎◌, ℕ, ◌+◌, ◌*◌, ◌/◌, ◌<◌, false, List, [], ◌∷◌, length, Option, IfErr, OnErr, OnOk, IsTrue, Result, None, Some, true}
 use Rattle.cfs_base.specs.Calls.{HasStopped, MakesAtMost, OnlyReads}
 use Rattle.cfs_base.specs.Codes.{no_root}
-use Rattle.cfs_base.specs.Disk.{Nothing, block_at}
+use Rattle.cfs_base.specs.Disk.{Image, Nothing, block_at}
 use Rattle.cfs_base.specs.Run.{IsSettled, Leaves, Tells}
 use Rattle.cfs_base.specs.declared.disk.Disk.{Ghosts}
 use Rattle.cfs_base.specs.declared.identifier.Puid.{Puid}
+use Rattle.cfs_base.specs.declared.kind.Place.TheVariants.{Leaf, Node}
 use Rattle.cfs_base.specs.declared.refusal.Damage.{Damage}
 use Rattle.cfs_base.specs.declared.refusal.Refused.{Refused}
 use Rattle.cfs_base.specs.declared.refusal.Refused.TheVariants as refusals
 use Rattle.block_tree.specs.Root.{IsRootBlock}
 use Rattle.block_tree.specs.declared.root.Root.{Root}
-use Rattle.cyl_alloc.specs.Space.{Kept}
+use Rattle.claims.specs.Claims.{AreClaimed}
+use Rattle.cyl_alloc.specs.Space.{Kept, intended}
+use Rattle.cyl_map.specs.declared.entry.MapEntry.{MapEntry}
 use Rattle.intentions.specs.Store.{StoreHas}
 use Rattle.special_files.specs.Committing.{IsOldOrNew}
+use Rattle.special_files.specs.Leaves.{SameBeside}
 use Rattle.special_files.specs.Refusal.{IsDamage, is_damaged}
 use Rattle.ufs_model.specs.Graph.{Graph, object_at, with_object}
 use Rattle.ufs_model.specs.Object.{filled}
 use Rattle.ufs_model.specs.declared.object.Index.{Index}
 use Rattle.ufs_model.specs.declared.object.Object.{Object}
 use Rattle.ufs_model.specs.declared.object.Object.TheVariants as objects
+use Rattle.vol_image.specs.Seen.{tree_in}
 use Rattle.vol_owners.specs.Account.{Opened, drafts_of}
-use Rattle.vol_owners.specs.Change.{ChangesOnly, of_owner}
+use Rattle.vol_owners.specs.Change.{ChangesOnly, of_owner, of_owners}
 
 -- the store has this index at the block, no draft of it, and the slot is one of it
 pub record HasSlot {D : Type 0} (g : Ghosts D) (graph : Graph) (ds : List Opened) (d : D) (space : Kept) (at : ℕ) (id : Puid) (i : Index) (slot : ℕ) : Type 0 where
@@ -40,6 +45,26 @@ pub record Changes {D : Type 0} (g : Ghosts D) (graph : Graph) (ds : List Opened
   pub store : StoreHas g (with_object graph id o) ds new space
   pub settled : IsSettled g new
   pub only : ChangesOnly (λ entry. of_owner id.block entry) (g.content old) (g.content new)
+
+-- of the tree below a root block only one leaf and its node are others than they were
+abbrev pub IsOneLeaf : (leaf at : ℕ) → Image → Image → Type 0
+IsOneLeaf leaf at a b = SameBeside leaf (tree_in a (block_at a at)) (tree_in b (block_at b at))
+
+-- Blocks were claimed for these entries, one after another, each the least-numbered Free one. After that nothing changed but
+-- blocks of these owners or such as were Free.
+pub record Takes (claims : List MapEntry) (owners : List ℕ) (a b : Image) : Type 0 where
+  pub mid : Image
+  pub in_order : AreClaimed claims a mid
+  pub only : ChangesOnly (λ entry. of_owners owners entry) mid b
+
+-- a leaf of the object with this root block, and after it its node
+abbrev pub leaf_and_node : (leaf at : ℕ) → List MapEntry
+leaf_and_node leaf at = intended (Leaf leaf) at ∷ intended (Node (leaf / 128)) at ∷ []
+
+-- Of an index one leaf alone changed, and the node above it: both take blocks. Or a slot that is empty was to be, and nothing did.
+pub record ChangesLeaf {D : Type 0} (g : Ghosts D) (leaf at : ℕ) (what : Option Puid) (old new : D) : Type 0 where
+  pub beside : IsOneLeaf leaf at (g.content old) (g.content new)
+  pub takes : ((what ≡ None) × (g.content new ≡ g.content old)) ⊎ Takes (leaf_and_node leaf at) (at ∷ []) (g.content old) (g.content new)
 
 -- what waited is durable now, and the content is as it was
 pub record Settles {D : Type 0} (g : Ghosts D) (old new : D) (result : Result (Unit {0}) Refused) : Type 0 where
@@ -74,6 +99,9 @@ IsIndexRefusal g at slot old new kept refusals.Memory = Unit {0}
 pub record PutsSlot {D : Type 0} (g : Ghosts D) (at slot : ℕ) (what : Option Puid) (old new : D) (before after : Kept) (result : Result (Unit {0}) Refused) : Type 0 where
   pub done : (graph : Graph) (ds : List Opened) (id : Puid) (i : Index) → HasSlot g graph ds old before at id i slot
       → OnOk result (Changes g graph ds id (index_with i slot what) old new after)
+  -- its leaf alone changed
+  pub leaf : (graph : Graph) (ds : List Opened) (id : Puid) (i : Index) → HasSlot g graph ds old before at id i slot
+      → OnOk result (ChangesLeaf g (slot / 64) at what old new)
   pub leaves : (graph : Graph) (ds : List Opened) (id : Puid) (i : Index) → HasSlot g graph ds old before at id i slot
       → Leaves g old new (IsOldOrNew graph graph id (index_with i slot what))
   -- no damage where the disk holds the index

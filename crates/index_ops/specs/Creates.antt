@@ -17,7 +17,7 @@ use Rattle.block_tree.specs.Root.{IsRoot, IsRootBlock, root_spelling}
 use Rattle.block_tree.specs.declared.root.Root.{Root}
 use Rattle.cyl_map.specs.Volume.{is_free_in, with_entry}
 use Rattle.cyl_alloc.specs.Space.{AreCounts, IsLeastFree, Kept, intended}
-use Rattle.index_ops.specs.Changes.{HasSlot, IsIndexRefusal, index_with}
+use Rattle.index_ops.specs.Changes.{HasSlot, IsIndexRefusal, IsOneLeaf, Takes, index_with, leaf_and_node}
 use Rattle.intentions.specs.Store.{StoreHas}
 use Rattle.special_files.specs.Committing.{named}
 use Rattle.special_files.specs.Refusal.{is_damaged}
@@ -55,6 +55,9 @@ pub record Creates {D : Type 0} (g : Ghosts D) (graph : Graph) (ds : List Opened
   pub store : StoreHas g (with_made graph id i slot new made) ds now space
   pub settled : IsSettled g now
   pub only : ChangesOnly (λ entry. of_owners (id.block ∷ new.block ∷ []) entry) (g.content old) (g.content now)
+  -- of the index the slot's leaf alone changed, and its node; both take blocks after the root
+  pub beside : IsOneLeaf (slot / 64) id.block (g.content old) (g.content now)
+  pub takes : Takes (intended places.Root new.block ∷ leaf_and_node (slot / 64) id.block) (id.block ∷ new.block ∷ []) (g.content old) (g.content now)
 
 -- ---- its steps
 

@@ -28,6 +28,7 @@ use Rattle.ufs_model.specs.declared.object.Draft as models
 use Rattle.ufs_model.specs.declared.object.Object.{Object}
 use Rattle.ufs_model.specs.Graph.{Graph, object_at}
 use Rattle.vol_image.specs.Part.{stands_for}
+use Rattle.vol_image.specs.Seen.{tree_in}
 use Rattle.vol_image.specs.Sound.{Holds}
 use Rattle.vol_image.proofs.Parts.{IsPlaced, in_image, root_placed, taken_apart}
 use Rattle.vol_image.proofs.Steps.{not_map}
@@ -40,7 +41,7 @@ use Rattle.special_files.specs.Drafting.{Drafting, IsOpen, opened_as}
 use Rattle.special_files.specs.Refusal.{IsRefusal, IsTrouble, is_damage, is_damaged, is_full}
 use Rattle.special_files.proofs.Amid.{IsAmid, amid_begins, amid_reads, claim_leaves, claimed, write_leaves, wrote}
 use Rattle.special_files.proofs.Begins.{no_root, shadow_entry}
-use Rattle.special_files.proofs.CommitDraft.{ready}
+use Rattle.special_files.proofs.CommitDraft.{ready_with}
 use Rattle.special_files.proofs.Endings.{enters_ends}
 use Rattle.special_files.proofs.Fresh.{small_image}
 use Rattle.special_files.proofs.Meant.{free_is, still_has}
@@ -134,8 +135,9 @@ module _ {D : Type 0} (g : Ghosts D) (graph : Graph) (ds : List Opened) (id : Pu
         entries b = ap (λ (i : Image). entry_in i b) content ∙ entry_in-set (g.content d2) s.0 block b real
 
         pub direct_ready : (taken dropped : List ℕ) → block ≡ root_spelling drafting.root → IsChanged (g.content d0) id (opened_as id drafting m) taken dropped → IsReady (g.content d3) graph id o m.object s.0 taken dropped None
+            × (tree_in (g.content d3) (block_at (g.content d3) s.0) ≡ tree_in (g.content d0) (root_spelling drafting.root))
         direct_ready taken dropped spelled lists =
-            ready (g.content d0) (g.content d3) graph id o (opened_as id drafting m) s.0 taken dropped store.account.holds at (store.account.objects id o at) (the_draft (g.content d0) ds id drafting m opened (store.account.drafts id o at)) lists
+            ready_with (g.content d0) (g.content d3) graph id o (opened_as id drafting m) s.0 taken dropped store.account.holds at (store.account.objects id o at) (the_draft (g.content d0) ds id drafting m opened (store.account.drafts id o at)) lists
             (still_has (g.content d0) (g.content d3) graph ds id o store.account at amid3.only id o at)
             (ap (length {A = List ℕ}) content ∙ length-set (g.content d2) s.0 block ∙ ap (length {A = List ℕ}) content2 ∙ length-with_entry (g.content d0) s.0 (intended ShadowRoot id.block))
             (λ b other. entries b ∙ ap (λ (i : Image). entry_in i b) content2 ∙ entry_in-with_entry_other (g.content d0) s.0 (intended ShadowRoot id.block) was.0 b was.1 other)

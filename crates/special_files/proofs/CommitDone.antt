@@ -19,6 +19,7 @@ use Rattle.ufs_model.specs.declared.object.Object.{Object}
 use Rattle.ufs_model.specs.Graph.{Graph, with_object}
 use Rattle.vol_image.specs.Part.{is_fixed, reserved}
 use Rattle.vol_image.specs.Run.{Carries}
+use Rattle.vol_image.specs.Seen.{tree_in}
 use Rattle.vol_image.specs.Sound.{Holds}
 use Rattle.vol_image.proofs.Law.{frames_hold}
 use Rattle.vol_image.proofs.Parts.{in_image, root_placed, taken_apart}
@@ -151,7 +152,7 @@ module _ {D : Type 0} (g : Ghosts D) {graph full : Graph} {at word : ℕ} {was o
               let same = run.holds.fixed m (in_image (g.content d0) graph run.holds m e.0 e.1) is in
               let no : is_of is_taken q (Some reserved) ≡ true = sym (ap (is_of is_taken q) same) ∙ h in cc)
 
-          pub carried_out : (before : Kept) → CarriedOut g full (named at word) o created d0 d3 before (given_all (given_all before dropped) (s ∷ []))
+          pub carried_out : (before : Kept) → CarriedOut g full (named at word) o s created d0 d3 before (given_all (given_all before dropped) (s ∷ []))
           carried_out before = record {
             carries = carries_ended g w d3 fits (f.keeps w fits keeps2 may2) settled3;
             settled = settled3;
@@ -163,10 +164,11 @@ module _ {D : Type 0} (g : Ghosts D) {graph full : Graph} {at word : ℕ} {was o
                 (whole.b4_other_block ready 1 (λ zero. cc) (λ same. not_label at root_apart (sym same)))
                 fixed_unowned
                 (λ m loose. ⊎_elim (λ same. inr same) (λ other. inl (whole.b4_other_block ready m (not_map m loose) other)) (same_or_not m at)));
+            tree = ap (λ (i : Image). tree_in i (block_at i at)) b4_is ∙ whole.tree_now ready;
             counts = λ counts. subst (λ (i : Image). AreCounts i (given_all (given_all before dropped) (s ∷ []))) (sym b4_is) (whole.counts_now ready before counts);
           }
 
-        pub done_by : (r : Result (Unit {0}) Trouble) → Flips g n t plan d2 d3 r → OnOk r (IsSettled g d3) → (before : Kept) → OnOk r (CarriedOut g full (named at word) o created d0 d3 before (given_all (given_all before dropped) (s ∷ [])))
+        pub done_by : (r : Result (Unit {0}) Trouble) → Flips g n t plan d2 d3 r → OnOk r (IsSettled g d3) → (before : Kept) → OnOk r (CarriedOut g full (named at word) o s created d0 d3 before (given_all (given_all before dropped) (s ∷ [])))
         done_by (Ok u) f settled before = carried_out f settled before
         done_by (Err e) f settled before = tt
 

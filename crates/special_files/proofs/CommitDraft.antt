@@ -99,7 +99,7 @@ module _ (a b : Image) (g : Graph) (id : Puid) (was : Object) (d : Opened) (s : 
       let was_one = ap (stands_for id.block) (sym (same n other)) ∙ is in
       ⊎_elim (λ one. shadow n one) (λ in_tree. absurd (shadow_apart a (length a) id.block n (content_of d) d.root d.draft.object draft.tree was_one in_tree)) (draft.no_other n (stands_meant id.block (entry_in a n) was_one))) (same_or_not n s)
 
-  pub ready : IsReady b g id was d.draft.object s taken dropped None
+  ready : IsReady b g id was d.draft.object s taken dropped None
   ready = record {
     holds = now_holds;
     at = at;
@@ -123,6 +123,10 @@ module _ (a b : Image) (g : Graph) (id : Puid) (was : Object) (d : Opened) (s : 
     dropped_once = lists.drops.once;
     made = λ c is. (let no : None ≡ Some c = is in cc);
   }
+
+  -- with the draft's tree below the shadow root
+  pub ready_with : IsReady b g id was d.draft.object s taken dropped None × (tree_in b (block_at b s) ≡ tree_in a (content_of d))
+  ready_with = (ready, new_tree)
 
 -- ---- the drafts of the others
 
@@ -249,13 +253,16 @@ module _ {D : Type 0} (g : Ghosts D) (graph : Graph) (ds : List Opened) (id : Pu
       store1 = subst (λ (es : List Opened). StoreHas g graph es d1 k0) (replaced_same (opened_as id drafting m) ds opened.alone) (store_goes_on g graph ds id o d0 d1 k0 k0 drafting drafting m m store at opened amid1 draft1 refl)
 
       pub ready1 : (taken dropped : List ℕ) → block ≡ root_spelling drafting.root → IsChanged (g.content d1) id (opened_as id drafting m) taken dropped → IsReady (g.content d1) graph id o m.object s taken dropped None
-      ready1 taken dropped spelled lists =
-          ready (g.content d1) (g.content d1) graph id o (opened_as id drafting m) s taken dropped store1.account.holds at (store1.account.objects id o at) draft1 lists (store1.account.objects id o at) refl
+      ready1 taken dropped spelled lists = (
+          ready_with (g.content d1) (g.content d1) graph id o (opened_as id drafting m) s taken dropped store1.account.holds at (store1.account.objects id o at) draft1 lists (store1.account.objects id o at) refl
           (λ n other. refl) (λ n is other. refl) (ap (stands_for id.block) (entries s) ∙ stands)
           (ap (λ (i : Image). block_at i s) content ∙ get_or-set_same (g.content d0) s block [] below ∙ spelled)
           (λ n is. same_Some _ _ (sym is ∙ stood))
           (λ n is. inner_apart n (record { taken = record { is = is.taken.is; here = sym (entries n) ∙ is.taken.here; taken = is.taken.taken; placed = is.taken.placed; owned = is.taken.owned }; no_root = is.no_root; no_shadow = is.no_shadow }))
-          store1.account.holds
+          store1.account.holds).0
+
+      pub tree1 : block ≡ root_spelling drafting.root → tree_in (g.content d1) (block_at (g.content d1) s) ≡ tree_in (g.content d0) (root_spelling drafting.root)
+      tree1 spelled = ap (tree_in (g.content d1)) (ap (λ (i : Image). block_at i s) content ∙ get_or-set_same (g.content d0) s block [] below ∙ spelled) ∙ tree
 
 -- ---- ends
 

@@ -4,7 +4,7 @@ use Rattle.std.specs.Prelude.{Result, option_to_list}
 use Rattle.std.specs.List.{list_all}
 use Rattle.std.proofs.lemmas.Bool.{and_from, and_parts, false_from_ne_true}
 use Rattle.std.proofs.lemmas.Option.{same_Some}
-use Rattle.cfs_base.specs.Disk.{Image}
+use Rattle.cfs_base.specs.Disk.{Image, block_at}
 use Rattle.cfs_base.specs.Run.{Leaves}
 use Rattle.cfs_base.specs.declared.disk.Disk.{Ghosts}
 use Rattle.cfs_base.specs.declared.identifier.Puid.{Puid}
@@ -20,6 +20,7 @@ use Rattle.ufs_model.specs.Numbers.{has_number}
 use Rattle.ufs_model.proofs.Graphs.{rises-with_object}
 use Rattle.vol_image.specs.Part.{part_of}
 use Rattle.vol_image.specs.Reading.{bare_object}
+use Rattle.vol_image.specs.Seen.{Tree, tree_in}
 use Rattle.vol_image.specs.Sight.{sight}
 use Rattle.vol_image.specs.Sound.{Holds, IsBareRoot, ReadsAs}
 use Rattle.vol_image.proofs.AtRoot.{bare_reads}
@@ -28,7 +29,7 @@ use Rattle.vol_image.proofs.Graphs.{object_at-with_object}
 use Rattle.vol_image.proofs.Parts.{in_image, taken_apart}
 use Rattle.vol_image.proofs.Reached.{same_puid_is}
 use Rattle.vol_image.proofs.Steps.{frames_begin}
-use Rattle.vol_owners.specs.Account.{HasDrafts, IsMade, Opened, drafts_of}
+use Rattle.vol_owners.specs.Account.{HasDrafts, IsMade, Opened, content_of, drafts_of}
 use Rattle.vol_owners.specs.Change.{ChangesOnly, of_draft, of_owners}
 use Rattle.vol_owners.specs.Owner.{is_meant, is_placed, owner_of}
 use Rattle.vol_owners.proofs.Changes.{changes_then, changes_wider}
@@ -62,12 +63,17 @@ other_at : (g : Graph) (x id : Puid) (p o : Object) → same_puid id x ≡ false
 other_at g x id p o other at = object_at-with_object g x p id ∙ ap (λ (b : Bool). cond b (Some p) (object_at g id)) other ∙ at
 
 module _ {D : Type 0} (g : Ghosts D) (graph : Graph) (ds : List Opened) (id : Puid) (was o : Object) (d : Opened) (created : Option ℕ) (d0 d1 : D) (k0 k1 : Kept) (s : ℕ) (taken dropped : List ℕ)
-    (store : StoreHas g graph ds d0 k0) (at : object_at graph id ≡ Some was) (alone : drafts_of ds id ≡ d ∷ []) (created_is : d.created ≡ created) (amid : IsAmid g graph id d0 d1 k1) (ready : IsReady (g.content d1) graph id was o s taken dropped None) where
+    (store : StoreHas g graph ds d0 k0) (at : object_at graph id ≡ Some was) (alone : drafts_of ds id ≡ d ∷ []) (created_is : d.created ≡ created) (amid : IsAmid g graph id d0 d1 k1) (ready : IsReady (g.content d1) graph id was o s taken dropped None)
+    (tree_is : tree_in (g.content d1) (block_at (g.content d1) s) ≡ tree_in (g.content d0) (content_of d)) where
   abbrev a : Image
   a = g.content d0
 
   abbrev b : Image
   b = g.content d1
+
+  -- the tree of the one draft that stood
+  tree_by : (t : Tree) → t ≡ tree_in b (block_at b s) → (e : Opened) → drafts_of ds id ≡ e ∷ [] → t ≡ tree_in a (content_of e)
+  tree_by t is e there = let same : d ∷ [] ≡ e ∷ [] = sym alone ∙ there in let one : d ≡ e = cc in is ∙ tree_is ∙ ap (λ (x : Opened). tree_in a (content_of x)) one
 
   -- with the objects that there are then
   ready_for : (full : Graph) → Holds (g.content d1) full → object_at full id ≡ Some was → ((c : ℕ) → created ≡ Some c → IsMade (g.content d1) c) → IsReady (g.content d1) full id was o s taken dropped created
@@ -120,7 +126,7 @@ module _ {D : Type 0} (g : Ghosts D) (graph : Graph) (ds : List Opened) (id : Pu
         (other_at graph m.id id m.object was other at)
         (λ n at_n. subst (IsMade b) (same_Some _ _ (sym is ∙ at_n)) (still_made a store.account.holds.own c was_made b id.block apart amid.only))
 
-    store_made : (d2 : D) (k2 : Kept) → CarriedOut g (with_object graph m.id m.object) id o created d1 d2 k1 k2 → Committed g graph ds id o (Some m) d0 d2 k2
+    store_made : (d2 : D) (k2 : Kept) → CarriedOut g (with_object graph m.id m.object) id o s created d1 d2 k1 k2 → Committed g graph ds id o (Some m) d0 d2 k2
     store_made d2 k2 done =
         let all = changes_then _ a b (g.content d2) (owners_change id.block (id.block ∷ c ∷ []) a b (first_number id.block (c ∷ [])) amid.only) (subst (λ (x : Option ℕ). ChangesOnly (λ e. of_owners (id.block ∷ option_to_list x) e) b (g.content d2)) is done.only) in
         let without = without_it id d c ds alone (created_is ∙ is) store.account.made_once in
@@ -138,11 +144,12 @@ module _ {D : Type 0} (g : Ghosts D) (graph : Graph) (ds : List Opened) (id : Pu
           };
           settled = done.settled;
           only = all;
+          tree = tree_by _ done.tree;
         }
 
   -- ---- none is made
 
-  store_alone : created ≡ None → (d2 : D) (k2 : Kept) → CarriedOut g graph id o created d1 d2 k1 k2 → Committed g graph ds id o None d0 d2 k2
+  store_alone : created ≡ None → (d2 : D) (k2 : Kept) → CarriedOut g graph id o s created d1 d2 k1 k2 → Committed g graph ds id o None d0 d2 k2
   store_alone none d2 k2 done =
       let all = changes_then _ a b (g.content d2) (owners_change id.block (id.block ∷ []) a b (first_number id.block []) amid.only) (subst (λ (x : Option ℕ). ChangesOnly (λ e. of_owners (id.block ∷ option_to_list x) e) b (g.content d2)) none done.only) in
       record {
@@ -156,6 +163,7 @@ module _ {D : Type 0} (g : Ghosts D) (graph : Graph) (ds : List Opened) (id : Pu
         };
         settled = done.settled;
         only = all;
+        tree = tree_by _ done.tree;
       }
 
   -- ---- either
@@ -164,7 +172,7 @@ module _ {D : Type 0} (g : Ghosts D) (graph : Graph) (ds : List Opened) (id : Pu
   full_ready None none = ready_for graph ready.holds at (λ c is. (let no : None ≡ Some c = sym none ∙ is in cc))
   full_ready (Some m) makes = ready_made m makes.0 makes.1.0 makes.1.1 makes.1.2
 
-  committed : (made : Option Making) → Makes (g.content d0) created made → (d2 : D) (k2 : Kept) → CarriedOut g (with_made graph made) id o created d1 d2 k1 k2 → Committed g graph ds id o made d0 d2 k2
+  committed : (made : Option Making) → Makes (g.content d0) created made → (d2 : D) (k2 : Kept) → CarriedOut g (with_made graph made) id o s created d1 d2 k1 k2 → Committed g graph ds id o made d0 d2 k2
   committed None none d2 k2 done = store_alone none d2 k2 done
   committed (Some m) makes d2 k2 done = store_made m makes.0 makes.1.0 makes.1.1 makes.1.2 d2 k2 done
 

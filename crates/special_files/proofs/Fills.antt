@@ -138,6 +138,10 @@ module _ (b : Image) (id : Puid) (es : List Opened) (was is : Drafting) (d e : D
 
 -- ---- the draft
 
+pub none_is : (p : Option Puid) → is_none p ≡ true → p ≡ None
+none_is None h = refl
+none_is (Some x) h = cc
+
 module _ {D : Type 0} (g : Ghosts D) (graph : Graph) (ds : List Opened) (id : Puid) (o : Object) (d0 d1 : D) (k0 : Kept) (was : Drafting) (d : Draft) (i : Index) (store : StoreHas g graph ds d0 k0) (at : object_at graph id ≡ Some o) (opened : IsOpen ds id was d)
     (index : d.object ≡ objects.Index i) (n : ℕ) (reads : OnlyReads g n d0 d1) (slot : ℕ) (what : Option Puid) (inside : 8 * slot + 8 ≤ was.root.size) where
   abbrev a : Image
@@ -190,10 +194,6 @@ module _ {D : Type 0} (g : Ghosts D) (graph : Graph) (ds : List Opened) (id : Pu
         emptied (Some x) none = cc
         emptied None none = ap (changed_object (Fill slot None)) (sym before.tree.object)
             ∙ sym (empty_stays was.root old slot gives.kind (omega (arith, inside)) (sym slot_is ∙ none_is (slot_of i slot) none)) ∙ before.tree.object
-          where
-            none_is : (p : Option Puid) → is_none p ≡ true → p ≡ None
-            none_is None h = refl
-            none_is (Some x) h = cc
 
     -- the leaf was put with the slot in it
     pub slot_put : (b : Bool) → b ≡ (is_none what && is_none (slot_in content (slot % 64))) → b ≡ false → IsSlot what → (d2 : D) (k2 : Kept) (now : Drafting) (next : NodeRead) (bytes : List ℕ) → bytes ≡ with_slot (slot % 64) what content → StaysBut was now

@@ -29,7 +29,17 @@ pub mod PutRun
 pub mod PutStore
 pub mod Puts
 pub mod ReadLeaves
+pub mod Recut
 pub mod Refusals
+pub mod Shed
+pub mod ShedDrop
+pub mod ShedListing
+pub mod ShedLists
+pub mod ShedRun
+pub mod ShedStore
+pub mod ShrinkCall
+pub mod ShrinkRun
+pub mod Shrunk
 pub mod Sized
 pub mod Trees
 pub mod Unlike

@@ -70,7 +70,7 @@ takes_less leaf to was now less few within sets = elim (cases_Bool (is_fresh_lea
 
 -- ---- the model's need
 
-has_is : (flags : List Bool) (n : ℕ) → has_number n (set_in flags) ≡ get_or flags n false
+pub has_is : (flags : List Bool) (n : ℕ) → has_number n (set_in flags) ≡ get_or flags n false
 has_is flags n = elim (cases_Bool (get_or flags n false)) [
   | inl is ↦ to_set flags n is ∙ sym is
   | inr not_set ↦ elim (cases_Bool (has_number n (set_in flags))) [ inl has ↦ absurd (both_ways _ not_set (in_set flags n has)) | inr has_none ↦ has_none ∙ sym not_set ]

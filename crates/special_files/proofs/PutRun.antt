@@ -40,7 +40,7 @@ use Rattle.special_files.proofs.PutStore.{the_draft}
 not_root_leaf : (l : ℕ) → Some (Leaf l) ≢ Some Root
 not_root_leaf l same = cc
 
-not_root_node : (n : ℕ) → Some (Node n) ≢ Some Root
+pub not_root_node : (n : ℕ) → Some (Node n) ≢ Some Root
 not_root_node n same = cc
 
 module _ {D : Type 0} (g : Ghosts D) (graph : Graph) (ds : List Opened) (id : Puid) (o : Object) (d0 d1 d2 : D) (k0 k1 k2 : Kept) (was : Drafting) (m : models.Draft) (leaves : List ℕ) (leaf : ℕ)
@@ -61,13 +61,13 @@ module _ {D : Type 0} (g : Ghosts D) (graph : Graph) (ds : List Opened) (id : Pu
   leaf_is : IsEntry (intended (Leaf leaf) was.at)
   leaf_is = leaf_entry leaf was.at most some small
 
-  node_is : IsEntry (intended (Node (leaf / 128)) was.at)
+  pub node_is : IsEntry (intended (Node (leaf / 128)) was.at)
   node_is = node_entry (leaf / 128) was.at (omega arith) some small
 
-  mine : (p : Place) → is_of is_meant id.block (Some (intended p was.at)) ≡ true
+  pub mine : (p : Place) → is_of is_meant id.block (Some (intended p was.at)) ≡ true
   mine p = eq-eqb id.block was.at opened.at
 
-  amid0 : IsAmid g graph id d0 d0 k0
+  pub amid0 : IsAmid g graph id d0 d0 k0
   amid0 = amid_begins g graph ds id o d0 k0 store at
 
   -- the leaf is claimed

@@ -26,7 +26,7 @@ use Rattle.special_files.specs.declared.node.NodeRead.{NodeRead}
 use Rattle.special_files.proofs.Amid.{IsAmid}
 use Rattle.special_files.proofs.Levels.{Tell, flags_tell, tell_more, told_levels}
 use Rattle.special_files.proofs.Lists.{replaced_created, replaced_here, replaced_others, replaced_there}
-use Rattle.special_files.proofs.Puts.{LeafPut, leaf_now, leaf_puts, node_now, other_leaves, other_nodes, put_draft_stands}
+use Rattle.special_files.proofs.Puts.{LeafPut, leaf_now, leaf_puts, node_now, other_leaves, other_nodes, put_beside, put_draft_stands}
 
 -- the draft of an object that has one
 pub the_draft : (image : Image) (ds : List Opened) (id : Puid) (drafting : Drafting) (m : models.Draft) → IsOpen ds id drafting m → HasDrafts image id (drafts_of ds id) → HasDraft image id (opened_as id drafting m)
@@ -109,4 +109,5 @@ module _ {D : Type 0} (g : Ghosts D) (graph : Graph) (ds : List Opened) (id : Pu
     leaves = leaf_puts a b graph store.account.holds id (opened_as id was m) now.root leaf x y content draft put most;
     read_is = node;
     order = order;
+    beside = put_beside a b graph store.account.holds id (opened_as id was m) now.root leaf x y content draft put most;
   }

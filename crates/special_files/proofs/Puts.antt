@@ -32,7 +32,7 @@ use Rattle.vol_owners.specs.Account.{HasDraft, Opened, StandsIn, content_of, is_
 use Rattle.leaf_changes.specs.Leaves.{LeavesFit, bytes_held}
 use Rattle.vol_owners.specs.Owner.{is_meant, is_of}
 use Rattle.vol_owners.proofs.Owned.{shadow_apart}
-use Rattle.special_files.specs.Leaves.{PutsAt, leaves_of, object_of}
+use Rattle.special_files.specs.Leaves.{PutsAt, SameBeside, leaves_of, object_of}
 use Rattle.special_files.proofs.Levels.{fresh_leaf, fresh_node}
 use Rattle.special_files.proofs.Trees.{fits_with, good_with, leaf_at, leaf_from, leaf_place, node_at, node_place, nothing_below, two_levels}
 
@@ -162,6 +162,9 @@ module _ (a b : Image) (g : Graph) (holds : Holds a g) (id : Puid) (d : Opened) 
     | inr not ↦ let apart : m ≢ n = eqb-false m n not in inr (inr (on (m ∷ j ∷ []) (leaf_other m j apart) (λ (e : m ∷ j ∷ [] ≡ n ∷ []). cc) (λ (e : m ∷ j ∷ [] ≡ n ∷ k ∷ []). apart (cc))))
   ]
   seen (m ∷ j ∷ i ∷ q) = inr (inr (ap (held_at b) (nothing_below b new m j i q) ∙ ap (held_at a) (sym (nothing_below a old m j i q))))
+
+  pub put_beside : SameBeside l (tree_in a old) (tree_in b new)
+  put_beside p not_node not_leaf = elim (seen p) [ inl is ↦ absurd (not_node is) | inr (inl is) ↦ absurd (not_leaf is) | inr (inr is) ↦ is ]
 
   node_there : (tree_in b new).below (n ∷ []) ≡ Some (held b y)
   node_there = ap (held_at b) (node_at b root fits_new n ∙ node_is) ∙ held_there b y put.y_some

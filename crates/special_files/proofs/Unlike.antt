@@ -25,7 +25,7 @@ unlike_is n m = elim (cases_Bool (n == 0)) [
   ]
 ]
 
-one_number : (a n : ℕ) → has_number n (a ∷ []) ≡ true → a ≡ n
+pub one_number : (a n : ℕ) → has_number n (a ∷ []) ≡ true → a ≡ n
 one_number a n h = elim (or_cases (a == n) false h) [ inl is ↦ eqb-true a n is | inr none ↦ cc ]
 
 has_unlike : (n a b : ℕ) → has_number n (unlike a b) ≡ true → (a ≡ n) × (n ≢ 0) × (b ≢ n)

@@ -12,6 +12,7 @@ use Rattle.cfs_base.specs.declared.refusal.Refused.{Refused}
 use Rattle.cfs_base.specs.declared.refusal.Trouble.{Trouble}
 use Rattle.cfs_base.proofs.Calls.{makes_then, reads_make, reads_then, reads_within}
 use Rattle.cfs_base.proofs.Runs.{then, wider}
+use Rattle.block_tree.specs.Root.{root_spelling}
 use Rattle.block_tree.specs.declared.root.Root as roots
 use Rattle.claims.specs.Claims.{AreClaimed}
 use Rattle.cyl_alloc.specs.Space.{Kept}
@@ -24,12 +25,13 @@ use Rattle.ufs_model.specs.declared.object.Object.{Object}
 use Rattle.ufs_model.specs.Graph.{Graph, object_at}
 use Rattle.ufs_model.specs.Object.{leaves_in}
 use Rattle.vol_image.specs.Reading.{leaf_content}
+use Rattle.vol_image.specs.Seen.{tree_in}
 use Rattle.vol_owners.specs.Account.{HasDraft, Opened}
 use Rattle.vol_owners.specs.Change.{ChangesOnly, of_draft}
 use Rattle.intentions.specs.Store.{StoreHas}
 use Rattle.special_files.specs.Drafting.{Drafting, IsOpen, node_of, opened_as}
 use Rattle.special_files.specs.Ends.{Ends}
-use Rattle.special_files.specs.Leaves.{PutsAt, leaves_of}
+use Rattle.special_files.specs.Leaves.{PutsAt, SameBeside, leaves_of}
 use Rattle.special_files.specs.Nodes.{IsNear, IsRead, leaves_at}
 use Rattle.special_files.specs.Order.{leaf_claims}
 use Rattle.special_files.specs.Puts.{FitsLeaf, PutsLeaf}
@@ -103,6 +105,7 @@ module _ {D : Type 0} (g : Ghosts D) (d0 d1 d2 : D) (n : ℕ) (reads : OnlyReads
     leaves = subst (λ (i : Image). PutsAt leaf content (leaves_of i was.root) (leaves_of (g.content d2) now.root)) reads.content puts.leaves;
     read_is = puts.read_is;
     order = subst (λ (i : Image). AreClaimed (leaf_claims was.at was.leaves was.nodes leaf) i (g.content d2)) reads.content puts.order;
+    beside = subst (λ (i : Image). SameBeside leaf (tree_in i (root_spelling was.root)) (tree_in (g.content d2) (root_spelling now.root))) reads.content puts.beside;
   }
 
   pub images_since : (P : Image → Type 0) → Leaves g d1 d2 P → Leaves g d0 d2 P

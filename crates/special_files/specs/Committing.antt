@@ -27,7 +27,7 @@ use Rattle.vol_image.specs.Part.{SameAt}
 use Rattle.vol_image.specs.Reading.{bare_object}
 use Rattle.vol_image.specs.Sound.{Holds, IsBareRoot}
 use Rattle.intentions.specs.Store.{StoreHas}
-use Rattle.vol_owners.specs.Account.{HasItsBlocks, IsMade, Opened, StandsIn, is_meant_for, numbers_differ}
+use Rattle.vol_owners.specs.Account.{HasItsBlocks, IsMade, Opened, StandsIn, content_of, drafts_of, is_meant_for, numbers_differ}
 use Rattle.vol_owners.specs.Change.{ChangesOnly, of_drafts, of_owners}
 use Rattle.vol_owners.specs.Owner.{is_had, is_of, is_taken}
 use Rattle.block_tree.specs.declared.root.Root as roots
@@ -134,7 +134,7 @@ pub record IsEntered (a b : Image) (c : ℕ) : Type 0 where
 
 -- The draft of an object became the object, and the root of the one that is made with it is there. No block of them waits for
 -- anything, and the Free blocks are counted.
-pub record CarriedOut {D : Type 0} (g : Ghosts D) (graph : Graph) (id : Puid) (o : Object) (created : Option ℕ) (old new : D) (before after : Kept) : Type 0 where
+pub record CarriedOut {D : Type 0} (g : Ghosts D) (graph : Graph) (id : Puid) (o : Object) (s : ℕ) (created : Option ℕ) (old new : D) (before after : Kept) : Type 0 where
   pub carries : Carries g (with_object graph id o) new
   pub settled : IsSettled g new
   pub has : HasItsBlocks (g.content new) id.block
@@ -142,11 +142,12 @@ pub record CarriedOut {D : Type 0} (g : Ghosts D) (graph : Graph) (id : Puid) (o
   pub made : (c : ℕ) → created ≡ Some c → IsEntered (g.content old) (g.content new) c
   pub only : ChangesOnly (λ entry. of_owners (id.block ∷ option_to_list created) entry) (g.content old) (g.content new)
   pub counts : AreCounts (g.content old) before → AreCounts (g.content new) after
+  pub tree : tree_in (g.content new) (block_at (g.content new) id.block) ≡ tree_in (g.content old) (block_at (g.content old) s)
 
 -- A draft that stands ready becomes its object. Each image that a crash leaves on the way has all old, or all new, and no damage is met.
 pub record Finishes {D : Type 0} (g : Ghosts D) (at s : ℕ) (taken dropped : List ℕ) (created : Option ℕ) (old new : D) (before after : Kept) (result : Result (Unit {0}) Trouble) : Type 0 where
   pub done : (graph full : Graph) (word : ℕ) (was o : Object) → Carries g graph old → IsReady (g.content old) full (named at word) was o s taken dropped created
-      → OnOk result (CarriedOut g full (named at word) o created old new before after)
+      → OnOk result (CarriedOut g full (named at word) o s created old new before after)
   pub leaves : (graph full : Graph) (word : ℕ) (was o : Object) → Carries g graph old → IsReady (g.content old) full (named at word) was o s taken dropped created
       → Leaves g old new (IsOldOrNew graph full (named at word) o)
   pub sound : (graph full : Graph) (word : ℕ) (was o : Object) → Carries g graph old → IsReady (g.content old) full (named at word) was o s taken dropped created
@@ -182,6 +183,8 @@ pub record Committed {D : Type 0} (g : Ghosts D) (graph : Graph) (ds : List Open
   pub store : StoreHas g (with_object (with_made graph made) id o) (without_draft id ds) new space
   pub settled : IsSettled g new
   pub only : ChangesOnly (λ entry. of_owners (id.block ∷ option_to_list (root_of made)) entry) (g.content old) (g.content new)
+  -- the object's tree is the draft's: each node and leaf stands where it stood, in the same block, with its part and content
+  pub tree : (d : Opened) → drafts_of ds id ≡ d ∷ [] → tree_in (g.content new) (block_at (g.content new) id.block) ≡ tree_in (g.content old) (content_of d)
 
 -- how a commit ends where the store has the draft
 pub record CommitEnds {D : Type 0} (g : Ghosts D) (graph : Graph) (ds : List Opened) (id : Puid) (o : Object) (made : Option Making) (old new : D) (space : Kept) (result : Result (Unit {0}) Trouble) : Type 0 where

@@ -1,5 +1,5 @@
 -- The leaves of a draft on a disk, and one of them put.
-use Rattle.std.specs.Prelude.{◌≡◌, ◌≢◌, ℕ, List, Option, Some}
+use Rattle.std.specs.Prelude.{◌≡◌, ◌≢◌, ℕ, ◌/◌, ◌%◌, List, [], ◌∷◌, Option, Some}
 use Rattle.cfs_base.specs.Disk.{Image}
 use Rattle.block_tree.specs.declared.root.Root as roots
 use Rattle.block_tree.specs.Root.{root_spelling}
@@ -7,7 +7,7 @@ use Rattle.leaf_changes.specs.Leaves.{bytes_held}
 use Rattle.ufs_model.specs.declared.object.Draft.{Draft}
 use Rattle.ufs_model.specs.declared.object.Object.{Object}
 use Rattle.vol_image.specs.Reading.{leaf_in, object_with}
-use Rattle.vol_image.specs.Seen.{Held, tree_in}
+use Rattle.vol_image.specs.Seen.{Held, Tree, tree_in}
 use Rattle.special_files.specs.Drafting.{Drafting, fresh_of}
 
 -- the leaves below a root, and the object that they give
@@ -21,6 +21,10 @@ object_of image root = object_with root (leaves_of image root)
 pub record PutsAt (leaf : ℕ) (content : List ℕ) (old new : ℕ → Option Held) : Type 0 where
   pub here : bytes_held (new leaf) ≡ Some content
   pub others : (m : ℕ) → m ≢ leaf → bytes_held (new m) ≡ bytes_held (old m)
+
+-- but for one leaf and its node, each node and leaf stands where it stood, in the same block, with its part and content
+abbrev pub SameBeside : ℕ → Tree → Tree → Type 0
+SameBeside leaf old new = (path : List ℕ) → path ≢ leaf / 128 ∷ [] → path ≢ leaf / 128 ∷ leaf % 128 ∷ [] → new.below path ≡ old.below path
 
 -- the draft of the model that an image and a draft in memory give
 abbrev pub draft_in : Image → Drafting → Draft

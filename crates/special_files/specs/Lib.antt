@@ -10,4 +10,5 @@ pub mod Nodes
 pub mod Order
 pub mod Puts
 pub mod Refusal
+pub mod Shed
 pub mod Store

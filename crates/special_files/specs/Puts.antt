@@ -3,16 +3,18 @@ use Rattle.std.specs.Prelude.{◌≡◌, ℕ, ◌+◌, ◌*◌, ◌<◌, ◌≤�
 use Rattle.cfs_base.specs.Disk.{Image}
 use Rattle.cfs_base.specs.declared.disk.Disk.{Ghosts}
 use Rattle.cfs_base.specs.declared.identifier.Puid.{Puid}
+use Rattle.block_tree.specs.Root.{root_spelling}
 use Rattle.block_tree.specs.declared.root.Root as roots
 use Rattle.claims.specs.Claims.{AreClaimed}
 use Rattle.cyl_alloc.specs.Space.{Kept}
 use Rattle.leaf_changes.specs.Changes.{SetsSize}
 use Rattle.ufs_model.specs.Graph.{Graph}
 use Rattle.ufs_model.specs.Object.{leaves_in}
+use Rattle.vol_image.specs.Seen.{tree_in}
 use Rattle.vol_owners.specs.Account.{Opened}
 use Rattle.special_files.specs.Drafting.{Drafting, IsOpen, opened_as}
 use Rattle.special_files.specs.Calls.{SetsFresh}
-use Rattle.special_files.specs.Leaves.{PutsAt, draft_in, leaves_of}
+use Rattle.special_files.specs.Leaves.{PutsAt, SameBeside, draft_in, leaves_of}
 use Rattle.special_files.specs.Nodes.{IsRead}
 use Rattle.special_files.specs.Order.{leaf_claims}
 use Rattle.special_files.specs.Store.{Steps, replaced}
@@ -44,3 +46,4 @@ pub record PutsLeaf {D : Type 0} (g : Ghosts D) (graph : Graph) (ds : List Opene
   pub leaves : PutsAt leaf content (leaves_of (g.content old) was.root) (leaves_of (g.content new) now.root)
   pub read_is : IsRead (g.content new) now read
   pub order : AreClaimed (leaf_claims was.at was.leaves was.nodes leaf) (g.content old) (g.content new)
+  pub beside : SameBeside leaf (tree_in (g.content old) (root_spelling was.root)) (tree_in (g.content new) (root_spelling now.root))

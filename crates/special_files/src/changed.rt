@@ -43,6 +43,43 @@ fn add_node(list: &mut Blocks, block: u32, node: &Node, other: u32, other_node: 
     }
 }
 
+/// Lists what differs between a node of the draft and one of the object, which are read.
+fn add_nodes<D: Disk>(
+    disk: &mut D,
+    at: BlockNo,
+    own: u32,
+    new: u32,
+    taken: &mut Blocks,
+    dropped: &mut Blocks,
+) -> Result<(), Trouble>
+    requires some { 0 < D.blocks disk.old }
+    requires taken { length taken.old + 129 ≤ 15480 }
+    requires dropped { length dropped.old + 129 ≤ 15480 }
+    ensures taken { Tells D.Disk disk.old → OnOk result (taken.new ≡ taken.old
+        ++ spec.all_unlike (spec.in_node (D.content disk.old) new) (spec.in_node (D.content disk.old) own) 129) }
+    ensures dropped { Tells D.Disk disk.old → OnOk result (dropped.new ≡ dropped.old
+        ++ spec.all_unlike (spec.in_node (D.content disk.old) own) (spec.in_node (D.content disk.old) new) 129) }
+    ensures takes { OnOk result (spec.Adds (D.blocks disk.old) 129 taken.old taken.new) }
+    ensures drops { OnOk result (spec.Adds (D.blocks disk.old) 129 dropped.old dropped.new) }
+    ensures refused { (kept : Kept) → IfErr result (IsTrouble D.Disk at.0 disk.old disk.new kept) }
+    ensures untried { IfErr result (λ trouble. trouble_had_tried trouble ≡ false) }
+    ensures sound { Tells D.Disk disk.old → IsNear (D.blocks disk.old) (D.content disk.old) own
+        → IsNear (D.blocks disk.old) (D.content disk.old) new → IfErr result (λ trouble. is_damage trouble ≡ false) }
+    ensures reads { OnlyReads D.Disk 2 disk.old disk.new }
+{
+    let own_node = match read_node(disk, own, at) {
+        Ok(node) => node,
+        Err(trouble) => return Err(trouble),
+    };
+    let node = match read_node(disk, new, at) {
+        Ok(node) => node,
+        Err(trouble) => return Err(trouble),
+    };
+    add_node(taken, new, &node, own, &own_node);
+    add_node(dropped, own, &own_node, new, &node);
+    Ok(())
+}
+
 /// Lists what differs between a node of the draft and one of the object. Where their blocks are the same nothing does.
 fn add_changed<D: Disk>(
     disk: &mut D,
@@ -70,17 +107,7 @@ fn add_changed<D: Disk>(
     if own == new {
         return Ok(());
     }
-    let own_node = match read_node(disk, own, at) {
-        Ok(node) => node,
-        Err(trouble) => return Err(trouble),
-    };
-    let node = match read_node(disk, new, at) {
-        Ok(node) => node,
-        Err(trouble) => return Err(trouble),
-    };
-    add_node(taken, new, &node, own, &own_node);
-    add_node(dropped, own, &own_node, new, &node);
-    Ok(())
+    add_nodes(disk, at, own, new, taken, dropped)
 }
 
 /// Lists the blocks of a draft's own, but for its shadow root, and the blocks of the object that the draft doesn't have.

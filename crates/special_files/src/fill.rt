@@ -1,5 +1,6 @@
 //! A slot of an index filled or emptied in a draft.
-ghost use Rattle.std.specs.Prelude.{◌≡◌, ◌+◌, ◌*◌, ◌/◌, ◌<◌, ◌≤◌, ◌&&◌, ℕ, true, false, is_none, length, sum, List, Some, IfErr, IfOk, OnOk};
+ghost use Rattle.std.specs.Prelude.{◌≡◌, ◌+◌, ◌*◌, ◌/◌, ◌<◌, ◌≤◌, ◌&&◌, ℕ, true, false, is_none, length, sum, List, None, Some, IfErr, IfOk, OnOk};
+ghost use Rattle.block_tree.specs.Root.{root_spelling};
 ghost use Rattle.cfs_base.specs.Calls.{HasTried, OnlyReads};
 ghost use Rattle.cfs_base.specs.Run.{Leaves};
 ghost use Rattle.cfs_base.specs.declared.identifier.Puid.{Puid};
@@ -11,6 +12,7 @@ ghost use Rattle.special_files.specs.Becomes.{Becomes};
 ghost use Rattle.special_files.specs.Drafting.{IsOpen, leaf_takes};
 ghost use Rattle.special_files.specs.Ends.{Ends};
 ghost use Rattle.special_files.specs.Fills.{filled_draft};
+ghost use Rattle.special_files.specs.Leaves.{SameBeside};
 ghost use Rattle.special_files.specs.Order.{leaf_claims};
 ghost use Rattle.special_files.specs.Puts.{StaysBut};
 ghost use Rattle.special_files.specs.Refusal.{is_damaged, is_full};
@@ -20,6 +22,7 @@ ghost use Rattle.ufs_model.specs.declared.object.Index.{Index};
 ghost use Rattle.ufs_model.specs.declared.object.Object.TheVariants as objects;
 ghost use Rattle.ufs_model.specs.declared.object.Object.{Object};
 ghost use Rattle.vol_image.specs.Reading.{slot_in};
+ghost use Rattle.vol_image.specs.Seen.{tree_in};
 ghost use Rattle.vol_image.specs.Sound.{Holds};
 ghost use Rattle.vol_owners.specs.Account.{Opened};
 
@@ -63,6 +66,11 @@ impl Draft {
             → StoreHas D.Disk graph ds disk.old space.old → object_at graph id ≡ Some o → IsOpen ds id self.old d
             → d.object ≡ objects.Index i → IfOk result (λ put. put ≡ true
             → AreClaimed (leaf_claims self.old.at self.old.leaves self.old.nodes (slot / 64)) (D.content disk.old) (D.content disk.new)) }
+        // Of the draft's tree that leaf and its node alone are others then.
+        ensures beside { (graph : Graph) (ds : List Opened) (id : Puid) (o : Object) (d : drafts.Draft) (i : Index)
+            → StoreHas D.Disk graph ds disk.old space.old → object_at graph id ≡ Some o → IsOpen ds id self.old d
+            → d.object ≡ objects.Index i → OnOk result (SameBeside (slot / 64)
+            (tree_in (D.content disk.old) (root_spelling self.old.root)) (tree_in (D.content disk.new) (root_spelling self.new.root))) }
         ensures leaves { (graph : Graph) (ds : List Opened) (id : Puid) (o : Object) (d : drafts.Draft)
             → StoreHas D.Disk graph ds disk.old space.old → object_at graph id ≡ Some o → IsOpen ds id self.old d
             → Leaves D.Disk disk.old disk.new (λ c. Holds c graph) }
@@ -71,6 +79,7 @@ impl Draft {
         ensures done { IfOk result (λ put. put ≡ true → HasTried D.Disk disk.old disk.new) }
         ensures spared { IfOk result (λ put. put ≡ false
             → (self.new ≡ self.old) × (space.new ≡ space.old) × OnlyReads D.Disk 2 disk.old disk.new) }
+        ensures empty { IfOk result (λ put. put ≡ false → what ≡ None) }
         ensures kept { IfErr result (λ e. e ≡ refused.Disk false → self.new ≡ self.old) }
         // Never Full where the blocks that it takes are Free.
         ensures room { leaf_takes self.old (slot / 64) ≤ sum space.old.free → IfErr result (λ e. is_full e ≡ false) }

@@ -1,5 +1,5 @@
 //! One flag for each leaf, or each node.
-ghost use Rattle.std.specs.Prelude.{◌≡◌, ◌-◌, ◌<◌, ◌≤◌, false, count_by, get_or, length, replicate, set, IfOk};
+ghost use Rattle.std.specs.Prelude.{◌≡◌, ◌-◌, ◌<◌, ◌≤◌, ℕ, false, count_by, get_or, length, replicate, set, IfOk};
 ghost use Rattle.special_files.specs.Drafting as spec;
 
 use cfs_base::NoMemory;
@@ -62,6 +62,18 @@ impl Flags {
         let was = self.items[at];
         self.items[at] = flag;
         self.count = self.count - was as u32 + flag as u32;
+    }
+
+    /// None from one on is set any more.
+    pub fn clear_from(&mut self, from: u32)
+        ensures long { length self.new ≡ length self.old }
+        ensures before { (k : ℕ) → k < from → get_or self.new k false ≡ get_or self.old k false }
+        ensures after { (k : ℕ) → from ≤ k → get_or self.new k false ≡ false }
+    {
+        let count = self.items.len() as u32;
+        for at in from..count {
+            self.put(at, false);
+        }
     }
 
     /// How many of these aren't set.

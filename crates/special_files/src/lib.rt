@@ -15,9 +15,11 @@ mod fill;
 mod flags;
 mod flips;
 mod leaf;
+mod listed;
 mod node;
 mod read;
 mod resize;
+mod shrink;
 mod whole;
 mod write;
 

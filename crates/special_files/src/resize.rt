@@ -11,7 +11,7 @@ ghost use Rattle.intentions.specs.Store.{StoreHas};
 ghost use Rattle.leaf_changes.specs.Bytes as changes;
 ghost use Rattle.special_files.specs.Becomes.{Becomes};
 ghost use Rattle.special_files.specs.Calls.{SetsFlags};
-ghost use Rattle.special_files.specs.Drafting.{IsOpen, leaf_takes, need_beside, node_of};
+ghost use Rattle.special_files.specs.Drafting.{IsOpen, leaf_takes, need_beside, node_of, shadow_need};
 ghost use Rattle.special_files.specs.Ends.{Ends};
 ghost use Rattle.special_files.specs.Leaves.{leaves_of};
 ghost use Rattle.special_files.specs.Nodes.{IsNear, IsRead, IsSafe};
@@ -59,6 +59,9 @@ impl Draft {
         ensures room { (graph : Graph) (ds : List Opened) (id : Puid) (o : Object) (d : drafts.Draft) (f : File)
             → StoreHas D.Disk graph ds _disk.now space.now → object_at graph id ≡ Some o → IsOpen ds id self.old d
             → d.object ≡ objects.File f → OnOk result (need_beside (SetSize size) d self.old + floor ≤ sum space.now.free) }
+        // It takes the shadow root alone.
+        ensures short { IfErr result (λ e. (e ≡ refused.Full (record { free = sum space.now.free; need = shadow_need self.old }))
+            × (sum space.now.free < shadow_need self.old + floor)) }
         ensures kept { IfErr result (λ e. self.new ≡ self.old) }
     {
         match has_room(space, self.shadow_need(), floor) {
@@ -125,6 +128,7 @@ impl Draft {
             → IsRead (D.content disk.old) self.old read.old → Leaves D.Disk disk.old disk.new (λ c. Holds c graph) }
         ensures stays { StaysBut self.old self.new }
         ensures flags { OnOk result (SetsFlags (size / 512) self.old self.new) }
+        ensures number { OnOk result (read.new.number ≡ size / 512 / 128) }
         ensures safe { OnOk result (IsSafe (D.blocks disk.new) self.new read.new) }
         ensures ends { Ends D.Disk self.old.at 0 8 4 (leaf_takes self.old (size / 512)) disk.old disk.new space.old space.new result }
         ensures tried { OnOk result (HasTried D.Disk disk.old disk.new) }

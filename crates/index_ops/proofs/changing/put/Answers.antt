@@ -8,7 +8,7 @@ use Rattle.special_files.specs.Drafting.{Drafting}
 use Rattle.special_files.specs.Fills.{filled_draft}
 use Rattle.special_files.specs.Refusal.{IsTrouble}
 use Rattle.ufs_model.specs.declared.object.Object.TheVariants as objects
-use Rattle.index_ops.proofs.Putting.{begun_draft, begun_open, commit_done, ends_settled, err_commit, err_fill, err_read, from_begin, ok_commit, settle_done, short_not, short_why, takes_two}
+use Rattle.index_ops.proofs.Putting.{begun_draft, begun_open, commit_done, commit_leaf, ends_settled, err_commit, err_fill, err_read, from_begin, ok_commit, settle_done, short_not, short_why, takes_two}
 use Rattle.index_ops.proofs.changing.put.Goals as goal
 
 pub returns-in-Err : goal.returns-in-Err
@@ -46,7 +46,7 @@ returns-in-Ok-false g c =
     let reads = c.in-Ok.ensures.reads in
     let spared = c.in-Ok-false.ensures.spared c.in-Ok-false.field-0-test in
     let kept = spared.1 ∙ c.in-Ok.ensures.space in
-    ends_settled g.D.Disk c.args.index.0 c.args.slot c.args.what d0 k0 d1 c.fill.new.disk c.settle.new.disk c.fill.new.space reads spared.2 kept c.settle.result c.settle.ensures
+    ends_settled g.D.Disk c.args.index.0 c.args.slot c.args.what d0 k0 d1 c.fill.new.disk c.settle.new.disk c.fill.new.space reads spared.2 kept (c.in-Ok-false.ensures.empty c.in-Ok-false.field-0-test) c.settle.result c.settle.ensures
     (λ graph ds id i has settled store.
     let begun = c.in-Ok.ensures.store graph ds id (objects.Index i) has.store has.root has.there has.shut in
     let open_now = begun_open g.D.Disk graph ds id i c.args.index.0 c.args.slot c.args.what d0 d1 k0 was has c.in-Ok.ensures.begun reads in
@@ -102,6 +102,14 @@ returns-in-Ok-commit g c =
     let open_now = begun_open g.D.Disk graph ds id i c.args.index.0 c.args.slot c.args.what d0 d1 k0 was has c.in-Ok.ensures.begun reads in
     let becomes = c.in-Ok-true.ensures.filled graph _ id (objects.Index i) (begun_draft i) i begun has.there open_now refl in
     commit_done g.D.Disk graph ds id i c.args.index.0 c.args.slot c.args.what d0 d1 k0 was has c.in-Ok.ensures.begun reads c.fill.new.disk c.commit.new.disk c.fill.new.space c.commit.new.space c.fill.new.self becomes
+    (c.in-Ok-commit.ensures.done graph _ id (objects.Index i) (filled_draft i c.args.slot c.args.what (begun_draft i)) None becomes.steps.store has.there becomes.is_open created))
+    (λ graph ds id i has.
+    let begun = c.in-Ok.ensures.store graph ds id (objects.Index i) has.store has.root has.there has.shut in
+    let open_now = begun_open g.D.Disk graph ds id i c.args.index.0 c.args.slot c.args.what d0 d1 k0 was has c.in-Ok.ensures.begun reads in
+    let becomes = c.in-Ok-true.ensures.filled graph _ id (objects.Index i) (begun_draft i) i begun has.there open_now refl in
+    commit_leaf g.D.Disk graph ds id i c.args.index.0 c.args.slot c.args.what d0 d1 k0 was has c.in-Ok.ensures.begun reads c.fill.new.disk c.commit.new.disk c.fill.new.space c.commit.new.space c.fill.new.self becomes
+    (c.in-Ok.ensures.root has.store.carries.tells) (c.in-Ok-true.ensures.order graph _ id (objects.Index i) (begun_draft i) i begun has.there open_now refl c.in-Ok-true.field-0-test)
+    (c.in-Ok-true.ensures.beside graph _ id (objects.Index i) (begun_draft i) i begun has.there open_now refl)
     (c.in-Ok-commit.ensures.done graph _ id (objects.Index i) (filled_draft i c.args.slot c.args.what (begun_draft i)) None becomes.steps.store has.there becomes.is_open created))
 
 pub returns-in-Err-commit : goal.returns-in-Err-commit

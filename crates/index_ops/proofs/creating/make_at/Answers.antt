@@ -1,24 +1,34 @@
-use Rattle.std.proofs.Common.{◌≡◌, ◌⊎◌, inl, ℕ, ◌/◌, ◌∷◌, Bool, false, Some, Ok, Err, refl, sym, ◌∙◌, ap, subst, arith}
+use Rattle.std.proofs.Common.{◌≡◌, ◌⊎◌, inl, inr, ℕ, ◌/◌, ◌∷◌, Bool, true, false, None, Some, Ok, Err, refl, sym, ◌∙◌, ap, subst, arith}
+use Rattle.std.proofs.lemmas.Bool.{cases_Bool}
+use Rattle.block_tree.specs.Root.{root_spelling}
 use Rattle.cfs_base.specs.Disk.{Image}
 use Rattle.cfs_base.specs.Refusals.{after_try, refused_by, trouble_after_try}
+use Rattle.cfs_base.specs.declared.identifier.Puid.{Puid}
 use Rattle.cfs_base.specs.declared.refusal.Refused.{Refused}
 use Rattle.cfs_base.specs.declared.refusal.Refused.TheVariants as refusals
 use Rattle.cfs_base.specs.declared.refusal.Trouble.{Trouble}
 use Rattle.cfs_base.specs.declared.refusal.Trouble.TheVariants as trouble
 use Rattle.cfs_base.proofs.Calls.{makes_then}
 use Rattle.cfs_base.proofs.Runs.{then, wider}
+use Rattle.claims.specs.Claims.{AreClaimed}
 use Rattle.index_ops.specs.Creates.{begun_of, with_made}
 use Rattle.special_files.specs.Committing.{Making, named}
 use Rattle.special_files.specs.Drafting.{Drafting, IsOpen, leaf_takes, opened_as}
 use Rattle.special_files.specs.Ends.{Ends}
 use Rattle.special_files.specs.Fills.{filled_draft}
+use Rattle.special_files.specs.Leaves.{SameBeside}
+use Rattle.special_files.specs.Order.{leaf_claims}
 use Rattle.special_files.specs.Refusal.{IsRefusal, IsTrouble, is_damage, is_damaged, is_full}
 use Rattle.ufs_model.specs.declared.object.Object.TheVariants as objects
 use Rattle.vol_image.specs.Reading.{bare_object}
+use Rattle.vol_image.specs.Seen.{tree_in}
 use Rattle.vol_image.specs.Sound.{Holds}
 use Rattle.index_ops.proofs.NewObjects.{commit_calls, commit_refused, created, fill_refused, open_now, root_entry, still_makes, store_makes}
 use Rattle.index_ops.proofs.Putting.{takes_two}
 use Rattle.index_ops.proofs.creating.make_at.Goals as goal
+
+some_none : (x : Puid) → Some x ≡ None → ⊥
+some_none x same = cc
 
 tried_sound : (e : Refused) → is_damaged e ≡ false → is_damaged (after_try e) ≡ false
 tried_sound (refusals.Full need) is = refl
@@ -148,10 +158,13 @@ returns-in-Ok-commit-clause-makes g c = λ graph ds id i store at here shut leas
     let becomes = c.in-Ok-fill.ensures.filled graph fs id (objects.Index i) (begun_of i) i store1 at open1 refl in
     let stays = c.fill.ensures.stays.created ∙ ap (λ (x : Drafting). x.created) c.adopt.ensures in
     let still = still_makes G graph ds id i d0 d1 k0 k1 was n root store at here shut c.requires.begun least entry root_ends.done c.in-Ok.ensures.spelled bare c.args.slot d2 d3 k2 k3 c.fill.new.self becomes stays in
+    let put : c.in-Ok-fill.field-0 ≡ true = elim (cases_Bool c.in-Ok-fill.field-0) [ inl is ↦ is | inr none ↦ absurd (some_none _ (c.in-Ok-fill.ensures.empty none)) ] in
+    let claims = subst (λ (x : Drafting). AreClaimed (leaf_claims x.at x.leaves x.nodes (c.args.slot / 64)) (G.content d1) (G.content d2)) c.adopt.ensures (c.in-Ok-fill.ensures.order graph fs id (objects.Index i) (begun_of i) i store1 at open1 refl put) in
+    let beside = subst (λ (x : Drafting). SameBeside (c.args.slot / 64) (tree_in (G.content d1) (root_spelling x.root)) (tree_in (G.content d2) (root_spelling c.fill.new.self.root))) c.adopt.ensures (c.in-Ok-fill.ensures.beside graph fs id (objects.Index i) (begun_of i) i store1 at open1 refl) in
     let committed = c.in-Ok-commit.ensures.done graph _ id (objects.Index i) (filled_draft i c.args.slot (Some (named n root.word)) (begun_of i)) (Some made) becomes.steps.store at becomes.is_open still in
     let left = c.commit.ensures.leaves graph _ id (objects.Index i) (filled_draft i c.args.slot (Some (named n root.word)) (begun_of i)) (Some made) becomes.steps.store at becomes.is_open still in
     record {
-      done = created G graph ds id i d0 d1 k0 k1 was n root store at here shut c.requires.begun least entry root_ends.done c.in-Ok.ensures.spelled bare c.args.slot d2 d3 k2 k3 c.fill.new.self becomes stays committed;
+      done = created G graph ds id i d0 d1 k0 k1 was n root store at here shut c.requires.begun least entry root_ends.done c.in-Ok.ensures.spelled bare c.args.slot d2 d3 k2 k3 c.fill.new.self becomes stays claims beside committed;
       leaves = then G d0 d2 d3 P _ left2 left (λ x h. h);
       sound = tt;
     }

@@ -1,17 +1,18 @@
 use Rattle.std.proofs.Common.{◌≡◌, ℕ, ◌+◌, ◌*◌, ◌<◌, false, List, length, None, refl, sym, ◌∙◌, ap, subst, arith}
 use Rattle.std.specs.List.{All}
-use Rattle.cfs_base.specs.Disk.{Image}
+use Rattle.cfs_base.specs.Disk.{Image, block_at}
 use Rattle.cfs_base.specs.declared.refusal.Trouble.{Trouble}
 use Rattle.cfs_base.proofs.Calls.{makes_then, reads_make, tells_on, tried_then}
 use Rattle.cfs_base.proofs.Runs.{still_tells, then}
 use Rattle.block_tree.specs.Root.{root_spelling}
+use Rattle.vol_image.specs.Seen.{tree_in}
 use Rattle.vol_image.specs.Sound.{Holds}
 use Rattle.special_files.specs.Changed.{AreOnDisk, IsChanged}
 use Rattle.special_files.specs.Committing.{IsReady}
 use Rattle.special_files.specs.Drafting.{number_of, opened_as}
 use Rattle.special_files.specs.Refusal.{IsTrouble, is_damage}
 use Rattle.special_files.proofs.Amid.{amid_reads}
-use Rattle.special_files.proofs.CommitDraft.{after_damage, amid1, below_all, finish_tried, ready1, shadow_leaves, store1}
+use Rattle.special_files.proofs.CommitDraft.{after_damage, amid1, below_all, finish_tried, ready1, shadow_leaves, store1, tree1}
 use Rattle.special_files.proofs.CommitStore.{commit_ends, commit_stops}
 use Rattle.special_files.proofs.CommitDone.{makes_more}
 use Rattle.special_files.proofs.Endings.{trouble_after_tried}
@@ -75,6 +76,7 @@ returns g c =
           commit_ends g.D.Disk graph ds id o d.object (opened_as id was d) (number_of c.args.created) c.args.disk.now c.changed.new.disk c.args.space.now c.args.space.now c.args.shadow.0 c.as_slice.result.now c.as_slice-2.result.now store at opened.alone parts.created_is
           (amid_reads g.D.Disk graph ds id o c.args.disk.now c.args.space.now store at c.write_own.new.disk c.changed.new.disk c.args.space.now 240 amid reads)
           (subst (λ (i : Image). IsReady i graph id o d.object c.args.shadow.0 c.as_slice.result.now c.as_slice-2.result.now None) (sym reads.content) ready)
+          (ap (λ (i : Image). tree_in i (block_at i c.args.shadow.0)) reads.content ∙ tree1 g.D.Disk graph ds id o c.args.disk.now c.write_own.new.disk c.changed.new.disk c.args.space.now was d c.args.shadow.0 c.encode.result store at opened parts.shadow_is c.write_own.ensures.images c.in-Ok.ensures.written told c.write_own.ensures.calls.same (c.encode.ensures.spelled ∙ ap root_spelling (sym parts.root_is)))
           made makes c.args.at.0 (opened.at ∙ parts.at_is) c.finish.new.disk c.finish.new.space c.finish.result c.finish.ensures.finishes;
       refused = finish_tried g.D.Disk c.args.at.0 c.args.disk.now c.changed.new.disk c.finish.new.disk c.finish.new.space 241 1 _ _ first (λ tells. tells_on g.D.Disk c.write_own.new.disk c.changed.new.disk c.finish.new.disk 240 reads (still_tells g.D.Disk tells told c.write_own.ensures.calls.same)) c.finish.ensures.calls tried c.finish.result c.finish.ensures.fails;
       made = tried;

@@ -89,7 +89,7 @@ returns g c =
           let ready = direct_ready g.D.Disk graph ds id o c.args.disk.now c.changed.new.disk c.claim_shadow.new.disk c.write_own.new.disk c.args.space.now c.claim_shadow.new.space 240 was d store at opened parts.shadow_is c.changed.ensures.reads c.in-Ok-claim_shadow.block enters c.encode.result c.write_own.ensures.images c.in-Ok-write_own.ensures.written told c.write_own.ensures.calls.same c.as_slice.result.now c.as_slice-2.result.now (c.encode.ensures.spelled ∙ ap root_spelling (sym parts.root_is))
           (subst (λ (ns : List ℕ). IsChanged (g.D.Disk.content c.args.disk.now) id (opened_as id was d) ns c.as_slice-2.result.now) (sym c.as_slice.ensures) (subst (IsChanged (g.D.Disk.content c.args.disk.now) id (opened_as id was d) c.changed.new.taken) (sym c.as_slice-2.ensures) lists)) in
           commit_ends g.D.Disk graph ds id o d.object (opened_as id was d) (number_of c.args.created) c.args.disk.now c.write_own.new.disk c.args.space.now c.claim_shadow.new.space c.in-Ok-claim_shadow.block.0 c.as_slice.result.now c.as_slice-2.result.now store at opened.alone parts.created_is
-          amid ready made makes c.args.at.0 (opened.at ∙ parts.at_is) c.finish.new.disk c.finish.new.space c.finish.result c.finish.ensures.finishes;
+          amid ready.0 ready.1 made makes c.args.at.0 (opened.at ∙ parts.at_is) c.finish.new.disk c.finish.new.space c.finish.result c.finish.ensures.finishes;
       refused = finish_tried g.D.Disk c.args.at.0 c.args.disk.now c.write_own.new.disk c.finish.new.disk c.finish.new.space 243 2 (2 * nt + 4 * nd + 15) (nt + 2 * nd + 10) first
           (λ tells. still_tells g.D.Disk (still_tells g.D.Disk (tells_on g.D.Disk c.args.disk.now c.changed.new.disk c.claim_shadow.new.disk 240 c.changed.ensures.reads tells) c.in-Ok-claim_shadow.ensures.enters.told c.claim_shadow.ensures.enters.calls.same) told c.write_own.ensures.calls.same) c.finish.ensures.calls tried c.finish.result c.finish.ensures.fails;
       made = all_ok c.finish.result tried;

@@ -1,15 +1,19 @@
-use Rattle.std.proofs.Common.{◌≡◌, Bool, true, ◌/◌, false, sym, subst, arith}
+use Rattle.std.proofs.Common.{◌≡◌, Bool, true, ◌/◌, false, sym, ◌∙◌, ap, subst, arith}
 use Rattle.cfs_base.specs.Disk.{Image}
+use Rattle.block_tree.specs.Root.{root_spelling}
 use Rattle.claims.specs.Claims.{AreClaimed}
+use Rattle.std.proofs.lemmas.Bool.{and_parts}
+use Rattle.vol_image.specs.Seen.{tree_in}
 use Rattle.cfs_base.proofs.Runs.{then}
 use Rattle.cfs_base.proofs.Calls.{reads_make, then_tried}
 use Rattle.special_files.specs.Drafting.{leaf_takes}
 use Rattle.special_files.specs.Nodes.{IsRead}
+use Rattle.special_files.specs.Leaves.{SameBeside}
 use Rattle.special_files.specs.Order.{leaf_claims}
 use Rattle.special_files.specs.Puts.{FitsLeaf}
 use Rattle.special_files.specs.Refusal.{is_damaged, is_full}
 use Rattle.special_files.proofs.Begun.{store_reads}
-use Rattle.special_files.proofs.Fills.{done_after_reads, ended_by, ends_read, ends_stopped, leaves_read, not_full, put_fits, refused_after_reads, root_fits, slot_put, stays_empty}
+use Rattle.special_files.proofs.Fills.{done_after_reads, ended_by, ends_read, ends_stopped, leaves_read, none_is, not_full, put_fits, refused_after_reads, root_fits, slot_put, stays_empty}
 use Rattle.special_files.proofs.PutStore.{the_draft}
 use Rattle.special_files.proofs.ReadLeaves.{node_near}
 use Rattle.special_files.proofs.Refusals.{damaged_by, told}
@@ -52,6 +56,12 @@ returns-then-is_empty_already-clause-filled g c = λ graph ds id o d i store at 
     stays_empty g.D.Disk graph ds id o d0 c.leaf_bytes.new.disk c.args.space.now c.args.self.now d i store at opened index 2 c.in_ok-content.ensures.reads c.args.slot c.args.what c.requires.within
     c.in_ok-content.content same c.is_empty_already.result c.is_empty_already.ensures c.if-is_empty_already.true
 
+pub returns-then-is_empty_already-clause-beside : goal.returns-then-is_empty_already-clause-beside
+returns-then-is_empty_already-clause-beside g c = λ graph ds id o d i store at opened index path not_node not_leaf. ap (λ (a : Image). (tree_in a (root_spelling c.args.self.now.root)).below path) c.in_ok-content.ensures.reads.content
+
+pub returns-then-is_empty_already-clause-empty : goal.returns-then-is_empty_already-clause-empty
+returns-then-is_empty_already-clause-empty g c = λ same. none_is c.args.what (and_parts _ _ (sym c.is_empty_already.ensures ∙ c.if-is_empty_already.true)).0
+
 pub returns-then-is_empty_already-clause-leaves : goal.returns-then-is_empty_already-clause-leaves
 returns-then-is_empty_already-clause-leaves g c = λ graph ds id o d store at opened. leaves_read g.D.Disk graph 2 c.args.disk.now c.leaf_bytes.new.disk c.in_ok-content.ensures.reads
 
@@ -87,6 +97,19 @@ returns-in-Ok-clause-order g c = λ graph ds id o d i store at opened index done
     let fits = put_fits g.D.Disk graph ds id o d0 d1 c.args.space.now was d i store at opened index 2 reads c.args.slot c.args.what c.requires.within c.in_ok-content.content same in
     subst (λ (a : Image). AreClaimed (leaf_claims was.at was.leaves was.nodes (c.args.slot / 64)) a (g.D.Disk.content c.put_leaf.new.disk)) reads.content
     (c.in-Ok.ensures.put graph ds id o d (store_reads g.D.Disk graph ds d0 d1 c.args.space.now 2 store reads) at opened is (subst (FitsLeaf was.root (c.args.slot / 64)) (sym c.put_slot.ensures.put) fits)).order
+
+pub returns-in-Ok-clause-beside : goal.returns-in-Ok-clause-beside
+returns-in-Ok-clause-beside g c = λ graph ds id o d i store at opened index.
+    let d0 = c.args.disk.now in
+    let d1 = c.leaf_bytes.new.disk in
+    let was = c.args.self.now in
+    let reads = c.in_ok-content.ensures.reads in
+    let none : IsRead (g.D.Disk.content d0) was c.nothing-read.result = λ few. absurd (omega (arith, few, c.nothing-read.ensures)) in
+    let same = c.in_ok-content.ensures.bytes store.carries.tells (root_fits g.D.Disk graph ds id o d0 d1 c.args.space.now was d i store at opened index 2 reads c.args.slot c.args.what c.requires.within) none in
+    let is = subst (λ (a : Image). IsRead a was c.leaf_bytes.new.read) (sym reads.content) (c.in_ok-content.ensures.node store.carries.tells none) in
+    let fits = put_fits g.D.Disk graph ds id o d0 d1 c.args.space.now was d i store at opened index 2 reads c.args.slot c.args.what c.requires.within c.in_ok-content.content same in
+    subst (λ (a : Image). SameBeside (c.args.slot / 64) (tree_in a (root_spelling was.root)) (tree_in (g.D.Disk.content c.put_leaf.new.disk) (root_spelling c.put_leaf.new.self.root))) reads.content
+    (c.in-Ok.ensures.put graph ds id o d (store_reads g.D.Disk graph ds d0 d1 c.args.space.now 2 store reads) at opened is (subst (FitsLeaf was.root (c.args.slot / 64)) (sym c.put_slot.ensures.put) fits)).beside
 
 pub returns-in-Ok-clause-leaves : goal.returns-in-Ok-clause-leaves
 returns-in-Ok-clause-leaves g c = λ graph ds id o d store at opened.

@@ -1,0 +1,160 @@
+-- A reply that is owed is exact.
+use Rattle.std.proofs.Common.{◌≡◌, ◌⊎◌, inl, inr, ℕ, ◌+◌, ◌<◌, ◌≤◌, Bool, true, false, ◌&&◌, Option, Some, None, refl, sym, ◌∙◌, ap, subst, arith, length}
+use Rattle.std.specs.Prelude.{is_none, is_some, not, option_map, sum}
+use Rattle.std.proofs.lemmas.Bool.{cases_lt}
+use Rattle.cfs_base.specs.Disk.{Image}
+use Rattle.cfs_base.specs.Outside.{Rose}
+use Rattle.cfs_base.specs.declared.disk.Disk.{Ghosts}
+use Rattle.cfs_base.specs.declared.refusal.Need.{Need}
+use Rattle.cfs_core.specs.declared.kernel.Stop.{Stop}
+use Rattle.cfs_core.specs.Asked.{Asks, IsShortContent, stopped_by}
+use Rattle.cfs_core.specs.Calls.{ByOutcome, ByRefusal, ByWant, IsOwed, IsShort, Owes, is_delete}
+use Rattle.cfs_core.specs.Kernel.{Kernel}
+use Rattle.cfs_core.specs.Room.{IsRoom}
+use Rattle.cfs_core.specs.StandsFor.{Serves, Stands, StandsFor}
+use Rattle.ufs_model.specs.declared.asked.Event.TheVariants as events
+use Rattle.ufs_model.specs.declared.asked.Reply.{Reply}
+use Rattle.ufs_model.specs.declared.asked.Reply.TheVariants as replies
+use Rattle.ufs_model.specs.declared.asked.Request.{Request}
+use Rattle.ufs_model.specs.Asks.{IsAsked}
+use Rattle.ufs_model.specs.Limits.{reserve}
+use Rattle.ufs_model.specs.Need.{need_of}
+use Rattle.ufs_model.specs.Next.{allowed_if, answered, by_outcome, goes_through, is_full, is_outcome, next}
+use Rattle.ufs_model.specs.Outcome.{outcome_of}
+use Rattle.ufs_model.specs.Plain.{IsPlainReply}
+use Rattle.ufs_model.specs.Refusal.{refusal_of}
+use Rattle.ufs_model.specs.State.{State, is_running}
+use Rattle.ufs_model.proofs.Outcomes.{outcome_plain}
+use Rattle.cfs_script.specs.Room.{FitsLine}
+use Rattle.cfs_serve.specs.Calls.{IsExact, tells_outcome}
+use Rattle.cfs_serve.specs.Events.{is_calm_reply}
+
+-- ---- what is answered by its outcome, or is Full, wasn't refused
+
+allowed : (b : Bool) (s t : State) → allowed_if b s ≡ Some t → b ≡ true
+allowed true s t is = refl
+allowed false s t is = absurd (cc)
+
+left : (a b : Bool) → (a && b) ≡ true → a ≡ true
+left true b is = refl
+left false b is = absurd (cc)
+
+right : (a b : Bool) → (a && b) ≡ true → b ≡ true
+right true b is = is
+right false b is = absurd (cc)
+
+none_of : {A : Type 0} (o : Option A) → is_none o ≡ true → o ≡ None
+none_of None is = refl
+none_of (Some x) is = absurd (cc)
+
+module _ (seed : ℕ) (s : State) (who : ℕ) (request : Request) (t : State) where
+  through : goes_through s who request ≡ true → refusal_of s who request ≡ None
+  through goes = none_of (refusal_of s who request) (right (is_running s) (is_none (refusal_of s who request)) goes)
+
+  by_it : (reply : Reply) → by_outcome seed s who request reply ≡ Some t → refusal_of s who request ≡ None
+  by_it reply is = through (left (goes_through s who request) _ (left _ _ (allowed (is_outcome seed s who request reply) _ t is)))
+
+  pub outcome_goes : (reply : Reply) → tells_outcome reply ≡ true → answered seed s who request reply ≡ Some t → refusal_of s who request ≡ None
+  outcome_goes replies.Done told is = by_it replies.Done is
+  outcome_goes (replies.Id id) told is = by_it (replies.Id id) is
+  outcome_goes (replies.Grant u) told is = by_it (replies.Grant u) is
+  outcome_goes (replies.Number n) told is = by_it (replies.Number n) is
+  outcome_goes (replies.Content bytes) told is = by_it (replies.Content bytes) is
+  outcome_goes reply told is = absurd (cc told)
+
+  pub full_goes : (need : Need) → answered seed s who request (replies.Full need) ≡ Some t → refusal_of s who request ≡ None
+  full_goes need is = through (left (goes_through s who request) _ (left _ _ (left _ _ (allowed (is_full s who request need) s t is))))
+
+-- ---- exact
+
+plain_not_full : (need : Need) (reply : Reply) → reply ≡ replies.Full need → IsPlainReply reply → ⊥
+plain_not_full need reply is plain = rw is at plain
+
+module _ (seed : ℕ) (s : State) (who : ℕ) (request : Request) (image : Image) (cylinders free : ℕ) (room : IsRoom cylinders s free)
+    (plain : refusal_of s who request ≡ None → (b : ℕ) → IsPlainReply (outcome_of seed s who request b).0) where
+  owed_full : (need : Need) → refusal_of s who request ≡ None → IsOwed seed s who request image free (replies.Full need) → IsRoom cylinders s need.free
+  owed_full need none (ByRefusal is) = absurd (cc (none, is))
+  owed_full need none (ByWant allowed short is) = let same : need.free ≡ free = ap free_of is in rw same room
+    where
+      free_of : Reply → ℕ
+      free_of (replies.Full n) = n.free
+      free_of reply = 0
+  owed_full need none (ByOutcome allowed done) = absurd (plain_not_full need (outcome_of seed s who request done.block).0 (sym done.reply_is) (plain allowed done.block))
+
+  owed_done : (reply : Reply) → tells_outcome reply ≡ true → refusal_of s who request ≡ None → is_delete request ≡ false → IsOwed seed s who request image free reply
+      → need_of s who request + reserve ≤ free
+  owed_done reply told none kept (ByRefusal is) = absurd (cc (none, is))
+  owed_done reply told none kept (ByWant allowed short is) = absurd (not_full (rw is at told))
+    where
+      not_full : false ≡ true → ⊥
+      not_full e = cc
+  owed_done reply told none kept (ByOutcome allowed done) = not_less (need_of s who request + reserve) free (λ few. done.room (record { delete = kept; few = few }))
+    where
+      not_less : (a b : ℕ) → (b < a → ⊥) → a ≤ b
+      not_less a b never = elim (cases_lt b a) [
+        | inl less ↦ absurd (never less)
+        | inr enough ↦ enough
+      ]
+
+  outcome_exact : (reply : Reply) (t : State) → tells_outcome reply ≡ true → ((n : Need) → reply ≡ replies.Full n → ⊥) → answered seed s who request reply ≡ Some t
+      → IsOwed seed s who request image free reply → IsExact cylinders s who request reply
+  outcome_exact reply t told other step owed = record {
+    full = λ need is. absurd (other need is);
+    done = λ _ kept n is.
+        let least = owed_done reply told (outcome_goes seed s who request t reply told step) kept owed in
+        omega (arith, least, is, room);
+  }
+
+  nothing_told : (reply : Reply) → ((n : Need) → reply ≡ replies.Full n → ⊥) → tells_outcome reply ≡ false → IsExact cylinders s who request reply
+  nothing_told reply other untold = record { full = λ need is. absurd (other need is); done = λ told. absurd (cc (told, untold)) }
+
+  pub exact : (reply : Reply) (t : State) → answered seed s who request reply ≡ Some t → Owes seed s who request image free reply → IsExact cylinders s who request reply
+  exact (replies.Full need) t step owed = record {
+    full = λ n is. let same : need ≡ n = cc is in subst (λ (m : Need). IsRoom cylinders s m.free) same (owed_full need (full_goes seed s who request t need step) owed);
+    done = λ told. absurd (cc told);
+  }
+  exact replies.Done t step owed = outcome_exact replies.Done t refl (λ n is. absurd (cc is)) step owed
+  exact (replies.Id id) t step owed = outcome_exact (replies.Id id) t refl (λ n is. absurd (cc is)) step owed
+  exact (replies.Grant u) t step owed = outcome_exact (replies.Grant u) t refl (λ n is. absurd (cc is)) step owed
+  exact (replies.Number n) t step owed = outcome_exact (replies.Number n) t refl (λ m is. absurd (cc is)) step owed
+  exact (replies.Content bytes) t step owed = outcome_exact (replies.Content bytes) t refl (λ n is. absurd (cc is)) step owed
+  exact reply t step owed = nothing_told reply (λ n is. absurd (cc is)) refl
+
+-- ---- of the core
+
+module _ {D : Type 0} (g : Ghosts D) (old new : Kernel D) (who : ℕ) (request : Request) (reply : Reply) (asks : Asks g old new who request reply) where
+  pub asked : (s : State) → StandsFor g old s → IsAsked (λ t. StandsFor g new t) old.words.seed s who request reply
+  asked s stands = let e = asks.event s stands in record { after = e.after; step = e.step; standing = e.stands }
+
+  pub exact_of : ((s : State) → Serves g old s → IsRoom (length old.space.free) s (sum old.space.free)) → (s : State) → StandsFor g old s → IsExact (length old.space.free) s who request reply
+  exact_of room s stands = by_stop old.stop refl
+    where
+      by_stop : (o : Option Stop) → old.stop ≡ o → IsExact (length old.space.free) s who request reply
+      by_stop None is =
+          let serves = subst (Stands g old s) is stands in
+          exact old.words.seed s who request (g.content old.disk) (length old.space.free) (sum old.space.free) (room s serves) (λ none b. outcome_plain old.words.seed s who request b serves.state none)
+          reply (asks.event s stands).after (asks.event s stands).step (asks.owed is s stands)
+      by_stop (Some stop) is = rw (asks.stopped stop is).1 (record { full = λ n same. absurd (cc same); done = λ told. absurd (cc told) })
+
+-- ---- no trouble without a failed call
+
+pub calm_or_rose : {D : Type 0} (g : Ghosts D) (old new : Kernel D) (who : ℕ) (request : Request) (reply : Reply) → Asks g old new who request reply → (s : State) → StandsFor g old s
+    → old.stop ≡ None → is_calm_reply reply ≡ false → Rose (g.faults old.disk) (g.faults new.disk)
+calm_or_rose g old new who request reply asks s stands none troubled = by reply refl
+  where
+    by : (r : Reply) → reply ≡ r → Rose (g.faults old.disk) (g.faults new.disk)
+    by (replies.Disk None) is = (rw is at asks.cause none).failed.cause
+    by (replies.Disk (Some moment)) is = (rw is at asks.cause none).0.failed.cause
+    by (replies.Stopped moment) is = absurd (rw is at asks.owed none s stands)
+    by (replies.Damaged damage moment) is = absurd (rw is at asks.owed none s stands)
+    by r is = absurd (cc (is, troubled))
+
+pub runs_on : (before : Option Stop) (reply : Reply) → before ≡ None → is_calm_reply reply ≡ true → stopped_by reply None ≡ None
+runs_on before (replies.Stopped moment) none calm = refl
+runs_on before (replies.Disk doubt) none calm = absurd (cc calm)
+runs_on before (replies.Damaged damage moment) none calm = absurd (cc calm)
+runs_on before reply none calm = refl
+
+pub short_fits : (reply : Reply) → IsShortContent reply → FitsLine reply
+short_fits (replies.Content bytes) short = short
+short_fits reply short = tt

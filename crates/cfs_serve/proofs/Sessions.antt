@@ -1,0 +1,311 @@
+-- An event keeps what the hall keeps of its sessions.
+use Rattle.std.proofs.Common.{◌≡◌, ◌≢◌, ◌⊎◌, inl, inr, ℕ, zero, suc, ◌+◌, ◌-◌, ◌<◌, ◌≤◌, ◌==◌, Bool, true, false, not, cond, List, [], ◌∷◌, ◌++◌, length, filter, set, get_or, Option, Some, None, slice_get, refl, sym, ap, ◌∙◌, subst, arith, append_assoc, length-append, length-set}
+use Rattle.std.specs.List.{sum_by}
+use Rattle.std.proofs.lemmas.List.{append-nil}
+use Rattle.std.proofs.lemmas.List.Sums.{sum_by-set}
+use Rattle.std.proofs.lemmas.Option.{slice_get_within, get_or_from_slice_get, slice_get-get_or}
+use Rattle.std.proofs.lemmas.Bool.Decides.{nat_tests}
+use Rattle.cfs_base.specs.declared.identifier.Puid.{Puid}
+use Rattle.cfs_base.specs.Outside.{Intake}
+use Rattle.cfs_streams.specs.Writing.{Wrote, WroteSome}
+use Rattle.cfs_streams.proofs.WriteLaws.{nothing, then, then_some}
+use Rattle.ufs_model.specs.declared.asked.Event.{Event}
+use Rattle.ufs_model.specs.declared.asked.Event.TheVariants as events
+use Rattle.ufs_model.specs.declared.asked.Reply.{Reply}
+use Rattle.ufs_model.specs.declared.asked.Reply.TheVariants as replies
+use Rattle.ufs_model.specs.declared.asked.Request.{Request}
+use Rattle.ufs_model.specs.declared.asked.Unread.{Unread}
+use Rattle.ufs_model.specs.declared.asked.Unread.TheVariants as unread
+use Rattle.ufs_model.specs.Names.{Names, no_names}
+use Rattle.ufs_model.specs.Script.{request_lines, words_of}
+use Rattle.ufs_model.specs.Spoken.{Form, Reading, Is, Bad, Unbound, reading_of, name_spoken}
+use Rattle.ufs_model.specs.Turns.{is_turn_of, turns_in, turn_of, turns_from, names_after, names_after_reply}
+use Rattle.ufs_model.specs.Printed.{printed, printed_replies, reply_line, unread_line}
+use Rattle.cfs_script.specs.Language.{built_forms}
+use Rattle.cfs_script.specs.NameTable.{names_of}
+use Rattle.cfs_ports.specs.declared.hearing.Heard.{Heard}
+use Rattle.cfs_ports.specs.declared.hearing.Heard.TheVariants as heard
+use Rattle.cfs_ports.specs.Heard.{Hears}
+use Rattle.cfs_ports.specs.Port.{Replied, TakesLine, Answers, Tells}
+use Rattle.cfs_ports.specs.Port as ports
+use Rattle.cfs_serve.specs.Charter.{Seat, Terms}
+use Rattle.cfs_serve.specs.Events.{BreaksOff, events_of, is_of, is_sessions}
+use Rattle.cfs_serve.proofs.Journals.{all-push}
+use Rattle.cfs_serve.specs.Hall.{IsLeave, IsSession, AreHeard, Turned, Departs, Moves, Turns, turns_left, turns_left_at, has_left_at}
+
+-- ---- numbers and lists
+
+pub test_refl : (n : ℕ) → (n == n) ≡ true
+test_refl n = grind (arith, nat_tests)
+
+pub test_apart : (i k : ℕ) → k ≢ i → (i == k) ≡ false
+test_apart i k h = grind (arith, nat_tests)
+
+get-set_same : {A : Type 0} (xs : List A) (i : ℕ) (y x : A) → slice_get xs i ≡ Some x → slice_get (set xs i y) i ≡ Some y
+get-set_same [] i y x h = absurd (cc)
+get-set_same (z ∷ xs) zero y x h = refl
+get-set_same (z ∷ xs) (suc i) y x h = get-set_same xs i y x h
+
+get-set_other : {A : Type 0} (xs : List A) (i k : ℕ) (y : A) → k ≢ i → slice_get (set xs i y) k ≡ slice_get xs k
+get-set_other [] i k y h = refl
+get-set_other (z ∷ xs) zero zero y h = absurd (h refl)
+get-set_other (z ∷ xs) zero (suc k) y h = refl
+get-set_other (z ∷ xs) (suc i) zero y h = refl
+get-set_other (z ∷ xs) (suc i) (suc k) y h = get-set_other xs i k y (λ e. h (ap (λ n. suc n) e))
+
+some_same : {A : Type 0} (a b : A) → Some a ≡ Some b → a ≡ b
+some_same a b e = cc
+
+pub filter_in : (test : Event → Bool) (es : List Event) (e : Event) → test e ≡ true → filter test (es ++ e ∷ []) ≡ filter test es ++ e ∷ []
+filter_in test [] e is = rw is refl
+filter_in test (x ∷ es) e is = elim (test x) as (λ b. cond b (x ∷ filter test (es ++ e ∷ [])) (filter test (es ++ e ∷ [])) ≡ cond b (x ∷ filter test es) (filter test es) ++ e ∷ []) [
+  | true ↦ ap (λ w. x ∷ w) (filter_in test es e is)
+  | false ↦ filter_in test es e is
+]
+
+pub filter_out : (test : Event → Bool) (es : List Event) (e : Event) → test e ≡ false → filter test (es ++ e ∷ []) ≡ filter test es
+filter_out test [] e is = rw is refl
+filter_out test (x ∷ es) e is = elim (test x) as (λ b. cond b (x ∷ filter test (es ++ e ∷ [])) (filter test (es ++ e ∷ [])) ≡ cond b (x ∷ filter test es) (filter test es)) [
+  | true ↦ ap (λ w. x ∷ w) (filter_out test es e is)
+  | false ↦ filter_out test es e is
+]
+
+printed_push : (i : ℕ) (es : List Event) (e : Event) → printed_replies i (es ++ e ∷ []) ≡ printed_replies i es ++ printed i e
+printed_push i [] e = append-nil (printed i e)
+printed_push i (x ∷ es) e = ap (λ text. printed i x ++ text) (printed_push i es e) ∙ sym (append_assoc (printed i x) (printed_replies i es) (printed i e))
+
+-- another's event writes nothing, and is no turn
+other_prints : (i : ℕ) (e : Event) → is_of i e ≡ false → printed i e ≡ []
+other_prints i (events.Unread who why) is = rw is refl
+other_prints i (events.Ask who request reply) is = rw is refl
+other_prints i (events.Leave who stopped) is = refl
+other_prints i events.Began is = refl
+other_prints i (events.Vanish ids) is = refl
+other_prints i events.Finished is = refl
+other_prints i (events.Halted moment) is = refl
+
+no_turn_prints : (i : ℕ) (e : Event) → is_turn_of i e ≡ false → printed i e ≡ []
+no_turn_prints i (events.Unread who why) is = rw is refl
+no_turn_prints i (events.Ask who request reply) is = rw is refl
+no_turn_prints i (events.Leave who stopped) is = refl
+no_turn_prints i events.Began is = refl
+no_turn_prints i (events.Vanish ids) is = refl
+no_turn_prints i events.Finished is = refl
+no_turn_prints i (events.Halted moment) is = refl
+
+other_turns : (i : ℕ) (e : Event) → is_of i e ≡ false → is_turn_of i e ≡ false
+other_turns i (events.Unread who why) is = is
+other_turns i (events.Ask who request reply) is = is
+other_turns i (events.Leave who stopped) is = refl
+other_turns i events.Began is = refl
+other_turns i (events.Vanish ids) is = refl
+other_turns i events.Finished is = refl
+other_turns i (events.Halted moment) is = refl
+
+-- what the session's turns write is all that is written to it
+pub printed_turns : (i : ℕ) (es : List Event) → printed_replies i es ≡ printed_replies i (turns_in i es)
+printed_turns i [] = refl
+printed_turns i (e ∷ es) = elim (is_turn_of i e) as (λ b. is_turn_of i e ≡ b → printed i e ++ printed_replies i es ≡ printed_replies i (cond b (e ∷ turns_in i es) (turns_in i es))) [
+  | true ↦ λ is. ap (λ text. printed i e ++ text) (printed_turns i es)
+  | false ↦ λ is. ap (λ text. text ++ printed_replies i es) (no_turn_prints i e is) ∙ printed_turns i es
+] refl
+
+-- ---- one session
+
+module _ (root : Puid) (i : ℕ) (seat : Seat) (p : ports.Reading) (trail : List Event) (was : IsSession root i seat p trail) where
+  -- after another's event
+  pub session_other : (e : Event) → is_of i e ≡ false → IsSession root i seat p (trail ++ e ∷ [])
+  session_other e is =
+      let same : turns_in i (trail ++ e ∷ []) ≡ turns_in i trail = filter_out (is_turn_of i) trail e (other_turns i e is) in
+      record {
+        leaves = was.leaves;
+        split = filter_out (is_of i) trail e is ∙ was.split ∙ ap (λ w. w ++ was.leaves) (sym same);
+        left = was.left;
+        turned = λ more. rw same (was.turned more);
+        counted = rw same was.counted;
+        ended = was.ended;
+        replied = rw (printed_push i trail e, other_prints i e is, append-nil) was.replied;
+        broken = λ failed. rw same (was.broken failed);
+      }
+
+  no_leaves : p.has_left ≡ false → was.leaves ≡ []
+  no_leaves stays = subst (λ b. IsLeave i b was.leaves) stays was.left
+
+  -- after its own line
+  pub session_turned : (q : ports.Reading) (e : Event) → Turned i p q e → IsSession root i seat q (trail ++ e ∷ [])
+  session_turned q e turn =
+      let more_turns : turns_in i (trail ++ e ∷ []) ≡ turns_in i trail ++ e ∷ [] = filter_in (is_turn_of i) trail e turn.mine in
+      let none = no_leaves turn.stays in
+      record {
+        leaves = [];
+        split = filter_in (is_of i) trail e turn.whole ∙ ap (λ w. w ++ e ∷ []) (was.split ∙ ap (λ w. turns_in i trail ++ w) none ∙ append-nil (turns_in i trail)) ∙ sym more_turns ∙ sym (append-nil (turns_in i (trail ++ e ∷ [])));
+        left = subst (λ b. IsLeave i b []) (sym turn.stays_on) refl;
+        turned = λ more. rw more_turns (on more);
+        counted = omega (arith, was.counted, ap length turn.taken, ap length more_turns, length-append (turns_in i trail) (e ∷ []));
+        ended = λ left. absurd (cc (left, turn.stays_on));
+        replied = rw (printed_push i trail e) (wrote (not q.failed) turn.replied);
+        broken = λ failed. record {
+          before = turns_in i trail;
+          last = e;
+          mid = p.sink;
+          whole = more_turns;
+          wrote = rw (sym (printed_turns i trail)) so_far;
+          failed = subst (λ b. Replied p.sink q.sink (printed i e) (not b)) failed turn.replied;
+        };
+      }
+    where
+      on : (more : List Event) → turns_from built_forms i (no_names root) (seat.lines) ((turns_in i trail ++ e ∷ []) ++ more)
+          ≡ (turns_in i trail ++ e ∷ []) ++ turns_from built_forms i (names_of q.names) q.lines more
+      on more =
+          ap (λ es. turns_from built_forms i (no_names root) (seat.lines) es) (append_assoc (turns_in i trail) (e ∷ []) more)
+          ∙ was.turned (e ∷ more)
+          ∙ ap (λ lines. turns_in i trail ++ turns_from built_forms i (names_of p.names) lines (e ∷ more)) turn.taken
+          ∙ ap (λ x. turns_in i trail ++ x ∷ turns_from built_forms i (names_after built_forms (names_of p.names) turn.line e) q.lines more) turn.turn
+          ∙ sym (append_assoc (turns_in i trail) (e ∷ []) (turns_from built_forms i (names_after built_forms (names_of p.names) turn.line e) q.lines more))
+          ∙ ap (λ names. (turns_in i trail ++ e ∷ []) ++ turns_from built_forms i names q.lines more) (sym turn.names)
+
+      so_far : Wrote seat.sink p.sink (printed_replies i trail)
+      so_far = subst (λ b. Replied seat.sink p.sink (printed_replies i trail) (not b)) turn.goes was.replied
+
+      wrote : (b : Bool) → Replied p.sink q.sink (printed i e) b → Replied seat.sink q.sink (printed_replies i trail ++ printed i e) b
+      wrote true one = then seat.sink p.sink q.sink (printed_replies i trail) (printed i e) so_far one
+      wrote false one = then_some seat.sink p.sink q.sink (printed_replies i trail) (printed i e) so_far one
+
+  -- after its leave
+  pub session_left : (q : ports.Reading) (e : Event) → Departs i p q e → IsSession root i seat q (trail ++ e ∷ [])
+  session_left q e leave = subst (λ x. IsSession root i seat q (trail ++ x ∷ [])) (sym leave.is) (subst (λ x. IsSession root i seat x (trail ++ gone ∷ [])) (sym leave.port) here)
+    where
+      gone : Event
+      gone = events.Leave i leave.stopped
+
+      same : turns_in i (trail ++ gone ∷ []) ≡ turns_in i trail
+      same = filter_out (is_turn_of i) trail gone refl
+
+      here : IsSession root i seat (record p { has_left = true }) (trail ++ gone ∷ [])
+      here = record {
+        leaves = gone ∷ [];
+        split = filter_in (is_of i) trail gone (test_refl i) ∙ ap (λ w. w ++ gone ∷ []) (was.split ∙ ap (λ w. turns_in i trail ++ w) (no_leaves leave.stays) ∙ append-nil (turns_in i trail)) ∙ ap (λ w. w ++ gone ∷ []) (sym same);
+        left = (leave.stopped, refl);
+        turned = λ more. rw same (was.turned more);
+        counted = rw same was.counted;
+        ended = λ left. leave.over;
+        replied = rw (printed_push i trail gone, append-nil) was.replied;
+        broken = λ failed. rw same (was.broken failed);
+      }
+
+-- ---- all of them
+
+of_session : (i : ℕ) (e : Event) → is_of i e ≡ true → is_sessions e ≡ true
+of_session i (events.Unread who why) is = refl
+of_session i (events.Ask who request reply) is = refl
+of_session i (events.Leave who stopped) is = refl
+of_session i e is = cc
+
+module _ {A : Type 0} (t : Terms A) (trail : List Event) (ps : List ports.Reading) (was : AreHeard t trail ps) where
+  -- after an event of session i
+  pub heard_by : (i : ℕ) (p q : ports.Reading) (e : Event) → slice_get ps i ≡ Some p → ((k : ℕ) → (i == k) ≡ false → is_of k e ≡ false)
+      → Turned i p q e ⊎ Departs i p q e → AreHeard t (trail ++ e ∷ []) (set ps i q)
+  heard_by i p q e at others kind = record {
+    count = length-set ps i q ∙ was.count;
+    each = λ k seat x seat_is here. by_test k seat x seat_is here (k == i) refl;
+    none = λ k past.
+        let within = slice_get_within ps i p at in
+        let long = length-set ps i q in
+        let apart : k ≢ i = (λ same. absurd (omega (arith, past, within, long, same))) in
+        filter_out (is_of k) trail e (others k (test_apart i k apart)) ∙ was.none k (omega (arith, past, long));
+    sessions = all-push is_sessions trail e was.sessions (elim kind [
+      | inl turn ↦ of_session i e turn.whole
+      | inr leave ↦ rw leave.is refl
+    ]);
+  }
+    where
+      mine : (seat : Seat) → IsSession t.root i seat p trail → IsSession t.root i seat q (trail ++ e ∷ [])
+      mine seat before = elim kind [
+        | inl turn ↦ session_turned t.root i seat p trail before q e turn
+        | inr leave ↦ session_left t.root i seat p trail before q e leave
+      ]
+
+      by_test : (k : ℕ) (seat : Seat) (x : ports.Reading) → slice_get t.seats k ≡ Some seat → slice_get (set ps i q) k ≡ Some x → (b : Bool) → (k == i) ≡ b → IsSession t.root k seat x (trail ++ e ∷ [])
+      by_test k seat x seat_is here true is =
+          let same : k ≡ i = grind (arith, nat_tests) in
+          let found : q ≡ x = some_same q x (sym (get-set_same ps i q p at) ∙ ap (λ n. slice_get (set ps i q) n) (sym same) ∙ here) in
+          let before = was.each i seat p (ap (λ n. slice_get t.seats n) (sym same) ∙ seat_is) at in
+          subst (λ (n : ℕ). IsSession t.root n seat x (trail ++ e ∷ [])) (sym same) (subst (λ (y : ports.Reading). IsSession t.root i seat y (trail ++ e ∷ [])) found (mine seat before))
+      by_test k seat x seat_is here false is =
+          let apart : k ≢ i = grind (arith, nat_tests) in
+          session_other t.root k seat x trail (was.each k seat x seat_is (sym (get-set_other ps i k q apart) ∙ here)) e (others k (test_apart i k apart))
+
+-- ---- what a port did is such a turn
+
+memory_binds_nothing : (names : Names) (name : Option (List ℕ)) → names_after_reply names name replies.Memory ≡ names
+memory_binds_nothing names None = refl
+memory_binds_nothing names (Some name) = refl
+
+pub turned_unread : (i : ℕ) (p r q : ports.Reading) (why : Unread) → p.has_left ≡ false → p.failed ≡ false → TakesLine p r (heard.Not why) → Tells r q why → Turned i p q (events.Unread i why)
+turned_unread i p r q why stays goes took told = record {
+  line = took.line;
+  taken = took.taken ∙ ap (λ w. took.line ∷ w) (sym told.lines);
+  mine = test_refl i;
+  whole = test_refl i;
+  turn = by_why why (reading_of built_forms (names_of p.names) took.line) (name_spoken built_forms (words_of took.line)) took.hears;
+  names = ap names_of told.names ∙ took.names ∙ sym (memory_binds_nothing (names_of p.names) (name_spoken built_forms (words_of took.line)));
+  stays = stays;
+  stays_on = told.stays ∙ took.stays ∙ stays;
+  goes = goes;
+  replied = rw (test_refl i) (rw (← took.sink) told.replied);
+}
+  where
+    by_why : (why : Unread) (reading : Reading Request) (name : Option (List ℕ)) → Hears reading name (heard.Not why) → turn_of i reading (events.Unread i why) ≡ events.Unread i why
+    by_why unread.Syntax reading name is = rw is refl
+    by_why unread.NoName reading name is = rw is refl
+    by_why unread.Memory reading name is = refl
+
+pub turned_ask : (i : ℕ) (p r q : ports.Reading) (request : Request) (name : Option (List ℕ)) (reply : Reply) → p.has_left ≡ false → p.failed ≡ false → TakesLine p r (heard.Ready request name) → Answers r q name reply
+    → Turned i p q (events.Ask i request reply)
+turned_ask i p r q request name reply stays goes took told = record {
+  line = took.line;
+  taken = took.taken ∙ ap (λ w. took.line ∷ w) (sym told.lines);
+  mine = test_refl i;
+  whole = test_refl i;
+  turn = rw took.hears.0 refl;
+  names = told.names ∙ ap (λ (n : Names). names_after_reply n name reply) took.names ∙ ap (λ (n : Option (List ℕ)). names_after_reply (names_of p.names) n reply) took.hears.1;
+  stays = stays;
+  stays_on = told.stays ∙ took.stays ∙ stays;
+  goes = goes;
+  replied = rw (test_refl i) (rw (← took.sink) told.replied);
+}
+
+-- ---- the work that is left
+
+one_less : (i : ℕ) (p q : ports.Reading) (e : Event) → Turned i p q e ⊎ Departs i p q e → turns_left q + 1 ≤ turns_left p
+one_less i p q e kind = elim kind [
+  | inl turn ↦ rw (turn.stays, turn.stays_on) (omega (arith, ap length turn.taken))
+  | inr leave ↦ rw (leave.port, leave.stays) (omega arith)
+]
+
+-- a turn takes one from it at least
+pub work_on : (ps : List ports.Reading) (i : ℕ) (p q : ports.Reading) (e : Event) → slice_get ps i ≡ Some p → Turned i p q e ⊎ Departs i p q e → sum_by turns_left (set ps i q) + 1 ≤ sum_by turns_left ps
+work_on ps i p q e at kind =
+    let less : turns_left q + 1 ≤ turns_left p = one_less i p q e kind in
+    omega (arith, sum_by-set turns_left ps i q p (slice_get_within ps i p at), ap turns_left (get_or_from_slice_get ps i p p at), less)
+
+-- a session that stays has a turn left
+pub some_work : (ps : List ports.Reading) (i : ℕ) (p : ports.Reading) → slice_get ps i ≡ Some p → p.has_left ≡ false → 0 < sum_by turns_left ps
+some_work ps i p at stays =
+    let one : 0 < turns_left p = rw stays (omega arith) in
+    omega (arith, sum_by-set turns_left ps i (record p { has_left = true }) p (slice_get_within ps i p at), ap turns_left (get_or_from_slice_get ps i p p at), one)
+
+-- the port that the code took
+pub found : (ps now : List ports.Reading) (i : ℕ) (p : ports.Reading) → ps ≡ now → i < length now → has_left_at (slice_get now i) ≡ false → p ≡ get_or ps i p → (slice_get ps i ≡ Some p) × (p.has_left ≡ false)
+found ps now i p same within stays is =
+    let at : slice_get ps i ≡ Some p = slice_get-get_or ps i p (rw same within) ∙ ap (λ x. Some x) (sym is) in
+    (at, sym (ap has_left_at at) ∙ ap (λ w. has_left_at (slice_get w i)) same ∙ stays)
+
+-- what a turn leaves to do, and the other ports
+pub turns_of_port : (ps : List ports.Reading) (i : ℕ) (p q : ports.Reading) (e : Event) → slice_get ps i ≡ Some p → Turned i p q e ⊎ Departs i p q e → Turns i ps (set ps i q)
+turns_of_port ps i p q e at kind = record {
+  fewer = let less : turns_left q + 1 ≤ turns_left p = one_less i p q e kind in
+      omega (arith, ap turns_left_at (get-set_same ps i q p at), ap turns_left_at at, less);
+  others = λ k apart. get-set_other ps i k q (λ same. absurd (cc (apart, ap (λ n. n == i) same, test_refl i)));
+  count = length-set ps i q;
+}

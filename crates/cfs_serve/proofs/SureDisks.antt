@@ -1,0 +1,23 @@
+-- A disk of which no call is listed to fail, and that keeps none, never fails.
+use Rattle.std.proofs.Common.{◌≡◌, ◌⊎◌, inl, inr, ℕ, List, [], true, false, ◌∙◌, arith, length, ◌<◌}
+use Rattle.std.specs.Prelude.{Contains, IsTrue}
+use Rattle.cfs_base.specs.Disk.{Image}
+use Rattle.cfs_fakes.specs.declared.memory_disk.MemoryDisk.{MemoryDisk}
+use Rattle.cfs_fakes.specs.Memory.{IsDue, IsMade, IsSamePlan, is_recording}
+use Rattle.cfs_serve.specs.SureDisk.{IsSure}
+
+pub made_sure : (d : MemoryDisk) (blocks : Image) → IsMade d blocks [] false → IsSure d
+made_sure d blocks made = record { none = λ m listed. in_none m ((made.listed m).0 listed); forgets = made.recording }
+  where
+    in_none : (m : ℕ) → Contains [] m → ⊥
+    in_none m is = absurd (omega (arith, is.1))
+
+pub stays_sure : (old new : MemoryDisk) → IsSamePlan old new → IsSure old → IsSure new
+stays_sure old new plan sure = record { none = λ m. rw plan.listed (sure.none m); forgets = plan.recording ∙ sure.forgets }
+
+pub never_recording : (d : MemoryDisk) → IsSure d → IsTrue (is_recording d) → ⊥
+never_recording d sure is = cc (sure.forgets, is)
+
+pub never_due : (d : MemoryDisk) → IsSure d → IsDue d → ⊥
+never_due d sure (inl listed) = sure.none _ listed
+never_due d sure (inr over) = never_recording d sure over.0

@@ -1,0 +1,40 @@
+use Rattle.std.proofs.Common.{◌∷◌, [], arith, ap, length, length-set, length-append}
+use Rattle.cfs_serve.proofs.Sessions.{found, some_work, heard_by, turns_of_port, work_on}
+use Rattle.cfs_serve.proofs.hall.Hall.session_turn.Goals as goal
+
+pub port_turn-requires-clause-room : goal.port_turn-requires-clause-room
+port_turn-requires-clause-room g c =
+    let p = c.index_mut-port.result.now in
+    let at = found c.self.inside.ports.items c.args.self.now.ports c.args.session p (ap (λ x. x.ports) c.self.view_is) c.requires.at c.requires.stays c.index_mut-port.ensures.value in
+    omega (arith, some_work c.self.inside.ports.items c.args.session p at.0 at.1, c.self.invariant.1)
+
+pub port_turn-requires-clause-few : goal.port_turn-requires-clause-few
+port_turn-requires-clause-few g c = omega (arith, c.self.invariant.2)
+
+pub port_turn-requires-clause-stays : goal.port_turn-requires-clause-stays
+port_turn-requires-clause-stays g c =
+    (found c.self.inside.ports.items c.args.self.now.ports c.args.session c.index_mut-port.result.now (ap (λ x. x.ports) c.self.view_is) c.requires.at c.requires.stays c.index_mut-port.ensures.value).1
+
+pub invariant_of-self : goal.invariant_of-self
+invariant_of-self g c =
+    let p = c.index_mut-port.result.now in
+    let q = c.port_turn.new.port in
+    let ps = c.self.inside.ports.items in
+    let moves = c.port_turn.ensures in
+    let at = (found ps c.args.self.now.ports c.args.session p (ap (λ x. x.ports) c.self.view_is) c.requires.at c.requires.stays c.index_mut-port.ensures.value).0 in
+    let less = work_on ps c.args.session p q moves.event at moves.kind in
+    let k = c.self.invariant in (
+      rw moves.recorded (heard_by g.J.Charter.charter c.self.inside.journal.events ps k.0 c.args.session p q moves.event at moves.others moves.kind),
+      omega (arith, less, k.1, moves.room),
+      omega (arith, less, k.2, ap length moves.recorded, length-append c.self.inside.journal.events (moves.event ∷ [])),
+      rw length-set k.3,
+    )
+
+pub returns : goal.returns
+returns g c =
+    let p = c.index_mut-port.result.now in
+    let q = c.port_turn.new.port in
+    let ps = c.self.inside.ports.items in
+    let moves = c.port_turn.ensures in
+    let at = (found ps c.args.self.now.ports c.args.session p (ap (λ x. x.ports) c.self.view_is) c.requires.at c.requires.stays c.index_mut-port.ensures.value).0 in
+    rw (← c.self.view_is) (turns_of_port ps c.args.session p q moves.event at moves.kind)

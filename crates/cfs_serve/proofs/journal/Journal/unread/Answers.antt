@@ -1,0 +1,22 @@
+use Rattle.std.proofs.Common.{◌∷◌, [], ◌∙◌, ap, sym, refl, length-append, arith}
+use Rattle.std.specs.Prelude.{◌||◌}
+use Rattle.ufs_model.specs.declared.asked.Event.TheVariants as events
+use Rattle.cfs_serve.specs.Events.{wants_memory}
+use Rattle.cfs_serve.proofs.Journals.{any-push, run_on, unread_makes}
+use Rattle.cfs_serve.proofs.journal.Journal.unread.Goals as goal
+
+pub invariant_of-self : goal.invariant_of-self
+invariant_of-self g c =
+    let t = g.J.Charter.charter in
+    let server = c.self.inside.server in
+    let trail = c.self.inside.trail.events in
+    let e = events.Unread c.args.session c.args.why in
+    let kept = c.self.invariant in
+    rw c.push.ensures.events (
+      run_on g.A.Asker.stands g.A.Server.faults g.A.Server.has_stopped t trail server server e kept.0 (unread_makes g.A.Asker.stands t.seed server c.args.session c.args.why) (λ s standing some. tt)
+          (λ s standing never runs. refl) (λ runs calm. runs),
+      kept.1,
+      kept.2,
+      omega (arith, kept.3, length-append trail (e ∷ [])),
+      c.starved_at-self-inside.ensures c.args.session ∙ ap (λ b. wants_memory e || b) kept.4 ∙ sym (any-push wants_memory trail e),
+    )

@@ -1,0 +1,13 @@
+use Rattle.std.proofs.Common.{◌≡◌, ℕ, ◌*◌, IsTrue, true, false, take, Ok}
+use Rattle.cfs_base.specs.Calls.{HasTried}
+use Rattle.intentions.specs.declared.change.Change.TheVariants.{Undo}
+use Rattle.special_files.specs.Committing.{Flips, flips}
+use Rattle.special_files.proofs.listed.undo_listed.Given as goal
+
+abbrev pub invariant-loop-block : goal.invariant-loop-block
+invariant-loop-block g l = record {
+  so_far : Flips g.D.Disk (2 * l.block-index) l.block-index (flips Undo (take l.block-index l.blocks)) l.initial.disk l.disk (Ok tt);
+  told : (n : ℕ) → IsTrue (g.D.Disk.told l.initial.disk n) → IsTrue (g.D.Disk.told l.disk n);
+  later : l.tried ≡ true → HasTried g.D.Disk l.initial.disk l.disk;
+  first : l.tried ≡ false → l.disk ≡ l.initial.disk;
+}

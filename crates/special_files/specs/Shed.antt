@@ -1,0 +1,169 @@
+-- Leaves dropped from a draft, from one on, with the nodes that have no leaf before it.
+use Rattle.std.specs.Prelude.{◌≡◌, ◌≢◌, ◌⊎◌, ℕ, zero, suc, Bool, not, ◌&&◌, ◌||◌, ◌++◌, get_or, ◌+◌, ◌*◌, ◌/◌, ◌%◌, ◌<◌, ◌≤◌, true, false, if◌then◌else◌, ◌==◌, List, [], ◌∷◌, length, None, slice_index, IfErr, OnOk, Result, Ok, Err}
+use Rattle.std.specs.List.{All}
+use Rattle.cfs_base.specs.Refusals.{trouble_after_try}
+use Rattle.cfs_base.specs.declared.refusal.Trouble.{Trouble}
+use Rattle.block_tree.specs.declared.root.Root as roots
+use Rattle.cfs_base.specs.declared.identifier.BlockNo.{BlockNo}
+use Rattle.cfs_base.specs.declared.refusal.Refused.{Refused}
+use Rattle.block_tree.specs.Pointers.{leaf_pointers, pointers_of}
+use Rattle.special_files.specs.Calls.{GetsNode, WritesBlock}
+use Rattle.special_files.specs.Nodes.{leaves_at}
+use Rattle.special_files.specs.declared.node.NodeRead.{NodeRead}
+use Rattle.cfs_base.specs.Disk.{Image}
+use Rattle.cfs_base.specs.Run.{Leaves}
+use Rattle.cfs_base.specs.declared.disk.Disk.{Ghosts}
+use Rattle.cfs_base.specs.declared.identifier.Puid.{Puid}
+use Rattle.block_tree.specs.Tree.{tree_of}
+use Rattle.cyl_alloc.specs.Space.{Kept}
+use Rattle.ufs_model.specs.Graph.{Graph}
+use Rattle.ufs_model.specs.Numbers.{has_number}
+use Rattle.vol_image.specs.Sound.{Holds}
+use Rattle.vol_owners.specs.Account.{Opened, content_of, is_meant_for, numbers_differ}
+use Rattle.special_files.specs.Drafting.{Drafting, IsOpen, is_fresh_leaf, is_fresh_node, leaf_takes, node_of, one_unless, shadow_need}
+use Rattle.special_files.specs.Leaves.{draft_in, leaves_of}
+use Rattle.special_files.specs.Puts.{StaysBut, drafts_with}
+use Rattle.special_files.specs.Refusal.{is_damaged}
+use Rattle.special_files.specs.Store.{Steps}
+
+-- a path to such a leaf or node
+abbrev pub IsPast : ℕ → List ℕ → Type 0
+IsPast from [] = ⊥
+IsPast from (m ∷ []) = from ≤ 128 * m
+IsPast from (m ∷ j ∷ []) = (from / 128 < m) ⊎ ((m ≡ from / 128) × (from % 128 ≤ j))
+IsPast from (m ∷ j ∷ i ∷ p) = ⊥
+
+-- a block of the draft's own at such a path
+pub record IsShed (image : Image) (id : Puid) (d : Opened) (from n : ℕ) : Type 0 where
+  pub meant : is_meant_for image id.block n ≡ true
+  pub path : List ℕ
+  pub past : IsPast from path
+  pub there : tree_of image (content_of d) path ≡ n
+
+-- these are all of them, each once
+pub record AreShed (image : Image) (id : Puid) (d : Opened) (from : ℕ) (ns : List ℕ) : Type 0 where
+  pub each : (n : ℕ) → has_number n ns ≡ true → IsShed image id d from n
+  pub all : (n : ℕ) → IsShed image id d from n → has_number n ns ≡ true
+  pub once : numbers_differ ns ≡ true
+
+-- how they are listed: a block, if it is to be
+abbrev pub one_if : Bool → ℕ → List ℕ
+one_if b n = if b then n ∷ [] else []
+
+-- of a node's pointers those of fresh leaves, so many from a place on
+unfoldable pub fresh_in : (flags : List Bool) (leaves : List ℕ) (node from count : ℕ) → List ℕ
+fresh_in flags leaves node from zero = []
+fresh_in flags leaves node from (suc k) = fresh_in flags leaves node from k ++ one_if (get_or flags (128 * node + (from + k)) false) (slice_index leaves (from + k))
+
+-- From which leaf on a draft drops its leaves that is to keep those before `to`, where that lies in a node with these leaves, or at
+-- its end: where that is within the node, the node keeps a leaf and drops one.
+pub record IsBorder (leaves : List ℕ) (node to from : ℕ) : Type 0 where
+  pub low : 128 * node ≤ from
+  pub high : from ≤ 128 * node + 128
+  pub none : (j : ℕ) → j < 128 → ((from ≤ 128 * node + j) × (128 * node + j < to)) ⊎ ((to ≤ 128 * node + j) × (128 * node + j < from)) → slice_index leaves j ≡ 0
+  pub keeps : from % 128 ≢ 0 → (from ≡ to) × ((j : ℕ) × (128 * node + j < to) × (slice_index leaves j ≢ 0))
+  pub drops : from % 128 ≢ 0 → (j : ℕ) × (j < 128) × (to ≤ 128 * node + j) × (slice_index leaves j ≢ 0)
+
+-- The draft has none of them. Where the first lies within a node, this node is at the block, and fresh.
+pub record Forgets (from block : ℕ) (was now : Drafting) : Type 0 where
+  pub stays : StaysBut was now
+  pub long_leaves : length now.leaves ≡ length was.leaves
+  pub long_nodes : length now.nodes ≡ length was.nodes
+  pub count : length now.root.nodes ≡ length was.root.nodes
+  pub leaf_before : (l : ℕ) → l < from → is_fresh_leaf now l ≡ is_fresh_leaf was l
+  pub leaf_past : (l : ℕ) → from ≤ l → is_fresh_leaf now l ≡ false
+  pub before : (m : ℕ) → 128 * m + 128 ≤ from → (is_fresh_node now m ≡ is_fresh_node was m) × (node_of now.root m ≡ node_of was.root m)
+  pub past : (m : ℕ) → from ≤ 128 * m → (is_fresh_node now m ≡ false) × (node_of now.root m ≡ 0)
+  pub here : from % 128 ≢ 0 → (is_fresh_node now (from / 128) ≡ true) × (node_of now.root (from / 128) ≡ block)
+
+-- the same of the store, and of the draft that the model has then
+pub record DropsFrom {D : Type 0} (g : Ghosts D) (graph : Graph) (ds : List Opened) (id : Puid) (from : ℕ) (old new : D) (after : Kept) (was now : Drafting) : Type 0 where
+  pub steps : Steps g graph id (drafts_with (g.content new) ds id now) old new after
+  pub is_open : IsOpen (drafts_with (g.content new) ds id now) id now (draft_in (g.content new) now)
+  pub block : ℕ
+  pub forgets : Forgets from block was now
+  pub gone : (l : ℕ) → from ≤ l → leaves_of (g.content new) now.root l ≡ None
+  pub kept : (l : ℕ) → l < from → leaves_of (g.content new) now.root l ≡ leaves_of (g.content old) was.root l
+
+-- what it takes: a block for the node, where it isn't fresh
+abbrev pub border_takes : Drafting → ℕ → ℕ
+border_takes was from = if from % 128 == 0 then 0 else one_unless (is_fresh_node was (from / 128))
+
+-- ---- what is known of a draft by its parts
+
+pub record HasParts (was : Drafting) (root : roots.Root) (leaves nodes : List Bool) : Type 0 where
+  pub root_is : was.root ≡ root
+  pub leaves_is : was.leaves ≡ leaves
+  pub nodes_is : was.nodes ≡ nodes
+
+-- the node that was read last
+abbrev pub IsReadIn : Image → roots.Root → NodeRead → Type 0
+IsReadIn image root read = read.number < 120 → read.node.leaves ≡ leaves_at image (node_of root read.number)
+
+abbrev pub IsSafeIn : ℕ → roots.Root → NodeRead → Type 0
+IsSafeIn size root read = read.number < 120 → (node_of root read.number < size) × All (λ leaf. leaf < size) read.node.leaves
+
+-- the result of a call before which a write was tried
+abbrev pub as_tried : Result (Unit {0}) Trouble → Result (Unit {0}) Trouble
+as_tried (Ok t) = Ok t
+as_tried (Err t) = Err (trouble_after_try t)
+
+-- ---- the node of the first leaf written
+
+-- a block that spells a node with these leaves before a place, and none from there on
+pub record IsShortNode (leaves : List ℕ) (place : ℕ) (block : List ℕ) : Type 0 where
+  pub before : (j : ℕ) → j < place → slice_index (pointers_of leaf_pointers block) j ≡ slice_index leaves j
+  pub past : (j : ℕ) → place ≤ j → j < 128 → slice_index (pointers_of leaf_pointers block) j ≡ 0
+
+-- it is written so, into a block of the draft's own, which is claimed where the draft has none
+pub data PutsShort {D : Type 0} (g : Ghosts D) (from : ℕ) (leaves : List ℕ) (was : Drafting) (old new : D) (before after : Kept) (result : Result BlockNo Refused) : Type 0 where
+  NoBlock : (e : Refused) → GetsNode g (from / 128) old new before after was (Err e) → result ≡ Err e → PutsShort g from leaves was old new before after result
+  NoWrite : (mid : D) (y : BlockNo) (block : List ℕ) (e : Refused) → GetsNode g (from / 128) old mid before after was (Ok y) → IsShortNode leaves (from % 128) block → WritesBlock g y.0 block mid new (Err e) → result ≡ Err e
+      → PutsShort g from leaves was old new before after result
+  Put : (mid : D) (y : BlockNo) (block : List ℕ) → GetsNode g (from / 128) old mid before after was (Ok y) → IsShortNode leaves (from % 128) block → WritesBlock g y.0 block mid new (Ok tt) → result ≡ Ok y
+      → PutsShort g from leaves was old new before after result
+
+-- It is written so where the first leaf dropped lies within it; else nothing is done.
+pub data PutsWithin {D : Type 0} (g : Ghosts D) (from : ℕ) (leaves : List ℕ) (was : Drafting) (old new : D) (before after : Kept) (result : Result BlockNo Refused) : Type 0 where
+  Whole : (y : BlockNo) → from % 128 ≡ 0 → new ≡ old → after ≡ before → result ≡ Ok y → PutsWithin g from leaves was old new before after result
+  Within : from % 128 ≢ 0 → PutsShort g from leaves was old new before after result → PutsWithin g from leaves was old new before after result
+
+-- the node that was read keeps a leaf, where it is to be written
+abbrev pub KeepsOne : ℕ → NodeRead → Type 0
+KeepsOne from read = from % 128 ≢ 0 → (j : ℕ) × (j < from % 128) × (slice_index read.node.leaves j ≢ 0)
+
+-- what a call did that drops leaves
+pub record Drops {D : Type 0} (g : Ghosts D) (graph : Graph) (ds : List Opened) (id : Puid) (from : ℕ) (old new : D) (after : Kept) (was now : Drafting) (result : Result (Unit {0}) Refused) : Type 0 where
+  pub done : OnOk result (DropsFrom g graph ds id from old new after was now)
+  pub leaves : Leaves g old new (λ c. Holds c graph)
+  pub sound : IfErr result (λ e. is_damaged e ≡ false)
+
+-- ---- a resize to less
+
+-- whether the leaf in which a size ends is cut: the size ends within it, and it is held
+pub record IsCutHere (size : ℕ) (leaves : List ℕ) (cut : Bool) : Type 0 where
+  pub is : cut ≡ true → (size % 512 ≢ 0) × (slice_index leaves ((size / 512) % 128) ≢ 0)
+  pub none : cut ≡ false → size % 512 ≢ 0 → slice_index leaves ((size / 512) % 128) ≡ 0
+
+-- the leaf within which the size ends takes its blocks where it is cut
+abbrev pub cut_takes : Drafting → Bool → ℕ → ℕ
+cut_takes was cut leaf = if cut then leaf_takes was leaf else 0
+
+-- whether the leaf takes one
+abbrev pub is_stale_cut : Drafting → Bool → ℕ → Bool
+is_stale_cut was cut leaf = cut && not (is_fresh_leaf was leaf)
+
+-- what it takes: one for the leaf where it is cut and isn't fresh, one for its node where that changes and isn't fresh
+abbrev pub shrink_takes : Drafting → (cut : Bool) → (from leaf node : ℕ) → ℕ
+shrink_takes was cut from leaf node =
+    (if is_stale_cut was cut leaf then 1 else 0)
+    + (if is_stale_cut was cut leaf || not (from % 128 == 0) then one_unless (is_fresh_node was node) else 0)
+
+-- a draft of another size
+abbrev pub sized : Drafting → ℕ → Drafting
+sized was size = record was { root = record was.root { size = size } }
+
+-- only its root's pointers and what is fresh may have changed, and the size, where the resize is done
+abbrev pub Resizes : ℕ → Drafting → Drafting → Result (Unit {0}) Refused → Type 0
+Resizes size was now (Ok t) = StaysBut (sized was size) now
+Resizes size was now (Err e) = StaysBut was now

@@ -1,0 +1,376 @@
+//! The size of a draft set to less, and to any.
+ghost use Rattle.std.specs.Prelude.{◌≡◌, ◌≢◌, ◌+◌, ◌*◌, ◌/◌, ◌%◌, ◌<◌, ◌≤◌, ℕ, true, false, length, slice_index, sum, List, Some, Ok, IfErr, OnOk};
+ghost use Rattle.cfs_base.specs.Calls.{HasTried, OnlyReads};
+ghost use Rattle.cfs_base.specs.Run.{Leaves};
+ghost use Rattle.cfs_base.specs.declared.identifier.Puid.{Puid};
+ghost use Rattle.cfs_base.specs.declared.refusal.Refused.TheVariants as refused;
+ghost use Rattle.intentions.specs.Store.{StoreHas};
+ghost use Rattle.leaf_changes.specs.Bytes as changes;
+ghost use Rattle.special_files.specs.Becomes.{Becomes};
+ghost use Rattle.special_files.specs.Calls.{SetsFlags};
+ghost use Rattle.special_files.specs.Drafting.{IsOpen, need_beside, node_of, shadow_need};
+ghost use Rattle.special_files.specs.Ends.{Ends};
+ghost use Rattle.special_files.specs.Leaves.{leaves_of};
+ghost use Rattle.special_files.specs.Nodes.{IsRead, IsSafe};
+ghost use Rattle.special_files.specs.Puts.{PutsLeaf, StaysBut};
+ghost use Rattle.special_files.specs.Refusal.{is_damaged, is_full};
+ghost use Rattle.special_files.specs.Shed as spec;
+ghost use Rattle.ufs_model.specs.Graph.{Graph, object_at};
+ghost use Rattle.ufs_model.specs.State.{changed_draft};
+ghost use Rattle.ufs_model.specs.declared.change.Change.TheVariants.{SetSize};
+ghost use Rattle.ufs_model.specs.declared.object.Draft as drafts;
+ghost use Rattle.ufs_model.specs.declared.object.File.{File};
+ghost use Rattle.ufs_model.specs.declared.object.Object.TheVariants as objects;
+ghost use Rattle.ufs_model.specs.declared.object.Object.{Object};
+ghost use Rattle.vol_image.specs.Reading.{leaf_content};
+ghost use Rattle.vol_image.specs.Sound.{Holds};
+ghost use Rattle.vol_owners.specs.Account.{Opened};
+
+use crate::draft::{Draft, after, has_room};
+use crate::flips::give_all;
+use crate::leaf::write_own;
+use crate::listed::{list_from, undo_listed};
+use crate::node::NodeRead;
+use crate::read::leaves_in;
+use block_tree::{Node, SIZE_LIMIT};
+use cfs_base::{BlockNo, Disk, Refused};
+use cyl_alloc::Space;
+
+/// Whether a node holds a leaf in these places.
+fn holds(node: &Node, from: u32, to: u32) -> bool
+    requires { to ≤ 128 }
+    ensures some { result ≡ true → (k : ℕ) × (from ≤ k) × (k < to) × (slice_index node.now.leaves k ≢ 0) }
+    ensures none { result ≡ false → (k : ℕ) → from ≤ k → k < to → slice_index node.now.leaves k ≡ 0 }
+{
+    for place in from..to {
+        if node.leaves[place as usize] != 0 {
+            return true;
+        }
+    }
+    false
+}
+
+/// From which leaf on a draft drops its leaves that is to keep those before one, which lies in this node or at its end. Where that
+/// is within the node, the node keeps a leaf and drops one.
+fn border(node: &Node, number: u32, to: u32) -> u32
+    requires few { number < 120 }
+    requires low { 128 * number ≤ to }
+    requires high { to ≤ 128 * number + 128 }
+    ensures { spec.IsBorder node.now.leaves number to result }
+{
+    let place = to - 128 * number;
+    if !holds(node, 0, place) {
+        return 128 * number;
+    }
+    if !holds(node, place, 128) {
+        return 128 * number + 128;
+    }
+    to
+}
+
+/// Whether a leaf that this node holds is cut where a file ends in one of its leaves.
+fn is_cut(node: &Node, size: u64) -> bool
+    ensures { spec.IsCutHere size node.now.leaves result }
+{
+    size % 512 != 0 && node.leaves[(size / 512 % 128) as usize] != 0
+}
+
+/// A node without its leaves from a place on.
+fn shortened(node: &Node, from: u32) -> Node
+    ensures before { (k : ℕ) → k < from → slice_index result.leaves k ≡ slice_index node.now.leaves k }
+    ensures past { (k : ℕ) → from ≤ k → k < 128 → slice_index result.leaves k ≡ 0 }
+{
+    let mut node = *node;
+    for place in from..128 {
+        node.leaves[place as usize] = 0;
+    }
+    node
+}
+
+/// The pointers from one on are 0.
+fn clear_pointers(nodes: &mut [u32; 120], from: u32)
+    ensures long { length nodes.new ≡ length nodes.old }
+    ensures before { (k : ℕ) → k < from → slice_index nodes.new k ≡ slice_index nodes.old k }
+    ensures past { (k : ℕ) → from ≤ k → slice_index nodes.new k ≡ 0 }
+{
+    for node in from..120 {
+        nodes[node as usize] = 0;
+    }
+}
+
+impl Draft {
+    /// How many blocks a resize to less takes, with the shadow root that a commit takes: one for its last leaf where that is
+    /// cut and isn't fresh, and one for the node where it changes and isn't fresh.
+    fn need_at(&self, cut: bool, from: u32, leaf: u32, node: u32) -> u32
+        requires leaf { leaf < 15360 }
+        requires node { node < 120 }
+        ensures { result ≡ spec.shrink_takes self.now cut from leaf node + shadow_need self.now }
+    {
+        let stale = cut && !self.has_fresh_leaf(leaf);
+        let changes = (stale || from % 128 != 0) && !self.has_fresh_node(node);
+        stale as u32 + changes as u32 + self.shadow_need()
+    }
+
+    /// The node of a leaf is written without its leaves from this one on, into a block of the draft's own.
+    fn put_short<D: Disk>(
+        &self,
+        disk: &mut D,
+        space: &mut Space,
+        read: &NodeRead,
+        from: u32,
+    ) -> Result<BlockNo, Refused>
+        requires size { D.blocks disk.old ≡ 64 * length space.old.free }
+        requires below { from < 15360 }
+        requires safe { node_of self.now.root (from / 128) < D.blocks disk.old }
+        ensures { spec.PutsShort D.Disk from read.now.node.leaves self.now disk.old disk.new space.old space.new result }
+    {
+        let block = match self.node_block(disk, space, from / 128) {
+            Ok(block) => block,
+            Err(error) => return Err(error),
+        };
+        match write_own(disk, block, &shortened(&read.node, from % 128).encode()) {
+            Ok(()) => Ok(block),
+            Err(error) => Err(error),
+        }
+    }
+
+    /// The draft has no leaf from one on. Where that is within a node, this node is at the block, and of the draft's own.
+    fn forget(&mut self, from: u32, block: u32)
+        requires { from ≤ 15360 }
+        ensures { spec.Forgets from block self.old self.new }
+    {
+        self.leaves.clear_from(from);
+        self.nodes.clear_from(from.div_ceil(128));
+        clear_pointers(&mut self.root.nodes, from.div_ceil(128));
+        if from % 128 != 0 {
+            self.root.nodes[(from / 128) as usize] = block;
+            self.nodes.put(from / 128, true);
+        }
+    }
+
+    /// The same where the leaf lies within its node; else nothing is done.
+    fn put_within<D: Disk>(
+        &self,
+        disk: &mut D,
+        space: &mut Space,
+        read: &NodeRead,
+        from: u32,
+    ) -> Result<BlockNo, Refused>
+        requires size { D.blocks disk.old ≡ 64 * length space.old.free }
+        requires limit { from ≤ 15360 }
+        requires safe { from % 128 ≢ 0 → node_of self.now.root (from / 128) < D.blocks disk.old }
+        ensures { spec.PutsWithin D.Disk from read.now.node.leaves self.now disk.old disk.new space.old space.new result }
+    {
+        if from % 128 == 0 {
+            return Ok(BlockNo(0));
+        }
+        self.put_short(disk, space, read, from)
+    }
+
+    /// Drops the leaves from one on, with the nodes that have no leaf before it. Those of the draft's own become Free.
+    fn drop_from<D: Disk>(
+        &mut self,
+        disk: &mut D,
+        space: &mut Space,
+        read: &NodeRead,
+        from: u32,
+    ) -> Result<(), Refused>
+        requires size { D.blocks disk.old ≡ 64 * length space.old.free }
+        requires some { 0 < D.blocks disk.old }
+        requires limit { from ≤ 15360 }
+        requires here { from % 128 ≢ 0 → read.now.number ≡ from / 128 }
+        requires safe { IsSafe (D.blocks disk.old) self.old read.now }
+        ensures drops { (graph : Graph) (ds : List Opened) (id : Puid) (o : Object) (d : drafts.Draft)
+            → StoreHas D.Disk graph ds disk.old space.old → object_at graph id ≡ Some o → IsOpen ds id self.old d
+            → IsRead (D.content disk.old) self.old read.now → spec.KeepsOne from read.now
+            → spec.Drops D.Disk graph ds id from disk.old disk.new space.new self.old self.new result }
+        ensures stays { StaysBut self.old self.new }
+        ensures ends { Ends D.Disk self.old.at 0 31083 15482 (sum space.old.free) disk.old disk.new space.old space.new result }
+        ensures kept { IfErr result (λ e. self.new ≡ self.old) }
+        ensures room { spec.border_takes self.old from ≤ sum space.old.free → IfErr result (λ e. is_full e ≡ false) }
+    {
+        match list_from(
+            disk,
+            self.at,
+            &self.root,
+            &self.leaves,
+            &self.nodes,
+            read,
+            from,
+            &mut self.taken,
+        ) {
+            Ok(()) => {}
+            Err(trouble) => return Err(Refused::from(trouble)),
+        }
+        let block = match self.put_within(disk, space, read, from) {
+            Ok(block) => block,
+            Err(error) => return Err(error),
+        };
+        match undo_listed(disk, self.taken.as_slice()) {
+            Ok(()) => {}
+            Err(trouble) => return Err(after(from % 128 != 0, Refused::from(trouble))),
+        }
+        give_all(space, self.taken.as_slice());
+        self.forget(from, block.0);
+        Ok(())
+    }
+
+    /// Cuts the leaf within which a file of this size ends, if it is to be.
+    fn cut_if<D: Disk>(
+        &mut self,
+        disk: &mut D,
+        space: &mut Space,
+        read: &mut NodeRead,
+        size: u64,
+        cut: bool,
+    ) -> Result<(), Refused>
+        requires size { D.blocks disk.old ≡ 64 * length space.old.free }
+        requires below { size < 7864320 }
+        requires some { 0 < D.blocks disk.old }
+        requires safe { IsSafe (D.blocks disk.old) self.old read.old }
+        ensures none { cut ≡ false → (result ≡ Ok tt) × (disk.new ≡ disk.old) × (space.new ≡ space.old)
+            × (self.new ≡ self.old) × (read.new ≡ read.old) }
+        ensures put { (graph : Graph) (ds : List Opened) (id : Puid) (o : Object) (d : drafts.Draft)
+            → StoreHas D.Disk graph ds disk.old space.old → object_at graph id ≡ Some o → IsOpen ds id self.old d
+            → IsRead (D.content disk.old) self.old read.old → size < self.old.root.size → cut ≡ true
+            → OnOk result (PutsLeaf D.Disk graph ds id (size / 512) (changes.cut size self.old.root.fill
+            (leaf_content self.old.root.fill (leaves_of (D.content disk.old) self.old.root (size / 512))))
+            disk.old disk.new space.new self.old self.new read.new) }
+        ensures leaves { (graph : Graph) (ds : List Opened) (id : Puid) (o : Object) (d : drafts.Draft)
+            → StoreHas D.Disk graph ds disk.old space.old → object_at graph id ≡ Some o → IsOpen ds id self.old d
+            → IsRead (D.content disk.old) self.old read.old → Leaves D.Disk disk.old disk.new (λ c. Holds c graph) }
+        ensures stays { StaysBut self.old self.new }
+        ensures flags { cut ≡ true → OnOk result (SetsFlags (size / 512) self.old self.new) }
+        ensures number { cut ≡ true → OnOk result (read.new.number ≡ size / 512 / 128) }
+        ensures safe { OnOk result (IsSafe (D.blocks disk.new) self.new read.new) }
+        ensures ends { Ends D.Disk self.old.at 0 8 4 (spec.cut_takes self.old cut (size / 512))
+            disk.old disk.new space.old space.new result }
+        ensures tried { cut ≡ true → OnOk result (HasTried D.Disk disk.old disk.new) }
+        ensures kept { IfErr result (λ e. e ≡ refused.Disk false → self.new ≡ self.old) }
+        ensures room { spec.cut_takes self.old cut (size / 512) ≤ sum space.old.free → IfErr result (λ e. is_full e ≡ false) }
+        ensures sound { (graph : Graph) (ds : List Opened) (id : Puid) (o : Object) (d : drafts.Draft)
+            → StoreHas D.Disk graph ds disk.old space.old → object_at graph id ≡ Some o → IsOpen ds id self.old d
+            → IsRead (D.content disk.old) self.old read.old → IfErr result (λ e. is_damaged e ≡ false) }
+    {
+        if !cut {
+            return Ok(());
+        }
+        self.cut(disk, space, read, size)
+    }
+
+    /// Sets the size to less than it is.
+    fn shrink<D: Disk>(
+        &mut self,
+        disk: &mut D,
+        space: &mut Space,
+        size: u64,
+        floor: u32,
+    ) -> Result<(), Refused>
+        requires on_disk { self.old.at < D.blocks disk.old }
+        requires size { D.blocks disk.old ≡ 64 * length space.old.free }
+        requires less { size < self.old.root.size }
+        ensures resized { (graph : Graph) (ds : List Opened) (id : Puid) (o : Object) (d : drafts.Draft) (f : File)
+            → StoreHas D.Disk graph ds disk.old space.old → object_at graph id ≡ Some o → IsOpen ds id self.old d
+            → d.object ≡ objects.File f → OnOk result
+            (Becomes D.Disk graph ds id (changed_draft (SetSize size) d) disk.old disk.new space.new self.new) }
+        ensures leaves { (graph : Graph) (ds : List Opened) (id : Puid) (o : Object) (d : drafts.Draft)
+            → StoreHas D.Disk graph ds disk.old space.old → object_at graph id ≡ Some o → IsOpen ds id self.old d
+            → Leaves D.Disk disk.old disk.new (λ c. Holds c graph) }
+        ensures stays { spec.Resizes size self.old self.new result }
+        ensures full { (graph : Graph) (ds : List Opened) (id : Puid) (o : Object) (d : drafts.Draft) (f : File)
+            → StoreHas D.Disk graph ds disk.old space.old → object_at graph id ≡ Some o → IsOpen ds id self.old d
+            → d.object ≡ objects.File f → IfErr result (λ e. is_full e ≡ true → (e ≡ refused.Full (record {
+              free = sum space.old.free;
+              need = need_beside (SetSize size) d self.old;
+            }))
+            × (sum space.old.free < need_beside (SetSize size) d self.old + floor)) }
+        ensures spared { IfErr result (λ e. is_full e ≡ true
+            → OnlyReads D.Disk 1 disk.old disk.new × (space.new ≡ space.old) × (self.new ≡ self.old)) }
+        ensures room { (graph : Graph) (ds : List Opened) (id : Puid) (o : Object) (d : drafts.Draft) (f : File)
+            → StoreHas D.Disk graph ds disk.old space.old → object_at graph id ≡ Some o → IsOpen ds id self.old d
+            → d.object ≡ objects.File f → OnOk result (need_beside (SetSize size) d self.old + floor ≤ sum space.old.free) }
+        ensures ends { Ends D.Disk self.old.at floor 31092 15486 (sum space.old.free)
+            disk.old disk.new space.old space.new result }
+        ensures kept { IfErr result (λ e. e ≡ refused.Disk false → self.new ≡ self.old) }
+        ensures sound { (graph : Graph) (ds : List Opened) (id : Puid) (o : Object) (d : drafts.Draft)
+            → StoreHas D.Disk graph ds disk.old space.old → object_at graph id ≡ Some o → IsOpen ds id self.old d
+            → IfErr result (λ e. is_damaged e ≡ false) }
+    {
+        prove!(self.root.size <= SIZE_LIMIT);
+        let to = leaves_in(size);
+        let number = to.saturating_sub(1) / 128;
+        let mut read = NodeRead::nothing();
+        match self.turn_to(disk, &mut read, number) {
+            Ok(()) => {}
+            Err(trouble) => return Err(Refused::from(trouble)),
+        }
+        let from = border(&read.node, number, to);
+        let cut = is_cut(&read.node, size);
+        let need = self.need_at(cut, from, (size / 512) as u32, number);
+        match has_room(space, need, floor) {
+            Ok(()) => {}
+            Err(full) => return Err(full),
+        }
+        match self.cut_if(disk, space, &mut read, size, cut) {
+            Ok(()) => {}
+            Err(error) => return Err(error),
+        }
+        match self.drop_from(disk, space, &read, from) {
+            Ok(()) => {}
+            Err(error) => return Err(after(cut, error)),
+        }
+        self.root.size = size;
+        Ok(())
+    }
+
+    /// Sets the size of a file, in bytes. To less, its leaves past the size are dropped, and those of the draft's own become
+    /// Free. `Full` where fewer blocks are Free than the resize needs, with the shadow root that a commit takes where there is
+    /// none, and the floor; nothing was written then. Never `Memory`.
+    pub fn resize<D: Disk>(
+        &mut self,
+        disk: &mut D,
+        space: &mut Space,
+        size: u64,
+        floor: u32,
+    ) -> Result<(), Refused>
+        requires on_disk { self.old.at < D.blocks disk.old }
+        requires size { D.blocks disk.old ≡ 64 * length space.old.free }
+        requires limit { size ≤ 7864320 }
+        // The draft is that of the model with this size.
+        ensures resized { (graph : Graph) (ds : List Opened) (id : Puid) (o : Object) (d : drafts.Draft) (f : File)
+            → StoreHas D.Disk graph ds disk.old space.old → object_at graph id ≡ Some o → IsOpen ds id self.old d
+            → d.object ≡ objects.File f → OnOk result
+            (Becomes D.Disk graph ds id (changed_draft (SetSize size) d) disk.old disk.new space.new self.new) }
+        ensures leaves { (graph : Graph) (ds : List Opened) (id : Puid) (o : Object) (d : drafts.Draft)
+            → StoreHas D.Disk graph ds disk.old space.old → object_at graph id ≡ Some o → IsOpen ds id self.old d
+            → Leaves D.Disk disk.old disk.new (λ c. Holds c graph) }
+        ensures stays { spec.Resizes size self.old self.new result }
+        // Full exactly where the model's need and the floor aren't Free.
+        ensures full { (graph : Graph) (ds : List Opened) (id : Puid) (o : Object) (d : drafts.Draft) (f : File)
+            → StoreHas D.Disk graph ds disk.old space.old → object_at graph id ≡ Some o → IsOpen ds id self.old d
+            → d.object ≡ objects.File f → IfErr result (λ e. is_full e ≡ true → (e ≡ refused.Full (record {
+              free = sum space.old.free;
+              need = need_beside (SetSize size) d self.old;
+            }))
+            × (sum space.old.free < need_beside (SetSize size) d self.old + floor)) }
+        // Nothing but a node was read then.
+        ensures spared { IfErr result (λ e. is_full e ≡ true
+            → OnlyReads D.Disk 1 disk.old disk.new × (space.new ≡ space.old) × (self.new ≡ self.old)) }
+        ensures room { (graph : Graph) (ds : List Opened) (id : Puid) (o : Object) (d : drafts.Draft) (f : File)
+            → StoreHas D.Disk graph ds disk.old space.old → object_at graph id ≡ Some o → IsOpen ds id self.old d
+            → d.object ≡ objects.File f → OnOk result (need_beside (SetSize size) d self.old + floor ≤ sum space.old.free) }
+        ensures ends { Ends D.Disk self.old.at floor 31092 15486 (sum space.old.free)
+            disk.old disk.new space.old space.new result }
+        // To no less than it is, the disk isn't touched.
+        ensures grown { self.old.root.size ≤ size → (disk.new ≡ disk.old) × (space.new ≡ space.old) }
+        ensures kept { IfErr result (λ e. e ≡ refused.Disk false → self.new ≡ self.old) }
+        ensures sound { (graph : Graph) (ds : List Opened) (id : Puid) (o : Object) (d : drafts.Draft)
+            → StoreHas D.Disk graph ds disk.old space.old → object_at graph id ≡ Some o → IsOpen ds id self.old d
+            → IfErr result (λ e. is_damaged e ≡ false) }
+    {
+        if self.root.size <= size {
+            return self.grow(disk, space, size, floor);
+        }
+        self.shrink(disk, space, size, floor)
+    }
+}
