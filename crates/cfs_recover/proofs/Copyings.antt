@@ -1,5 +1,5 @@
 -- The list of roots that are to be copied, as one is noted.
-use Rattle.std.proofs.Common.{◌≡◌, ◌⊎◌, inl, inr, ℕ, zero, suc, ◌+◌, ◌<◌, ◌≤◌, List, [], ◌∷◌, ◌++◌, length, Option, Some, None, refl, sym, ◌∙◌, ap, subst, arith, length-append}
+use Rattle.std.proofs.Common.{◌≡◌, ◌≢◌, ◌⊎◌, inl, inr, ℕ, zero, suc, ◌+◌, ◌<◌, ◌≤◌, List, [], ◌∷◌, ◌++◌, length, Option, Some, None, refl, sym, ◌∙◌, ap, subst, arith, length-append}
 use Rattle.std.specs.Prelude.{slice_get}
 use Rattle.std.proofs.lemmas.Bool.{cases_lt}
 use Rattle.std.proofs.lemmas.Option.{same_Some}
@@ -22,7 +22,9 @@ past_none (y ∷ xs) (suc k) none = let rest = past_none xs k none in omega arit
 pub copies_on : (image : Image) (a b : List Found) (done : ℕ) (copies : List Copied) → done ≤ length a → ((k : ℕ) (x : Found) → slice_get a k ≡ Some x → slice_get b k ≡ Some x) → AreCopies image a done copies → AreCopies image b done copies
 copies_on image a b done copies within grows are = record {
   each = are.each;
-  listed = λ k c here. let was = are.listed k c here in (was.0, was.1, grows was.0 was.1 was.2, was.3);
+  listed = λ k c here. let was = are.listed k c here in (was.0, was.1, grows was.0 was.1 was.2, was.3, was.4);
+  elsewhere = are.elsewhere;
+  once = are.once;
   all = λ j x less there. at j x less there (slice_get a j) refl;
 }
   where
@@ -33,7 +35,8 @@ copies_on image a b done copies within grows are = record {
         subst (λ (z : Found). (source image z.block ≡ z.block) ⊎ HasCopy copies z.block) same (are.all j y less is)
 
 module _ (image : Image) (found : List Found) (done : ℕ) (old new : List Copied) (are : AreCopies image found done old) (x : Found) (at : slice_get found done ≡ Some x) (block : ℕ) (same : x.block ≡ block)
-    (head : Head) (copy : IsCopy image block head) where
+    (head : Head) (copy : IsCopy image block head) (elsewhere : head.from ≢ block)
+    (first : (j : ℕ) (y : Found) → slice_get found j ≡ Some y → y.block ≡ block → j ≡ done) where
   abbrev noted : Copied
   noted = record { block = block; root = head.root }
 
@@ -44,8 +47,22 @@ module _ (image : Image) (found : List Found) (done : ℕ) (old new : List Copie
       | inr now ↦ subst (λ (d : Copied). IsRootBlock (block_at image (source image d.block)) d.root) now.1 (subst (λ (n : ℕ). IsRootBlock (block_at image n) head.root) copy.from copy.spelled)
     ];
     listed = λ k c here. elim (push_from old noted c k (back k c here)) [
-      | inl was ↦ are.listed k c was
-      | inr now ↦ (done, x, at, same ∙ ap (λ (d : Copied). d.block) now.1)
+      | inl was ↦ let l = are.listed k c was in (l.0, l.1, l.2, l.3, omega (arith, l.4))
+      | inr now ↦ (done, x, at, same ∙ ap (λ (d : Copied). d.block) now.1, omega arith)
+    ];
+    elsewhere = λ k c here. elim (push_from old noted c k (back k c here)) [
+      | inl was ↦ are.elsewhere k c was
+      | inr now ↦ subst (λ (d : Copied). source image d.block ≢ d.block) now.1 (λ own. elsewhere (copy.from ∙ own))
+    ];
+    once = λ j k c d here there one. elim (push_from old noted c j (back j c here)) [
+      | inl was ↦ elim (push_from old noted d k (back k d there)) [
+        | inl also ↦ are.once j k c d was also one
+        | inr now ↦ absurd (before j c was (one ∙ sym (ap (λ (e : Copied). e.block) now.1)))
+      ]
+      | inr last ↦ elim (push_from old noted d k (back k d there)) [
+        | inl was ↦ absurd (before k d was (sym one ∙ sym (ap (λ (e : Copied). e.block) last.1)))
+        | inr now ↦ last.0 ∙ sym now.0
+      ]
     ];
     all = λ j y less there. elim (cases_lt j done) [
       | inl before ↦ elim (are.all j y before there) [
@@ -59,6 +76,9 @@ module _ (image : Image) (found : List Found) (done : ℕ) (old new : List Copie
     ];
   }
     where
+      before : (k : ℕ) (c : Copied) → slice_get old k ≡ Some c → c.block ≢ block
+      before k c was one = let l = are.listed k c was in let here = first l.0 l.1 l.2 (l.3 ∙ one) in omega (arith, here, l.4)
+
       back : (k : ℕ) (c : Copied) → slice_get new k ≡ Some c → slice_get (old ++ noted ∷ []) k ≡ Some c
       back k c here = ap (λ (cs : List Copied). slice_get cs k) (sym is) ∙ here
 

@@ -1,12 +1,12 @@
 -- Runs of writes, every image of which has one property: one lemma for each call.
-use Rattle.std.proofs.Common.{◌≡◌, ◌⊎◌, inl, inr, ⊎_elim, ℕ, ◌+◌, ◌<◌, IsTrue, List, [], length, get_or, set, Some, refl, sym, ◌∙◌, ap, subst, arith, get_or-set_same, get_or-set_other}
+use Rattle.std.proofs.Common.{◌≡◌, ◌⊎◌, inl, inr, ⊎_elim, ℕ, ◌+◌, ◌<◌, IsTrue, List, [], length, set, Some, refl, sym, ◌∙◌, ap, subst, arith, get_or-set_same, get_or-set_other}
 use Rattle.std.specs.Prelude.{slice_get}
 use Rattle.std.proofs.lemmas.Bool.{cases_eq, cases_lt}
-use Rattle.std.proofs.lemmas.Option.{same_Some, slice_get-get_or, slice_get_within}
+use Rattle.std.proofs.lemmas.Option.{same_Some, slice_get_within}
 use Rattle.cfs_base.specs.Disk.{Image, IsSameDisk, Written, block_at}
 use Rattle.cfs_base.specs.Run.{IsSettled, Leaves, left_now}
 use Rattle.cfs_base.specs.declared.disk.Disk.{Ghosts}
-use Rattle.cfs_base.specs.Calls.{HasFailed, MakesAtMost}
+use Rattle.cfs_base.specs.Calls.{MakesAtMost}
 use Rattle.cfs_base.proofs.Runs.{on, then, wider}
 use Rattle.block_tree.specs.Root.{root_spelling}
 use Rattle.ufs_model.specs.Graph.{Graph}
@@ -80,9 +80,6 @@ written_more a graph copies b new n copied all written at is inside k c less her
       ap (λ (i : Image). block_at i c.block) is ∙ get_or-set_other b copied.block c.block (root_spelling copied.root) [] other ∙ written k c before here
 ]
 
-pub item_at : (xs : List Copied) (k : ℕ) (x : Copied) → k < length xs → x ≡ get_or xs k x → slice_get xs k ≡ Some x
-item_at xs k x inside is = slice_get-get_or xs k x inside ∙ ap Some (sym is)
-
 -- once all are written each root has the content by which its object is read
 pub all_copied : (a : Image) (graph : Graph) (copies : List Copied) (b : Image) → Holds a graph → AreAllCopies a graph copies → CopiesRoots a graph b → AreWritten a copies b (length copies) → AreCopied b graph
 all_copied a graph copies b holds all roots written id o at = copied_content a graph b holds roots id o at ∙ sym (elim (all.all id o at) [
@@ -110,17 +107,5 @@ keeps_lead g P start now run = record { content = run.content; leaves = run.leav
 pub leads_as : {D : Type 0} (g : Ghosts D) (P Q : Image → Type 0) (start now : D) → ((c : Image) → P c → Q c) → Leads g P start now → Leads g Q start now
 leads_as g P Q start now more run = record { content = more (g.content now) run.content; leaves = wider g start now P Q run.leaves more }
 
--- a failure after calls
-pub failed_later : {D : Type 0} (g : Ghosts D) (old mid new : D) (n t : ℕ) → MakesAtMost g n t old mid → HasFailed g mid new → HasFailed g old new
-failed_later g old mid new n t makes is = record { cause = omega (arith, is.cause, makes.faults); clock = omega (arith, is.clock, makes.later) }
-
 pub makes_none : {D : Type 0} (g : Ghosts D) (d : D) (n t : ℕ) → MakesAtMost g n t d d
-makes_none g d n t = record {
-  later = omega arith;
-  keeps = λ at c le was. was;
-  same = record { size = refl; honesty = refl; telling = refl };
-  faults = omega arith;
-  calls = omega arith;
-  tries = omega arith;
-  no_fewer = omega arith;
-}
+makes_none g d n t = record { later = omega arith; keeps = λ at c le was. was; same = record { size = refl; honesty = refl; telling = refl }; faults = omega arith; calls = omega arith; tries = omega arith; no_fewer = omega arith }

@@ -25,5 +25,6 @@ pub mod Keepings
 pub mod TidiedEntries
 pub mod TidyMaps
 pub mod TidyCylinders
+pub mod Writing
 pub mod Recovering
 pub mod Opening

@@ -23,8 +23,8 @@ listed_is named x = is_some-lookup (is_at (puid_cmp x)) named
 
 -- ---- one more is put in
 
-put_itself : (named : List (Puid × Kind)) (id : Puid) (kind : Kind) → listed (insert_entry puid_cmp named id kind) id ≡ true
-put_itself named id kind = ap is_some (lookup-insert_same id named kind)
+pub listed_new : (named : List (Puid × Kind)) (id : Puid) (kind : Kind) → listed (insert_entry puid_cmp named id kind) id ≡ true
+listed_new named id kind = ap is_some (lookup-insert_same id named kind)
 
 put_other : (named : List (Puid × Kind)) (id x : Puid) (kind : Kind) → same_puid x id ≡ false → listed (insert_entry puid_cmp named id kind) x ≡ listed named x
 put_other named id x kind other = ap is_some (lookup-insert_entry x id named kind other)
@@ -34,11 +34,8 @@ pub listed_then : (named : List (Puid × Kind)) (id x : Puid) (kind : Kind) → 
 listed_then named id x kind was = at (same_puid x id) refl
   where
     at : (b : Bool) → same_puid x id ≡ b → listed (insert_entry puid_cmp named id kind) x ≡ true
-    at true same = subst (λ (y : Puid). listed (insert_entry puid_cmp named id kind) y ≡ true) (sym (same_puid_is x id same)) (put_itself named id kind)
+    at true same = subst (λ (y : Puid). listed (insert_entry puid_cmp named id kind) y ≡ true) (sym (same_puid_is x id same)) (listed_new named id kind)
     at false other = put_other named id x kind other ∙ was
-
-pub listed_new : (named : List (Puid × Kind)) (id : Puid) (kind : Kind) → listed (insert_entry puid_cmp named id kind) id ≡ true
-listed_new named id kind = put_itself named id kind
 
 pub listed_from : (P : Puid → Type 0) (named : List (Puid × Kind)) (id x : Puid) (kind : Kind) → P id → (listed named x ≡ true → P x) → listed (insert_entry puid_cmp named id kind) x ≡ true → P x
 listed_from P named id x kind new old now = at (same_puid x id) refl
@@ -100,7 +97,7 @@ pub put_again : (named : List (Puid × Kind)) (id x : Puid) (kind : Kind) → li
 put_again named id x kind was = at (same_puid x id) refl
   where
     at : (b : Bool) → same_puid x id ≡ b → listed (insert_entry puid_cmp (without_id named id) id kind) x ≡ true
-    at true same = subst (λ (y : Puid). listed (insert_entry puid_cmp (without_id named id) id kind) y ≡ true) (sym (same_puid_is x id same)) (put_itself (without_id named id) id kind)
+    at true same = subst (λ (y : Puid). listed (insert_entry puid_cmp (without_id named id) id kind) y ≡ true) (sym (same_puid_is x id same)) (listed_new (without_id named id) id kind)
     at false other = put_other (without_id named id) id x kind other
         ∙ ap is_some (lookup-filter-keys (is_at (puid_cmp x)) (λ k. not (same_puid k id)) (not (same_puid x id)) (λ k same. ap (λ (z : Puid). not (same_puid z id)) (sym (same_puid_is x k same))) named)
         ∙ ap (λ (b : Bool). is_some (cond (not b) (kind_in named x) None)) other ∙ was

@@ -70,9 +70,6 @@ there_listed g x is = at (object_at g x) (sym (ap is_some (kind_in-kinds_in g.ob
 
 -- ---- what is kept as a walk grows
 
-pub grows_itself : (w : Walk) → Grows w w
-grows_itself w = record { room = refl; listed = λ x was. was; found = λ k x at. at; held = λ n was. was; clash = λ some. some }
-
 pub grows_then : (a b c : Walk) → Grows a b → Grows b c → Grows a c
 grows_then a b c one two = record {
   room = two.room ∙ one.room;

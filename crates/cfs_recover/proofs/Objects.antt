@@ -11,6 +11,7 @@ use Rattle.block_tree.specs.declared.root.Root.{Root}
 use Rattle.block_tree.specs.Pointers.{node_pointers, leaf_pointers, pointers_of}
 use Rattle.block_tree.specs.Tree.{levels_of, pointer}
 use Rattle.block_tree.proofs.Spellings.{nodes_of}
+use Rattle.block_tree.proofs.Trees.{node_block}
 use Rattle.ufs_model.specs.declared.object.Object.{Object}
 use Rattle.ufs_model.specs.Object.{leaves_in, slot_of}
 use Rattle.vol_image.specs.Fault.{Fault, Shows, shown_tree}
@@ -25,7 +26,7 @@ use Rattle.cfs_recover.specs.Checks.{IsNotFilled, SpotFault}
 use Rattle.cfs_recover.specs.Found.{AreNamed, BySlot, IsFault, IsKept}
 use Rattle.cfs_recover.specs.Entries.{damage}
 use Rattle.cfs_recover.specs.Walk.{HasLeaf, HasNode, IsShown, leaf_of, shown}
-use Rattle.cfs_recover.proofs.Trees.{inside, leaf_at_path, leaf_end, leaf_held, node_end, node_held, place_leaf, place_node}
+use Rattle.cfs_recover.proofs.Trees.{inside, leaf_at_path, leaf_end, leaf_held, node_held, place_leaf, place_node}
 
 short : (c : List ℕ) (a : ℕ) → length (a ∷ []) < length (levels_of c)
 unfolding levels_of
@@ -63,7 +64,7 @@ module _ (image : Image) (owner : ℕ) (root : Root) (from k p : ℕ) (node : Ha
   pub node_fault : (d : Damage) → SpotFault image (record { holder = from; block = p; owner = owner; place = places.Node k }) d → IsFault image d
   node_fault d (SpotFault.PastDisk past) =
       subst (λ (n : ℕ). Fault image 4 n) (sym node.read.shown.from_is)
-      (Fault.PastDisk id root o [] k node.read.shown.reached node.read.shown.shows (omega (arith, past, node_end image content k, node_is)))
+      (Fault.PastDisk id root o [] k node.read.shown.reached node.read.shown.shows (omega (arith, past, node_block image content k, node_is)))
   node_fault d (SpotFault.NotOwned below not) =
       Fault.NotOwned id root o (k ∷ []) (held image p) node.read.shown.reached node.read.shown.shows node_stands below
       (λ (is : BelongsTo id.block (place_at (levels_of content) (k ∷ [])) (part_at image p)). not
@@ -113,7 +114,7 @@ module _ (image : Image) (owner : ℕ) (root : Root) (k p j q : ℕ) (has : HasL
 
   pub leaf_fault : (d : Damage) → SpotFault image (record { holder = p; block = q; owner = owner; place = places.Leaf (128 * k + j) }) d → IsFault image d
   leaf_fault d (SpotFault.PastDisk past) =
-      subst (λ (n : ℕ). Fault image 4 n) (node_end image its k ∙ at_node)
+      subst (λ (n : ℕ). Fault image 4 n) (node_block image its k ∙ at_node)
       (Fault.PastDisk owner_id root object (k ∷ []) j has.node.read.shown.reached has.node.read.shown.shows (omega (arith, past, leaf_end image its k j some_node, leaf_is)))
   leaf_fault d (SpotFault.NotOwned below not) =
       Fault.NotOwned owner_id root object (k ∷ j ∷ []) (held image q) has.node.read.shown.reached has.node.read.shown.shows leaf_stands below

@@ -1,6 +1,6 @@
 -- The parts of an opening, one after the other: a barrier, reads, and writes.
 use Rattle.std.proofs.Common.{◌≡◌, ⊎_elim, ℕ, length, refl, sym, ◌∙◌}
-use Rattle.std.specs.Prelude.{Result, Ok, Err, IfErr, IfOk}
+use Rattle.std.specs.Prelude.{Result, Ok, Err, IfErr, IfOk, OnOk}
 use Rattle.cfs_base.specs.Calls.{OnlyReads}
 use Rattle.cfs_base.specs.Disk.{AreBlocks, Image, Nothing}
 use Rattle.cfs_base.specs.Run.{IsSettled, Tells}
@@ -43,3 +43,7 @@ err_as P Q (Err e) more is = more e is
 pub ok_as : {T E : Type 0} (P Q : T → Type 0) (r : Result T E) → ((v : T) → P v → Q v) → IfOk r P → IfOk r Q
 ok_as P Q (Ok v) more is = more v is
 ok_as P Q (Err e) more is = is
+
+pub on_ok : {T E : Type 0} (P : T → Type 0) (Q : Type 0) (r : Result T E) → ((v : T) → P v → Q) → IfOk r P → OnOk r Q
+on_ok P Q (Ok v) more is = more v is
+on_ok P Q (Err e) more is = is

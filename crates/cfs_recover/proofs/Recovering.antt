@@ -88,11 +88,14 @@ module _ (a : Image) (s : Survey) (is : IsSurvey a s) where
     holds_b : Holds b graph
     holds_b = copies_hold a graph b holds roots
 
+    pub map_kept : (j : ℕ) → block_at b (64 * j) ≡ block_at a (64 * j)
+    map_kept j = apart a graph b holds roots (64 * j) (map_fixed j)
+
     pub maps_b : AreMapsOf b s.grounds.maps.items
     maps_b = record {
       size = roots.size ∙ is.maps.size;
       map = is.maps.map;
-      spelled = λ j less. apart a graph b holds roots (64 * j) (map_fixed j) ∙ is.maps.spelled j less;
+      spelled = λ j less. map_kept j ∙ is.maps.spelled j less;
     }
 
     tree_b : (id : Puid) (o : Object) → object_at graph id ≡ Some o → tree_in b (block_at b id.block) ≡ shown_tree a id.block

@@ -2,10 +2,10 @@
 use Rattle.std.proofs.Common.{◌≡◌, ◌≢◌, ◌⊎◌, inl, inr, ℕ, refl, sym, ◌∙◌, subst, arith}
 use Rattle.std.specs.Prelude.{Result, Ok, Err, IfErr, MatchResult}
 use Rattle.std.specs.Result.{IsErrAnd}
-use Rattle.cfs_base.specs.Calls.{MakesAtMost, OnlyReads}
+use Rattle.cfs_base.specs.Calls.{OnlyReads}
 use Rattle.cfs_base.specs.declared.disk.Disk.{Ghosts}
 use Rattle.cfs_base.specs.declared.refusal.Damage.{Damage}
-use Rattle.cfs_base.proofs.Calls.{tells_on, failed_after}
+use Rattle.cfs_base.proofs.Calls.{tells_on}
 use Rattle.cfs_base.specs.Disk.{Image, block_at}
 use Rattle.ufs_model.specs.Graph.{Graph}
 use Rattle.vol_image.specs.Sound.{IsSoundAs}
@@ -25,14 +25,6 @@ damage_as P Q faults.NotVolume more is = is
 damage_as P Q (faults.Version found) more is = is
 damage_as P Q (faults.Damaged d) more is = more d is
 damage_as P Q faults.Memory more is = is
-
--- a failure of a later call is one of the whole
-pub caused_after : {D : Type 0} (g : Ghosts D) (old mid new : D) (n : ℕ) (e : RecoverFault) → OnlyReads g n old mid → IsCaused g mid new e → IsCaused g old new e
-caused_after g old mid new n faults.Disk reads is = failed_after g old mid new n reads is
-caused_after g old mid new n faults.NotVolume reads is = is
-caused_after g old mid new n (faults.Version found) reads is = is
-caused_after g old mid new n (faults.Damaged d) reads is = is
-caused_after g old mid new n faults.Memory reads is = is
 
 -- a call that only reads leaves the image as it was
 pub stored_on : {D : Type 0} (g : Ghosts D) (old new : D) (n : ℕ) (image : Image) → OnlyReads g n old new → Stores g old image → Stores g new image
@@ -93,11 +85,3 @@ sound_refused image g sound faults.NotVolume (inr none) = let label = sound.hold
 sound_refused image g sound (faults.Version found) is =
     let label = sound.holds.label in
     absurd (is.other (sym is.here ∙ (says (block_at image 1) label.label label.is_label label.spelled).version))
-
--- a failure after calls that may write
-pub caused_later : {D : Type 0} (g : Ghosts D) (old mid new : D) (n t : ℕ) (e : RecoverFault) → MakesAtMost g n t old mid → IsCaused g mid new e → IsCaused g old new e
-caused_later g old mid new n t faults.Disk makes is = record { cause = omega (arith, is.cause, makes.faults); clock = omega (arith, is.clock, makes.later) }
-caused_later g old mid new n t faults.NotVolume makes is = is
-caused_later g old mid new n t (faults.Version found) makes is = is
-caused_later g old mid new n t (faults.Damaged d) makes is = is
-caused_later g old mid new n t faults.Memory makes is = is

@@ -1,5 +1,5 @@
 -- The table of shadow roots, as one entry more is read.
-use Rattle.std.proofs.Common.{◌≡◌, ◌≢◌, inl, inr, ℕ, zero, suc, ◌+◌, ◌<◌, Bool, true, false, cond, List, [], ◌∷◌, ◌++◌, length, get_or, set, Some, replicate, refl, sym, ◌∙◌, ap, subst, arith, get_or-set_same, get_or-set_other, length-append}
+use Rattle.std.proofs.Common.{◌≡◌, ◌≢◌, inl, inr, ℕ, suc, ◌+◌, ◌<◌, Bool, true, false, cond, List, [], ◌∷◌, ◌++◌, length, get_or, set, Some, refl, sym, ◌∙◌, ap, subst, arith, get_or-set_same, get_or-set_other, length-append}
 use Rattle.std.specs.Prelude.{filter}
 use Rattle.std.specs.List.{range_with_len}
 use Rattle.std.proofs.lemmas.Bool.{cases_eq, false_from_ne_true}
@@ -7,7 +7,7 @@ use Rattle.cfs_base.specs.Disk.{Image}
 use Rattle.cyl_map.specs.declared.entry.MapEntry.{MapEntry}
 use Rattle.cyl_map.specs.Volume.{entry_in}
 use Rattle.ufs_model.proofs.Rising.{numbers_more}
-use Rattle.vol_image.specs.Part.{reserved, stands_for}
+use Rattle.vol_image.specs.Part.{stands_for}
 use Rattle.vol_image.proofs.Parts.{shadow_entry}
 use Rattle.cfs_recover.specs.Entries.{AreStanding, IsShadow, standing_below}
 use Rattle.cfs_recover.specs.Standing.{Shadow, one_more}
@@ -62,12 +62,3 @@ module _ (image : Image) (block : ℕ) (e : MapEntry) (entry : entry_in image bl
         subst (λ (ns : List ℕ). IsShadow ns (get_or new r shadow.None)) (sym (more r false (its_owner_alone r other) ∙ none_more (standing_below image block r)))
         (subst (λ (s : Shadow). IsShadow (standing_below image block r) s) (sym value) (are r (omega (arith, below, long))))
   ]
-
--- nothing stands before the first block but one, which is reserved
-pub none_stand_first : (image : Image) (blocks : ℕ) → entry_in image 0 ≡ Some reserved → AreStanding image 1 (replicate blocks shadow.None)
-none_stand_first image blocks entry = stands_for_none image 0 reserved entry (replicate blocks shadow.None) (λ r below. subst (λ (s : Shadow). IsShadow [] s) (sym (all_none blocks r)) refl) (λ r below. refl)
-  where
-    all_none : (n r : ℕ) → get_or (replicate n shadow.None) r shadow.None ≡ shadow.None
-    all_none zero r = refl
-    all_none (suc n) zero = refl
-    all_none (suc n) (suc r) = all_none n r

@@ -1,5 +1,5 @@
 -- One cylinder after another is tidied, and counted.
-use Rattle.std.proofs.Common.{◌≡◌, ◌≢◌, ◌⊎◌, inl, inr, ℕ, ◌+◌, ◌*◌, ◌/◌, ◌%◌, ◌<◌, ◌≤◌, min, Bool, List, [], length, get_or, set, replicate, Some, sym, ◌∙◌, ap, subst, arith, get_or-set_same, get_or-set_other, length-set}
+use Rattle.std.proofs.Common.{◌≡◌, ◌≢◌, ◌⊎◌, inl, inr, ℕ, zero, suc, ◌+◌, ◌*◌, ◌/◌, ◌%◌, ◌<◌, ◌≤◌, min, Bool, List, [], length, get_or, set, replicate, Some, refl, sym, ◌∙◌, ap, subst, arith, get_or-set_same, get_or-set_other, length-set}
 use Rattle.std.specs.Prelude.{slice_get}
 use Rattle.std.proofs.lemmas.Bool.{cases_lt}
 use Rattle.std.proofs.lemmas.List.{get_or-replicate, get_or_past, length-replicate}
@@ -9,6 +9,7 @@ use Rattle.cfs_base.specs.Disk.{Image, block_at}
 use Rattle.cyl_map.specs.declared.entry.MapEntry.{MapEntry}
 use Rattle.cyl_map.specs.Map.{free_entries, is_free, map_spelling}
 use Rattle.cyl_alloc.specs.Space.{Kept, after_giving}
+use Rattle.cfs_recover.specs.Recovered.{changed, changed_maps}
 use Rattle.cfs_recover.specs.Tidy.{AreTidied, HasTidied, IsMapIn, IsTidiedMap}
 use Rattle.cfs_recover.specs.Stored.{AreMapsOf}
 use Rattle.cfs_recover.proofs.InMemory.{entry_is}
@@ -42,6 +43,24 @@ module _ (old new : Image) (cylinder : ℕ) (map tidy : List MapEntry)
     | inl put ↦ ap (λ (i : Image). block_at i n) put ∙ get_or-set_other old (64 * cylinder) n (map_spelling tidy) [] other
     | inr same ↦ ap (λ (i : Image). block_at i n) same.0
   ]
+
+-- ---- the maps that change
+
+pub changed_same : (a b c : Image) (n : ℕ) → ((k : ℕ) → k < n → block_at c (64 * k) ≡ block_at b (64 * k)) → changed_maps a c n ≡ changed_maps a b n
+unfolding changed_maps
+changed_same a b c zero same = refl
+changed_same a b c (suc n) same = (λ i. changed_same a b c n (λ k less. same k (omega (arith, less))) i + changed (block_at a (64 * n)) (same n (omega arith) i))
+
+-- one cylinder more, of which the map was as it had been
+pub changed_more : (a old new : Image) (n tries most : ℕ) → block_at old (64 * n) ≡ block_at a (64 * n) → ((k : ℕ) → k ≢ 64 * n → block_at new k ≡ block_at old k)
+    → tries ≤ most + changed_maps a old n + changed (block_at old (64 * n)) (block_at new (64 * n)) → tries ≤ most + changed_maps a new (n + 1)
+unfolding changed_maps
+changed_more a old new n tries most was others le =
+    let before = changed_same a old new n (λ k less. others (64 * k) (λ same. absurd (omega (arith, same, less)))) in
+    let here = ap (λ (b : List ℕ). changed b (block_at new (64 * n))) was in
+    let next : n + 1 ≡ suc n = omega arith in
+    let more : changed_maps a new (n + 1) ≡ changed_maps a new n + changed (block_at a (64 * n)) (block_at new (64 * n)) = ap (changed_maps a new) next in
+    omega (arith, le, before, here, more)
 
 -- ---- what is counted
 

@@ -17,7 +17,7 @@ use Rattle.ufs_model.specs.Graph.{Graph, object_at}
 use Rattle.vol_image.specs.Part.{part_of, is_fixed, stands_for}
 use Rattle.vol_image.specs.Seen.{tree_in}
 use Rattle.vol_image.specs.Reading.{IsTree}
-use Rattle.vol_image.specs.Sight.{source, sight}
+use Rattle.vol_image.specs.Sight.{sight}
 use Rattle.vol_image.specs.Sound.{Holds}
 use Rattle.block_tree.specs.Tree.{levels_of}
 use Rattle.vol_image.proofs.Parts.{is_inner, place_inner, root_placed, tree_placed, taken_apart, taken_part}

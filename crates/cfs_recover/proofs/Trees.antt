@@ -8,7 +8,7 @@ use Rattle.cfs_base.specs.Disk.{Image, block_at}
 use Rattle.cfs_base.specs.declared.kind.Place.TheVariants as places
 use Rattle.block_tree.specs.Pointers.{Level, number_at, pointers_of, node_pointers, leaf_pointers}
 use Rattle.block_tree.specs.Tree.{levels_of, pointer, end_of, tree_of}
-use Rattle.block_tree.proofs.Trees.{end_is, end_none, path_is}
+use Rattle.block_tree.proofs.Trees.{end_is, end_none, node_block, path_is}
 use Rattle.vol_image.specs.Seen.{Held, held_at, tree_in, place_at}
 use Rattle.vol_image.specs.Reading.{leaf_in}
 use Rattle.vol_image.proofs.Views.{held, held_is}
@@ -61,16 +61,12 @@ is_below image content (k ∷ j ∷ []) h v =
     ]
 is_below image content (k ∷ j ∷ m ∷ path) h v = absurd (none-some h (sym (ap (held_at image) (too_long image (pointer node_pointers content k) j m path)) ∙ v))
 
-pub node_end : (image : Image) (content : List ℕ) (k : ℕ) → tree_of image content (k ∷ []) ≡ pointer node_pointers content k
-unfolding levels_of
-node_end image content k = refl
-
 pub leaf_end : (image : Image) (content : List ℕ) (k j : ℕ) → pointer node_pointers content k ≢ 0 → tree_of image content (k ∷ j ∷ []) ≡ pointer leaf_pointers (block_at image (pointer node_pointers content k)) j
 unfolding levels_of
 leaf_end image content k j some = end_is image leaf_pointers (pointer node_pointers content k) j some
 
 pub node_held : (image : Image) (content : List ℕ) (k : ℕ) → pointer node_pointers content k ≢ 0 → (tree_in image content).below (k ∷ []) ≡ Some (held image (pointer node_pointers content k))
-node_held image content k some = ap (held_at image) (node_end image content k) ∙ held_there image (pointer node_pointers content k) some
+node_held image content k some = ap (held_at image) (node_block image content k) ∙ held_there image (pointer node_pointers content k) some
 
 pub leaf_held : (image : Image) (content : List ℕ) (k j : ℕ) → pointer node_pointers content k ≢ 0 → pointer leaf_pointers (block_at image (pointer node_pointers content k)) j ≢ 0
     → (tree_in image content).below (k ∷ j ∷ []) ≡ Some (held image (pointer leaf_pointers (block_at image (pointer node_pointers content k)) j))

@@ -1,7 +1,8 @@
 -- What recovery makes of a volume.
-use Rattle.std.specs.Prelude.{◌≡◌, ◌⊎◌, ℕ, ◌*◌, true, false, [], Some}
+use Rattle.std.specs.Prelude.{◌≡◌, ◌≢◌, ◌⊎◌, ℕ, zero, suc, ◌+◌, ◌*◌, ◌/◌, ◌≤◌, true, false, cond, nat_eq, List, [], length, slice_get, Some}
+use Rattle.std.specs.Cmp.Lexicographic.{pointwise}
 use Rattle.cfs_base.specs.Calls.{HasFailed}
-use Rattle.cfs_base.specs.Disk.{Image, Nothing}
+use Rattle.cfs_base.specs.Disk.{Image, Nothing, block_at}
 use Rattle.cfs_base.specs.Outside.{count_after}
 use Rattle.cfs_base.specs.Run.{IsSettled, Leaves}
 use Rattle.cfs_base.specs.declared.disk.Disk.{Ghosts}
@@ -16,6 +17,7 @@ use Rattle.ufs_model.specs.Identifier.{rises}
 use Rattle.vol_image.specs.Fault.{HasLabel}
 use Rattle.vol_image.specs.Part.{is_fixed}
 use Rattle.vol_image.specs.Run.{Carries}
+use Rattle.vol_image.specs.Sight.{source}
 use Rattle.vol_image.specs.Sound.{IsSoundAs}
 use Rattle.vol_label.specs.declared.label.Label.{Label}
 use Rattle.vol_owners.specs.Account.{Accounts, IsSwept}
@@ -50,6 +52,23 @@ pub record IsRecovered {D : Type 0} (g : Ghosts D) (before : Image) (d : D) (lab
 pub record IsUntouched {D : Type 0} (g : Ghosts D) (old new : D) : Type 0 where
   pub content : g.content new ≡ g.content old
   pub images : Leaves g old new Nothing
+
+-- 1 where a block isn't what it was, and else 0
+abbrev pub changed : List ℕ → List ℕ → ℕ
+changed old new = cond (pointwise nat_eq new old) 0 1
+
+-- how many maps, of so many cylinders, aren't what they were
+unfoldable pub changed_maps : Image → Image → ℕ → ℕ
+changed_maps old new zero = 0
+changed_maps old new (suc n) = changed_maps old new n + changed (block_at old (64 * n)) (block_at new (64 * n))
+
+-- Beside so many barriers nothing was written but root blocks whose objects were read from elsewhere, each once, and each map
+-- that isn't what it was, once.
+pub record WritesWhatDiffers {D : Type 0} (g : Ghosts D) (barriers : ℕ) (old new : D) : Type 0 where
+  pub roots : List ℕ
+  pub each : (k n : ℕ) → slice_get roots k ≡ Some n → source (g.content old) n ≢ n
+  pub once : (j k n : ℕ) → slice_get roots j ≡ Some n → slice_get roots k ≡ Some n → j ≡ k
+  pub tries : g.tries new ≤ g.tries old + barriers + length roots + changed_maps (g.content old) (g.content new) (length (g.content old) / 64)
 
 -- ---- images on the way
 

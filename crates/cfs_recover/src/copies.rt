@@ -20,6 +20,7 @@ pub(crate) struct Copied {
 pub(crate) fn note_copy(copies: &mut Vec<Copied>, block: u32, head: &Head) -> Result<(), NoMemory>
     ensures told { (image : Image) (found : List Found) (done : ℕ) → AreCopies image found done copies.old.items
         → (x : Found) → slice_get found done ≡ Some x → x.block ≡ block → IsCopy image block head.now
+        → ((j : ℕ) (y : Found) → slice_get found j ≡ Some y → y.block ≡ block → j ≡ done)
         → OnOk result (AreCopies image found (done + 1) copies.new.items) }
     ensures below { (blocks : ℕ) → AreBelow blocks copies.old.items → block < blocks
         → OnOk result (AreBelow blocks copies.new.items) }

@@ -7,7 +7,7 @@ ghost use Rattle.ufs_model.specs.Graph.{Graph};
 ghost use Rattle.vol_image.specs.Sound.{IsSound, IsSoundAs};
 ghost use Rattle.cfs_recover.specs.Grounds.{IsOpenFault};
 ghost use Rattle.cfs_recover.specs.Keeps.{Leads};
-ghost use Rattle.cfs_recover.specs.Recovered.{IsRecovered, IsUntouched, LeavesSinceBarrier};
+ghost use Rattle.cfs_recover.specs.Recovered.{IsRecovered, IsUntouched, LeavesSinceBarrier, WritesWhatDiffers};
 ghost use Rattle.cfs_recover.specs.Refusals.{IsCaused};
 ghost use Rattle.cfs_recover.specs.Survey.{Fits, IsSurvey};
 
@@ -35,7 +35,8 @@ fn tidy_volume<D: Disk>(disk: &mut D, survey: &Survey, space: &mut Space) -> Res
     requires fits { Fits (D.blocks disk.old) survey.now }
     requires none { space.old.free ≡ replicate (length survey.now.grounds.maps.items) 0 }
     ensures recovered { (a : Image) → IsSettled D.Disk disk.old → D.content disk.old ≡ a → IsSurvey a survey.now
-        → OnOk result (IsRecovered D.Disk a disk.new survey.now.grounds.label survey.now.walked.walk.names space.new) }
+        → OnOk result (IsRecovered D.Disk a disk.new survey.now.grounds.label survey.now.walked.walk.names space.new
+        × WritesWhatDiffers D.Disk 2 disk.old disk.new) }
     ensures leads { (a : Image) (g : Graph) → IsSettled D.Disk disk.old → D.content disk.old ≡ a → IsSurvey a survey.now
         → IsSoundAs a g → Leads D.Disk (λ c. IsSoundAs c g) disk.old disk.new }
     ensures size { OnOk result (length space.new.free ≡ length survey.now.grounds.maps.items) }
@@ -67,7 +68,8 @@ fn hand_over(survey: Survey, space: Space) -> Recovered
 /// Opens the volume on a disk of which no write waits.
 fn open_settled<D: Disk>(alloc: Global, disk: &mut D) -> Result<Recovered, RecoverFault>
     ensures opened { IsSettled D.Disk disk.old → IfOk result (λ r.
-        IsRecovered D.Disk (D.content disk.old) disk.new r.label r.names r.space) }
+        IsRecovered D.Disk (D.content disk.old) disk.new r.label r.names r.space
+        × WritesWhatDiffers D.Disk 2 disk.old disk.new) }
     ensures refused { Tells D.Disk disk.old → IfErr result (IsOpenFault (D.content disk.old)) }
     ensures untouched { IfErr result (λ e. e ≢ RecoverFault.Disk → IsUntouched D.Disk disk.old disk.new) }
     ensures unsound { Tells D.Disk disk.old → ¬ IsSound (D.content disk.old) → IsUntouched D.Disk disk.old disk.new }
@@ -102,6 +104,8 @@ pub fn recover<D: Disk>(alloc: Global, disk: &mut D) -> Result<Recovered, Recove
         → IsSoundAs (D.content disk.new) g }
     ensures images { IsTrue (D.honest disk.old) → (g : Graph) → IsSoundAs (D.content disk.old) g
         → LeavesSinceBarrier D.Disk disk.old disk.new (λ c. IsSoundAs c g) }
+    // Beside three barriers nothing is written but what differs: of a clean volume nothing.
+    ensures writes { IsTrue (D.honest disk.old) → OnOk result (WritesWhatDiffers D.Disk 3 disk.old disk.new) }
     // On any disk the space is one of its cylinders.
     ensures size { IfOk result (λ r. D.blocks disk.new ≡ 64 * length r.space.free) }
     ensures cause { IfErr result (IsCaused D.Disk disk.old disk.new) }

@@ -1,8 +1,8 @@
-//! What recovery makes of small volumes, and of what a crash leaves of it.
+//! What recovery makes of small volumes.
 use crate::tests::{CHANGES, FILE, ROOT, put, put_byte, put_entry, root, volume, volume_on};
-use crate::{RecoverFault, Recovered, recover};
+use crate::{RecoverFault, check_volume, recover};
 use cfs_base::{Block, BlockNo, Damage, Disk, Failed, Kind};
-use cfs_fakes::{MemoryDisk, Pick};
+use cfs_fakes::MemoryDisk;
 use std::test::Fail;
 
 /// A volume whose file has a commit that wasn't carried out: it is read by block 20, which leads to no leaf. Block 21 was
@@ -35,13 +35,6 @@ fn difference(one: &mut MemoryDisk, other: &mut MemoryDisk) -> Result<Option<u32
     Ok(None)
 }
 
-fn fault_of(end: Result<Recovered, RecoverFault>) -> Option<RecoverFault> {
-    match end {
-        Ok(_) => None,
-        Err(fault) => Some(fault),
-    }
-}
-
 #[test]
 fn a_committed_root_is_copied_and_what_nobody_has_is_free(rt: HostRuntime) -> Result<(), Fail> {
     let alloc = rt.alloc();
@@ -68,35 +61,6 @@ fn a_committed_root_is_copied_and_what_nobody_has_is_free(rt: HostRuntime) -> Re
 }
 
 #[test]
-fn a_recovery_that_a_crash_cuts_off_is_made_whole_by_the_next(rt: HostRuntime) -> Result<(), Fail> {
-    let alloc = rt.alloc();
-    let mut disk = committed(MemoryDisk::recording(alloc, 64, Vec::new(alloc))?)?;
-    let from = disk.moment();
-    recover(alloc, &mut disk)?;
-    for at in from..disk.moment() {
-        for (copied, tidied) in [(0, 0), (0, 1), (1, 0), (1, 1)] {
-            if !disk.is_recording() || at > disk.moment() {
-                return Ok(());
-            }
-            let picks = [
-                Pick {
-                    block: 5,
-                    choice: copied,
-                },
-                Pick {
-                    block: 0,
-                    choice: tidied,
-                },
-            ];
-            let mut image = disk.image(alloc, at, &picks)?;
-            recover(alloc, &mut image)?;
-            assert_eq!(rt; difference(&mut image, &mut disk)?, None);
-        }
-    }
-    Ok(())
-}
-
-#[test]
 fn a_recovery_of_which_a_call_fails_may_be_begun_again(rt: HostRuntime) -> Result<(), Fail> {
     let alloc = rt.alloc();
     let mut whole = committed(MemoryDisk::new(alloc, 64)?)?;
@@ -105,10 +69,8 @@ fn a_recovery_of_which_a_call_fails_may_be_begun_again(rt: HostRuntime) -> Resul
     for call in from..whole.moment() {
         let calls = vec![in alloc; call; 1]?;
         let mut disk = committed(MemoryDisk::failing(alloc, 64, calls)?)?;
-        assert_eq!(rt;
-            fault_of(recover(alloc, &mut disk)),
-            Some(RecoverFault::Disk)
-        );
+        let fault = recover(alloc, &mut disk).err();
+        assert_eq!(rt; fault, Some(RecoverFault::Disk));
         recover(alloc, &mut disk)?;
         assert_eq!(rt; difference(&mut disk, &mut whole)?, None);
     }
@@ -116,7 +78,7 @@ fn a_recovery_of_which_a_call_fails_may_be_begun_again(rt: HostRuntime) -> Resul
 }
 
 #[test]
-fn a_damaged_volume_stays_as_it_was(rt: HostRuntime) -> Result<(), Fail> {
+fn each_damage_is_found_by_block_and_code_and_stays(rt: HostRuntime) -> Result<(), Fail> {
     let alloc = rt.alloc();
     for (at, place, byte, block, code) in CHANGES {
         let mut disk = volume(alloc, 2)?;
@@ -124,7 +86,8 @@ fn a_damaged_volume_stays_as_it_was(rt: HostRuntime) -> Result<(), Fail> {
         let mut copy = volume(alloc, 2)?;
         put_byte(&mut copy, at, place, byte)?;
         let found = RecoverFault::Damaged(Damage { block, code });
-        assert_eq!(rt; fault_of(recover(alloc, &mut disk)), Some(found));
+        assert_eq!(rt; check_volume(alloc, &mut disk), Err(found));
+        assert_eq!(rt; recover(alloc, &mut disk).err(), Some(found));
         assert_eq!(rt; difference(&mut disk, &mut copy)?, None);
     }
     Ok(())

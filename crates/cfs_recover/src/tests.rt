@@ -156,18 +156,6 @@ fn a_sound_volume_is_let_through_up_to_58_blocks(rt: HostRuntime) -> Result<(), 
 }
 
 #[test]
-fn each_damage_is_found_by_block_and_code(rt: HostRuntime) -> Result<(), Fail> {
-    let alloc = rt.alloc();
-    for (at, place, byte, block, code) in CHANGES {
-        let mut disk = volume(alloc, 2)?;
-        put_byte(&mut disk, at, place, byte)?;
-        let found = RecoverFault::Damaged(Damage { block, code });
-        assert_eq!(rt; check_volume(alloc, &mut disk), Err(found));
-    }
-    Ok(())
-}
-
-#[test]
 fn no_volume_comes_before_the_version(rt: HostRuntime) -> Result<(), Fail> {
     let alloc = rt.alloc();
     let mut disk = volume(alloc, 2)?;

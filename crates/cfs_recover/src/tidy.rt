@@ -6,6 +6,7 @@ ghost use Rattle.cfs_base.specs.Run.{IsSettled};
 ghost use Rattle.cyl_map.specs.Map.{map_spelling};
 ghost use Rattle.ufs_model.specs.Graph.{Graph};
 ghost use Rattle.cfs_recover.specs.Keeps.{Keeps, Leads};
+ghost use Rattle.cfs_recover.specs.Recovered.{changed, changed_maps};
 ghost use Rattle.cfs_recover.specs.Stored.{AreMapsOf};
 ghost use Rattle.vol_image.specs.Part as part;
 ghost use Rattle.cfs_recover.specs.Tidy as spec;
@@ -69,6 +70,8 @@ fn write_tidy<D: Disk>(disk: &mut D, cylinder: u32, map: &Map, held: &[bool]) ->
     ensures written { IfOk result (λ tidy. (D.content disk.new ≡ set (D.content disk.old) (64 * cylinder) (map_spelling tidy))
         ⊎ ((D.content disk.new ≡ D.content disk.old) × (map_spelling tidy ≡ map_spelling map.now))) }
     ensures tidied { IfOk result (spec.IsTidiedMap cylinder map.now held.now) }
+    ensures differs { IfOk result (λ tidy. D.tries disk.new
+        ≤ D.tries disk.old + changed (map_spelling map.now) (map_spelling tidy)) }
     ensures cause { OnErr result (HasFailed D.Disk disk.old disk.new) }
     ensures calls { MakesAtMost D.Disk 1 1 disk.old disk.new }
 {
@@ -102,6 +105,9 @@ fn tidy_cylinder<D: Disk>(
         → OnOk result (spec.HasTidied (D.content disk.new) cylinder map.now held.now (get_or space.new.free cylinder 0)) }
     ensures others { (n : ℕ) → n ≢ 64 * cylinder
         → OnOk result (block_at (D.content disk.new) n ≡ block_at (D.content disk.old) n) }
+    ensures differs { 64 * cylinder < length (D.content disk.old)
+        → block_at (D.content disk.old) (64 * cylinder) ≡ map_spelling map.now → OnOk result (D.tries disk.new ≤ D.tries disk.old
+        + changed (block_at (D.content disk.old) (64 * cylinder)) (block_at (D.content disk.new) (64 * cylinder))) }
     ensures counts { (k : ℕ) → k ≢ cylinder → OnOk result (get_or space.new.free k 0 ≡ get_or space.old.free k 0) }
     ensures size { length space.new.free ≡ length space.old.free }
     ensures cause { OnErr result (HasFailed D.Disk disk.old disk.new) }
@@ -126,7 +132,8 @@ fn write_maps<D: Disk>(
     ensures keeps { (a : Image) (g : Graph) → IsSettled D.Disk disk.old → D.content disk.old ≡ a
         → spec.IsTidying a g held.now → AreMapsOf a maps.now
         → OnOk result (Keeps D.Disk (spec.Tidies a g) disk.old disk.new
-        × spec.AreTidied (D.content disk.new) maps.now held.now space.new.free (length maps.now)) }
+        × spec.AreTidied (D.content disk.new) maps.now held.now space.new.free (length maps.now)
+        × (D.tries disk.new ≤ D.tries disk.old + changed_maps a (D.content disk.new) (length maps.now))) }
     ensures leads { (a : Image) (g : Graph) → IsSettled D.Disk disk.old → D.content disk.old ≡ a
         → spec.IsTidying a g held.now → AreMapsOf a maps.now → Leads D.Disk (spec.Tidies a g) disk.old disk.new }
     ensures size { length space.new.free ≡ length maps.now }
@@ -153,7 +160,8 @@ pub(crate) fn tidy_maps<D: Disk>(
     ensures tidied { (a : Image) (g : Graph) → IsSettled D.Disk disk.old → D.content disk.old ≡ a
         → spec.IsTidying a g held.now → AreMapsOf a maps.now
         → OnOk result (IsSettled D.Disk disk.new × spec.Tidies a g (D.content disk.new)
-        × spec.AreTidied (D.content disk.new) maps.now held.now space.new.free (length maps.now)) }
+        × spec.AreTidied (D.content disk.new) maps.now held.now space.new.free (length maps.now)
+        × (D.tries disk.new ≤ D.tries disk.old + 1 + changed_maps a (D.content disk.new) (length maps.now))) }
     ensures leads { (a : Image) (g : Graph) → IsSettled D.Disk disk.old → D.content disk.old ≡ a
         → spec.IsTidying a g held.now → AreMapsOf a maps.now → Leads D.Disk (spec.Tidies a g) disk.old disk.new }
     ensures size { length space.new.free ≡ length maps.now }

@@ -1,13 +1,11 @@
 -- What an answer is to the journal.
-use Rattle.std.proofs.Common.{◌≡◌, ℕ, ◌<◌, Bool, true, false, Option, Some, None, IsSome, refl, sym, ap, ◌∙◌, subst}
-use Rattle.std.specs.Prelude.{is_some}
-use Rattle.cfs_base.specs.Outside.{Rose}
+use Rattle.std.proofs.Common.{◌≡◌, ℕ, Bool, true, false, Option, Some, None, IsSome, refl}
 use Rattle.ufs_model.specs.declared.asked.Event.TheVariants as events
 use Rattle.ufs_model.specs.declared.asked.Reply.{Reply}
 use Rattle.ufs_model.specs.declared.asked.Request.{Request}
 use Rattle.ufs_model.specs.Asks.{IsAsked}
 use Rattle.ufs_model.specs.State.{State}
-use Rattle.cfs_serve.specs.Calls.{Makes, NeverFails}
+use Rattle.cfs_serve.specs.Calls.{Makes}
 use Rattle.cfs_serve.specs.Events.{is_calm}
 
 pub asked_makes : (stands : State → Type 0) (seed other : ℕ) → seed ≡ other → (s : State) (who : ℕ) (request : Request) (reply : Reply) → IsAsked stands seed s who request reply

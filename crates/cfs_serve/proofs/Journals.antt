@@ -1,20 +1,19 @@
 -- A call keeps the run.
-use Rattle.std.proofs.Common.{◌≡◌, ℕ, ◌+◌, ◌<◌, Bool, true, false, List, [], ◌∷◌, ◌++◌, Option, Some, None, refl, sym, ap, ◌∙◌, subst}
-use Rattle.std.specs.Prelude.{◌||◌, option_and_then, is_some}
+use Rattle.std.proofs.Common.{◌≡◌, ℕ, ◌<◌, Bool, true, false, List, [], ◌∷◌, ◌++◌, Some, refl, sym, ap, ◌∙◌, subst}
+use Rattle.std.specs.Prelude.{◌||◌, option_and_then}
 use Rattle.std.specs.List.{list_all, list_any}
 use Rattle.std.proofs.lemmas.List.Folds.{list_all-append}
 use Rattle.ufs_model.specs.declared.asked.Event.{Event}
 use Rattle.ufs_model.specs.declared.asked.Event.TheVariants as events
 use Rattle.ufs_model.specs.declared.asked.Unread.{Unread}
-use Rattle.ufs_model.specs.Graph.{Graph}
-use Rattle.ufs_model.specs.State.{State, is_running, opening}
+use Rattle.ufs_model.specs.State.{State, opening}
 use Rattle.ufs_model.specs.Next.{next}
-use Rattle.ufs_model.specs.Run.{replay, replay_from}
+use Rattle.ufs_model.specs.Run.{replay_from}
 use Rattle.ufs_model.proofs.Legal.{replay_from-push}
 use Rattle.cfs_serve.specs.Calls.{AreExact, IsExactEvent, Makes, NeverFails}
 use Rattle.cfs_serve.specs.Charter.{Terms}
-use Rattle.cfs_serve.specs.Events.{is_calm, wants_memory}
-use Rattle.cfs_serve.specs.Journal.{IsQuiet, IsRun, IsRunOn}
+use Rattle.cfs_serve.specs.Events.{is_calm}
+use Rattle.cfs_serve.specs.Journal.{IsRun}
 
 -- ---- lists with one event more
 

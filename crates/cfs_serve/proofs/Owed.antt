@@ -1,6 +1,6 @@
 -- A reply that is owed is exact.
-use Rattle.std.proofs.Common.{◌≡◌, ◌⊎◌, inl, inr, ℕ, ◌+◌, ◌<◌, ◌≤◌, Bool, true, false, ◌&&◌, Option, Some, None, refl, sym, ◌∙◌, ap, subst, arith, length}
-use Rattle.std.specs.Prelude.{is_none, is_some, not, option_map, sum}
+use Rattle.std.proofs.Common.{◌≡◌, inl, inr, ℕ, ◌+◌, ◌<◌, ◌≤◌, Bool, true, false, ◌&&◌, Option, Some, None, refl, sym, ap, subst, arith, length}
+use Rattle.std.specs.Prelude.{is_none, sum}
 use Rattle.std.proofs.lemmas.Bool.{cases_lt}
 use Rattle.cfs_base.specs.Disk.{Image}
 use Rattle.cfs_base.specs.Outside.{Rose}
@@ -8,18 +8,17 @@ use Rattle.cfs_base.specs.declared.disk.Disk.{Ghosts}
 use Rattle.cfs_base.specs.declared.refusal.Need.{Need}
 use Rattle.cfs_core.specs.declared.kernel.Stop.{Stop}
 use Rattle.cfs_core.specs.Asked.{Asks, IsShortContent, stopped_by}
-use Rattle.cfs_core.specs.Calls.{ByOutcome, ByRefusal, ByWant, IsOwed, IsShort, Owes, is_delete}
+use Rattle.cfs_core.specs.Calls.{ByOutcome, ByRefusal, ByWant, IsOwed, Owes, is_delete}
 use Rattle.cfs_core.specs.Kernel.{Kernel}
 use Rattle.cfs_core.specs.Room.{IsRoom}
 use Rattle.cfs_core.specs.StandsFor.{Serves, Stands, StandsFor}
-use Rattle.ufs_model.specs.declared.asked.Event.TheVariants as events
 use Rattle.ufs_model.specs.declared.asked.Reply.{Reply}
 use Rattle.ufs_model.specs.declared.asked.Reply.TheVariants as replies
 use Rattle.ufs_model.specs.declared.asked.Request.{Request}
 use Rattle.ufs_model.specs.Asks.{IsAsked}
 use Rattle.ufs_model.specs.Limits.{reserve}
 use Rattle.ufs_model.specs.Need.{need_of}
-use Rattle.ufs_model.specs.Next.{allowed_if, answered, by_outcome, goes_through, is_full, is_outcome, next}
+use Rattle.ufs_model.specs.Next.{allowed_if, answered, by_outcome, goes_through, is_full, is_outcome}
 use Rattle.ufs_model.specs.Outcome.{outcome_of}
 use Rattle.ufs_model.specs.Plain.{IsPlainReply}
 use Rattle.ufs_model.specs.Refusal.{refusal_of}

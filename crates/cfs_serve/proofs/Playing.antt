@@ -1,8 +1,7 @@
 -- A service of one session.
-use Rattle.std.proofs.Common.{◌≡◌, ℕ, zero, suc, ◌+◌, ◌-◌, ◌*◌, ◌<◌, ◌≤◌, Bool, true, false, List, [], ◌∷◌, ◌++◌, length, map, Some, None, Option, slice_get, refl, sym, ap, ◌∙◌, subst, arith, length-append}
-use Rattle.std.specs.Prelude.{is_some, sum}
+use Rattle.std.proofs.Common.{◌≡◌, ℕ, zero, suc, ◌+◌, Bool, false, List, [], ◌∷◌, ◌++◌, length, map, Some, None, Option, slice_get, refl, ap, ◌∙◌, subst, arith, length-append}
+use Rattle.std.specs.Prelude.{is_some}
 use Rattle.std.specs.List.{list_any, sum_by}
-use Rattle.std.proofs.lemmas.List.{length-map}
 use Rattle.cfs_base.specs.declared.disk.Disk.{Ghosts}
 use Rattle.cfs_base.specs.declared.identifier.Puid.{Puid}
 use Rattle.cfs_core.specs.declared.kernel.Stop.{Stop}
@@ -12,14 +11,12 @@ use Rattle.cfs_ports.specs.Port.{IsNew, Reading}
 use Rattle.ufs_model.specs.declared.asked.Event.{Event}
 use Rattle.ufs_model.specs.Run.{replay}
 use Rattle.ufs_model.specs.State.{State, opening}
-use Rattle.vol_image.specs.Sound.{graph_blocks}
-use Rattle.vol_owners.specs.Room.{blocks_taken}
 use Rattle.cfs_serve.specs.declared.report.Report.{Report}
 use Rattle.cfs_serve.specs.Calls.{AreExact, NeverFails}
 use Rattle.cfs_serve.specs.Events.{wants_memory}
 use Rattle.cfs_serve.specs.Hall.{AreNew, AreOver, IsOver, seat_of, turns_left}
 use Rattle.cfs_serve.specs.Journal.{IsRunOn}
-use Rattle.cfs_serve.specs.Played.{IsPlayed, ServesSession, opened, report_on}
+use Rattle.cfs_serve.specs.Played.{ServesSession, opened, report_on}
 use Rattle.cfs_serve.specs.Volume.{IsNewCore}
 use Rattle.cfs_serve.specs.Words.{root_of}
 use Rattle.cfs_serve.proofs.Journals.{some_same}

@@ -1,20 +1,15 @@
 -- How a service begins, and what it comes to.
-use Rattle.std.proofs.Common.{◌≡◌, ℕ, zero, suc, ◌+◌, ◌<◌, ◌≤◌, Bool, true, false, not, List, [], ◌∷◌, ◌++◌, length, map, Option, Some, None, slice_get, refl, sym, ap, ◌∙◌, subst, arith}
+use Rattle.std.proofs.Common.{◌≡◌, ℕ, zero, suc, true, List, [], ◌∷◌, ◌++◌, length, map, Some, slice_get, refl, sym, ap, ◌∙◌, subst, arith}
 use Rattle.std.proofs.lemmas.List.{append-nil}
 use Rattle.cfs_base.specs.declared.identifier.Puid.{Puid}
 use Rattle.cfs_streams.proofs.WriteLaws.{nothing}
-use Rattle.cfs_streams.specs.Writing.{Wrote}
 use Rattle.ufs_model.specs.declared.asked.Event.{Event}
-use Rattle.ufs_model.specs.declared.asked.Event.TheVariants as events
 use Rattle.ufs_model.specs.Names.{no_names}
 use Rattle.ufs_model.specs.Turns.{turns_in, turns_from}
-use Rattle.ufs_model.specs.Printed.{printed_replies}
 use Rattle.cfs_script.specs.Language.{built_forms}
-use Rattle.cfs_script.specs.NameTable.{names_of}
-use Rattle.cfs_ports.specs.Port.{Reading, IsNew, Replied}
+use Rattle.cfs_ports.specs.Port.{Reading}
 use Rattle.cfs_serve.specs.Charter.{Seat, Terms}
 use Rattle.cfs_serve.specs.Hall.{IsSession, AreHeard, AllLeft, IsLeave, IsFresh, AreFresh, AreNew, has_left_at, seat_of, IsOver, AreOver}
-use Rattle.cfs_serve.specs.Events.{events_of}
 
 -- ---- as it begins
 

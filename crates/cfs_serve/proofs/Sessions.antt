@@ -1,14 +1,13 @@
 -- An event keeps what the hall keeps of its sessions.
-use Rattle.std.proofs.Common.{◌≡◌, ◌≢◌, ◌⊎◌, inl, inr, ℕ, zero, suc, ◌+◌, ◌-◌, ◌<◌, ◌≤◌, ◌==◌, Bool, true, false, not, cond, List, [], ◌∷◌, ◌++◌, length, filter, set, get_or, Option, Some, None, slice_get, refl, sym, ap, ◌∙◌, subst, arith, append_assoc, length-append, length-set}
+use Rattle.std.proofs.Common.{◌≡◌, ◌≢◌, ◌⊎◌, inl, inr, ℕ, zero, suc, ◌+◌, ◌<◌, ◌≤◌, ◌==◌, Bool, true, false, not, cond, List, [], ◌∷◌, ◌++◌, length, filter, set, get_or, Option, Some, None, slice_get, refl, sym, ap, ◌∙◌, subst, arith, append_assoc, length-append, length-set}
 use Rattle.std.specs.List.{sum_by}
 use Rattle.std.proofs.lemmas.List.{append-nil}
 use Rattle.std.proofs.lemmas.List.Sums.{sum_by-set}
 use Rattle.std.proofs.lemmas.Option.{slice_get_within, get_or_from_slice_get, slice_get-get_or}
 use Rattle.std.proofs.lemmas.Bool.Decides.{nat_tests}
 use Rattle.cfs_base.specs.declared.identifier.Puid.{Puid}
-use Rattle.cfs_base.specs.Outside.{Intake}
-use Rattle.cfs_streams.specs.Writing.{Wrote, WroteSome}
-use Rattle.cfs_streams.proofs.WriteLaws.{nothing, then, then_some}
+use Rattle.cfs_streams.specs.Writing.{Wrote}
+use Rattle.cfs_streams.proofs.WriteLaws.{then, then_some}
 use Rattle.ufs_model.specs.declared.asked.Event.{Event}
 use Rattle.ufs_model.specs.declared.asked.Event.TheVariants as events
 use Rattle.ufs_model.specs.declared.asked.Reply.{Reply}
@@ -17,21 +16,20 @@ use Rattle.ufs_model.specs.declared.asked.Request.{Request}
 use Rattle.ufs_model.specs.declared.asked.Unread.{Unread}
 use Rattle.ufs_model.specs.declared.asked.Unread.TheVariants as unread
 use Rattle.ufs_model.specs.Names.{Names, no_names}
-use Rattle.ufs_model.specs.Script.{request_lines, words_of}
-use Rattle.ufs_model.specs.Spoken.{Form, Reading, Is, Bad, Unbound, reading_of, name_spoken}
+use Rattle.ufs_model.specs.Script.{words_of}
+use Rattle.ufs_model.specs.Spoken.{Reading, reading_of, name_spoken}
 use Rattle.ufs_model.specs.Turns.{is_turn_of, turns_in, turn_of, turns_from, names_after, names_after_reply}
-use Rattle.ufs_model.specs.Printed.{printed, printed_replies, reply_line, unread_line}
+use Rattle.ufs_model.specs.Printed.{printed, printed_replies}
 use Rattle.cfs_script.specs.Language.{built_forms}
 use Rattle.cfs_script.specs.NameTable.{names_of}
-use Rattle.cfs_ports.specs.declared.hearing.Heard.{Heard}
 use Rattle.cfs_ports.specs.declared.hearing.Heard.TheVariants as heard
 use Rattle.cfs_ports.specs.Heard.{Hears}
 use Rattle.cfs_ports.specs.Port.{Replied, TakesLine, Answers, Tells}
 use Rattle.cfs_ports.specs.Port as ports
 use Rattle.cfs_serve.specs.Charter.{Seat, Terms}
-use Rattle.cfs_serve.specs.Events.{BreaksOff, events_of, is_of, is_sessions}
+use Rattle.cfs_serve.specs.Events.{is_of, is_sessions}
 use Rattle.cfs_serve.proofs.Journals.{all-push}
-use Rattle.cfs_serve.specs.Hall.{IsLeave, IsSession, AreHeard, Turned, Departs, Moves, Turns, turns_left, turns_left_at, has_left_at}
+use Rattle.cfs_serve.specs.Hall.{IsLeave, IsSession, AreHeard, Turned, Departs, Turns, turns_left, turns_left_at, has_left_at}
 
 -- ---- numbers and lists
 

@@ -1,5 +1,5 @@
 -- What events tell of memory and of the disk, and whose they are.
-use Rattle.std.specs.Prelude.{◌≡◌, ℕ, ◌==◌, Bool, true, false, List, [], ◌∷◌, ◌++◌, filter, Option, Some, None}
+use Rattle.std.specs.Prelude.{◌≡◌, ℕ, ◌==◌, Bool, true, false, List, [], ◌∷◌, ◌++◌, filter, Some, None}
 use Rattle.cfs_base.specs.Outside.{Intake}
 use Rattle.cfs_streams.specs.Writing.{Wrote, WroteSome}
 use Rattle.ufs_model.specs.declared.asked.Reply.{Reply}

@@ -16,9 +16,15 @@ use Rattle.cfs_serve.specs.Events.{is_calm}
 pub record Kept (A : Type 0) : Type 0 where
   pub server : A
   pub events : List Event
+  -- the disk's moment as each was recorded
+  pub moments : List ℕ
   pub room : ℕ
   -- want of memory was told
   pub starved : Bool
+
+-- one event more was recorded, with the disk's moment as it is now
+abbrev pub IsStamped : {A : Type 0} → (A → ℕ) → Kept A → Kept A → Type 0
+IsStamped clock old new = new.moments ≡ old.moments ++ clock new.server ∷ []
 
 -- no failed call is behind an event, and the server hasn't stopped
 pub record IsQuiet {A : Type 0} (has_stopped : A → Bool) (server : A) (trail : List Event) : Type 0 where

@@ -2,7 +2,7 @@
 ghost use Rattle.std.specs.Prelude.{◌≡◌, ◌<◌, ◌≤◌, ◌+◌, ◌==◌, [], true, false, ℕ, map, length, slice_get};
 ghost use Rattle.std.specs.List.{list_any, sum_by};
 ghost use Rattle.cfs_serve.specs.Events.{wants_memory};
-ghost use Rattle.cfs_serve.specs.Journal.{IsRun, IsRunOn};
+ghost use Rattle.cfs_serve.specs.Journal.{IsRun, IsRunOn, IsStamped};
 ghost use Rattle.cfs_serve.specs.Hall.{AllLeft, AreFresh, AreHeard, AreNew, AreOver, Moves, Turns, has_left_at, seat_of, turns_left};
 ghost use Rattle.ufs_model.specs.Graph.{Graph};
 ghost use Rattle.ufs_model.specs.State.{opening};
@@ -46,7 +46,9 @@ fn port_turn<A: Server, J: Charter<A>, K: Sink>(
     requires room { 0 < journal.old.room }
     requires few { length journal.old.events < 4294967295 }
     requires stays { port.old.has_left ≡ false }
-    ensures { Moves session journal.old journal.new port.old port.new }
+    ensures moves { Moves session journal.old journal.new port.old port.new }
+    // Its event is recorded with the disk's moment as the turn returns.
+    ensures stamped { IsStamped A.clock journal.old journal.new }
 {
     if port.has_failed() {
         port.leave();

@@ -6,7 +6,7 @@ ghost use Rattle.ufs_model.specs.declared.asked.Request as requests;
 ghost use Rattle.cfs_ports.specs.Heard.{HasRoom, is_built};
 ghost use Rattle.cfs_serve.specs.Charter.{Terms};
 ghost use Rattle.cfs_serve.specs.Events.{wants_memory};
-ghost use Rattle.cfs_serve.specs.Journal.{IsRun, Serves};
+ghost use Rattle.cfs_serve.specs.Journal.{IsRun, IsStamped, Serves};
 
 use crate::server::Server;
 use cfs_base::{Session, Sink};
@@ -49,7 +49,7 @@ impl<A: Server, J: Charter<A>> Model for Journal<A, J> {
 
     ghost Value = { Kept A };
 
-    ghost view = { λ j. record { server = j.server; events = j.trail.events; room = j.trail.room; starved = j.starved } };
+    ghost view = { λ j. record { server = j.server; events = j.trail.events; moments = j.trail.moments; room = j.trail.room; starved = j.starved } };
 
     ghost invariant = { λ j. IsRun A.stands A.faults A.has_stopped J.charter j.server j.trail.events
         × (A.seed j.server ≡ J.charter.seed) × (A.cylinders j.server ≡ J.charter.cylinders)
@@ -80,6 +80,7 @@ impl<A: Server, J: Charter<A>> Journal<A, J> {
     pub fn unread(&mut self, session: Session, why: Unread)
         requires { 0 < self.old.room }
         ensures events { self.new.events ≡ self.old.events ++ events.Unread session why ∷ [] }
+        ensures stamped { IsStamped A.clock self.old self.new }
         ensures room { self.new.room + 1 ≡ self.old.room }
     {
         self.starved = starved_at(why, self.starved);
@@ -100,7 +101,8 @@ impl<A: Server, J: Charter<A>> Journal<A, J> {
         requires few { length self.old.events < 4294967295 }
         requires built { is_built request ≡ true }
         requires name { HasRoom name port.old.names.room }
-        ensures { Serves self.old self.new session request name port.old port.new }
+        ensures serves { Serves self.old self.new session request name port.old port.new }
+        ensures stamped { IsStamped A.clock self.old self.new }
     {
         let reply = self.server.answer(alloc, session, &request);
         self.starved = starved_by(&reply, self.starved);
@@ -120,6 +122,7 @@ impl<A: Server, J: Charter<A>> Journal<A, J> {
     pub fn leave(&mut self, session: Session)
         requires { 0 < self.old.room }
         ensures events { (stopped : Option ℕ) × (self.new.events ≡ self.old.events ++ events.Leave session stopped ∷ []) }
+        ensures stamped { IsStamped A.clock self.old self.new }
         ensures room { self.new.room + 1 ≡ self.old.room }
     {
         let stopped = self.server.leave(session);

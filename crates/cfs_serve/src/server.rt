@@ -24,6 +24,9 @@ pub trait Server: Asker {
 
     ghost has_stopped: { Self → Bool };
 
+    /// The clock of its disk; 0 where it has none.
+    ghost clock: { Self → ℕ };
+
     /// The answer to a request of the language, as `ask` gives it, with all that is known of it on a disk.
     fn answer(&mut self, alloc: Global, who: Session, request: &Request) -> Reply
         requires built { is_built request.now ≡ true }
@@ -50,8 +53,8 @@ pub trait Server: Asker {
         ensures seed { Self.seed self.new ≡ Self.seed self.old }
         ensures drawn { Self.words self.new ≤ Self.words self.old };
 
-    /// The clock of its disk; 0 where it has none.
-    fn moment(&self) -> u64;
+    fn moment(&self) -> u64
+        ensures { result ≡ clock self.now };
 }
 
 /// The slow server has no disk.
@@ -63,6 +66,8 @@ impl Server for Plain {
     ghost cylinders = { λ p. 0 };
 
     ghost has_stopped = { λ p. false };
+
+    ghost clock = { λ p. 0 };
 
     fn answer(&mut self, alloc: Global, who: Session, request: &Request) -> Reply {
         Plain::ask(self, alloc, who, request)
@@ -86,6 +91,8 @@ impl<D: Disk> Server for Core<D> {
     ghost cylinders = { λ k. length k.space.free };
 
     ghost has_stopped = { λ k. is_some k.stop };
+
+    ghost clock = { λ k. D.moment k.disk };
 
     fn answer(&mut self, alloc: Global, who: Session, request: &Request) -> Reply {
         self.has_room();

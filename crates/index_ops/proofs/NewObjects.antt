@@ -50,6 +50,7 @@ use Rattle.special_files.specs.Leaves.{SameBeside}
 use Rattle.special_files.specs.Order.{leaf_claims}
 use Rattle.special_files.specs.Refusal.{IsRefusal, IsTrouble, NoMap, OtherCount, is_damage, is_damaged, is_full}
 use Rattle.special_files.specs.Store.{replaced}
+use Rattle.special_files.specs.declared.fill.Swap.{Swap}
 use Rattle.special_files.proofs.Amid.{framed_carries, framed_holds, written_framed}
 use Rattle.special_files.proofs.Begun.{begun_fresh}
 use Rattle.special_files.proofs.CommitFlips.{first_number, more_numbers}
@@ -489,14 +490,11 @@ module _ {D : Type 0} (g : Ghosts D) (at slot : ℕ) (d0 : D) (k0 : Kept) where
     memory = λ same. (kept, reads_within g d0 d1 n 9 few reads);
     untried = λ same. (kept, reads_within g d0 d1 n 9 few reads);
     cylinders = ap (λ (k : Kept). length k.free) kept;
-    calls = made_within d1 n 0 (reads_make g d0 d1 n reads) (omega (arith, few)) (omega arith);
+    calls = makes_more g d0 d1 n 0 43 24 (omega (arith, few)) (omega arith) (reads_make g d0 d1 n reads);
   }
-    where
-      made_within : (d : D) (n t : ℕ) → MakesAtMost g n t d0 d → n ≤ 30 → t ≤ 30 → MakesAtMost g 93200 46500 d0 d
-      made_within d n t m few fewer = record { later = m.later; keeps = m.keeps; same = m.same; faults = m.faults; calls = omega (arith, m.calls, few); tries = omega (arith, m.tries, fewer); no_fewer = m.no_fewer }
 
   -- made after reads, or not
-  module _ (d2 d3 : D) (k1 k3 : Kept) (c : ℕ) (root : roots.Root) (reads : OnlyReads g 2 d0 d2) (kept : k1 ≡ k0) (cylinders : length k3.free ≡ length k1.free) (made : MakesAtMost g 93149 46458 d2 d3)
+  module _ (d2 d3 : D) (k1 k3 : Kept) (c : ℕ) (root : roots.Root) (reads : OnlyReads g 2 d0 d2) (kept : k1 ≡ k0) (cylinders : length k3.free ≡ length k1.free) (made : MakesAtMost g 41 24 d2 d3)
       (least : (graph : Graph) (ds : List Opened) (id : Puid) (i : Index) → HasSlot g graph ds d0 k0 at id i slot → IsLeastFree (g.content d0) c) where
     abbrev Ends3 : Result Puid Refused → Type 0
     Ends3 r = (graph : Graph) (ds : List Opened) (id : Puid) (i : Index) → HasSlot g graph ds d0 k0 at id i slot → MakeEnds g graph ds id i slot (named c root.word) (bare_object root) d2 d3 k3 r
@@ -506,8 +504,8 @@ module _ {D : Type 0} (g : Ghosts D) (at slot : ℕ) (d0 : D) (k0 : Kept) where
     images r ends graph ds id i has = then g d0 d2 d3 _ (λ x. Holds x graph ⊎ Holds x (with_made graph id i slot (named c root.word) (bare_object root))) (wider g d0 d2 Nothing _ reads.images (λ x none. absurd none)) (ends graph ds id i has).leaves
         (λ x h. ⊎_elim (λ old. inl old) (λ both. inr (c, least graph ds id i has, both)) h)
 
-    all : MakesAtMost g 93200 46500 d0 d3
-    all = makes_then g d0 d2 d3 2 93149 93200 0 46458 46500 (reads_make g d0 d2 2 reads) made (omega arith) (omega arith)
+    all : MakesAtMost g 43 24 d0 d3
+    all = makes_then g d0 d2 d3 2 41 43 0 24 24 (reads_make g d0 d2 2 reads) made (omega arith) (omega arith)
 
     pub made_done : (p : Puid) → p ≡ named c root.word → Ends3 (Ok p) → PutsObject g at slot (bare_object root) root.word d0 d3 k0 k3 (Ok p)
     made_done p is ends = record {
@@ -553,23 +551,20 @@ full_stays (refused.Damaged damage) is = refl
 full_stays refused.Memory is = refl
 
 module _ {D : Type 0} (g : Ghosts D) (at : ℕ) (d0 d1 d2 : D) (k0 k1 k2 : Kept) (j : ℕ) (first : Ends {A = Unit {0}} g at 0 3 2 1 d0 d1 k0 k1 (Ok tt)) (tried : HasTried g d0 d1) where
-  pub fill_refused : (e : Refused) → Ends {A = Bool} g at 0 8 4 j d1 d2 k1 k2 (Err e) → is_full e ≡ false → IsRefusal g at 0 d0 d2 k2 (after_try e) × (is_full (after_try e) ≡ false)
+  pub fill_refused : (e : Refused) → Ends {A = Option Swap} g at 0 8 4 j d1 d2 k1 k2 (Err e) → is_full e ≡ false → IsRefusal g at 0 d0 d2 k2 (after_try e) × (is_full (after_try e) ≡ false)
   fill_refused e ended spare =
-      let both : Ends {A = Bool} g at 0 11 6 (1 + j) d0 d2 k0 k2 (Err (after_try e)) = ends_then_err {A = Unit {0}} {B = Bool} g at 0 d0 d1 d2 k0 k1 k2 tt e 3 2 1 8 4 j first tried ended 11 6 (1 + j) (omega arith) (omega arith) (omega arith) in
+      let both : Ends {A = Option Swap} g at 0 11 6 (1 + j) d0 d2 k0 k2 (Err (after_try e)) = ends_then_err {A = Unit {0}} {B = Option Swap} g at 0 d0 d1 d2 k0 k1 k2 tt e 3 2 1 8 4 j first tried ended 11 6 (1 + j) (omega arith) (omega arith) (omega arith) in
       (both.refused, full_stays e spare)
 
-  module _ (b : Bool) (second : Ends {A = Bool} g at 0 8 4 j d1 d2 k1 k2 (Ok b)) (d3 : D) (k3 : Kept) where
-    both : Ends {A = Bool} g at 0 11 6 (1 + j) d0 d2 k0 k2 (Ok b)
-    both = ends_then_ok {A = Unit {0}} {B = Bool} g at 0 d0 d1 d2 k0 k1 k2 tt b 3 2 1 8 4 j first second 11 6 (1 + j) (omega arith) (omega arith) (omega arith)
+  module _ (put : Option Swap) (second : Ends {A = Option Swap} g at 0 8 4 j d1 d2 k1 k2 (Ok put)) (d3 : D) (k3 : Kept) where
+    both : Ends {A = Option Swap} g at 0 11 6 (1 + j) d0 d2 k0 k2 (Ok put)
+    both = ends_then_ok {A = Unit {0}} {B = Option Swap} g at 0 d0 d1 d2 k0 k1 k2 tt put 3 2 1 8 4 j first second 11 6 (1 + j) (omega arith) (omega arith) (omega arith)
 
     pub commit_refused : (t : Trouble) → IsTrouble g at d2 d3 k3 t → IsRefusal g at 0 d0 d3 k3 (refused_by (trouble_after_try t)) × (is_full (refused_by (trouble_after_try t)) ≡ false)
     commit_refused t why = (
       refusal_of g at 0 d0 d3 k3 (trouble_after_try t) (trouble_after_tried g at 0 d0 d2 d3 k3 11 6 both.calls (tried_then g d0 d1 d2 8 4 tried second.calls) both.told t why),
       not_full (trouble_after_try t),
     )
-
-    pub commit_calls : MakesAtMost g 93138 46452 d2 d3 → MakesAtMost g 93149 46458 d0 d3
-    commit_calls commit = makes_then g d0 d2 d3 11 93138 93149 6 46452 46458 both.calls commit (omega arith) (omega arith)
 
 -- ---- the root of a new object
 

@@ -20,7 +20,7 @@ use Rattle.cyl_map.specs.declared.entry.MapEntry.{MapEntry}
 use Rattle.claims.specs.Claims.{AreClaimed}
 use Rattle.cfs_base.specs.declared.kind.Place.TheVariants.{Leaf, Node}
 use Rattle.cyl_alloc.specs.Space.{AreCounts, Kept, intended}
-use Rattle.index_ops.specs.Changes.{Changes, ChangesLeaf, HasSlot, IsIndexRefusal, IsOneLeaf, PutsSlot, Settles, Takes, index_with, leaf_and_node, short_at}
+use Rattle.index_ops.specs.Changes.{Changes, ChangesLeaf, HasSlot, IsIndexRefusal, IsOneLeaf, PutsSlot, Settles, index_with, leaf_and_node, short_at}
 use Rattle.index_ops.proofs.Indices.{slots_are}
 use Rattle.intentions.specs.Store.{StoreHas}
 use Rattle.special_files.specs.Becomes.{Becomes}
@@ -33,6 +33,8 @@ use Rattle.special_files.specs.Order.{leaf_claims}
 use Rattle.special_files.specs.Refusal.{IsRefusal, IsRefusalOrMemory, IsTrouble, is_damage, is_damaged, is_full}
 use Rattle.special_files.specs.Store.{replaced, without_draft}
 use Rattle.special_files.proofs.Begun.{begun_fresh, store_reads}
+use Rattle.special_files.specs.declared.fill.Swap.{Swap}
+use Rattle.special_files.proofs.CommitDone.{makes_more}
 use Rattle.special_files.proofs.Endings.{trouble_after_tried}
 use Rattle.special_files.proofs.Levels.{length-none, none_is}
 use Rattle.special_files.proofs.Lists.{first_here}
@@ -226,10 +228,6 @@ sound_by (trouble.Damaged damage) is = is
 -- ---- each end of it
 
 module _ {D : Type 0} (g : Ghosts D) (at slot : ℕ) (what : Option Puid) (d0 : D) (k0 : Kept) where
-  module _ (d1 : D) (n t : ℕ) (made : MakesAtMost g n t d0 d1) where
-    pub in_calls : n ≤ 30 → t ≤ 30 → MakesAtMost g 93200 46500 d0 d1
-    in_calls few fewer = record { later = made.later; keeps = made.keeps; same = made.same; faults = made.faults; calls = omega (arith, made.calls, few); tries = omega (arith, made.tries, fewer); no_fewer = made.no_fewer }
-
   -- refused when only reads were made
   pub err_read : (d1 : D) (k1 : Kept) (n : ℕ) (e : Refused) → n ≤ 9 → OnlyReads g n d0 d1 → k1 ≡ k0 → IsIndexRefusal g at slot d0 d1 k1 e
       → ((graph : Graph) (ds : List Opened) (id : Puid) (i : Index) → HasSlot g graph ds d0 k0 at id i slot → is_damaged e ≡ false) → PutsSlot g at slot what d0 d1 k0 k1 (Err e)
@@ -242,7 +240,7 @@ module _ {D : Type 0} (g : Ghosts D) (at slot : ℕ) (what : Option Puid) (d0 : 
     memory = λ same. (kept, reads_within g d0 d1 n 9 few reads);
     untried = λ same. (kept, reads_within g d0 d1 n 9 few reads);
     cylinders = ap (λ (k : Kept). length k.free) kept;
-    calls = in_calls d1 n 0 (reads_make g d0 d1 n reads) (omega (arith, few)) (omega arith);
+    calls = makes_more g d0 d1 n 0 39 22 (omega (arith, few)) (omega arith) (reads_make g d0 d1 n reads);
   }
 
   -- the root has no such slot
@@ -256,10 +254,10 @@ module _ {D : Type 0} (g : Ghosts D) (at slot : ℕ) (what : Option Puid) (d0 : 
 
   -- refused while it was filled
   module _ (d1 d2 : D) (k1 k2 : Kept) (kept : k1 ≡ k0) (was : Drafting) (reads : OnlyReads g 1 d0 d1) where
-    begun_with : (r : Result Bool Refused) → Ends g was.at 0 8 4 (leaf_takes was (slot / 64)) d1 d2 k1 k2 r → Ends g was.at 0 8 4 (leaf_takes was (slot / 64)) d1 d2 k0 k2 r
+    begun_with : (r : Result (Option Swap) Refused) → Ends g was.at 0 8 4 (leaf_takes was (slot / 64)) d1 d2 k1 k2 r → Ends g was.at 0 8 4 (leaf_takes was (slot / 64)) d1 d2 k0 k2 r
     begun_with r = subst (λ (k : Kept). Ends g was.at 0 8 4 (leaf_takes was (slot / 64)) d1 d2 k k2 r) kept
 
-    pub err_fill : (e : Refused) → was.at ≡ at → Ends {A = Bool} g was.at 0 8 4 (leaf_takes was (slot / 64)) d1 d2 k1 k2 (Err e) → is_full e ≡ false
+    pub err_fill : (e : Refused) → was.at ≡ at → Ends {A = Option Swap} g was.at 0 8 4 (leaf_takes was (slot / 64)) d1 d2 k1 k2 (Err e) → is_full e ≡ false
         → ((graph : Graph) (ds : List Opened) (id : Puid) (i : Index) → HasSlot g graph ds d0 k0 at id i slot → Leaves g d1 d2 (λ c. Holds c graph) × (is_damaged e ≡ false)) → PutsSlot g at slot what d0 d2 k0 k2 (Err e)
     err_fill e here told spare on = record {
       done = λ graph ds id i has. tt;
@@ -270,27 +268,27 @@ module _ {D : Type 0} (g : Ghosts D) (at slot : ℕ) (what : Option Puid) (d0 : 
       memory = λ same. absurd (subst (IsRefusal g at 0 d0 d2 k2) same why);
       untried = λ same. let two = ends.untried same in (two.0, reads_then g d0 d1 d2 1 8 9 reads two.1 (omega arith));
       cylinders = ends.cylinders;
-      calls = in_calls d2 9 4 (makes_then g d0 d1 d2 1 8 9 0 4 4 (reads_make g d0 d1 1 reads) ends.calls (omega arith) (omega arith)) (omega arith) (omega arith);
+      calls = makes_then g d0 d1 d2 1 8 39 0 4 22 (reads_make g d0 d1 1 reads) ends.calls (omega arith) (omega arith);
     }
       where
-        ends : Ends {A = Bool} g was.at 0 8 4 (leaf_takes was (slot / 64)) d1 d2 k0 k2 (Err e)
+        ends : Ends {A = Option Swap} g was.at 0 8 4 (leaf_takes was (slot / 64)) d1 d2 k0 k2 (Err e)
         ends = begun_with (Err e) told
 
         why : IsRefusal g at 0 d0 d2 k2 e
         why = refusal_after_reads g at d0 d1 d2 k2 0 1 e reads (subst (λ (n : ℕ). IsRefusal g n 0 d1 d2 k2 e) here ends.refused)
 
     -- filled, and committed or not
-    module _ (d3 : D) (k3 : Kept) (b : Bool) (ended : Ends {A = Bool} g was.at 0 8 4 (leaf_takes was (slot / 64)) d1 d2 k1 k2 (Ok b)) (tried : HasTried g d1 d2) (cylinders : length k3.free ≡ length k2.free)
-        (n t : ℕ) (few : n ≤ 93140) (fewer : t ≤ 46460) (commit : MakesAtMost g n t d2 d3)
+    module _ (d3 : D) (k3 : Kept) (put : Option Swap) (ended : Ends {A = Option Swap} g was.at 0 8 4 (leaf_takes was (slot / 64)) d1 d2 k1 k2 (Ok put)) (tried : HasTried g d1 d2) (cylinders : length k3.free ≡ length k2.free)
+        (commit : MakesAtMost g 30 18 d2 d3)
         (leaves : (graph : Graph) (ds : List Opened) (id : Puid) (i : Index) → HasSlot g graph ds d0 k0 at id i slot → Leaves g d1 d2 (λ c. Holds c graph) × Leaves g d2 d3 (IsOldOrNew graph graph id (index_with i slot what))) where
-      ends : Ends {A = Bool} g was.at 0 8 4 (leaf_takes was (slot / 64)) d1 d2 k0 k2 (Ok b)
-      ends = begun_with (Ok b) ended
+      ends : Ends {A = Option Swap} g was.at 0 8 4 (leaf_takes was (slot / 64)) d1 d2 k0 k2 (Ok put)
+      ends = begun_with (Ok put) ended
 
       first : MakesAtMost g 9 4 d0 d2
       first = makes_then g d0 d1 d2 1 8 9 0 4 4 (reads_make g d0 d1 1 reads) ends.calls (omega arith) (omega arith)
 
-      all : MakesAtMost g 93200 46500 d0 d3
-      all = makes_then g d0 d2 d3 9 n 93200 4 t 46500 first commit (omega (arith, few)) (omega (arith, fewer))
+      all : MakesAtMost g 39 22 d0 d3
+      all = makes_then g d0 d2 d3 9 30 39 4 18 22 first commit (omega arith) (omega arith)
 
       images : (graph : Graph) (ds : List Opened) (id : Puid) (i : Index) → HasSlot g graph ds d0 k0 at id i slot → Leaves g d0 d3 (IsOldOrNew graph graph id (index_with i slot what))
       images graph ds id i has =
@@ -327,8 +325,8 @@ module _ {D : Type 0} (g : Ghosts D) (at slot : ℕ) (what : Option Puid) (d0 : 
         → PutsSlot g at slot what d0 d3 k0 k2 result
     ends_settled result settles done = by result settles
       where
-        calls : MakesAtMost g 1 1 d2 d3 → MakesAtMost g 93200 46500 d0 d3
-        calls one = in_calls d3 4 1 (makes_then g d0 d2 d3 3 1 4 0 1 1 (reads_make g d0 d2 3 both) one (omega arith) (omega arith)) (omega arith) (omega arith)
+        calls : MakesAtMost g 1 1 d2 d3 → MakesAtMost g 39 22 d0 d3
+        calls one = makes_then g d0 d2 d3 3 1 39 0 1 22 (reads_make g d0 d2 3 both) one (omega arith) (omega arith)
 
         images : (P : Image → Type 0) → Leaves g d2 d3 Nothing → Leaves g d0 d3 P
         images P left = then g d0 d2 d3 P Nothing (wider g d0 d2 Nothing P both.images (λ c none. absurd none)) left (λ c none. absurd none)

@@ -59,12 +59,12 @@ fn put<D: Disk>(
     if draft.size() < 8 * slot + 8 {
         return Err(short(index));
     }
-    match draft.fill(disk, space, slot, what) {
-        Ok(true) => {}
-        Ok(false) => return settle(disk),
+    let swap = match draft.fill(disk, space, slot, what) {
+        Ok(Some(swap)) => swap,
+        Ok(None) => return settle(disk),
         Err(error) => return Err(error),
-    }
-    match draft.commit(disk, space) {
+    };
+    match draft.commit_swap(disk, space, swap) {
         Ok(()) => Ok(()),
         Err(trouble) => Err(Refused::from(trouble.after_try())),
     }

@@ -142,7 +142,7 @@ fn make_at<D: Disk>(
     ensures refused { IfErr result (λ e. IsRefusal D.Disk draft.at 0 disk.old disk.new space.new e × (is_full e ≡ false)) }
     ensures untried { IfErr result (λ e. e ≡ refusals.Disk false → (space.new ≡ space.old) × OnlyReads D.Disk 3 disk.old disk.new) }
     ensures cylinders { length space.new.free ≡ length space.old.free }
-    ensures calls { MakesAtMost D.Disk 93149 46458 disk.old disk.new }
+    ensures calls { MakesAtMost D.Disk 41 24 disk.old disk.new }
 {
     match make_root(disk, space, block, root) {
         Ok(()) => {}
@@ -154,11 +154,12 @@ fn make_at<D: Disk>(
         block: block.0,
         word: root.word,
     };
-    match draft.fill(disk, space, slot, Some(made)) {
-        Ok(_) => {}
+    let swap = match draft.fill(disk, space, slot, Some(made)) {
+        Ok(Some(swap)) => swap,
+        Ok(None) => unreachable!(),
         Err(error) => return Err(error.after_try()),
-    }
-    match draft.commit(disk, space) {
+    };
+    match draft.commit_swap(disk, space, swap) {
         Ok(()) => Ok(made),
         Err(trouble) => Err(Refused::from(trouble.after_try())),
     }

@@ -5,12 +5,12 @@ use Rattle.std.specs.List.{range_with_len}
 use Rattle.std.proofs.Math.ListN.{length-set}
 use Rattle.std.proofs.Math.Path.{fun_ext}
 use Rattle.std.proofs.lemmas.Bool.{and_from, and_parts, eqb-true}
-use Rattle.cfs_base.specs.Disk.{AreBlocks, Image, IsSameDisk, Nothing, Written, block_at}
+use Rattle.cfs_base.specs.Disk.{AreBlocks, Image, IsSameDisk, Written, block_at}
 use Rattle.cfs_base.specs.Run.{Leaves, left_now}
 use Rattle.cfs_base.specs.declared.disk.Disk.{Ghosts}
 use Rattle.cfs_base.specs.declared.identifier.Puid.{Puid}
 use Rattle.cfs_base.specs.declared.kind.Place.TheVariants.{Leaf}
-use Rattle.cfs_base.proofs.Runs.{on, still_tells, then}
+use Rattle.cfs_base.proofs.Runs.{still_tells, then}
 use Rattle.block_tree.specs.declared.root.Root as roots
 use Rattle.cyl_alloc.specs.Space.{AreCounts, Kept, free_in_cylinder}
 use Rattle.cyl_map.specs.Volume.{entry_in, is_free_entry, is_free_in}
@@ -81,18 +81,6 @@ module _ {D : Type 0} (g : Ghosts D) (graph : Graph) (id : Puid) (f : File) (roo
       is n k small real =
           let there = leaf_held a graph id (objects.File f) holds at root rooted n k small real in
           sym (content_is root.fill (leaves_of a root (128 * n + k)) (block_at a (leaf_of a root n k)) (ap bytes_held there) (whole a graph id f holds at root rooted same blocks (128 * n + k) (held a (leaf_of a root n k)) there))
-
-  -- a call that writes nothing
-  pub amid_on : (upto : ℕ) (mid new : D) (kept : Kept) → Amid upto mid kept → g.content new ≡ g.content mid → ((b : ℕ) → IsTrue (g.told mid b) → IsTrue (g.told new b)) → Leaves g mid new Nothing
-      → IsSameDisk g.blocks g.honest g.tells_images mid new → Amid upto new kept
-  amid_on upto mid new kept amid content told images same = record {
-    tells = still_tells g amid.tells told same;
-    content = subst (λ (c : Image). IsAmong a graph id root (IsWrittenTo a root offset bytes upto) c) (sym content) amid.content;
-    here = λ c left. ⊎_elim (λ was. amid.here c was) (λ none. absurd none) (images.now c left);
-    leaves = on g start mid new _ amid.leaves images;
-    only = subst (λ (c : Image). ChangesOnly (λ e. of_owner id.block e) a c) (sym content) amid.only;
-    counts = subst (λ (c : Image). AreCounts c kept) (sym content) amid.counts;
-  }
 
   -- a leaf that isn't held has nothing to be written
   pub amid_skips : (n k : ℕ) (mid : D) (kept : Kept) → k < 128 → leaf_of a root n k ≡ 0 → Amid (128 * n + k) mid kept → Amid (128 * n + k + 1) mid kept

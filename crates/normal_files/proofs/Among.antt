@@ -1,5 +1,5 @@
 -- Images that a change of a file in place may leave.
-use Rattle.std.proofs.Common.{◌≡◌, ◌≢◌, ◌⊎◌, inl, inr, ℕ, zero, suc, ◌+◌, ◌*◌, ◌/◌, ◌%◌, ◌<◌, List, [], get_or, set, Some, None, refl, sym, ◌∙◌, ap, subst, get_or-set_other, get_or-set_same, arith}
+use Rattle.std.proofs.Common.{◌≡◌, ◌≢◌, ◌⊎◌, inl, inr, ℕ, ◌+◌, ◌*◌, ◌%◌, ◌<◌, List, [], get_or, set, Some, None, refl, sym, ◌∙◌, ap, subst, get_or-set_other, get_or-set_same, arith}
 use Rattle.std.proofs.lemmas.Bool.{cases_eq}
 use Rattle.std.proofs.lemmas.Option.{same_Some}
 use Rattle.cfs_base.specs.Disk.{Image, block_at}
@@ -7,14 +7,13 @@ use Rattle.cfs_base.specs.declared.identifier.Puid.{Puid}
 use Rattle.cfs_base.specs.declared.kind.Place.{Place}
 use Rattle.cfs_base.specs.declared.kind.Place.TheVariants.{Leaf, Node, Root}
 use Rattle.block_tree.specs.declared.root.Root as roots
-use Rattle.block_tree.specs.Pointers.{leaf_pointers, pointers_of}
 use Rattle.block_tree.specs.Root.{IsRootBlock, root_spelling}
 use Rattle.cyl_map.proofs.Volumes.{entry_in-set}
 use Rattle.leaf_changes.specs.Leaves.{LeavesFit}
 use Rattle.ufs_model.specs.declared.object.Object.{Object}
 use Rattle.ufs_model.specs.Graph.{Graph, object_at, with_object}
 use Rattle.vol_image.specs.Frame.{Frames, IsBlockOf, IsLoose}
-use Rattle.vol_image.specs.Part.{BelongsTo, SameAt, is_committed, part_at, part_of}
+use Rattle.vol_image.specs.Part.{BelongsTo, is_committed, part_at, part_of}
 use Rattle.vol_image.specs.Seen.{held_at}
 use Rattle.vol_image.specs.Sight.{sight}
 use Rattle.vol_image.specs.Sound.{Holds, ReadsAs}
@@ -28,7 +27,8 @@ use Rattle.normal_files.specs.Laid.{IsAt, IsRooted, leaf_of, leaves_of, node_of,
 use Rattle.normal_files.specs.Nodes.{leaves_at}
 use Rattle.normal_files.proofs.Laid.{rooted_reads}
 use Rattle.normal_files.proofs.Owned.{node_block as owned_node, leaf_block as owned_leaf}
-use Rattle.normal_files.proofs.Trees.{leaf_stands}
+use Rattle.normal_files.proofs.Trees.{each_leaf, leaf_stands, same_leaves, stands_at}
+use Rattle.normal_files.proofs.Places.{leaf_no_node, leaf_no_root, one_leaf}
 
 -- blocks at different places are different
 pub places_differ : (a : Image) (m n r : ℕ) (p q : Place) → BelongsTo r p (part_at a m) → BelongsTo r q (part_at a n) → m ≡ n → p ≡ q
@@ -125,10 +125,10 @@ module _ (a : Image) (graph : Graph) (id : Puid) (o : Object) (holds : Holds a g
         let below = (rooted.laid.leaves n k small real).below in
         record {
           frames = frames_content a (others graph id) c x v among.frames (own_loose x (Leaf (128 * n + k)) mine);
-          root_kept = record { part = part id.block ∙ among.root_kept.part; content = get_or-set_other c x id.block v [] (λ same. not_leaf (128 * n + k) (places_differ a id.block x id.block Root (Leaf (128 * n + k)) rooted.part mine same)) ∙ among.root_kept.content };
+          root_kept = record { part = part id.block ∙ among.root_kept.part; content = get_or-set_other c x id.block v [] (λ same. leaf_no_root (128 * n + k) (sym (places_differ a id.block x id.block Root (Leaf (128 * n + k)) rooted.part mine same))) ∙ among.root_kept.content };
           nodes = λ m there. record {
             part = part (node_of root m) ∙ (among.nodes m there).part;
-            content = get_or-set_other c x (node_of root m) v [] (λ same. no_node m (128 * n + k) (places_differ a (node_of root m) x id.block (Node m) (Leaf (128 * n + k)) (node_is m there) mine same)) ∙ (among.nodes m there).content;
+            content = get_or-set_other c x (node_of root m) v [] (λ same. leaf_no_node (128 * n + k) m (sym (places_differ a (node_of root m) x id.block (Node m) (Leaf (128 * n + k)) (node_is m there) mine same))) ∙ (among.nodes m there).content;
           };
           parts = λ m j low there. part (leaf_of a root m j) ∙ among.parts m j low there;
           bytes = λ m j low there. elim (cases_eq (128 * m + j) (128 * n + k)) [
@@ -139,58 +139,30 @@ module _ (a : Image) (graph : Graph) (id : Puid) (o : Object) (holds : Holds a g
                 subst (λ (l : ℕ). Q l (block_at (set c x v) (leaf_of a root m j))) (sym same)
                 (subst (Q (128 * n + k)) (sym (ap (block_at (set c x v)) here ∙ get_or-set_same c x v [] (omega (arith, below, among.frames.size)))) new)
             | inr other ↦
-                let apart = λ (same : leaf_of a root m j ≡ x). other (which _ _ (places_differ a (leaf_of a root m j) x id.block (Leaf (128 * m + j)) (Leaf (128 * n + k)) (leaf_is m j low there) mine same)) in
+                let apart = λ (same : leaf_of a root m j ≡ x). other (one_leaf _ _ (places_differ a (leaf_of a root m j) x id.block (Leaf (128 * m + j)) (Leaf (128 * n + k)) (leaf_is m j low there) mine same)) in
                 subst (Q (128 * m + j)) (sym (get_or-set_other c x (leaf_of a root m j) v [] apart)) (old (128 * m + j) (block_at c (leaf_of a root m j)) other (among.bytes m j low there))
           ];
         }
-      where
-        not_leaf : (l : ℕ) → Root ≡ Leaf l → ⊥
-        not_leaf l same = cc
-
-        no_node : (m l : ℕ) → Node m ≡ Leaf l → ⊥
-        no_node m l same = cc
-
-        which : (l m : ℕ) → Leaf l ≡ Leaf m → l ≡ m
-        which l m same = cc
 
     -- ---- the file in such an image
 
     module _ (c : Image) (among : IsAmong a graph id root P c) where
       pub same_node : (n : ℕ) → leaves_at c (node_of root n) ≡ leaves_at a (node_of root n)
-      same_node n = by (node_of root n) (among.nodes n)
-        where
-          by : (p : ℕ) → (p ≢ 0 → SameAt a c p) → leaves_at c p ≡ leaves_at a p
-          by zero same = refl
-          by (suc p) same = ap (pointers_of leaf_pointers) (same (λ none. cc)).content
+      same_node n = same_leaves c a (node_of root n) (λ real. (among.nodes n real).content)
 
       pub same_leaf : (n k : ℕ) → leaf_of c root n k ≡ leaf_of a root n k
       same_leaf n k = ap (λ (ns : List ℕ). get_or ns k 0) (same_node n)
 
       -- each leaf is held in both or in none
-      pub leaf_either : (l : ℕ) → ((leaves_of c root l ≡ None) × (leaves_of a root l ≡ None)) ⊎ ((x : ℕ) × (leaves_of a root l ≡ Some (held a x)) × (leaves_of c root l ≡ Some (held c x)) × P l (block_at c x))
-      leaf_either l = by (leaf_of a root n k) refl
-        where
-          n : ℕ
-          n = l / 128
+      abbrev Either : ℕ → Type 0
+      Either l = ((leaves_of c root l ≡ None) × (leaves_of a root l ≡ None)) ⊎ ((x : ℕ) × (leaves_of a root l ≡ Some (held a x)) × (leaves_of c root l ≡ Some (held c x)) × P l (block_at c x))
 
-          k : ℕ
-          k = l % 128
-
-          small : k < 128
-          small = omega arith
-
-          at_l : 128 * n + k ≡ l
-          at_l = omega arith
-
-          in_a : leaves_of a root l ≡ held_at a (leaf_of a root n k)
-          in_a = ap (leaves_of a root) (sym at_l) ∙ leaf_stands a (root_spelling root) root is_root n k small
-
-          in_c : leaves_of c root l ≡ held_at c (leaf_of a root n k)
-          in_c = ap (leaves_of c root) (sym at_l) ∙ leaf_stands c (root_spelling root) root is_root n k small ∙ ap (held_at c) (same_leaf n k)
-
-          by : (x : ℕ) → leaf_of a root n k ≡ x → ((leaves_of c root l ≡ None) × (leaves_of a root l ≡ None)) ⊎ ((x : ℕ) × (leaves_of a root l ≡ Some (held a x)) × (leaves_of c root l ≡ Some (held c x)) × P l (block_at c x))
-          by zero is = inl (in_c ∙ ap (held_at c) is, in_a ∙ ap (held_at a) is)
-          by (suc x) is = inr (leaf_of a root n k, in_a ∙ held_there a (leaf_of a root n k) (λ none. cc), in_c ∙ held_there c (leaf_of a root n k) (λ none. cc), subst (λ (m : ℕ). P m (block_at c (leaf_of a root n k))) at_l (among.bytes n k small (λ none. cc)))
+      pub leaf_either : (l : ℕ) → Either l
+      leaf_either = each_leaf Either (λ n k small.
+          let x = leaf_of a root n k in
+          let in_a = stands_at a root rooted.laid.good n k small in
+          let in_c = stands_at c root rooted.laid.good n k small ∙ ap (held_at c) (same_leaf n k) in
+          elim (cases_eq x 0) [ inl is ↦ inl (in_c ∙ ap (held_at c) is, in_a ∙ ap (held_at a) is) | inr real ↦ inr (x, in_a ∙ held_there a x real, in_c ∙ held_there c x real, among.bytes n k small real) ])
 
       pub among_rooted : LeavesFit root (leaves_of c root) → IsRooted c id root
       among_rooted fit = record {

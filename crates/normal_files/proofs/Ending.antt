@@ -23,6 +23,7 @@ use Rattle.std.specs.Prelude.{IsSome, None, Some, Option}
 use Rattle.normal_files.specs.Ends.{Finishes, HasGone, IsNoSpace, IsStop, NoMap, OtherCount, is_damaged, refused_after}
 use Rattle.normal_files.specs.Steps.{HasStoppedBy, WritesBlock}
 use Rattle.normal_files.specs.Takes.{Claims, GetsNode, Had, leaf_takes}
+use Rattle.normal_files.proofs.Come.{makes_none, makes_within, reads_none}
 
 -- ---- one refusal told as another
 
@@ -71,41 +72,14 @@ same_after (trouble.Damaged damage) = refl
 -- ---- runs
 
 pub gone_begins : {D : Type 0} (g : Ghosts D) (d : D) (kept : Kept) → HasGone g 0 0 0 false d d kept kept
-gone_begins g d kept = record {
-  told = λ b h. h;
-  makes = record { later = omega arith; keeps = λ t c le h. h; same = record { size = refl; honesty = refl; telling = refl }; faults = omega arith; calls = omega arith; tries = omega arith; no_fewer = omega arith };
-  tries = λ yes. cc;
-  reads = λ none. (
-    refl,
-    record {
-      content = refl;
-      told = λ b h. h;
-      images = record { later = omega arith; since = λ t c le h. inl h; now = λ c h. inl h };
-      keeps = λ t c le h. h;
-      same = record { size = refl; honesty = refl; telling = refl };
-      tries = refl;
-      faults = omega arith;
-      calls = omega arith;
-    },
-  );
-  cylinders = refl;
-  takes = omega arith;
-}
+gone_begins g d kept = record { told = λ b h. h; makes = makes_none g d 0 0; tries = λ yes. cc; reads = λ none. (refl, reads_none g d); cylinders = refl; takes = omega arith }
 
 module _ {D : Type 0} (g : Ghosts D) (start mid new : D) (k0 k1 k2 : Kept) (n t k : ℕ) where
   -- the same with greater bounds
   pub gone_within : (tried : Bool) (m s j : ℕ) → n ≤ m → t ≤ s → k ≤ j → HasGone g n t k tried start mid k0 k1 → HasGone g m s j tried start mid k0 k1
   gone_within tried m s j more tries blocks gone = record {
     told = gone.told;
-    makes = record {
-      later = gone.makes.later;
-      keeps = gone.makes.keeps;
-      same = gone.makes.same;
-      faults = gone.makes.faults;
-      calls = omega (arith, gone.makes.calls, more);
-      tries = omega (arith, gone.makes.tries, tries);
-      no_fewer = gone.makes.no_fewer;
-    };
+    makes = makes_within g start mid n t m s more tries gone.makes;
     tries = gone.tries;
     reads = λ none. ((gone.reads none).0, reads_within g start mid n m more (gone.reads none).1);
     cylinders = gone.cylinders;
@@ -163,15 +137,7 @@ finishes_within g start new k0 k2 e n t k m s j more tries blocks ends = record 
   untried = λ same. let two = ends.untried same in (two.0, reads_within g start new n m more two.1);
   cylinders = ends.cylinders;
   takes = tt;
-  calls = record {
-    later = ends.calls.later;
-    keeps = ends.calls.keeps;
-    same = ends.calls.same;
-    faults = ends.calls.faults;
-    calls = omega (arith, ends.calls.calls, more);
-    tries = omega (arith, ends.calls.tries, tries);
-    no_fewer = ends.calls.no_fewer;
-  };
+  calls = makes_within g start new n t m s more tries ends.calls;
 }
 
 -- ---- a block taken
@@ -215,15 +181,7 @@ module _ {D : Type 0} (g : Ghosts D) (old new : D) (before after : Kept) (e : Ma
     untried = λ same. (is.kept refl, reads_within g old new 1 most (omega (arith, lm)) (is.unless_tried (ap had_tried same)));
     cylinders = is.cylinders;
     takes = tt;
-    calls = record {
-      later = is.calls.later;
-      keeps = is.calls.keeps;
-      same = is.calls.same;
-      faults = is.calls.faults;
-      calls = omega (arith, is.calls.calls, lm);
-      tries = omega (arith, is.calls.tries, lt);
-      no_fewer = is.calls.no_fewer;
-    };
+    calls = makes_within g old new 2 1 most tries lm lt is.calls;
   }
 
   -- where the maps are whole and counted a Free block is found, or a device call failed
@@ -246,6 +204,10 @@ module _ {D : Type 0} (g : Ghosts D) (old new : D) (before after : Kept) (e : Ma
 
 -- ---- one leaf
 
+pub takes_one : (h : Bool) → 1 ≤ leaf_takes h
+takes_one true = omega arith
+takes_one false = omega arith
+
 module _ {D : Type 0} (g : Ghosts D) (owner number : ℕ) (held : Bool) (block : ℕ) (e : MapEntry) (d0 d1 d2 d3 : D) (k0 k1 k2 : Kept) (x : BlockNo) (enters : Enters g e d0 d1 k0 k1 (Ok x)) where
   gone1 : HasGone g 2 1 1 true d0 d1 k0 k1
   gone1 = gone_on g d0 d0 d1 k0 k0 k1 0 0 0 false 2 1 1 (gone_begins g d0 k0) enters.told enters.calls enters.made enters.cylinders (entered_takes g d0 d1 k0 k1 e x enters)
@@ -259,10 +221,6 @@ module _ {D : Type 0} (g : Ghosts D) (owner number : ℕ) (held : Bool) (block :
     gone2 : HasGone g 4 2 (leaf_takes held) true d0 d2 k0 k2
     gone2 = by gets
       where
-        takes_one : (h : Bool) → 1 ≤ leaf_takes h
-        takes_one true = omega arith
-        takes_one false = omega arith
-
         by : GetsNode g number owner held block d1 d2 k1 k2 (Ok y) → HasGone g 4 2 (leaf_takes held) true d0 d2 k0 k2
         by (Had some same kept is) =
             subst (λ (d : D). HasGone g 4 2 (leaf_takes held) true d0 d k0 k2) (sym same) (subst (HasGone g 4 2 (leaf_takes held) true d0 d1 k0) (sym kept) (gone_within g d0 d1 d1 k0 k1 k1 2 1 1 true 4 2 (leaf_takes held) (omega arith) (omega arith) (takes_one held) gone1))
@@ -273,6 +231,3 @@ module _ {D : Type 0} (g : Ghosts D) (owner number : ℕ) (held : Bool) (block :
       pub leaf_done : {A : Type 0} (v : A) → WritesBlock g 1 at content d2 d3 (Ok tt) → Finishes g 5 3 (leaf_takes held) d0 d3 k0 k2 (Ok v)
       leaf_done v writes = gone_done g d0 d3 d3 k0 k2 k2 5 3 (leaf_takes held) v
           (gone_within g d0 d3 d3 k0 k2 k2 5 3 (leaf_takes held + 0) true 5 3 (leaf_takes held) (omega arith) (omega arith) (omega arith) (gone_on g d0 d2 d3 k0 k2 k2 4 2 (leaf_takes held) true 1 1 0 gone2 writes.told writes.calls writes.tried refl (omega arith)))
-
-      pub leaf_err : {A : Type 0} (t : Trouble) → WritesBlock g 1 at content d2 d3 (Err t) → Finishes {A = A} g 5 3 (leaf_takes held) d0 d3 k0 k2 (Err (after_try (refused_by t)))
-      leaf_err t writes = stopped_tried g d0 d2 d3 k0 k2 k2 4 2 (leaf_takes held) 1 1 0 (refused_by t) gone2 (λ room. stop_by g d2 d3 k2 t writes.refused) refl writes.calls 5 3 (leaf_takes held) (omega arith) (omega arith) (omega arith)

@@ -24,6 +24,3 @@ module _ (P : ℕ → Bool) where
       let n : to + 1 - from ≡ suc (to - from) = omega (arith, le) in
       let at : from + (to - from) ≡ to = omega (arith, le) in
       ap (λ (m : ℕ). length (filter P (range_with_len from m))) n ∙ filter_more from (to - from) ∙ ap (λ (m : ℕ). length (filter P (range_with_len from (to - from))) + cond {A = ℕ} (P m) 1 0) at
-
-  pub filter_none : (from to : ℕ) → to ≤ from → length (filter P (range_with_len from (to - from))) ≡ 0
-  filter_none from to le = let n : to - from ≡ 0 = omega (arith, le) in ap (λ (m : ℕ). length (filter P (range_with_len from m))) n

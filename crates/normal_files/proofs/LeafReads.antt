@@ -1,7 +1,6 @@
 -- Leaves that are read one after another.
-use Rattle.std.proofs.Common.{◌≡◌, ◌≢◌, inl, inr, ℕ, zero, suc, ◌+◌, ◌*◌, ◌/◌, ◌%◌, ◌<◌, ◌≤◌, List, length, Option, refl, sym, ◌∙◌, ap, subst, arith}
-use Rattle.std.specs.Prelude.{max, min, replicate, slice_index, slice_range}
-use Rattle.std.proofs.lemmas.Bool.{cases_lt}
+use Rattle.std.proofs.Common.{◌≡◌, ◌≢◌, ℕ, zero, suc, ◌+◌, ◌*◌, ◌%◌, ◌<◌, ◌≤◌, List, length, Option, refl, sym, ◌∙◌, ap, subst, arith}
+use Rattle.std.specs.Prelude.{min, replicate, slice_index, slice_range}
 use Rattle.std.proofs.lemmas.List.{ext_get_or, take_at}
 use Rattle.cfs_base.specs.Disk.{AreBlocks, Image, block_at}
 use Rattle.block_tree.specs.declared.root.Root as roots
@@ -27,10 +26,6 @@ content_read image fill zero long = refl
 content_read image fill (suc n) long = take_at (block_at image (suc n)) (replicate 512 fill) 512 (long (λ none. cc))
 
 module _ (fill : ℕ) (leaf : ℕ → Option Held) (offset : ℕ) (part : List ℕ) where
-  -- before the first leaf nothing is to be read
-  pub read_from : (n : ℕ) → IsReadTo n fill leaf offset part → IsReadTo (max (offset / 512) n) fill leaf offset part
-  read_from n read k inside early = elim (cases_lt (offset + k) (512 * n)) [ inl had ↦ read k inside had | inr past ↦ absurd (omega arith) ]
-
   -- nor is it past the last
   pub read_on : (n m : ℕ) → min (leaves_in (offset + length part)) m ≤ n → IsReadTo n fill leaf offset part → IsReadTo m fill leaf offset part
   read_on n m last read k inside early = read k inside (omega (arith, last, early, inside))

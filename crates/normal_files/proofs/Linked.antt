@@ -18,6 +18,7 @@ use Rattle.normal_files.specs.Laid.{IsAt, IsRooted, leaf_of, leaves_of, node_of}
 use Rattle.normal_files.specs.Nodes.{leaves_at}
 use Rattle.normal_files.proofs.Among.{places_differ}
 use Rattle.normal_files.proofs.Trees.{leaf_stands}
+use Rattle.normal_files.proofs.Places.{leaf_no_node, leaf_no_root, node_no_root}
 
 -- From image c to image d node n, which is at block y, has these leaves: those that it had, and new ones.
 pub record IsLinked (c d : Image) (id : Puid) (r s : roots.Root) (n y : ℕ) (leaves : List ℕ) : Type 0 where
@@ -35,15 +36,6 @@ pub record IsLinked (c d : Image) (id : Puid) (r s : roots.Root) (n y : ℕ) (le
   pub word : s.word ≡ r.word
   pub each : (k : ℕ) → k < 128 → (get_or leaves k 0 ≡ leaf_of c r n k) ⊎ IsAt c id.block (Leaf (128 * n + k)) (get_or leaves k 0)
   pub leads : (k : ℕ) × (k < 128) × (get_or leaves k 0 ≢ 0)
-
-no_node : (l n : ℕ) → Leaf l ≢ Node n
-no_node l n same = cc
-
-no_root : (l : ℕ) → Leaf l ≢ Root
-no_root l same = cc
-
-node_no_root : (n : ℕ) → Node n ≢ Root
-node_no_root n same = cc
 
 other_node : (m n : ℕ) → m ≢ n → Node m ≢ Node n
 other_node m n apart same = apart (cc)
@@ -126,7 +118,7 @@ module _ (c d : Image) (id : Puid) (r s : roots.Root) (n y : ℕ) (leaves : List
       by zero is = refl
       by (suc z) is =
           let own = subst (λ (w : ℕ). BelongsTo id.block (Leaf (128 * m + k)) (part_at c w)) is (leaf_is m k small (λ none. cc)).part in
-          ap bytes_held (held_there d (suc z) (λ none. cc)) ∙ ap Some (stays (suc z) (Leaf (128 * m + k)) own (no_node (128 * m + k) n) (no_root (128 * m + k))) ∙ sym (ap bytes_held (held_there c (suc z) (λ none. cc)))
+          ap bytes_held (held_there d (suc z) (λ none. cc)) ∙ ap Some (stays (suc z) (Leaf (128 * m + k)) own (leaf_no_node (128 * m + k) n) (leaf_no_root (128 * m + k))) ∙ sym (ap bytes_held (held_there c (suc z) (λ none. cc)))
 
   -- where the pointer stays the leaf stays
   pub bytes_stay : (m k : ℕ) → k < 128 → leaf_of d s m k ≡ leaf_of c r m k → bytes_held (leaves_of d s (128 * m + k)) ≡ bytes_held (leaves_of c r (128 * m + k))

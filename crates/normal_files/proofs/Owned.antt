@@ -1,5 +1,5 @@
 -- The blocks of a file that is read by its root: the root, and the nodes and leaves to which the pointers lead.
-use Rattle.std.proofs.Common.{◌≡◌, ◌≢◌, ◌⊎◌, inl, inr, ℕ, ◌<◌, List, [], ◌∷◌, Some, refl, sym, ◌∙◌, ap, subst}
+use Rattle.std.proofs.Common.{◌≡◌, ◌≢◌, ◌⊎◌, inl, inr, ℕ, ◌<◌, List, [], ◌∷◌, Some, refl, sym, ◌∙◌, ap, subst, true}
 use Rattle.cfs_base.specs.Disk.{Image}
 use Rattle.cfs_base.specs.declared.identifier.Puid.{Puid}
 use Rattle.block_tree.specs.declared.root.Root as roots
@@ -10,10 +10,15 @@ use Rattle.vol_image.specs.Seen.{tree_in}
 use Rattle.vol_image.specs.Sight.{first_or, sight}
 use Rattle.vol_image.proofs.AtRoot.{no_shadows, read_by_root}
 use Rattle.vol_image.proofs.Views.{held}
-use Rattle.vol_owners.specs.Account.{HasItsBlocks}
+use Rattle.vol_owners.specs.Account.{HasItsBlocks, Opened}
 use Rattle.vol_owners.specs.Owner.{is_had, is_leaving, is_of}
 use Rattle.normal_files.specs.Laid.{IsRooted, leaf_of, node_of}
 use Rattle.normal_files.proofs.Laid.{each, leaf_there, node_there}
+use Rattle.std.specs.List.{list_all}
+use Rattle.std.proofs.lemmas.Bool.{and_from, and_parts}
+use Rattle.ufs_model.specs.declared.object.Object.{Object}
+use Rattle.ufs_model.specs.Graph.{Graph, is_there, with_object}
+use Rattle.ufs_model.proofs.WellGraphs.{still_there}
 
 -- one of these blocks
 abbrev pub IsOwn : Image → Puid → roots.Root → ℕ → Type 0
@@ -66,3 +71,12 @@ blocks_stay a b id root next one two nodes same entries has = record {
     forth m (inl is) = inl is
     forth m (inr (inl (n, real, is))) = inr (inl (n, λ none. real (sym (nodes n) ∙ none), is ∙ sym (nodes n)))
     forth m (inr (inr (n, k, small, real, is))) = inr (inr (n, k, small, λ none. real (sym (same n k) ∙ none), is ∙ sym (same n k)))
+
+-- ---- drafts of objects, one of which is changed
+
+-- drafts are still on objects that are there
+pub all_there : (graph : Graph) (id : Puid) (o : Object) (ds : List Opened) → list_all (λ d. is_there graph d.id) ds ≡ true → list_all (λ d. is_there (with_object graph id o) d.id) ds ≡ true
+all_there graph id o [] there = refl
+all_there graph id o (e ∷ es) there =
+    let two = and_parts (is_there graph e.id) (list_all (λ d. is_there graph d.id) es) there in
+    and_from _ _ (still_there graph id o e.id two.0) (all_there graph id o es two.1)

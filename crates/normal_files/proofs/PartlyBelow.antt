@@ -1,5 +1,5 @@
 -- Leaves that are written in part.
-use Rattle.std.proofs.Common.{◌≡◌, ◌⊎◌, inl, inr, ℕ, ◌+◌, ◌*◌, ◌/◌, ◌<◌, ◌≤◌, ap, arith}
+use Rattle.std.proofs.Common.{◌⊎◌, inl, inr, ℕ, ◌+◌, ◌*◌, ◌/◌, ◌<◌, ◌≤◌, arith}
 use Rattle.ufs_model.specs.Object.{leaves_in}
 use Rattle.normal_files.specs.Touched.{partly_below}
 
@@ -13,13 +13,6 @@ unfolding partly_below
 partly_one offset count leaf from to (inl late) = omega arith
 partly_one offset count leaf from to (inr early) = omega arith
 
-pub partly_two : (offset count leaf : ℕ) → partly_below offset count leaf ≤ 2
-unfolding partly_below
-partly_two offset count leaf = omega arith
-
 pub partly_up : (offset count leaf last : ℕ) → leaf ≤ last → partly_below offset count leaf ≤ partly_below offset count last
 unfolding partly_below
 partly_up offset count leaf last le = omega (arith, le)
-
-pub next_few : (offset count high low : ℕ) → high ≡ low → partly_below offset count high ≡ partly_below offset count low
-next_few offset count high low same = ap (partly_below offset count) same

@@ -1,43 +1,40 @@
 -- A file of which some leaves have their new bytes is between the old file and the new.
 use Rattle.std.proofs.Common.{◌≡◌, ◌≢◌, ◌⊎◌, inl, inr, ℕ, ◌+◌, ◌*◌, ◌/◌, ◌<◌, ◌≤◌, Bool, true, false, List, length, Option, Some, None, refl, sym, ◌∙◌, ap, subst, arith}
 use Rattle.std.specs.Prelude.{◌&&◌, nat_le, nat_lt}
-use Rattle.std.proofs.lemmas.Bool.{cases_lt}
 use Rattle.std.proofs.lemmas.Bool.Decides.{nat_tests}
 use Rattle.cfs_base.specs.Disk.{AreBlocks, Image, block_at}
 use Rattle.cfs_base.specs.declared.identifier.Puid.{Puid}
 use Rattle.cfs_base.specs.declared.kind.Kind.TheVariants as kinds
-use Rattle.cfs_base.specs.declared.kind.FileKind.{FileKind}
-use Rattle.cfs_base.specs.declared.kind.FileKind.TheVariants as file_kinds
 use Rattle.block_tree.specs.declared.root.Root as roots
 use Rattle.block_tree.specs.Root.{root_spelling}
 use Rattle.block_tree.specs.Tree.{levels_of, path_to, tree_of}
 use Rattle.leaf_changes.specs.Bytes.{patched}
-use Rattle.leaf_changes.specs.Gives.{GivesFile, kind_of}
+use Rattle.leaf_changes.specs.Changes.{SetsSize}
+use Rattle.leaf_changes.specs.Gives.{GivesFile}
 use Rattle.leaf_changes.specs.Leaves.{LeavesFit, Writes, bytes_held}
-use Rattle.leaf_changes.proofs.Between.{between, leaf_of, mixed_fit}
+use Rattle.leaf_changes.proofs.Between.{mixed_fit}
+use Rattle.leaf_changes.proofs.Fits.{same_object}
 use Rattle.leaf_changes.proofs.Contents.{content_is, length-leaf_content}
-use Rattle.leaf_changes.proofs.Given.{file_to_leaves, same_kind, some_file}
-use Rattle.leaf_changes.proofs.Overlays.{laid_outside, length-overlaid, over_early, over_past}
+use Rattle.leaf_changes.proofs.Given.{file_to_leaves}
+use Rattle.leaf_changes.proofs.Overlays.{laid_outside, over_early, over_past}
 use Rattle.leaf_changes.proofs.Written.{writes_fit, writes_object}
 use Rattle.ufs_model.specs.declared.object.File.{File}
 use Rattle.ufs_model.specs.declared.object.Object.TheVariants as objects
-use Rattle.ufs_model.specs.Graph.{Graph, object_at, with_object}
+use Rattle.ufs_model.specs.Graph.{Graph, object_at}
 use Rattle.ufs_model.specs.Object.{changed_object, leaves_in, written}
 use Rattle.ufs_model.specs.declared.change.Change.TheVariants.{Overwrite}
 use Rattle.vol_image.specs.Reading.{leaf_content}
 use Rattle.vol_image.specs.Seen.{Held}
 use Rattle.vol_image.specs.Sound.{Holds}
-use Rattle.vol_image.specs.Survives.{leaf_of_file}
 use Rattle.vol_image.proofs.Views.{held, held_is}
 use Rattle.normal_files.specs.Among.{IsAmong, IsEither}
 use Rattle.normal_files.specs.Laid.{IsRooted, leaves_of, object_of}
 use Rattle.normal_files.specs.Standing.{IsPartly}
 use Rattle.normal_files.proofs.Laid.{tree_of_laid}
-use Rattle.normal_files.proofs.Among.{among_holds, leaf_either}
-
-pub no_index : (k : FileKind) → kind_of k ≢ kinds.Index
-no_index file_kinds.Normal same = cc
-no_index file_kinds.Special same = cc
+use Rattle.normal_files.proofs.Among.{among_rooted, leaf_either}
+use Rattle.normal_files.proofs.Partly.{no_index, partly}
+use Rattle.vol_image.specs.Frame.{Frames}
+use Rattle.vol_image.proofs.Changes.{others}
 
 -- ---- the leaves once all is written
 
@@ -100,21 +97,6 @@ module _ (fill offset : ℕ) (bytes : List ℕ) (old : ℕ → Option Held) (who
     after = λ l late. next_untouched l (inr late);
   }
 
-  pub next_content : (l : ℕ) → leaf_content fill (next l) ≡ after l
-  unfolding next rewritten
-  next_content l = by (old l) refl (is_touched l) refl
-    where
-      long : length (after l) ≡ 512
-      long = length-overlaid (512 * l) (before l) offset bytes ∙ length-leaf_content fill (old l)
-
-      by : (o : Option Held) → old l ≡ o → (t : Bool) → is_touched l ≡ t → leaf_content fill (rewritten t (after l) o) ≡ after l
-      by (Some h) is t same = content_is fill (Some (record h { content = after l })) (after l) refl long
-      by None is true same = content_is fill (Some (record { block = 0; part = None; content = after l })) (after l) refl long
-      by None is false same = ap (leaf_content fill) (sym is) ∙ sym (untouched l (elim (cases_lt l (offset / 512)) [
-        | inl early ↦ inl early
-        | inr from ↦ elim (cases_lt l (leaves_in (offset + length bytes))) [ inl to ↦ absurd (let no : true ≡ false = sym (touched_is l from to) ∙ same in cc) | inr late ↦ inr late ]
-      ]))
-
 -- ---- an image of a write
 
 module _ (a : Image) (graph : Graph) (id : Puid) (f : File) (holds : Holds a graph) (at : object_at graph id ≡ Some (objects.File f)) (root : roots.Root) (rooted : IsRooted a id root) (same : object_of a root ≡ objects.File f)
@@ -134,7 +116,7 @@ module _ (a : Image) (graph : Graph) (id : Puid) (f : File) (holds : Holds a gra
       subst (λ (x : Held). length x.content ≡ 512) (sym two.0) (blocks (tree_of a (root_spelling root) path) below).long
 
   module _ (offset : ℕ) (bytes : List ℕ) (inside : offset + length bytes ≤ length f.bytes) where
-    abbrev last : ℕ → Option Held
+    abbrev pub last : ℕ → Option Held
     last = next root.fill offset bytes (leaves_of a root) whole
 
     fits : offset + length bytes ≤ root.size
@@ -147,40 +129,35 @@ module _ (a : Image) (graph : Graph) (id : Puid) (f : File) (holds : Holds a gra
     last_gives = file_to_leaves root last (written f offset bytes)
         (writes_object root (leaves_of a root) last offset bytes rooted.laid.fit (next_writes root.fill offset bytes (leaves_of a root) whole) fits a_file ∙ ap (λ o. changed_object (Overwrite offset bytes) o) same)
 
-    pub old_leaf : (l : ℕ) → leaf_of_file f l ≡ leaf_content root.fill (leaves_of a root l)
-    old_leaf = leaf_of root (leaves_of a root) f rooted.laid.fit gives
+    -- ---- an image whose root leads to leaves of before and of after
 
-    pub new_leaf : (l : ℕ) → leaf_of_file (written f offset bytes) l ≡ patched l offset bytes (leaf_content root.fill (leaves_of a root l))
-    new_leaf l = leaf_of root last (written f offset bytes) last_fit last_gives l ∙ next_content root.fill offset bytes (leaves_of a root) whole l
+    module _ (c : Image) (r : roots.Root) (head : SetsSize root.size root r) (mixed : (l : ℕ) → (bytes_held (leaves_of c r l) ≡ bytes_held (leaves_of a root l)) ⊎ (bytes_held (leaves_of c r l) ≡ bytes_held (last l))) where
+      pub mixed_fits : LeavesFit r (leaves_of c r)
+      mixed_fits = mixed_fit root root r (leaves_of a root) last (leaves_of c r) rooted.laid.fit last_fit (omega arith) refl head mixed
+
+      pub mixed_partly : Frames a (others graph id) c → IsRooted c id r → IsPartly c graph id f (written f offset bytes)
+      mixed_partly frames now_rooted = partly a graph id holds root root (leaves_of a root) last f (written f offset bytes) rooted.laid.fit gives last_fit last_gives refl c r (record { kind = head.kind; fill = head.fill; size = refl }) mixed frames now_rooted mixed_fits (inl head.size)
+
+    -- ---- one whose leaves are all of after
+
+    pub last_file : (c : Image) (r : roots.Root) → SetsSize root.size root r → ((l : ℕ) → bytes_held (leaves_of c r l) ≡ bytes_held (last l)) → object_of c r ≡ objects.File (written f offset bytes)
+    last_file c r head all =
+        let w = next_writes root.fill offset bytes (leaves_of a root) whole in
+        same_object root.size root r head (leaves_of c r)
+        ∙ writes_object root (leaves_of a root) (leaves_of c r) offset bytes rooted.laid.fit (record { before = λ l early. all l ∙ w.before l early; here = λ l from to. all l ∙ w.here l from to; after = λ l late. all l ∙ w.after l late }) fits a_file
+        ∙ ap (λ o. changed_object (Overwrite offset bytes) o) same
 
     module _ (c : Image) (among : IsAmong a graph id root (IsEither a root offset bytes) c) where
-      cases : (l : ℕ) → ((leaves_of c root l ≡ None) × (leaves_of a root l ≡ None)) ⊎ ((x : ℕ) × (leaves_of a root l ≡ Some (held a x)) × (leaves_of c root l ≡ Some (held c x)) × IsEither a root offset bytes l (block_at c x))
-      cases = leaf_either a graph id (objects.File f) holds at root rooted (IsEither a root offset bytes) c among
-
-      pub partly_fit : LeavesFit root (leaves_of c root)
-      partly_fit = mixed_fit root root root (leaves_of a root) last (leaves_of c root) rooted.laid.fit last_fit (omega arith) refl (record { kind = refl; fill = refl; size = refl }) (λ l. elim (cases l) [
+      is_mixed : (l : ℕ) → (bytes_held (leaves_of c root l) ≡ bytes_held (leaves_of a root l)) ⊎ (bytes_held (leaves_of c root l) ≡ bytes_held (last l))
+      is_mixed l = elim (leaf_either a graph id (objects.File f) holds at root rooted (IsEither a root offset bytes) c among l) [
         | inl none ↦ inl (ap bytes_held none.0 ∙ sym (ap bytes_held none.1))
         | inr some ↦ elim some.3 [
           | inl was ↦ inl (ap bytes_held some.2 ∙ ap Some (was ∙ content_is root.fill (leaves_of a root l) (block_at a some.0) (ap bytes_held some.1) (whole l (held a some.0) some.1)) ∙ sym (ap bytes_held some.1))
           | inr now ↦ inr (ap bytes_held some.2 ∙ ap Some now ∙ sym (next_held root.fill offset bytes (leaves_of a root) whole l (held a some.0) some.1))
         ]
-      ])
-
-      content_of : (l : ℕ) → (leaf_content root.fill (leaves_of c root l) ≡ leaf_of_file f l) ⊎ (leaf_content root.fill (leaves_of c root l) ≡ leaf_of_file (written f offset bytes) l)
-      content_of l = elim (cases l) [
-        | inl none ↦ inl (ap (leaf_content root.fill) (none.0 ∙ sym none.1) ∙ sym (old_leaf l))
-        | inr some ↦ elim some.3 [
-          | inl was ↦ inl (content_is root.fill (leaves_of c root l) _ (ap bytes_held some.2 ∙ ap Some was) (length-leaf_content root.fill (leaves_of a root l)) ∙ sym (old_leaf l))
-          | inr now ↦ inr (content_is root.fill (leaves_of c root l) _ (ap bytes_held some.2 ∙ ap Some now)
-              (length-overlaid (512 * l) (leaf_content root.fill (leaves_of a root l)) offset bytes ∙ length-leaf_content root.fill (leaves_of a root l)) ∙ sym (new_leaf l))
-        ]
       ]
 
       pub partly_written : IsPartly c graph id f (written f offset bytes)
       partly_written =
-          let some = some_file root (leaves_of c root) a_file in
-          let now = file_to_leaves root (leaves_of c root) some.0 some.1 in (
-            some.0,
-            subst (λ o. Holds c (with_object graph id o)) some.1 (among_holds a graph id (objects.File f) holds at root rooted (IsEither a root offset bytes) c among partly_fit),
-            between root (leaves_of c root) some.0 partly_fit now f (written f offset bytes) (same_kind some.0.kind f.kind root.kind now.kind gives.kind) (sym gives.fill) (inl (sym gives.size)) content_of,
-          )
+          let head : SetsSize root.size root root = record { kind = refl; fill = refl; size = refl } in
+          mixed_partly c root head is_mixed among.frames (among_rooted a graph id (objects.File f) holds at root rooted (IsEither a root offset bytes) c among (mixed_fits c root head is_mixed))

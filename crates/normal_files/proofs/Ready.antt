@@ -23,6 +23,8 @@ use Rattle.normal_files.specs.declared.next.Next.{Next}
 use Rattle.normal_files.specs.declared.part.Part.{Part}
 use Rattle.normal_files.proofs.Among.{places_differ}
 use Rattle.normal_files.proofs.Linked.{IsLinked, bytes_new, bytes_stay, leaf_other, leaf_there, leaves_other}
+use Rattle.normal_files.proofs.Places.{leaf_no_node, leaf_no_root, node_no_root}
+use Rattle.normal_files.proofs.Trees.{same_leaves}
 
 -- In image c nothing leads to the leaves of a part that were taken, and all that the root is to lead to stands.
 pub record IsReady (c : Image) (id : Puid) (r : roots.Root) (fill offset : ℕ) (bytes : List ℕ) (part : Part) (next : Next) : Type 0 where
@@ -80,9 +82,6 @@ module _ (c : Image) (id : Puid) (r : roots.Root) (fill offset : ℕ) (bytes : L
       by k small zero is same = omega (arith, is, same)
       by k small (suc z) is same = let at = (rooted.laid.leaves n k small (λ none. (let e = sym is ∙ none in cc))).below in omega (arith, at, limit, same)
 
-  not_root : (q : ℕ) → Node q ≢ Root
-  not_root q same = cc
-
   -- the node stood, and is written
   module _ (stood : node_of r n ≢ 0) (spells : leaves ≡ pointers_of leaf_pointers (node_spelling next.node)) where
     abbrev d : Image
@@ -103,7 +102,7 @@ module _ (c : Image) (id : Puid) (r : roots.Root) (fill offset : ℕ) (bytes : L
       size = length-set c y (node_spelling next.node);
       entries = λ m. entry_in-set c y (node_spelling next.node) m (no_map y (Node n) y_at.part);
       contents = λ m no not_y not_r. get_or-set_other c y m (node_spelling next.node) [] not_y;
-      root_here = get_or-set_other c y id.block (node_spelling next.node) [] (λ same. not_root n (sym (places_differ c id.block y id.block Root (Node n) rooted.part y_at.part same))) ∙ rooted.here;
+      root_here = get_or-set_other c y id.block (node_spelling next.node) [] (λ same. node_no_root n (sym (places_differ c id.block y id.block Root (Node n) rooted.part y_at.part same))) ∙ rooted.here;
       y_leaves = spelled y y_some (get_or-set_same c y (node_spelling next.node) [] y_at.below);
       y_at = y_at;
       y_some = y_some;
@@ -127,17 +126,13 @@ module _ (c : Image) (id : Puid) (r : roots.Root) (fill offset : ℕ) (bytes : L
     new : IsAt c id.block (Node n) y × (y ≢ 0) × (leaves_at c y ≡ leaves)
     new = ready.node_new none
 
-    kept : (m : ℕ) → m ≢ id.block → leaves_at e m ≡ leaves_at c m
-    kept zero apart = refl
-    kept (suc m) apart = ap (pointers_of leaf_pointers) (get_or-set_other c id.block (suc m) (root_spelling s) [] apart)
-
     pub root_links : IsLinked c e id r s n y leaves
     root_links = record {
       size = length-set c id.block (root_spelling s);
       entries = λ m. entry_in-set c id.block (root_spelling s) m (no_map id.block Root rooted.part);
       contents = λ m no not_y not_r. get_or-set_other c id.block m (root_spelling s) [] not_r;
       root_here = get_or-set_same c id.block (root_spelling s) [] below;
-      y_leaves = kept y (λ same. not_root n (places_differ c y id.block id.block (Node n) Root new.0.part rooted.part same)) ∙ new.2;
+      y_leaves = same_leaves e c y (λ _. get_or-set_other c id.block y (root_spelling s) [] (λ same. node_no_root n (places_differ c y id.block id.block (Node n) Root new.0.part rooted.part same))) ∙ new.2;
       y_at = new.0;
       y_some = new.1;
       node_here = get_or-set_same r.nodes n y 0 (omega (arith, ready.number, rooted.laid.good.0.count));
@@ -186,21 +181,11 @@ module _ (c : Image) (id : Puid) (r : roots.Root) (fill offset : ℕ) (bytes : L
       stays : (m : ℕ) (p : Place) → IsAt c id.block p m → p ≢ Node n → p ≢ Root → block_at d m ≡ block_at c m
       stays m p at not_node not_r = link.contents m (no_map m p at.part) (λ same. not_node (places_differ c m y id.block p (Node n) at.part link.y_at.part same)) (λ same. not_r (places_differ c m id.block id.block p Root at.part rooted.part same))
 
-      no_leaf : (l q : ℕ) → Leaf l ≢ Node q
-      no_leaf l q same = cc
-
-      leaf_no_root : (l : ℕ) → Leaf l ≢ Root
-      leaf_no_root l same = cc
-
       nodes_apart : Node other.number ≢ Node n
       nodes_apart same = apart (cc)
 
       same_node : node_of s other.number ≡ node_of r other.number
       same_node = link.node_other other.number apart
-
-      same_leaves : (m : ℕ) → IsAt c id.block (Node other.number) m → leaves_at d m ≡ leaves_at c m
-      same_leaves zero at = refl
-      same_leaves (suc m) at = ap (pointers_of leaf_pointers) (stays (suc m) (Node other.number) at nodes_apart (not_root other.number))
 
       pub still_ready : IsReady d id s fill offset bytes other more
       still_ready = record {
@@ -208,9 +193,9 @@ module _ (c : Image) (id : Puid) (r : roots.Root) (fill offset : ℕ) (bytes : L
         own = was.own ∙ sym (leaves_other c d id r s n y leaves rooted no_map link other.number apart);
         others = was.others;
         leaves = λ k t. (at_on (get_or more.node.leaves k 0) (Leaf (128 * other.number + k)) (was.leaves k t).0, (was.leaves k t).1);
-        contents = λ k t. stays (get_or more.node.leaves k 0) (Leaf (128 * other.number + k)) (was.leaves k t).0 (no_leaf (128 * other.number + k) n) (leaf_no_root (128 * other.number + k)) ∙ was.contents k t;
+        contents = λ k t. stays (get_or more.node.leaves k 0) (Leaf (128 * other.number + k)) (was.leaves k t).0 (leaf_no_node (128 * other.number + k) n) (leaf_no_root (128 * other.number + k)) ∙ was.contents k t;
         node_had = λ some. was.node_had (λ none. some (same_node ∙ none)) ∙ sym same_node;
-        node_new = λ none. let new = was.node_new (sym same_node ∙ none) in (at_on more.block (Node other.number) new.0, new.1, same_leaves more.block new.0 ∙ new.2);
+        node_new = λ none. let new = was.node_new (sym same_node ∙ none) in (at_on more.block (Node other.number) new.0, new.1, same_leaves d c more.block (λ _. stays more.block (Node other.number) new.0 nodes_apart (node_no_root other.number)) ∙ new.2);
         some = was.some;
         small = was.small;
         count = was.count;

@@ -36,10 +36,9 @@ use Rattle.normal_files.specs.declared.part.Part.{Part}
 use Rattle.normal_files.proofs.Amid.{counts_content, taken_open}
 use Rattle.normal_files.proofs.Among.{own_loose}
 use Rattle.normal_files.proofs.Linked.{IsLinked, leaf_there, linked_rooted}
-use Rattle.normal_files.proofs.Mixed.{last, mixed_fits}
-use Rattle.normal_files.proofs.Patched.{next_touched, touched_is, whole}
+use Rattle.normal_files.proofs.Patched.{last, mixed_fits, next_touched, touched_is, whole}
 use Rattle.normal_files.proofs.Ready.{IsReady, node_links, node_stays, other_bytes, pointer_stays, ready_spells, real_stays, root_links, still_ready, taken_bytes, taken_or}
-use Rattle.normal_files.proofs.Trees.{leaf_stands}
+use Rattle.normal_files.proofs.Trees.{each_leaf, leaf_stands}
 
 module _ (a : Image) (graph : Graph) (id : Puid) (f : File) (holds : Holds a graph) (at : object_at graph id ≡ Some (objects.File f)) (root : roots.Root) (rooted : IsRooted a id root) (same : object_of a root ≡ objects.File f)
     (blocks : AreBlocks a) (offset : ℕ) (bytes : List ℕ) (inside : offset + length bytes ≤ length f.bytes) (base : Image) (kept : Kept) where
@@ -82,9 +81,6 @@ module _ (a : Image) (graph : Graph) (id : Puid) (f : File) (holds : Holds a gra
   absent_leaf : (m k : ℕ) → k < 128 → leaf_of a root m k ≡ 0 → leaves_of a root (128 * m + k) ≡ None
   absent_leaf m k small none = leaf_stands a (root_spelling root) root is_root m k small ∙ ap (held_at a) none
 
-  real_leaf : (m k : ℕ) → k < 128 → leaves_of a root (128 * m + k) ≢ None → leaf_of a root m k ≢ 0
-  real_leaf m k small some none = some (absent_leaf m k small none)
-
   -- what is put into a leaf that was absent is what it is to have
   pub fresh_end : (l : ℕ) → leaves_of a root l ≡ None → offset / 512 ≤ l → l < leaves_in (offset + length bytes) → end l ≡ Some (fresh_content root.fill l offset bytes)
   fresh_end l none from to =
@@ -118,11 +114,8 @@ module _ (a : Image) (graph : Graph) (id : Puid) (f : File) (holds : Holds a gra
         ]
       ]
 
-      at_l : (l : ℕ) → 128 * (l / 128) + l % 128 ≡ l
-      at_l l = omega arith
-
       at_leaf : (l : ℕ) → (bytes_held (leaves_of d s l) ≡ end l) ⊎ (bytes_held (leaves_of d s l) ≡ bytes_held (leaves_of c r l))
-      at_leaf l = subst (λ (q : ℕ). (bytes_held (leaves_of d s q) ≡ end q) ⊎ (bytes_held (leaves_of d s q) ≡ bytes_held (leaves_of c r q))) (at_l l) (either (l / 128) (l % 128) (omega arith))
+      at_leaf = each_leaf (λ q. (bytes_held (leaves_of d s q) ≡ end q) ⊎ (bytes_held (leaves_of d s q) ≡ bytes_held (leaves_of c r q))) either
 
       mixed_now : (l : ℕ) → (bytes_held (leaves_of d s l) ≡ begin l) ⊎ (bytes_held (leaves_of d s l) ≡ end l)
       mixed_now l = elim (at_leaf l) [ inl new ↦ inr new | inr old ↦ elim (stage.mixed l) [ inl was ↦ inl (old ∙ was) | inr now ↦ inr (old ∙ now) ] ]

@@ -7,7 +7,7 @@ use Rattle.std.proofs.lemmas.List.FromFn.{length-map-range_with_len}
 use Rattle.cfs_base.specs.Disk.{Image, block_at}
 use Rattle.block_tree.specs.declared.root.Root as roots
 use Rattle.block_tree.specs.Pointers.{leaf_pointers, node_pointers, number_at, numbers_from, pointers_of}
-use Rattle.block_tree.specs.Root.{IsRootBlock}
+use Rattle.block_tree.specs.Root.{IsGoodRoot, IsRootBlock, root_spelling}
 use Rattle.block_tree.specs.Tree.{end_of, pointer, tree_of}
 use Rattle.block_tree.proofs.Spellings.{nodes_of}
 use Rattle.block_tree.proofs.Trees.{leaf_is, node_block, path_is}
@@ -16,6 +16,7 @@ use Rattle.vol_image.specs.Reading.{IsTree, leaf_in}
 use Rattle.vol_image.specs.Seen.{held_at, tree_in}
 use Rattle.vol_image.proofs.Paths.{held_there}
 use Rattle.vol_image.proofs.Views.{held}
+use Rattle.normal_files.specs.Laid.{leaf_of, leaves_of}
 use Rattle.normal_files.specs.Nodes.{IsNear, LeadTo, leaves_at}
 
 pub zeros : (n k : ℕ) → get_or (replicate {A = ℕ} n 0) k 0 ≡ 0
@@ -24,6 +25,14 @@ zeros n k = elim (cases_lt k n) [ inl below ↦ get_or-replicate n k 0 0 below |
 pub leaves_there : (image : Image) (block : ℕ) → block ≢ 0 → leaves_at image block ≡ pointers_of leaf_pointers (block_at image block)
 leaves_there image zero some = absurd (some refl)
 leaves_there image (suc n) some = refl
+
+pub same_leaves : (i j : Image) (m : ℕ) → (m ≢ 0 → block_at i m ≡ block_at j m) → leaves_at i m ≡ leaves_at j m
+same_leaves i j zero same = refl
+same_leaves i j (suc m) same = ap (pointers_of leaf_pointers) (same (λ none. cc))
+
+-- what is so of each place of each node is so of each leaf
+pub each_leaf : (P : ℕ → Type 0) → ((n k : ℕ) → k < 128 → P (128 * n + k)) → (l : ℕ) → P l
+each_leaf P each l = let is : 128 * (l / 128) + l % 128 ≡ l = omega arith in subst P is (each (l / 128) (l % 128) (omega arith))
 
 -- the leaf pointers of a node are those of the tree; an absent node has none
 pub pointed : (image : Image) (p k : ℕ) → end_of image (leaf_pointers ∷ []) p (k ∷ []) ≡ get_or (leaves_at image p) k 0
@@ -86,3 +95,7 @@ module _ (image : Image) (content : List ℕ) (root : roots.Root) (is : IsRootBl
 -- a node that is absent leads nowhere
 pub near_none : (size : ℕ) (image : Image) → 0 < size → IsNear size image 0
 near_none size image some = record { here = some; leaves = λ k. omega (arith, zeros 128 k, some) }
+
+-- each leaf of a file, by its root
+pub stands_at : (image : Image) (r : roots.Root) → IsGoodRoot r → (n k : ℕ) → k < 128 → leaves_of image r (128 * n + k) ≡ held_at image (leaf_of image r n k)
+stands_at image r good n k small = leaf_stands image (root_spelling r) r (record { good = good; spelled = refl }) n k small

@@ -21,7 +21,7 @@ use Rattle.ufs_model.specs.Graph.{Graph, with_object}
 use Rattle.ufs_model.specs.Object.{leaves_in, written}
 use Rattle.vol_owners.specs.Account.{Opened}
 use Rattle.normal_files.specs.Among.{IsAmong, IsEither}
-use Rattle.normal_files.specs.Ends.{Finishes, HasGone, IsStop, refused_after}
+use Rattle.normal_files.specs.Ends.{Finishes, HasGone, refused_after}
 use Rattle.normal_files.specs.Laid.{node_of}
 use Rattle.claims.specs.Claims.{AreClaimed}
 use Rattle.normal_files.specs.Links.{linked_image, linked_root}
@@ -143,9 +143,6 @@ module _ {D : Type 0} (g : Ghosts D) (graph : Graph) (ds : List Opened) (id : Pu
           (order_now g graph id f root offset bytes low high start is.starts is.inside size low_read high_read is.low_is is.high_is first joins last apart mid d k1 entries amid low_next high_next mine some))
 
 -- the held leaves couldn't be written
-pub put_stops : {D : Type 0} (g : Ghosts D) (old new : D) (kept : Kept) (t : Trouble) → HasStoppedBy g old new t → IsStop g old new kept (refused_by t)
-put_stops g old new kept t is = stop_by g old new kept t is
-
 pub put_untried : {D : Type 0} (g : Ghosts D) (old new : D) (t : Trouble) → HasStoppedBy g old new t → refused_by t ≡ refusals.Disk false → g.content new ≡ g.content old
 put_untried g old new (trouble.Disk tried) is same = (let no_try : tried ≡ false = cc in is.untouched no_try)
 put_untried g old new (trouble.Damaged damage) is same = absurd is

@@ -9,7 +9,6 @@ use Rattle.cfs_base.specs.declared.identifier.Puid.{Puid}
 use Rattle.cfs_base.specs.declared.kind.Place.{Place}
 use Rattle.cfs_base.specs.declared.kind.Place.TheVariants.{Leaf, Node, Root}
 use Rattle.block_tree.specs.declared.root.Root as roots
-use Rattle.block_tree.specs.Pointers.{leaf_pointers, pointers_of}
 use Rattle.block_tree.specs.Root.{root_spelling}
 use Rattle.claims.specs.Claims.{AreClaimed}
 use Rattle.claims.proofs.Claims.{claims_then}
@@ -53,16 +52,14 @@ use Rattle.normal_files.specs.declared.next.Next.{Next}
 use Rattle.normal_files.specs.declared.part.Part.{Part}
 use Rattle.normal_files.proofs.Among.{among_holds, among_rooted, leaf_either, same_leaf, same_node}
 use Rattle.normal_files.proofs.Laid.{rooted_reads}
-use Rattle.normal_files.proofs.Mixed.{last_file, mixed_fits, mixed_partly}
-use Rattle.normal_files.proofs.StillThere.{all_there}
+use Rattle.normal_files.proofs.Patched.{last_file, mixed_fits, mixed_partly, next_held, next_untouched, untouched, whole}
 use Rattle.normal_files.proofs.NeedOf.{held_is, node_held, told_leaf}
 use Rattle.normal_files.proofs.Orders.{not_is, now_other}
-use Rattle.normal_files.proofs.Owned.{IsOwn, block_from_own, own_from_block}
-use Rattle.normal_files.proofs.Patched.{next_held, next_untouched, untouched, whole}
+use Rattle.normal_files.proofs.Owned.{IsOwn, all_there, block_from_own, own_from_block}
 use Rattle.normal_files.proofs.Ready.{IsReady}
 use Rattle.normal_files.proofs.Stages.{Comes, IsStage, begin, end, steps}
 use Rattle.normal_files.proofs.TakeRun.{content_stays, new_stays, some_block}
-use Rattle.normal_files.proofs.Trees.{leaf_stands}
+use Rattle.normal_files.proofs.Trees.{leaf_stands, same_leaves}
 
 -- ---- entries
 
@@ -183,7 +180,7 @@ module _ {D : Type 0} (g : Ghosts D) (graph : Graph) (id : Puid) (f : File) (roo
             let new = has.node_new none grown in (
               new_at b (Node part.number) next.block (new_stays b e c id.block (Node part.number) next.block new keeps),
               some_block b e id.block (Node part.number) next.block new,
-              spelled e next.block (content_stays b e c id.block (Node part.number) next.block new keeps) ∙ is_whole none grown,
+              same_leaves c e next.block (λ _. content_stays b e c id.block (Node part.number) next.block new keeps) ∙ is_whole none grown,
             );
         some = t;
         count = has.count;
@@ -195,10 +192,6 @@ module _ {D : Type 0} (g : Ghosts D) (graph : Graph) (id : Puid) (f : File) (roo
     where
       limit : length c ≤ 4194304
       limit = small_image c _ (among_holds a graph id (objects.File f) starts.holds starts.at root starts.rooted P c amid.content fit0)
-
-      spelled : (i : Image) (m : ℕ) → block_at c m ≡ block_at i m → leaves_at c m ≡ leaves_at i m
-      spelled i zero same = refl
-      spelled i (suc m) same = ap (pointers_of leaf_pointers) same
 
   touched_low : (k : ℕ) → IsTakenTo low low.leaves.to k → (offset / 512 ≤ 128 * low.number + k) × (128 * low.number + k < upto)
   touched_low k t = (omega (arith, t.from, first), omega (arith, t.to, joins, last, high_read.some))

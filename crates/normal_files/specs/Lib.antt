@@ -13,3 +13,5 @@ pub mod Ends
 pub mod Links
 pub mod Writes
 pub mod WriteRefusal
+pub mod Cuts
+pub mod Frees

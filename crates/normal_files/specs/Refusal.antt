@@ -1,14 +1,17 @@
 -- Why a call on a file is refused.
-use Rattle.std.specs.Prelude.{◌≡◌, ℕ, ◌≤◌, Bool, true, false, get_or}
+use Rattle.std.specs.Prelude.{◌≡◌, ℕ, ◌+◌, ◌<◌, ◌≤◌, Bool, true, false, get_or, sum}
 use Rattle.cfs_base.specs.Calls.{HasStopped}
 use Rattle.cfs_base.specs.Codes.{no_root, past_disk}
 use Rattle.cfs_base.specs.Disk.{Image, block_at}
 use Rattle.cfs_base.specs.Run.{Tells}
 use Rattle.cfs_base.specs.declared.disk.Disk.{Ghosts}
 use Rattle.cfs_base.specs.declared.refusal.Damage.{Damage}
+use Rattle.cfs_base.specs.declared.refusal.Refused.{Refused}
+use Rattle.cfs_base.specs.declared.refusal.Refused.TheVariants as refusals
 use Rattle.cfs_base.specs.declared.refusal.Trouble.{Trouble}
 use Rattle.cfs_base.specs.declared.refusal.Trouble.TheVariants as trouble
 use Rattle.block_tree.specs.declared.root.Root as roots
+use Rattle.cyl_alloc.specs.Space.{Kept}
 use Rattle.block_tree.specs.Pointers.{Level, leaf_pointers, pointers_of}
 use Rattle.block_tree.specs.Root.{IsRootBlock}
 
@@ -30,3 +33,10 @@ IsTrouble g at old new (trouble.Damaged damage) = IsDamage g at old damage
 abbrev pub is_damage : Trouble → Bool
 is_damage (trouble.Disk tried) = false
 is_damage (trouble.Damaged damage) = true
+
+-- fewer blocks are Free than are needed beside the floor, a device call failed, or a block that was read is damaged, so
+abbrev pub IsRefusal : {D : Type 0} → Ghosts D → (Damage → Type 0) → (floor : ℕ) → D → D → Kept → Refused → Type 0
+IsRefusal g IsSo floor old new kept (refusals.Full need) = (need.free ≡ sum kept.free) × (sum kept.free < need.need + floor)
+IsRefusal g IsSo floor old new kept (refusals.Disk tried) = HasStopped g tried old new
+IsRefusal g IsSo floor old new kept (refusals.Damaged damage) = IsSo damage
+IsRefusal g IsSo floor old new kept refusals.Memory = ⊥

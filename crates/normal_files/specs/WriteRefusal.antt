@@ -1,6 +1,5 @@
 -- Why a write is refused.
-use Rattle.std.specs.Prelude.{◌≡◌, ◌⊎◌, ℕ, ◌+◌, ◌<◌, Bool, true, false, if◌then◌else◌, sum}
-use Rattle.cfs_base.specs.Calls.{HasStopped}
+use Rattle.std.specs.Prelude.{◌≡◌, ◌⊎◌, ℕ, Bool, true, false, if◌then◌else◌}
 use Rattle.cfs_base.specs.declared.disk.Disk.{Ghosts}
 use Rattle.cfs_base.specs.declared.refusal.Refused.{Refused}
 use Rattle.cfs_base.specs.declared.refusal.Refused.TheVariants as refusals
@@ -10,14 +9,11 @@ use Rattle.ufs_model.specs.declared.object.Object.TheVariants as objects
 use Rattle.ufs_model.specs.Numbers.{branches, missing}
 use Rattle.ufs_model.specs.Object.{held_levels, touched}
 use Rattle.normal_files.specs.Ends.{IsNoSpace}
-use Rattle.normal_files.specs.Refusal.{IsDamage}
+use Rattle.normal_files.specs.Refusal.{IsDamage, IsRefusal}
 
--- too few blocks are Free beside the floor, a device call failed, or a block that was read is damaged
+-- of a write; `after` is what was counted Free at its end
 abbrev pub IsWriteRefusal : {D : Type 0} → Ghosts D → (at floor : ℕ) → D → D → (before after : Kept) → Refused → Type 0
-IsWriteRefusal g at floor old new before after (refusals.Full need) = (need.free ≡ sum before.free) × (sum before.free < need.need + floor)
-IsWriteRefusal g at floor old new before after (refusals.Disk tried) = HasStopped g tried old new
-IsWriteRefusal g at floor old new before after (refusals.Damaged damage) = IsDamage g at old damage ⊎ IsNoSpace g old new after damage
-IsWriteRefusal g at floor old new before after refusals.Memory = ⊥
+IsWriteRefusal g at floor old new before after = IsRefusal g (λ damage. IsDamage g at old damage ⊎ IsNoSpace g old new after damage) floor old new before
 
 -- nothing was tried, and no damage met
 abbrev pub is_untried : Refused → Bool

@@ -4,6 +4,7 @@ ghost use Rattle.cfs_base.specs.Calls.{MakesAtMost};
 ghost use Rattle.cfs_base.specs.Run.{IsSettled, Leaves as LeavesOf};
 ghost use Rattle.cfs_base.specs.declared.identifier.Puid.{Puid};
 ghost use Rattle.cyl_alloc.specs.Space.{Kept};
+ghost use Rattle.normal_files.specs.Frees.{TakesNone};
 ghost use Rattle.normal_files.specs.Grows.{Grows};
 ghost use Rattle.normal_files.specs.Standing.{IsPartly};
 ghost use Rattle.normal_files.specs.Steps.{HasStoppedBy};
@@ -30,7 +31,7 @@ pub(crate) fn grow<D: Disk>(
     ensures grown { (graph : Graph) (ds : List Opened) (id : Puid) (f : files.File) (kept : Kept)
         → Grows D.Disk graph ds id f root.now at.0 size disk.old kept
         → OnOk result (StoreHas D.Disk (with_object graph id (objects.File (resized f size))) ds disk.new kept
-        × IsSettled D.Disk disk.new) }
+        × IsSettled D.Disk disk.new × TakesNone (D.content disk.old) (D.content disk.new)) }
     ensures images { (graph : Graph) (ds : List Opened) (id : Puid) (f : files.File) (kept : Kept)
         → Grows D.Disk graph ds id f root.now at.0 size disk.old kept
         → LeavesOf D.Disk disk.old disk.new (λ c. IsPartly c graph id f (resized f size)) }

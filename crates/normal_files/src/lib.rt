@@ -1,10 +1,13 @@
 //! Normal files, which are changed where they lie. The layer above uses that the bytes which `read` gives are the file's, and
-//! that after `write` the store has the written file, or each leaf of it old or new. A size set to more is proved and not
-//! public yet.
+//! that after `write` and `resize` the store has the changed file, or of it each leaf and the size old or new.
 #![tactic(auto)]
 
 mod both;
+#[cfg(test)]
+mod changing;
+mod cut;
 mod flush;
+mod free;
 mod grow;
 mod laws;
 mod link;
@@ -15,12 +18,19 @@ mod part;
 mod put;
 mod range;
 mod reading;
+mod resizing;
+#[cfg(test)]
+mod resizing_tests;
+mod shrink;
 mod take;
 #[cfg(test)]
 mod tests;
 mod touched;
 mod writing;
+#[cfg(test)]
+mod writing_tests;
 
 pub use laws::files_are_read_by_their_roots;
 pub use reading::read;
+pub use resizing::resize;
 pub use writing::write;

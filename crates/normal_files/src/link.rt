@@ -1,5 +1,5 @@
 //! Pointers to the leaves that were taken.
-ghost use Rattle.std.specs.Prelude.{◌≡◌, ◌<◌, true, false, set, IfErr, IfOk, OnOk};
+ghost use Rattle.std.specs.Prelude.{◌≡◌, ◌<◌, ℕ, true, false, set, IfErr, IfOk, IsTrue, OnOk};
 ghost use Rattle.cfs_base.specs.Calls.{HasTried, MakesAtMost};
 ghost use Rattle.cfs_base.specs.Run.{IsSettled, Leaves as LeavesOf};
 ghost use Rattle.normal_files.specs.Links.{linked_image, linked_root};
@@ -12,12 +12,17 @@ use block_tree::Root;
 use cfs_base::{Block, BlockNo, Disk, Trouble};
 
 /// Writes a block, and makes it outlast a crash.
-fn write_through<D: Disk>(disk: &mut D, block: u32, content: &Block) -> Result<(), Trouble>
+pub(crate) fn write_through<D: Disk>(
+    disk: &mut D,
+    block: u32,
+    content: &Block,
+) -> Result<(), Trouble>
     requires { block < D.blocks disk.old }
     ensures done { IsSettled D.Disk disk.old → OnOk result ((D.content disk.new ≡ set (D.content disk.old) block content.now)
         × IsSettled D.Disk disk.new) }
     ensures images { IsSettled D.Disk disk.old
         → LeavesOf D.Disk disk.old disk.new (λ c. c ≡ set (D.content disk.old) block content.now) }
+    ensures told { OnOk result ((b : ℕ) → IsTrue (D.told disk.old b) → IsTrue (D.told disk.new b)) }
     ensures tried { OnOk result (HasTried D.Disk disk.old disk.new) }
     ensures stopped { IfErr result (HasStoppedBy D.Disk disk.old disk.new) }
     ensures calls { MakesAtMost D.Disk 2 2 disk.old disk.new }

@@ -8,7 +8,7 @@ use std::test::Fail;
 
 const ROOT: BlockNo = BlockNo(2);
 
-fn put<D: Disk>(disk: &mut D, at: u32, block: &Block) -> Result<(), Failed> {
+pub(crate) fn put<D: Disk>(disk: &mut D, at: u32, block: &Block) -> Result<(), Failed> {
     if at >= disk.blocks() {
         return Err(Failed);
     }
@@ -43,8 +43,8 @@ fn prepare<D: Disk>(disk: &mut D) -> Result<(), Fail> {
     Ok(())
 }
 
-fn read_at<D: Disk>(disk: &mut D, offset: u64, into: &mut [u8]) -> Result<(), Trouble> {
-    if disk.blocks() < 128 || offset > 66_000 || into.len() > 4_096 {
+pub(crate) fn read_at<D: Disk>(disk: &mut D, offset: u64, into: &mut [u8]) -> Result<(), Trouble> {
+    if disk.blocks() < 64 || offset > 7_860_224 || into.len() > 4_096 {
         return Err(Trouble::Disk { tried: false });
     }
     read(disk, ROOT, offset, into)

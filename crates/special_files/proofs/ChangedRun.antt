@@ -45,7 +45,7 @@ module _ (block other : ℕ) (leaves others : List ℕ) (k : ℕ) (old now : Lis
   pub leaf_room : length old + 129 ≤ 15480 → k < 128 → length now < 15480
   leaf_room room less = omega (arith, ap (length {A = ℕ}) is, length-append old (all_unlike (table block leaves) (table other others) (k + 1)), length-unlike (table block leaves) (table other others) (k + 1), room, less)
 
-table_below : (size block : ℕ) (leaves : List ℕ) → 0 < size → block < size → All (λ n. n < size) leaves → (j : ℕ) → table block leaves j < size
+pub table_below : (size block : ℕ) (leaves : List ℕ) → 0 < size → block < size → All (λ n. n < size) leaves → (j : ℕ) → table block leaves j < size
 table_below size block leaves some below all zero = below
 table_below size block leaves some below all (suc k) = elim (cases_lt k (length leaves)) [
   | inl within ↦ all k 0 within
@@ -74,7 +74,7 @@ pub adds_then : (size n m k : ℕ) (old mid new : List ℕ) → n + m ≡ k → 
 adds_then size n m k old mid new is one two = record { room = omega (arith, is, one.room, two.room); on_disk = λ had. two.on_disk (one.on_disk had) }
 
 -- the pointers of a node among those of its tree
-node_in_tree : (image : Image) (root : roots.Root) (number i : ℕ) → i < 129 → in_tree image root (129 * number + i) ≡ in_node image (node_of root number) i
+pub node_in_tree : (image : Image) (root : roots.Root) (number i : ℕ) → i < 129 → in_tree image root (129 * number + i) ≡ in_node image (node_of root number) i
 node_in_tree image root number i less =
     let node : (129 * number + i) / 129 ≡ number = omega (arith, less) in
     let place : (129 * number + i) % 129 ≡ i = omega (arith, less) in
@@ -143,12 +143,15 @@ module _ {D : Type 0} (g : Ghosts D) (graph : Graph) (ds : List Opened) (space :
   draft_there : HasDraft (g.content disk) id (opened_as id was d)
   draft_there = the_draft (g.content disk) ds id was d opened (store.account.drafts id o at)
 
+  -- what differs in all of them
+  pub all_change : IsChanged (g.content disk) id (opened_as id was d) (unlike_to (g.content disk) was.root was.own 120) (unlike_to (g.content disk) was.own was.root 120)
+  all_change = trees_change (g.content disk) graph store.account.holds id o at (store.account.objects id o at) (opened_as id was d) draft_there
+      (λ c is. (store.account.made c (made_by_draft id (opened_as id was d) c is ds opened.alone)).entered)
+
   pub listed_all : (number : ℕ) (now : D) (taken dropped : List ℕ) → ListedTo g was.own was.root number disk now taken dropped → number ≡ 120 → IsChanged (g.content disk) id (opened_as id was d) taken dropped
   listed_all number now taken dropped to is =
       let lists = subst (λ (n : ℕ). (taken ≡ unlike_to (g.content disk) was.root was.own n) × (dropped ≡ unlike_to (g.content disk) was.own was.root n)) is (to.told store.carries.tells) in
-      let change = trees_change (g.content disk) graph store.account.holds id o at (store.account.objects id o at) (opened_as id was d) draft_there
-      (λ c is. (store.account.made c (made_by_draft id (opened_as id was d) c is ds opened.alone)).entered) in
-      subst (λ (ns : List ℕ). IsChanged (g.content disk) id (opened_as id was d) ns dropped) (sym lists.0) (subst (λ (ns : List ℕ). IsChanged (g.content disk) id (opened_as id was d) (unlike_to (g.content disk) was.root was.own 120) ns) (sym lists.1) change)
+      rw (lists.0, lists.1) all_change
 
   pub both_near : (size n : ℕ) → length (g.content disk) ≡ size → 0 < size → IsNear size (g.content disk) (node_of was.own n) × IsNear size (g.content disk) (node_of was.root n)
   both_near size n long some = (

@@ -39,15 +39,15 @@ in_path : ℕ → ℕ → List ℕ
 in_path m zero = m ∷ []
 in_path m (suc k) = m ∷ k ∷ []
 
-path_of : ℕ → List ℕ
+pub path_of : ℕ → List ℕ
 path_of j = in_path (j / 129) (j % 129)
 
-index_of : List ℕ → ℕ
+unfoldable pub index_of : List ℕ → ℕ
 index_of [] = 0
 index_of (m ∷ []) = 129 * m
 index_of (m ∷ k ∷ path) = 129 * m + (k + 1)
 
-index_again : (j : ℕ) → index_of (path_of j) ≡ j
+pub index_again : (j : ℕ) → index_of (path_of j) ≡ j
 unfolding path_of in_path index_of
 index_again j = by (j % 129) refl
   where
@@ -72,7 +72,7 @@ there_is image content (m ∷ k ∷ []) some =
 there_is image content (m ∷ k ∷ l ∷ p) some = absurd (some (nothing_below image content m k l p))
 
 -- the pointers of the tree are those at the ends of its paths
-in_tree_is : (image : Image) (root : roots.Root) → Fits root → (j : ℕ) → in_tree image root j ≡ tree_of image (root_spelling root) (path_of j)
+pub in_tree_is : (image : Image) (root : roots.Root) → Fits root → (j : ℕ) → in_tree image root j ≡ tree_of image (root_spelling root) (path_of j)
 unfolding path_of in_path
 in_tree_is image root fits j = by (j % 129)
   where

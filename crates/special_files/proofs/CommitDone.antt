@@ -165,6 +165,7 @@ module _ {D : Type 0} (g : Ghosts D) {graph full : Graph} {at word : ℕ} {was o
                 fixed_unowned
                 (λ m loose. ⊎_elim (λ same. inr same) (λ other. inl (whole.b4_other_block ready m (not_map m loose) other)) (same_or_not m at)));
             tree = ap (λ (i : Image). tree_in i (block_at i at)) b4_is ∙ whole.tree_now ready;
+            left = λ m real other. ap (λ (i : Image). block_at i m) b4_is ∙ whole.b4_other_block ready m real other;
             counts = λ counts. subst (λ (i : Image). AreCounts i (given_all (given_all before dropped) (s ∷ []))) (sym b4_is) (whole.counts_now ready before counts);
           }
 

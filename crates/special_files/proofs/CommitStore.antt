@@ -1,17 +1,19 @@
 -- The store once a draft is its object, with what was made.
-use Rattle.std.proofs.Common.{◌≡◌, ◌≢◌, inl, ℕ, ◌<◌, Bool, true, false, cond, List, [], ◌∷◌, length, Option, Some, None, Err, refl, sym, ◌∙◌, ap, subst}
+use Rattle.std.proofs.Common.{◌≡◌, ◌≢◌, inl, ℕ, ◌%◌, ◌<◌, Bool, true, false, cond, List, [], ◌∷◌, length, Option, Some, None, Err, refl, sym, ◌∙◌, ap, subst}
 use Rattle.std.specs.Prelude.{Result, option_to_list}
 use Rattle.std.specs.List.{list_all}
 use Rattle.std.proofs.lemmas.Bool.{and_from, and_parts, false_from_ne_true}
 use Rattle.std.proofs.lemmas.Option.{same_Some}
-use Rattle.cfs_base.specs.Disk.{Image, block_at}
+use Rattle.block_tree.specs.Root.{root_spelling}
+use Rattle.cfs_base.specs.Calls.{OnlyReads}
+use Rattle.cfs_base.specs.Disk.{Image, Nothing, block_at}
 use Rattle.cfs_base.specs.Run.{Leaves}
 use Rattle.cfs_base.specs.declared.disk.Disk.{Ghosts}
 use Rattle.cfs_base.specs.declared.identifier.Puid.{Puid}
 use Rattle.cfs_base.specs.declared.refusal.Trouble.{Trouble}
 use Rattle.cfs_base.proofs.Runs.{then, wider}
 use Rattle.block_tree.specs.declared.root.Root as roots
-use Rattle.cyl_alloc.specs.Space.{Kept}
+use Rattle.cyl_alloc.specs.Space.{IsLeastFree, Kept}
 use Rattle.ufs_model.specs.declared.object.Draft as models
 use Rattle.ufs_model.specs.declared.object.Object.{Object}
 use Rattle.ufs_model.specs.Graph.{Graph, is_there, object_at, with_object}
@@ -38,7 +40,7 @@ use Rattle.vol_owners.proofs.Steps.{creation_goes_on, object_changes_on}
 use Rattle.intentions.specs.Store.{StoreHas}
 use Rattle.intentions.proofs.Changes.{on_ok}
 use Rattle.intentions.proofs.Committed.{object_at_put}
-use Rattle.special_files.specs.Committing.{AreParts, CarriedOut, CommitEnds, Committed, Finishes, IsOldOrNew, IsReady, Makes, Making, with_made}
+use Rattle.special_files.specs.Committing.{AreParts, CarriedOut, CommitEnds, Committed, Finishes, IsOldOrNew, IsReady, Makes, Making, root_of, with_made}
 use Rattle.special_files.specs.Drafting.{Drafting, IsOpen, opened_as}
 use Rattle.special_files.specs.Refusal.{is_damage}
 use Rattle.special_files.specs.Store.{without_draft}
@@ -64,7 +66,8 @@ other_at g x id p o other at = object_at-with_object g x p id ∙ ap (λ (b : Bo
 
 module _ {D : Type 0} (g : Ghosts D) (graph : Graph) (ds : List Opened) (id : Puid) (was o : Object) (d : Opened) (created : Option ℕ) (d0 d1 : D) (k0 k1 : Kept) (s : ℕ) (taken dropped : List ℕ)
     (store : StoreHas g graph ds d0 k0) (at : object_at graph id ≡ Some was) (alone : drafts_of ds id ≡ d ∷ []) (created_is : d.created ≡ created) (amid : IsAmid g graph id d0 d1 k1) (ready : IsReady (g.content d1) graph id was o s taken dropped None)
-    (tree_is : tree_in (g.content d1) (block_at (g.content d1) s) ≡ tree_in (g.content d0) (content_of d)) where
+    (tree_is : tree_in (g.content d1) (block_at (g.content d1) s) ≡ tree_in (g.content d0) (content_of d))
+    (claim : d.shadow ≡ None → IsLeastFree (g.content d0) s × (s % 64 ≢ 0) × (s ≢ id.block) × (block_at (g.content d1) s ≡ root_spelling d.root)) where
   abbrev a : Image
   a = g.content d0
 
@@ -74,6 +77,15 @@ module _ {D : Type 0} (g : Ghosts D) (graph : Graph) (ds : List Opened) (id : Pu
   -- the tree of the one draft that stood
   tree_by : (t : Tree) → t ≡ tree_in b (block_at b s) → (e : Opened) → drafts_of ds id ≡ e ∷ [] → t ≡ tree_in a (content_of e)
   tree_by t is e there = let same : d ∷ [] ≡ e ∷ [] = sym alone ∙ there in let one : d ≡ e = cc in is ∙ tree_is ∙ ap (λ (x : Opened). tree_in a (content_of x)) one
+
+  -- the claim of its shadow root, whose block stays as it was
+  order_by : (c : Image) → ((n : ℕ) → n % 64 ≢ 0 → n ≢ id.block → block_at c n ≡ block_at b n) → (e : Opened) → drafts_of ds id ≡ e ∷ [] → e.shadow ≡ None
+      → (t : ℕ) × IsLeastFree a t × (block_at c t ≡ root_spelling e.root)
+  order_by c left e there none =
+      let same : d ∷ [] ≡ e ∷ [] = sym alone ∙ there in
+      let one : d ≡ e = cc in
+      let by = claim (ap (λ (x : Opened). x.shadow) one ∙ none) in
+      (s, by.0, left s by.1 by.2 ∙ by.3 ∙ ap (λ (x : Opened). root_spelling x.root) one)
 
   -- with the objects that there are then
   ready_for : (full : Graph) → Holds (g.content d1) full → object_at full id ≡ Some was → ((c : ℕ) → created ≡ Some c → IsMade (g.content d1) c) → IsReady (g.content d1) full id was o s taken dropped created
@@ -145,6 +157,7 @@ module _ {D : Type 0} (g : Ghosts D) (graph : Graph) (ds : List Opened) (id : Pu
           settled = done.settled;
           only = all;
           tree = tree_by _ done.tree;
+          order = order_by (g.content d2) done.left;
         }
 
   -- ---- none is made
@@ -164,6 +177,7 @@ module _ {D : Type 0} (g : Ghosts D) (graph : Graph) (ds : List Opened) (id : Pu
         settled = done.settled;
         only = all;
         tree = tree_by _ done.tree;
+        order = order_by (g.content d2) done.left;
       }
 
   -- ---- either
@@ -193,6 +207,21 @@ commit_stops g graph ds id o made old new space e leaves sound = record {
   done = tt;
   leaves = wider g old new (λ c. Holds c graph) (IsOldOrNew graph (with_made graph made) id o) leaves (λ c h. inl h);
   sound = sound;
+}
+
+-- the same after calls that only read
+pub commit_after : {D : Type 0} (g : Ghosts D) (graph : Graph) (ds : List Opened) (id : Puid) (o : Object) (made : Option Making) (d0 d1 d2 : D) (space : Kept) (n : ℕ) (r : Result (Unit {0}) Trouble) → OnlyReads g n d0 d1
+    → CommitEnds g graph ds id o made d1 d2 space r → CommitEnds g graph ds id o made d0 d2 space r
+commit_after g graph ds id o made d0 d1 d2 space n r reads ends = record {
+  done = on_ok r ends.done (λ is. record {
+    store = is.store;
+    settled = is.settled;
+    only = subst (λ (a : Image). ChangesOnly (λ entry. of_owners (id.block ∷ option_to_list (root_of made)) entry) a (g.content d2)) reads.content is.only;
+    tree = λ d alone. is.tree d alone ∙ ap (λ (a : Image). tree_in a (content_of d)) reads.content;
+    order = λ d alone none. let claim = is.order d alone none in (claim.0, subst (λ (a : Image). IsLeastFree a claim.0) reads.content claim.1, claim.2);
+  });
+  leaves = then g d0 d1 d2 (IsOldOrNew graph (with_made graph made) id o) (IsOldOrNew graph (with_made graph made) id o) (wider g d0 d1 Nothing _ reads.images (λ c none. absurd none)) ends.leaves (λ c h. h);
+  sound = ends.sound;
 }
 
 -- the root of an object that is made is a block of the image

@@ -1,5 +1,5 @@
 -- A slot of an index in a draft, filled or emptied.
-use Rattle.std.proofs.Common.{◌≡◌, ◌≢◌, ◌⊎◌, inl, inr, ℕ, zero, suc, ◌+◌, ◌-◌, ◌*◌, ◌/◌, ◌%◌, ◌<◌, ◌≤◌, Bool, true, false, cond, List, [], ◌∷◌, length, get_or, set, replicate, Option, Some, None, Ok, Err, refl, sym, ◌∙◌, ap, subst, arith}
+use Rattle.std.proofs.Common.{◌≡◌, ◌⊎◌, inl, inr, ℕ, ◌+◌, ◌-◌, ◌*◌, ◌/◌, ◌%◌, ◌<◌, ◌≤◌, Bool, true, false, cond, List, [], ◌∷◌, length, get_or, set, replicate, Option, Some, None, Ok, Err, refl, sym, ◌∙◌, ap, subst, arith}
 use Rattle.std.specs.Prelude.{◌==◌, ◌&&◌, is_none, is_some, Result}
 use Rattle.std.specs.List.{range_with_len}
 use Rattle.std.specs.Result.{IsErrAnd}
@@ -10,7 +10,6 @@ use Rattle.cfs_base.specs.Disk.{Image, Nothing}
 use Rattle.cfs_base.specs.Run.{Leaves}
 use Rattle.cfs_base.specs.declared.disk.Disk.{Ghosts}
 use Rattle.cfs_base.specs.declared.identifier.Puid.{Puid}
-use Rattle.cfs_base.specs.declared.kind.Kind.TheVariants as kinds
 use Rattle.cfs_base.specs.declared.refusal.Refused.{Refused}
 use Rattle.cfs_base.specs.declared.refusal.Trouble.{Trouble}
 use Rattle.cfs_base.specs.declared.refusal.Trouble.TheVariants as trouble
@@ -18,10 +17,9 @@ use Rattle.cfs_base.specs.Refusals.{refused_by}
 use Rattle.cfs_base.proofs.Runs.{wider}
 use Rattle.cfs_base.proofs.Calls.{makes_then, reads_make, reads_then, reads_within}
 use Rattle.block_tree.specs.declared.root.Root as roots
-use Rattle.block_tree.specs.Root.{Fits, root_spelling}
+use Rattle.block_tree.specs.Root.{Fits}
 use Rattle.cyl_alloc.specs.Space.{Kept}
 use Rattle.leaf_changes.specs.Bytes.{IsSlot, with_slot}
-use Rattle.leaf_changes.specs.Changes.{SetsSize}
 use Rattle.leaf_changes.specs.Gives.{GivesIndex}
 use Rattle.leaf_changes.specs.Leaves.{LeavesFit, FillsSlot, bytes_held}
 use Rattle.leaf_changes.proofs.Fits.{same_object}
@@ -36,7 +34,7 @@ use Rattle.ufs_model.specs.declared.object.Object.{Object}
 use Rattle.ufs_model.specs.Graph.{Graph, object_at}
 use Rattle.ufs_model.specs.Numbers.{branches, merged, within}
 use Rattle.ufs_model.specs.Object.{changed_object, filled, fresh_after, held_levels, leaves_in, slot_of, touched}
-use Rattle.vol_image.specs.Reading.{leaf_content, object_with, slot_in}
+use Rattle.vol_image.specs.Reading.{leaf_content, slot_in}
 use Rattle.vol_image.specs.Seen.{Held}
 use Rattle.vol_image.specs.Sound.{Holds}
 use Rattle.vol_owners.specs.Account.{HasDraft, Opened}

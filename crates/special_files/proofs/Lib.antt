@@ -41,6 +41,7 @@ pub mod ShrinkCall
 pub mod ShrinkRun
 pub mod Shrunk
 pub mod Sized
+pub mod Swapped
 pub mod Trees
 pub mod Unlike
 pub mod WriteLeaf

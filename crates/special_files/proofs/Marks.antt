@@ -1,6 +1,6 @@
 -- Flags that are set one after another, and what they make of the model's fresh blocks.
-use Rattle.std.proofs.Common.{◌≡◌, ◌≢◌, ◌⊎◌, inl, inr, ℕ, zero, suc, ◌+◌, ◌-◌, ◌/◌, ◌%◌, ◌<◌, ◌≤◌, Bool, true, false, List, [], ◌∷◌, length, get_or, set, Option, Some, None, refl, sym, ◌∙◌, ap, subst, get_or-set_other, get_or-set_same, arith}
-use Rattle.std.specs.Prelude.{◌==◌, filter, is_some, map}
+use Rattle.std.proofs.Common.{◌≡◌, ◌⊎◌, inl, inr, ℕ, zero, suc, ◌+◌, ◌/◌, ◌%◌, ◌<◌, ◌≤◌, Bool, true, false, List, [], ◌∷◌, length, get_or, set, Option, Some, None, refl, sym, ◌∙◌, ap, subst, get_or-set_other, get_or-set_same, arith}
+use Rattle.std.specs.Prelude.{◌==◌, is_some, map}
 use Rattle.std.specs.List.{range_with_len}
 use Rattle.std.proofs.lemmas.Bool.{both_ways, cases_Bool, cases_lt, eqb-false, eqb-true}
 use Rattle.std.proofs.lemmas.List.{get_or_past}
@@ -13,17 +13,16 @@ use Rattle.block_tree.proofs.Trees.{path_is}
 use Rattle.ufs_model.specs.declared.change.Change.TheVariants.{Overwrite}
 use Rattle.ufs_model.specs.declared.object.Draft.{Draft}
 use Rattle.ufs_model.specs.declared.object.Object.{Object}
-use Rattle.ufs_model.specs.Numbers.{first_level, has_number, merged, next_levels, numbers_rise, parents, shared, with_numbers, within}
+use Rattle.ufs_model.specs.Numbers.{first_level, has_number, next_levels, numbers_rise, parents, shared, with_numbers, within}
 use Rattle.ufs_model.specs.Object.{changed_object, fresh_after, held_leaves, held_levels, held_nodes, leaves_in, touched}
 use Rattle.vol_image.specs.Count.{held_at_depth, levels_held}
-use Rattle.vol_image.specs.Reading.{IsTree, held_in, leaf_in, object_with}
 use Rattle.vol_image.specs.Seen.{Held, Tree, tree_in}
 use Rattle.vol_image.proofs.Counts.{blocks_counted}
-use Rattle.vol_image.proofs.Rising.{filter-rises, in_filter, in_map, in_numbers, in_withs, numbers-rise, same_numbers, to_filter, to_map, to_numbers, to_withs, with_numbers-rise}
+use Rattle.vol_image.proofs.Rising.{filter-rises, in_filter, in_map, in_withs, numbers-rise, same_numbers, to_filter, to_map, to_numbers, to_withs}
 use Rattle.vol_owners.specs.Account.{HasDraft, is_meant_for, passes}
 use Rattle.leaf_changes.proofs.HeldNumbers.{all-rise, in_all, in_touched, to_all, to_touched}
 use Rattle.special_files.specs.Drafting.{Drafting, IsOpen, fresh_of, opened_as, set_in}
-use Rattle.special_files.proofs.Levels.{Tell, fresh_leaf, fresh_node, set_is}
+use Rattle.special_files.proofs.Levels.{Tell, set_is}
 use Rattle.special_files.proofs.PutStore.{flags_of}
 use Rattle.vol_owners.specs.Account.{Opened}
 

@@ -1,19 +1,20 @@
 -- A resize to less, as the model has it: which blocks it writes anew, and what it takes.
 use Rattle.std.proofs.Common.{◌≡◌, ◌≢◌, ◌⊎◌, inl, inr, ℕ, ◌+◌, ◌-◌, ◌*◌, ◌/◌, ◌%◌, ◌<◌, ◌≤◌, Bool, true, false, List, [], ◌∷◌, length, get_or, Option, Some, None, refl, sym, ◌∙◌, ap, subst, arith}
-use Rattle.std.specs.Prelude.{◌==◌, ◌&&◌, ◌||◌, not, filter, if◌then◌else◌, is_some, map, nat_le, nat_lt, slice_index}
+use Rattle.std.specs.Prelude.{◌==◌, ◌&&◌, ◌||◌, ◌++◌, not, filter, if◌then◌else◌, is_some, map, nat_le, nat_lt, slice_index}
 use Rattle.std.proofs.lemmas.Bool.{both_ways, cases_Bool, cases_lt, eq-eqb, eqb-false, eqb-true, le-leb, leb-true, lt-ltb, ltb-true}
 use Rattle.cfs_base.specs.Disk.{Image}
 use Rattle.cfs_base.specs.declared.identifier.Puid.{Puid}
 use Rattle.block_tree.specs.Root.{root_spelling}
 use Rattle.block_tree.specs.Tree.{tree_of}
 use Rattle.block_tree.proofs.Trees.{path_is}
+use Rattle.cfs_base.specs.declared.kind.Place.TheVariants.{Leaf, Node}
+use Rattle.cyl_alloc.specs.Space.{intended}
 use Rattle.ufs_model.specs.declared.change.Change.TheVariants.{SetSize}
 use Rattle.ufs_model.specs.declared.object.Draft.{Draft}
-use Rattle.ufs_model.specs.declared.object.Object.{Object}
 use Rattle.ufs_model.specs.Numbers.{first_level, has_number, lacking, missing, next_levels, numbers_rise, parents, shared, with_numbers}
 use Rattle.ufs_model.specs.Object.{cut_leaf, held_leaves, leaves_in, resize_anew, size_of, written_anew}
 use Rattle.vol_image.specs.Reading.{held_in}
-use Rattle.vol_image.specs.Seen.{Held, held_at, tree_in}
+use Rattle.vol_image.specs.Seen.{Held, held_at}
 use Rattle.vol_image.proofs.Paths.{held_there}
 use Rattle.vol_image.proofs.Rising.{here, in_cons, in_filter, in_map, in_withs, filter-rises, same_numbers, to_filter, to_map, to_withs, with_numbers-rise}
 use Rattle.vol_owners.specs.Account.{HasDraft, Opened}
@@ -21,6 +22,7 @@ use Rattle.leaf_changes.proofs.HeldNumbers.{held_of, in_all, in_held, to_all, to
 use Rattle.special_files.specs.Drafting.{Drafting, IsOpen, is_fresh_leaf, is_fresh_node, need_beside, node_of, one_unless, opened_as, set_in, shadow_need}
 use Rattle.special_files.specs.Leaves.{leaves_of}
 use Rattle.special_files.specs.Nodes.{leaves_at}
+use Rattle.special_files.specs.Order.{claims_anew}
 use Rattle.special_files.specs.Shed.{IsBorder, IsCutHere, is_stale_cut, shrink_takes}
 use Rattle.special_files.proofs.Fresh.{read_leaf_is}
 use Rattle.special_files.proofs.Marks.{first_is, next_is}
@@ -30,14 +32,10 @@ use Rattle.special_files.proofs.Needs.{has_is}
 abbrev pub only_if : Bool → ℕ → List ℕ
 only_if b n = if b then n ∷ [] else []
 
--- how many of it are missing
-one_missing : (b : Bool) (n : ℕ) (flags : List Bool) → length (lacking (only_if b n) (set_in flags)) ≡ (if b then one_unless (get_or flags n false) else 0)
-one_missing false n flags = refl
-one_missing true n flags = ap (λ (has : Bool). length (if not has then n ∷ [] else [])) (has_is flags n) ∙ by (get_or flags n false)
-  where
-    by : (b : Bool) → length (if not b then n ∷ [] else []) ≡ one_unless b
-    by true = refl
-    by false = refl
+-- and if it isn't there yet
+lacking_one : (b : Bool) (n : ℕ) (flags : List Bool) → lacking (only_if b n) (set_in flags) ≡ only_if (b && not (get_or flags n false)) n
+lacking_one false n flags = refl
+lacking_one true n flags = ap (λ (has : Bool). only_if (not has) n) (has_is flags n)
 
 in_only : (b : Bool) (n x : ℕ) → has_number x (only_if b n) ≡ true → (b ≡ true) × (n ≡ x)
 in_only true n x h = elim (in_cons x n [] h) [ inl same ↦ (refl, same) | inr none ↦ cc ]
@@ -298,13 +296,26 @@ module _ (a : Image) (ds : List Opened) (id : Puid) (was : Drafting) (d : Draft)
       more : nat_le (size_of d.object) size ≡ false
       more = elim (cases_Bool (nat_le (size_of d.object) size)) [ inl le ↦ absurd (omega (arith, leb-true (size_of d.object) size le, is, less)) | inr above ↦ above ]
 
+  new_leaf : lacking a0 F0 ≡ only_if (is_stale_cut was cut e) e
+  new_leaf = ap (lacking a0) F0_is ∙ ap (λ (ns : List ℕ). lacking ns (set_in was.leaves)) a0_is ∙ lacking_one cut e was.leaves
+
+  new_node : lacking a1 F1 ≡ only_if (changes && not (is_fresh_node was n)) n
+  new_node = ap (lacking a1) F1_is ∙ ap (λ (ns : List ℕ). lacking ns (set_in was.nodes)) a1_is ∙ lacking_one changes n was.nodes
+
   pub recut_need : size_of d.object ≡ was.root.size → need_beside (SetSize size) d was ≡ shrink_takes was cut from e n + shadow_need was
-  recut_need is =
-      let first = ap (λ (ns : List ℕ). length (lacking a0 ns)) F0_is ∙ ap (λ (ns : List ℕ). length (lacking ns (set_in was.leaves))) a0_is ∙ one_missing cut e was.leaves ∙ stale cut (is_fresh_leaf was e) in
-      let second = ap (λ (ns : List ℕ). length (lacking a1 ns)) F1_is ∙ ap (λ (ns : List ℕ). length (lacking ns (set_in was.nodes))) a1_is ∙ one_missing changes n was.nodes in
-      ap (λ (ls : List (List ℕ)). missing ls d.fresh + shadow_need was) (anew is) ∙ omega (arith, first, second)
+  recut_need is = ap (λ (ls : List (List ℕ)). missing ls d.fresh + shadow_need was) (anew is)
+      ∙ omega (arith, ap (length {A = ℕ}) new_leaf ∙ one (is_stale_cut was cut e) e, ap (length {A = ℕ}) new_node ∙ one (changes && not (is_fresh_node was n)) n ∙ both changes (is_fresh_node was n))
     where
-      stale : (b f : Bool) → (if b then one_unless f else 0) ≡ (if b && not f then 1 else 0)
-      stale true true = refl
-      stale true false = refl
-      stale false f = refl
+      one : (b : Bool) (m : ℕ) → length (only_if b m) ≡ (if b then 1 else 0)
+      one true m = refl
+      one false m = refl
+
+      both : (b f : Bool) → (if b && not f then 1 else 0) ≡ (if b then one_unless f else 0)
+      both true true = refl
+      both true false = refl
+      both false f = refl
+
+  pub recut_claims : size_of d.object ≡ was.root.size → claims_anew was.at (written_anew (SetSize size) d.object d.fresh) d.fresh
+      ≡ map (λ l. intended (Leaf l) was.at) (only_if (is_stale_cut was cut e) e) ++ map (λ m. intended (Node m) was.at) (only_if (changes && not (is_fresh_node was n)) n)
+  recut_claims is = ap (λ (ls : List (List ℕ)). claims_anew was.at ls d.fresh) (anew is)
+      ∙ (λ i. map (λ l. intended (Leaf l) was.at) (new_leaf i) ++ map (λ m. intended (Node m) was.at) (new_node i))

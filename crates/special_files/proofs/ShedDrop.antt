@@ -1,7 +1,7 @@
 -- Leaves dropped from a draft, as the call makes it: the list by reads alone, the node, and the claims taken back.
 use Rattle.std.proofs.Common.{◌≡◌, ◌≢◌, ℕ, ◌+◌, ◌*◌, ◌/◌, ◌%◌, ◌^◌, ◌<◌, ◌≤◌, Bool, true, false, IsTrue, List, length, Ok, Err, Some, refl, sym, ◌∙◌, ap, subst, arith, inl, inr}
-use Rattle.std.specs.Prelude.{◌==◌, if◌then◌else◌, not, IfErr, Result, slice_index, sum}
-use Rattle.std.proofs.lemmas.Bool.{both_ways, cases_Bool, cases_lt, eq-eqb, eqb-true}
+use Rattle.std.specs.Prelude.{◌==◌, if◌then◌else◌, not, Result, sum}
+use Rattle.std.proofs.lemmas.Bool.{both_ways, cases_Bool, cases_lt, eq-eqb, eqb-true, ne_eqb}
 use Rattle.std.proofs.lemmas.List.{get_or_past}
 use Rattle.std.proofs.lemmas.List.FromFn.{length-map-range_with_len}
 use Rattle.cfs_base.specs.Calls.{HasTried, MakesAtMost, OnlyReads}
@@ -17,6 +17,8 @@ use Rattle.cfs_base.specs.declared.refusal.Trouble.{Trouble}
 use Rattle.cfs_base.specs.declared.refusal.Trouble.TheVariants as trouble
 use Rattle.cfs_base.proofs.Calls.{makes_then, reads_within, then_tried}
 use Rattle.block_tree.specs.Pointers.{leaf_pointers, number_at, pointers_of}
+use Rattle.claims.specs.Claims.{AreClaimed}
+use Rattle.cyl_map.specs.Volume.{entry_in}
 use Rattle.cyl_alloc.specs.Space.{Kept}
 use Rattle.ufs_model.specs.declared.object.Draft as models
 use Rattle.ufs_model.specs.declared.object.Object.{Object}
@@ -33,14 +35,15 @@ use Rattle.special_files.specs.Ends.{Ends}
 use Rattle.special_files.specs.Leaves.{leaves_of}
 use Rattle.special_files.specs.Nodes.{IsRead, leaves_at}
 use Rattle.special_files.specs.Refusal.{IsTrouble, is_damage, is_damaged, is_full, told_after}
-use Rattle.special_files.specs.Shed.{AreShed, Drops, DropsFrom, Forgets, IsShortNode, KeepsOne, NoBlock, NoWrite, Put, PutsShort, PutsWithin, Whole, Within, border_takes}
+use Rattle.special_files.specs.Order.{ClaimsAndDrops}
+use Rattle.special_files.specs.Shed.{AreShed, Drops, DropsFrom, Forgets, KeepsOne, NoBlock, NoWrite, Put, PutsWithin, Whole, Within, border_claims, border_takes}
 use Rattle.special_files.specs.declared.node.NodeRead.{NodeRead}
 use Rattle.special_files.proofs.Amid.{IsAmid, amid_begins}
 use Rattle.special_files.proofs.CommitDirect.{claim_real}
 use Rattle.special_files.proofs.Endings.{ends_err, ends_then_err, ends_then_ok, gets_ends, makes_none, write_ends}
 use Rattle.special_files.proofs.PutCall.{find_sound}
 use Rattle.special_files.proofs.Refusals.{damaged_by, refusal_of}
-use Rattle.special_files.proofs.ShedRun.{IsPut, get_leaves, put_amid, put_is, put_leaves, put_none, put_small, shed_amid, shed_leaves, shed_short, shed_sound}
+use Rattle.special_files.proofs.ShedRun.{IsPut, get_leaves, put_amid, put_is, put_leaves, put_none, put_claims, put_small, shed_amid, shed_leaves, shed_order, shed_short, shed_sound}
 use Rattle.special_files.proofs.ShedStore.{shed_drops}
 use Rattle.special_files.proofs.WriteLeaf.{ends_since, images_since, store_now}
 use Rattle.special_files.proofs.WriteRuns.{ends_any, ends_wider, still_sound}
@@ -57,6 +60,7 @@ drops_since g graph ds id f n d0 d1 d3 after was now reads drops = record {
   block = drops.block;
   forgets = drops.forgets;
   gone = drops.gone;
+  order = subst (λ (i : Image). ClaimsAndDrops id.block (border_claims was f) i (g.content d3)) reads.content drops.order;
   kept = λ l less. drops.kept l less ∙ ap (λ (i : Image). leaves_of i was.root l) reads.content;
 }
 
@@ -117,12 +121,14 @@ module _ {D : Type 0} (g : Ghosts D) (graph : Graph) (ds : List Opened) (id : Pu
         amid : IsAmid g graph id d1 d2 k2
         put : IsPut b (g.content d2) id d f v
         small : f % 128 ≢ 0 → v < 2 ^ 32
+        claims : AreClaimed (border_claims was f) b (g.content d2)
 
       ready : PutsWithin g f leaves was d1 d2 k0 k2 (Ok y) → Ready y.0
       ready (Whole z whole same kept done) = record {
         amid = subst (λ (e : D). IsAmid g graph id d1 e k2) (sym same) (subst (IsAmid g graph id d1 d1) (sym kept) start);
         put = subst (λ (e : D). IsPut b (g.content e) id d f y.0) (sym same) (put_none b id d f y.0 whole);
         small = λ within. absurd (within whole);
+        claims = rw (eq-eqb (f % 128) 0 whole) (λ v. ap (λ (e : D). entry_in (g.content e) v) same);
       }
       ready (Within within (NoBlock e gets done)) = cc
       ready (Within within (NoWrite mid z block e gets short writes done)) = cc
@@ -133,6 +139,7 @@ module _ {D : Type 0} (g : Ghosts D) (graph : Graph) (ds : List Opened) (id : Pu
             put = put_is g graph ds id o d1 mid k0 k2 was m leaves f store1 at opened (less within) z gets d2 block writes within (read1 within) short.before
                 (λ j late. elim (cases_lt j 128) [ inl few ↦ short.past j late few | inr over ↦ get_or_past (pointers_of leaf_pointers block) j 0 (omega (arith, over, length-pointers block)) ]) (keeps within);
             small = λ w. put_small g graph ds id o d1 mid k0 k2 was m leaves f store1 at opened (less within) z gets d2 block writes;
+            claims = rw (ne_eqb (f % 128) 0 within) (put_claims g graph ds id o d1 mid k0 k2 was m leaves f store1 at opened (less within) z gets d2 block writes gets);
           })
 
       -- ---- the claims
@@ -153,7 +160,8 @@ module _ {D : Type 0} (g : Ghosts D) (graph : Graph) (ds : List Opened) (id : Pu
           done = drops_since g graph ds id f 120 d0 d1 d3 k3 was now reads
               (shed_drops g graph ds id o d1 d3 k0 k3 was now m f y.0 store1 at opened
               (subst (IsAmid g graph id d1 d3) (sym given) (shed_amid g graph ds id o d1 d2 d3 k0 k2 was m f y.0 ns store1 at opened (ready puts).amid (ready puts).put shed1 n t undone))
-              (shed_short g graph ds id o d1 d2 d3 k0 k2 was m f y.0 ns store1 at opened (ready puts).amid (ready puts).put shed1 n t undone) (ready puts).small forgets);
+              (shed_short g graph ds id o d1 d2 d3 k0 k2 was m f y.0 ns store1 at opened (ready puts).amid (ready puts).put shed1 n t undone) (ready puts).small forgets
+              (shed_order g graph ds id o d1 d2 d3 k0 k2 was m f y.0 ns store1 at opened (ready puts).amid (ready puts).put shed1 n t undone (border_claims was f) (ready puts).claims));
           leaves = images_since g d0 d1 d3 120 reads _ (shed_leaves g graph ds id o d1 d2 d3 k0 k2 was m f y.0 ns store1 at opened (ready puts).amid (ready puts).put shed1 n t _ undone);
           sound = tt;
         }

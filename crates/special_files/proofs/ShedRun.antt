@@ -38,6 +38,8 @@ use Rattle.vol_owners.specs.Change.{ChangesOnly, of_draft}
 use Rattle.vol_owners.specs.Owner.{is_meant, is_of}
 use Rattle.vol_owners.proofs.Changes.{changes_then}
 use Rattle.vol_owners.proofs.Entries.{free_unowned}
+use Rattle.claims.specs.Claims.{AreClaimed}
+use Rattle.claims.proofs.Claims.{claimed_by}
 use Rattle.intentions.specs.Course.{Course, Frame, IsOn}
 use Rattle.intentions.specs.Entries.{undone}
 use Rattle.intentions.specs.declared.change.Change.TheVariants.{Undo}
@@ -48,6 +50,7 @@ use Rattle.special_files.specs.Calls.{Claims, GetsNode, Had, WritesBlock}
 use Rattle.special_files.specs.Committing.{Flips, MayFlip, flipped, flips, given_all}
 use Rattle.special_files.specs.Drafting.{Drafting, IsOpen, node_of, opened_as}
 use Rattle.special_files.specs.Nodes.{leaves_at}
+use Rattle.special_files.specs.Order.{ClaimsAndDrops, node_claims}
 use Rattle.special_files.specs.Refusal.{is_damage}
 use Rattle.special_files.specs.Shed.{AreShed, IsPast, IsShed}
 use Rattle.special_files.proofs.Amid.{IsAmid, amid_leaves, claim_leaves, claimed, write_leaves, wrote}
@@ -249,6 +252,13 @@ module _ {D : Type 0} (g : Ghosts D) (graph : Graph) (ds : List Opened) (id : Pu
       content : block_at (g.content d2) y.0 ≡ node
       content = ap (λ (i : Image). block_at i y.0) writes.written ∙ get_or-set_same (g.content d1) y.0 node [] y_below
 
+      pub put_claims : GetsNode g n d0 d1 k0 k1 was (Ok y) → AreClaimed (node_claims was.at was.nodes n) a (g.content d2)
+      put_claims (Had fresh same kept is) = rw fresh (λ v. entry v ∙ ap (λ (d : D). entry_in (g.content d) v) same)
+      put_claims (Claims stale enters) =
+          let is = node_is g graph ds id o d0 d1 d1 k0 k1 k1 was m leaves f store at opened most in
+          let claim = claimed g graph ds id o d0 k0 store at d0 d1 k0 k1 (intended (Node n) was.at) (Ok y) start enters is (not_root_node n) y refl (mine g graph ds id o d0 d1 d1 k0 k1 k1 was m leaves f store at opened most (Node n)) in
+          rw stale (g.content d1, claimed_by _ a (g.content d1) y.0 is claim.1 claim.2, entry)
+
       pub put_is : f % 128 ≢ 0 → leaves ≡ leaves_at a (node_of was.root n) → ((j : ℕ) → j < f % 128 → pointer leaf_pointers node j ≡ slice_index leaves j) → ((j : ℕ) → f % 128 ≤ j → pointer leaf_pointers node j ≡ 0)
           → (j : ℕ) × (j < f % 128) × (slice_index leaves j ≢ 0) → IsPut a (g.content d2) id d f y.0
       put_is within read kept past one =
@@ -337,6 +347,16 @@ module _ {D : Type 0} (g : Ghosts D) (graph : Graph) (ds : List Opened) (id : Pu
 
     long_end : length (g.content d3) ≡ length b
     long_end = ap (length {A = List ℕ}) at_end ∙ length-flipped (flips Undo ns) b
+
+    pub shed_order : (es : List MapEntry) → AreClaimed es base b → ClaimsAndDrops id.block es base (g.content d3)
+    shed_order es claims = record {
+      mid = b;
+      claimed = claims;
+      left = λ v. elim (cases_Bool (has_number v ns)) [
+        | inl has ↦ inr (meant v has, ap (λ (i : Image). is_free_in i v) at_end ∙ now_free g graph ds id o d0 k0 store at d2 d3 k2 ns amid shed.once meant no_root v has)
+        | inr not ↦ inl (entry_left v not)
+      ];
+    }
 
     pub shed_short : IsShort base (g.content d3) id mine_d f y
     shed_short = record {

@@ -17,7 +17,8 @@ use Rattle.vol_owners.specs.Account.{HasDraft, Opened, is_meant_for}
 use Rattle.intentions.specs.Store.{StoreHas}
 use Rattle.special_files.specs.Drafting.{Drafting, IsOpen, fresh_of, opened_as}
 use Rattle.special_files.specs.Leaves.{draft_in, leaves_of, object_of}
-use Rattle.special_files.specs.Shed.{DropsFrom, Forgets}
+use Rattle.special_files.specs.Order.{ClaimsAndDrops}
+use Rattle.special_files.specs.Shed.{DropsFrom, Forgets, border_claims}
 use Rattle.special_files.proofs.Amid.{IsAmid}
 use Rattle.special_files.proofs.Levels.{told_levels}
 use Rattle.special_files.proofs.PutStore.{alone_now, flags_of, store_goes_on, the_draft}
@@ -79,8 +80,9 @@ module _ {D : Type 0} (g : Ghosts D) (graph : Graph) (ds : List Opened) (id : Pu
       (tell_short a b graph store.account.holds id (opened_as id was m) f y draft short now.root.nodes fits (λ k early. (forgets.before k early).1) (λ k late. (forgets.past k late).1) (λ within. (forgets.here within).1)
       was now forgets (flags_of a ds id was m opened draft)) k)))
 
-  pub shed_drops : DropsFrom g graph ds id f old new after was now
-  shed_drops = record {
+  pub shed_drops : ClaimsAndDrops id.block (border_claims was f) a b → DropsFrom g graph ds id f old new after was now
+  shed_drops order = record {
+    order = order;
     steps = record { store = store_goes_on g graph ds id o old new before after was now m later store at opened amid stands forgets.stays.created; only = amid.only };
     is_open = record {
       at = opened.at ∙ sym forgets.stays.at;

@@ -1,14 +1,19 @@
 -- The size of a draft set to less: the model's need, and the model's draft, of the call as it is made.
-use Rattle.std.proofs.Common.{◌≡◌, inl, inr, ℕ, ◌+◌, ◌-◌, ◌/◌, ◌<◌, ◌≤◌, Bool, true, false, List, Ok, Err, Some, refl, sym, ◌∙◌, ap, subst, arith}
-use Rattle.std.specs.Prelude.{Result}
-use Rattle.std.proofs.lemmas.Bool.{cases_Bool}
+use Rattle.std.proofs.Common.{◌≡◌, inl, inr, ℕ, ◌+◌, ◌-◌, ◌/◌, ◌%◌, ◌<◌, ◌≤◌, Bool, true, false, List, [], ◌∷◌, Ok, Some, refl, sym, ◌∙◌, ap, subst, arith}
+use Rattle.std.specs.Prelude.{◌==◌, ◌&&◌, ◌||◌, ◌++◌, Result, if◌then◌else◌, map, not}
+use Rattle.std.proofs.lemmas.Bool.{and_parts, cases_Bool, eqb-false}
 use Rattle.cfs_base.specs.Calls.{OnlyReads}
 use Rattle.cfs_base.specs.Run.{Leaves}
 use Rattle.cfs_base.specs.declared.disk.Disk.{Ghosts}
 use Rattle.cfs_base.specs.declared.identifier.Puid.{Puid}
 use Rattle.cfs_base.specs.declared.refusal.Refused.{Refused}
 use Rattle.cfs_base.proofs.Runs.{then}
-use Rattle.cyl_alloc.specs.Space.{Kept}
+use Rattle.cfs_base.specs.Disk.{Image}
+use Rattle.cfs_base.specs.declared.kind.Place.TheVariants.{Leaf, Node}
+use Rattle.claims.specs.Claims.{AreClaimed}
+use Rattle.claims.proofs.Claims.{claims_then}
+use Rattle.cyl_map.specs.declared.entry.MapEntry.{MapEntry}
+use Rattle.cyl_alloc.specs.Space.{Kept, intended}
 use Rattle.leaf_changes.specs.Bytes as changes
 use Rattle.leaf_changes.proofs.Given.{file_to_leaves}
 use Rattle.ufs_model.specs.declared.change.Change.TheVariants.{SetSize}
@@ -17,25 +22,43 @@ use Rattle.ufs_model.specs.declared.object.File.{File}
 use Rattle.ufs_model.specs.declared.object.Object.TheVariants as objects
 use Rattle.ufs_model.specs.declared.object.Object.{Object}
 use Rattle.ufs_model.specs.Graph.{Graph, object_at}
-use Rattle.ufs_model.specs.Object.{leaves_in, size_of}
+use Rattle.ufs_model.specs.Object.{leaves_in, size_of, written_anew}
 use Rattle.ufs_model.specs.State.{changed_draft}
 use Rattle.vol_image.specs.Reading.{leaf_content}
 use Rattle.vol_image.specs.Sound.{Holds}
 use Rattle.vol_owners.specs.Account.{HasDraft, Opened}
 use Rattle.intentions.specs.Store.{StoreHas}
 use Rattle.special_files.specs.Becomes.{Becomes}
-use Rattle.special_files.specs.Drafting.{Drafting, IsOpen, need_beside, opened_as, shadow_need}
+use Rattle.special_files.specs.Drafting.{Drafting, IsOpen, is_fresh_leaf, is_fresh_node, need_beside, opened_as, shadow_need}
 use Rattle.special_files.specs.Leaves.{leaves_of}
 use Rattle.special_files.specs.Nodes.{IsRead}
+use Rattle.special_files.specs.Order.{ClaimsAndDrops, claims_anew, leaf_claims, node_claims}
 use Rattle.special_files.specs.Puts.{PutsLeaf, StaysBut}
-use Rattle.special_files.specs.Shed.{Drops, IsBorder, IsCutHere, KeepsOne, shrink_takes, sized}
+use Rattle.special_files.specs.Shed.{Drops, IsBorder, IsCutHere, KeepsOne, border_claims, shrink_takes, sized}
 use Rattle.special_files.specs.Store.{replaced}
 use Rattle.special_files.specs.declared.node.NodeRead.{NodeRead}
-use Rattle.special_files.proofs.PutStore.{the_draft}
-use Rattle.special_files.proofs.Recut.{recut_need}
+use Rattle.special_files.proofs.Fresh.{node_of_fresh}
+use Rattle.special_files.proofs.PutStore.{flags_of, the_draft}
+use Rattle.special_files.proofs.Recut.{only_if, recut_claims, recut_need}
 use Rattle.special_files.proofs.ShrinkRun.{becomes_since, cut_to, keeps_one, node_is}
 use Rattle.special_files.proofs.Shrunk.{CutTo, shrunk_becomes, stays_itself}
 use Rattle.special_files.proofs.WriteLeaf.{images_since, read_since, store_now}
+
+-- a leaf that is cut, and then the node that loses leaves, take no block twice
+one_after_other : (c l w f m : Bool) (e n at : ℕ) → ((c && not l) ≡ true → m ≡ true) → ((c && not l) ≡ false → m ≡ f)
+    → (if c then (if l then [] else intended (Leaf e) at ∷ (if f then [] else intended (Node n) at ∷ [])) else []) ++ (if w then [] else (if m then [] else intended (Node n) at ∷ []))
+    ≡ map (λ x. intended (Leaf x) at) (only_if (c && not l) e) ++ map (λ x. intended (Node x) at) (only_if ((c && not l || not w) && not f) n)
+one_after_other true false true true m e n at stale same = refl
+one_after_other true false true false m e n at stale same = refl
+one_after_other true false false f false e n at stale same = let no = stale refl in cc
+one_after_other true false false true true e n at stale same = refl
+one_after_other true false false false true e n at stale same = refl
+one_after_other true true true f m e n at stale same = refl
+one_after_other true true false true m e n at stale same = ap (λ (b : Bool). if b then [] else intended (Node n) at ∷ []) (same refl)
+one_after_other true true false false m e n at stale same = ap (λ (b : Bool). if b then [] else intended (Node n) at ∷ []) (same refl)
+one_after_other false l true f m e n at stale same = refl
+one_after_other false l false true m e n at stale same = ap (λ (b : Bool). if b then [] else intended (Node n) at ∷ []) (same refl)
+one_after_other false l false false m e n at stale same = ap (λ (b : Bool). if b then [] else intended (Node n) at ∷ []) (same refl)
 
 module _ {D : Type 0} (g : Ghosts D) (graph : Graph) (ds : List Opened) (id : Puid) (o : Object) (at : object_at graph id ≡ Some o) (d0 d1 : D) (k0 : Kept) (was : Drafting) (d : Draft) (store : StoreHas g graph ds d0 k0) (opened : IsOpen ds id was d)
     (reads : OnlyReads g 1 d0 d1) (size : ℕ) (less : size < was.root.size) (limit : was.root.size ≤ 7864320) (to number from : ℕ) (cut : Bool) (read : NodeRead) (to_is : to ≡ leaves_in size) (number_is : number ≡ (leaves_in size - 1) / 128)
@@ -79,7 +102,7 @@ module _ {D : Type 0} (g : Ghosts D) (graph : Graph) (ds : List Opened) (id : Pu
         (keeps_one g graph ds id o at d1 k0 was d store1 opened size less limit cut read is1 (numbered ∙ number_is) d2 k2 mid next stays from border1 cuts done next_is)
 
     pub call_images : Leaves g d0 d3 (λ c. Holds c graph)
-    call_images = images_since g d0 d1 d3 1 reads _ (then g d1 d2 d3 _ _ (images graph ds id o d store1 at opened is1) call_drops.leaves (λ c h. h))
+    call_images = images_since g d0 d1 d3 1 reads _ ((then) g d1 d2 d3 _ _ (images graph ds id o d store1 at opened is1) call_drops.leaves (λ c h. h))
 
     pub call_done : r ≡ Ok tt → (f : File) → d.object ≡ objects.File f → Becomes g graph ds id (changed_draft (SetSize size) d) d0 d3 k3 (sized now size)
     call_done ok f file =
@@ -87,3 +110,55 @@ module _ {D : Type 0} (g : Ghosts D) (graph : Graph) (ds : List Opened) (id : Pu
         becomes_since g graph ds id (changed_draft (SetSize size) d) 1 d0 d1 d3 k3 (sized now size) reads
         (shrunk_becomes g graph ds id o at d1 k0 was d store1 opened f file size less limit read.node.leaves (node_is g graph ds id o at d1 k0 was d store1 opened size less limit cut read is1 (numbered ∙ number_is) d2 k2 mid next stays)
         from border1 cut cuts d2 d3 k2 k3 mid now next done drops.done)
+
+    -- ---- the claims in their order
+
+    abbrev e : ℕ
+    e = size / 512
+
+    abbrev n : ℕ
+    n = (leaves_in size - 1) / 128
+
+    at_leaf : cut ≡ true → e / 128 ≡ n
+    at_leaf is = omega (arith, (cuts.is is).0)
+
+    marked : cut ≡ true → is_fresh_node mid n ≡ true
+    marked is = subst (λ (k : ℕ). is_fresh_node mid k ≡ true) (at_leaf is) (done.node_marks.new e (omega arith) (rw is (omega arith)))
+
+    -- a leaf that was fresh has a fresh node
+    above : cut ≡ true → is_fresh_leaf was e ≡ true → is_fresh_node was n ≡ true
+    above is fresh =
+        let tell = flags_of (g.content d1) ds id was d opened draft in
+        subst (λ (k : ℕ). is_fresh_node was k ≡ true) (at_leaf is) (tell.node (e / 128) (omega (arith, less, limit))
+        ∙ node_of_fresh (g.content d1) graph store1.account.holds id o at (store1.account.objects id o at) (opened_as id was d) draft (e / 128) (e % 128) (sym (tell.leaf e (omega (arith, less, limit))) ∙ fresh))
+
+    still : (b l : Bool) → cut ≡ b → is_fresh_leaf was e ≡ l → (b && not l) ≡ false → is_fresh_node mid n ≡ is_fresh_node was n
+    still true true is fresh not_stale = marked is ∙ sym (above is fresh)
+    still true false is stale not_stale = cc
+    still false l whole any not_stale = ap (λ (w : Drafting). is_fresh_node w n) (none whole).2
+
+    first : (b : Bool) → cut ≡ b → (if cut then leaf_claims was.at was.leaves was.nodes e else []) ≡ (if cut then (if is_fresh_leaf was e then [] else intended (Leaf e) was.at ∷ node_claims was.at was.nodes n) else [])
+    first true is = ap (λ (k : ℕ). if cut then (if is_fresh_leaf was e then [] else intended (Leaf e) was.at ∷ node_claims was.at was.nodes k) else []) (at_leaf is)
+    first false is = rw is refl
+
+    then_node : (b : Bool) → (from % 128 == 0) ≡ b → border_claims mid from ≡ (if from % 128 == 0 then [] else node_claims was.at mid.nodes n)
+    then_node true is = rw is refl
+    then_node false is =
+        let k : from / 128 ≡ n = omega (arith, border1.low, border1.high, eqb-false (from % 128) 0 is) in
+        (λ i. if from % 128 == 0 then [] else node_claims (stays.at i) mid.nodes (k i))
+
+    pub call_order : r ≡ Ok tt → (f : File) → d.object ≡ objects.File f
+        → ClaimsAndDrops id.block (claims_anew was.at (written_anew (SetSize size) d.object d.fresh) d.fresh) (g.content d0) (g.content d3)
+    call_order ok f file =
+        let drops = subst (λ (r : Result (Unit {0}) Refused). Drops g graph (replaced (opened_as id mid done.draft) ds) id from d2 d3 k3 mid now r) ok call_drops in
+        let order = drops.done.order in
+        let whole : size_of d.object ≡ was.root.size = ap size_of file ∙ (file_to_leaves was.root (leaves_of (g.content d1) was.root) f (draft.tree.object ∙ file)).size in
+        let same = (λ i. first cut refl i ++ then_node (from % 128 == 0) refl i)
+        ∙ one_after_other cut (is_fresh_leaf was e) (from % 128 == 0) (is_fresh_node was n) (is_fresh_node mid n) e n was.at
+        (λ stale. marked (and_parts cut (not (is_fresh_leaf was e)) stale).0) (still cut (is_fresh_leaf was e) refl refl)
+        ∙ sym (recut_claims (g.content d1) ds id was d opened draft size less read.node.leaves (node_is g graph ds id o at d1 k0 was d store1 opened size less limit cut read is1 (numbered ∙ number_is) d1 k0 was read (stays_itself was)) from border1 cut cuts whole) in
+        subst (λ (i : Image). ClaimsAndDrops id.block (claims_anew was.at (written_anew (SetSize size) d.object d.fresh) d.fresh) i (g.content d3)) reads.content (record {
+          mid = order.mid;
+          claimed = subst (λ (es : List MapEntry). AreClaimed es (g.content d1) order.mid) same (claims_then _ _ (g.content d1) (g.content d2) order.mid done.order order.claimed);
+          left = order.left;
+        })

@@ -1,6 +1,6 @@
 -- The size of a draft set to less, as the call does it: a node is read, a leaf cut, and leaves are dropped.
-use Rattle.std.proofs.Common.{◌≡◌, ◌≢◌, ◌⊎◌, inl, inr, ℕ, ◌+◌, ◌-◌, ◌*◌, ◌/◌, ◌%◌, ◌<◌, ◌≤◌, Bool, true, false, List, [], length, get_or, set, Option, Ok, Err, Some, None, refl, sym, ◌∙◌, ap, subst, get_or-set_same, get_or-set_other, arith}
-use Rattle.std.specs.Prelude.{◌==◌, ◌&&◌, ◌||◌, not, if◌then◌else◌, is_some, slice_index, sum, IfErr, OnOk, Result}
+use Rattle.std.proofs.Common.{◌≡◌, ◌≢◌, inl, inr, ℕ, ◌+◌, ◌-◌, ◌*◌, ◌/◌, ◌%◌, ◌<◌, ◌≤◌, Bool, true, false, List, length, get_or, set, Ok, Err, Some, refl, sym, ◌∙◌, ap, subst, get_or-set_same, arith}
+use Rattle.std.specs.Prelude.{◌==◌, ◌&&◌, ◌||◌, not, if◌then◌else◌, is_some, sum, IfErr, OnOk, Result}
 use Rattle.std.proofs.lemmas.Bool.{both_ways, cases_Bool, eqb-false, eqb-true}
 use Rattle.cfs_base.specs.Calls.{HasTried, OnlyReads}
 use Rattle.cfs_base.specs.Disk.{Image}
@@ -8,9 +8,6 @@ use Rattle.cfs_base.specs.declared.disk.Disk.{Ghosts}
 use Rattle.cfs_base.specs.declared.identifier.Puid.{Puid}
 use Rattle.cfs_base.specs.declared.refusal.Refused.{Refused}
 use Rattle.cfs_base.specs.declared.refusal.Refused.TheVariants as refusals
-use Rattle.block_tree.specs.Root.{root_spelling}
-use Rattle.block_tree.specs.Tree.{tree_of}
-use Rattle.block_tree.proofs.Trees.{path_is}
 use Rattle.cyl_alloc.specs.Space.{Kept}
 use Rattle.leaf_changes.specs.Bytes as changes
 use Rattle.leaf_changes.proofs.Contents.{held_is, same_held}
@@ -19,23 +16,20 @@ use Rattle.ufs_model.specs.declared.object.Object.{Object}
 use Rattle.ufs_model.specs.Graph.{Graph, object_at}
 use Rattle.ufs_model.specs.Object.{leaves_in}
 use Rattle.vol_image.specs.Reading.{leaf_content}
-use Rattle.vol_image.specs.Seen.{Held, held_at}
-use Rattle.vol_owners.specs.Account.{HasDraft, Opened}
+use Rattle.vol_owners.specs.Account.{Opened}
 use Rattle.vol_owners.specs.Change.{ChangesOnly, of_draft}
 use Rattle.intentions.specs.Store.{StoreHas}
 use Rattle.special_files.specs.Becomes.{Becomes}
 use Rattle.special_files.specs.Calls.{SetsFlags}
-use Rattle.special_files.specs.Drafting.{Drafting, IsOpen, is_fresh_leaf, is_fresh_node, leaf_takes, node_of, one_unless, opened_as, shadow_need}
+use Rattle.special_files.specs.Drafting.{Drafting, IsOpen, is_fresh_leaf, is_fresh_node, leaf_takes, node_of, one_unless, shadow_need}
 use Rattle.special_files.specs.Ends.{Ends}
 use Rattle.special_files.specs.Leaves.{leaves_of}
 use Rattle.special_files.specs.Nodes.{IsRead, leaves_at}
 use Rattle.special_files.specs.Puts.{PutsLeaf, StaysBut}
 use Rattle.special_files.specs.Refusal.{told_after}
 use Rattle.special_files.specs.Shed.{IsBorder, IsCutHere, KeepsOne, Resizes, border_takes, cut_takes, shrink_takes, sized}
-use Rattle.special_files.specs.Store.{replaced}
 use Rattle.special_files.specs.declared.node.NodeRead.{NodeRead}
 use Rattle.special_files.proofs.Endings.{ends_then_err, ends_then_ok, makes_none, not_untried}
-use Rattle.special_files.proofs.Fresh.{read_leaf_is}
 use Rattle.special_files.proofs.PutStore.{the_draft}
 use Rattle.special_files.proofs.Recut.{held_of_slot, none_of_slot}
 use Rattle.special_files.proofs.Shrunk.{CutTo, cut_none, cut_some, stays_itself}

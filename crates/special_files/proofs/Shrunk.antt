@@ -1,16 +1,14 @@
 -- A draft whose last leaf was cut, and whose leaves past it were dropped, is the model's draft of that size.
-use Rattle.std.proofs.Common.{◌≡◌, ◌≢◌, ◌⊎◌, inl, inr, ℕ, zero, suc, ◌+◌, ◌-◌, ◌*◌, ◌/◌, ◌%◌, ◌<◌, ◌≤◌, Bool, true, false, List, [], ◌∷◌, length, get_or, Option, Some, None, refl, sym, ◌∙◌, ap, subst, arith}
-use Rattle.std.specs.Prelude.{◌==◌, ◌&&◌, filter, if◌then◌else◌, is_some, map, not, slice_index}
-use Rattle.std.specs.List.{range_with_len}
+use Rattle.std.proofs.Common.{◌≡◌, ◌≢◌, ◌⊎◌, inl, inr, ℕ, zero, suc, ◌+◌, ◌-◌, ◌*◌, ◌/◌, ◌%◌, ◌<◌, ◌≤◌, Bool, true, false, List, [], ◌∷◌, get_or, Option, Some, None, refl, sym, ◌∙◌, ap, subst, arith}
+use Rattle.std.specs.Prelude.{◌&&◌, if◌then◌else◌, is_some, map, not}
 use Rattle.std.proofs.Math.Path.{fun_ext}
-use Rattle.std.proofs.lemmas.Bool.{both_ways, cases_Bool, cases_lt, eqb-false, eqb-true}
+use Rattle.std.proofs.lemmas.Bool.{both_ways, cases_Bool, cases_lt}
 use Rattle.cfs_base.specs.Disk.{Image}
 use Rattle.cfs_base.specs.declared.disk.Disk.{Ghosts}
 use Rattle.cfs_base.specs.declared.identifier.Puid.{Puid}
 use Rattle.cfs_base.specs.declared.kind.Kind.TheVariants as kinds
 use Rattle.cfs_base.specs.declared.kind.FileKind.{FileKind}
 use Rattle.cfs_base.specs.declared.kind.FileKind.TheVariants as file_kinds
-use Rattle.block_tree.specs.declared.root.Root as roots
 use Rattle.block_tree.specs.Root.{IsRoot, root_spelling}
 use Rattle.cyl_alloc.specs.Space.{Kept}
 use Rattle.leaf_changes.specs.Bytes as changes
@@ -27,18 +25,20 @@ use Rattle.ufs_model.specs.declared.object.File.{File}
 use Rattle.ufs_model.specs.declared.object.Object.TheVariants as objects
 use Rattle.ufs_model.specs.declared.object.Object.{Object}
 use Rattle.ufs_model.specs.Graph.{Graph, object_at}
-use Rattle.ufs_model.specs.Numbers.{first_level, has_number, lacking, merged, next_levels, parents, shared, with_numbers, within}
+use Rattle.ufs_model.specs.Numbers.{has_number, merged, next_levels, shared, with_numbers, within}
 use Rattle.ufs_model.specs.Object.{changed_object, fresh_after, held_leaves, held_levels, held_nodes, leaves_in, size_of}
 use Rattle.ufs_model.specs.State.{changed_draft}
 use Rattle.vol_image.specs.Reading.{leaf_content, object_with}
 use Rattle.vol_image.specs.Seen.{Held, tree_in}
-use Rattle.vol_image.proofs.Rising.{filter-rises, in_filter, in_map, in_withs, same_numbers, to_filter, with_numbers-rise}
+use Rattle.vol_image.proofs.Rising.{filter-rises, in_filter, in_map, in_withs, same_numbers, to_filter}
 use Rattle.vol_owners.specs.Account.{HasDraft, Opened, is_meant_for}
 use Rattle.intentions.specs.Store.{StoreHas}
+use Rattle.claims.specs.Claims.{AreClaimed}
 use Rattle.special_files.specs.Becomes.{Becomes}
 use Rattle.special_files.specs.Drafting.{Drafting, IsOpen, fresh_of, is_fresh_leaf, is_fresh_node, node_of, opened_as, set_in}
 use Rattle.special_files.specs.Leaves.{draft_in, leaves_of, object_of}
 use Rattle.special_files.specs.Nodes.{IsRead, leaves_at}
+use Rattle.special_files.specs.Order.{leaf_claims}
 use Rattle.special_files.specs.Puts.{PutsLeaf, StaysBut}
 use Rattle.special_files.specs.Shed.{DropsFrom, IsBorder, IsCutHere, sized}
 use Rattle.special_files.specs.Store.{replaced}
@@ -69,6 +69,7 @@ pub record CutTo {D : Type 0} (g : Ghosts D) (graph : Graph) (ds : List Opened) 
   pub leaf_marks : Marks (λ l. l) (size / 512) (upto cut (size / 512)) was.leaves mid.leaves
   pub node_marks : Marks (λ l. l / 128) (size / 512) (upto cut (size / 512)) was.nodes mid.nodes
   pub read_is : IsRead (g.content d2) mid read
+  pub order : AreClaimed (if cut then leaf_claims was.at was.leaves was.nodes (size / 512) else []) (g.content d0) (g.content d2)
 
 pub stays_itself : (was : Drafting) → StaysBut was was
 stays_itself was = record { at = refl; shadow = refl; own = refl; created = refl; word = refl; root = record { kind = refl; fill = refl; size = refl } }
@@ -86,6 +87,7 @@ module _ {D : Type 0} (g : Ghosts D) (graph : Graph) (ds : List Opened) (id : Pu
         leaf_marks = marks_begin (λ l. l) (size / 512) was.leaves;
         node_marks = marks_begin (λ l. l / 128) (size / 512) was.nodes;
         read_is = is;
+        order = λ v. refl;
       })))
 
   pub cut_some : size < 7864320 → StaysBut was mid
@@ -101,6 +103,7 @@ module _ {D : Type 0} (g : Ghosts D) (graph : Graph) (ds : List Opened) (id : Pu
         leaf_marks = marks_more (λ l. l) (size / 512) (size / 512) was.leaves was.leaves mid.leaves (marks_begin (λ l. l) (size / 512) was.leaves) (omega arith) (omega (arith, small, opened.leaf_flags)) puts.sets.leaves;
         node_marks = marks_more (λ l. l / 128) (size / 512) (size / 512) was.nodes was.nodes mid.nodes (marks_begin (λ l. l / 128) (size / 512) was.nodes) (omega arith) (omega (arith, small, opened.node_flags)) puts.sets.nodes;
         read_is = puts.read_is;
+        order = puts.order;
       }
 
 -- the draft's root gets another size, which its leaves fit

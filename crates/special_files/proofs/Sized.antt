@@ -1,5 +1,5 @@
 -- The size of a draft changed, while its leaves stay.
-use Rattle.std.proofs.Common.{◌≡◌, ◌≢◌, inl, inr, ℕ, zero, suc, ◌+◌, ◌/◌, ◌%◌, ◌<◌, ◌≤◌, Bool, true, false, if◌then◌else◌, IsTrue, List, [], ◌∷◌, ◌++◌, length, get_or, Option, Some, refl, sym, ◌∙◌, ap, subst, arith}
+use Rattle.std.proofs.Common.{◌≡◌, ◌≢◌, inl, inr, ℕ, zero, suc, ◌+◌, ◌/◌, ◌%◌, ◌<◌, ◌≤◌, Bool, true, false, if◌then◌else◌, IsTrue, List, [], ◌∷◌, ◌++◌, length, get_or, Some, refl, sym, ◌∙◌, ap, subst, arith}
 use Rattle.std.specs.Prelude.{filter, is_some}
 use Rattle.std.specs.List.{range_with_len}
 use Rattle.std.proofs.Math.Path.{fun_ext}
@@ -33,15 +33,16 @@ use Rattle.vol_image.specs.Reading.{IsTree, object_with}
 use Rattle.vol_image.specs.Seen.{held_at, place_at, tree_in}
 use Rattle.vol_image.proofs.Places.{same_levels}
 use Rattle.vol_image.proofs.Rising.{filter-rises, in_filter, same_numbers, to_filter}
-use Rattle.vol_owners.specs.Account.{HasDraft, Opened, content_of, is_meant_for, levels_standing, passes, standing_at}
+use Rattle.vol_owners.specs.Account.{HasDraft, Opened, is_meant_for, levels_standing, passes, standing_at}
 use Rattle.intentions.specs.Store.{StoreHas}
 use Rattle.special_files.specs.Becomes.{Becomes}
-use Rattle.special_files.specs.Drafting.{Drafting, IsOpen, fresh_of, need_beside, opened_as, set_in, shadow_need}
-use Rattle.special_files.specs.Leaves.{draft_in, leaves_of, object_of}
+use Rattle.special_files.specs.Drafting.{Drafting, IsOpen, need_beside, opened_as, set_in, shadow_need}
+use Rattle.special_files.specs.Leaves.{leaves_of, object_of}
+use Rattle.special_files.specs.Order.{ClaimsAndDrops, claims_anew}
 use Rattle.special_files.specs.Store.{replaced}
 use Rattle.special_files.proofs.Amid.{amid_begins}
-use Rattle.special_files.proofs.Levels.{fresh_leaf, fresh_node, leaf_level, levels_are, node_level}
-use Rattle.special_files.proofs.Marks.{below_flags, first_is, in_set, leaf_held, next_is, node_held, none_shared, set-rises, within_none}
+use Rattle.special_files.proofs.Levels.{leaf_level, levels_are, node_level}
+use Rattle.special_files.proofs.Marks.{below_flags, in_set, leaf_held, next_is, node_held, set-rises, within_none}
 use Rattle.special_files.proofs.PutStore.{alone_now, store_goes_on, the_draft}
 use Rattle.special_files.proofs.Trees.{leaf_at, node_at, nothing_below}
 use Rattle.special_files.proofs.Writes.{becomes_as}
@@ -215,6 +216,9 @@ module _ {D : Type 0} (g : Ghosts D) (graph : Graph) (ds : List Opened) (id : Pu
   -- the draft is the model's
   pub grown_becomes : Becomes g graph ds id (changed_draft (SetSize size) d) d0 d0 k0 now
   grown_becomes = becomes_as g graph ds id o at d0 d0 k0 now e (changed_draft (SetSize size) d) first object all_fresh
+
+  pub grown_order : ClaimsAndDrops id.block (claims_anew was.at (written_anew (SetSize size) d.object d.fresh) d.fresh) a a
+  grown_order = rw nothing_anew (record { mid = a; claimed = λ m. refl; left = λ m. inl refl })
 
   -- it takes nothing but the shadow root
   pub grown_need : need_beside (SetSize size) d was ≡ shadow_need was

@@ -101,10 +101,29 @@ module _ (f g : ℕ → ℕ) where
       let same : r.0 ≡ k = one r.0 k (omega (arith, r.1)) (omega arith) (r.2 ∙ sym l.0) (λ z. r.3 (sym r.2 ∙ z)) in
       omega (arith, same, r.1))
 
-  pub all_alike : (k : ℕ) → ((j : ℕ) → j < k → f j ≡ g j) → all_unlike f g k ≡ []
+  -- where they are the same from one on, no more is listed
+  pub alike_from : (k m : ℕ) → k ≤ m → ((j : ℕ) → k ≤ j → j < m → f j ≡ g j) → all_unlike f g m ≡ all_unlike f g k
   unfolding all_unlike
-  all_alike zero same = refl
-  all_alike (suc k) same = λ i. all_alike k (λ j less. same j (omega (arith, less))) i ++ unlike_same (f k) (g k) (same k (omega arith)) i
+  alike_from k zero le same = let is : zero ≡ k = omega (arith, le) in ap (all_unlike f g) is
+  alike_from k (suc m) le same = elim (cases_lt m k) [
+    | inl before ↦ let is : suc m ≡ k = omega (arith, le, before) in ap (all_unlike f g) is
+    | inr past ↦
+        let more : k ≤ m = omega (arith, past) in
+        (λ i. alike_from k m more (λ j from less. same j from (omega (arith, less))) i ++ unlike_same (f m) (g m) (same m more (omega arith)) i) ∙ append-nil (all_unlike f g k)
+  ]
+
+  pub all_alike : (k : ℕ) → ((j : ℕ) → j < k → f j ≡ g j) → all_unlike f g k ≡ []
+  all_alike k same = alike_from 0 k (omega arith) (λ j none less. same j less) ∙ none_unlike
+
+  -- where they are the same but at two places
+  pub two_unlike : (p q k : ℕ) → p < q → q < k → ((j : ℕ) → j < k → j ≢ p → j ≢ q → f j ≡ g j) → all_unlike f g k ≡ unlike (f p) (g p) ++ unlike (f q) (g q)
+  two_unlike p q k low high same =
+      alike_from (q + 1) k (omega (arith, high)) (λ j from less. same j less (λ is. omega (arith, is, from, low)) (λ is. omega (arith, is, from)))
+      ∙ more_unlike q (q + 1) refl
+      ∙ ap (λ (ns : List ℕ). ns ++ unlike (f q) (g q))
+      (alike_from (p + 1) q (omega (arith, low)) (λ j from less. same j (omega (arith, less, high)) (λ is. omega (arith, is, from)) (λ is. omega (arith, is, less)))
+      ∙ more_unlike p (p + 1) refl
+      ∙ ap (λ (ns : List ℕ). ns ++ unlike (f p) (g p)) (all_alike p (λ j less. same j (omega (arith, less, low, high)) (λ is. omega (arith, is, less)) (λ is. omega (arith, is, less, low)))))
 
   pub length-unlike : (k : ℕ) → length (all_unlike f g k) ≤ k
   unfolding all_unlike

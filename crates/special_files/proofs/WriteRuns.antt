@@ -1,10 +1,9 @@
 -- Bytes written into a draft, leaf after leaf, on any disk.
-use Rattle.std.proofs.Common.{◌≡◌, ◌⊎◌, inl, inr, ℕ, ◌+◌, ◌-◌, ◌*◌, ◌/◌, ◌<◌, ◌≤◌, Bool, true, false, IsTrue, List, length, set, Option, Some, Ok, Err, refl, sym, ◌∙◌, ap, subst, arith}
-use Rattle.std.specs.Prelude.{IfErr, IfOk, OnOk, Result, sum}
+use Rattle.std.proofs.Common.{◌≡◌, inl, inr, ℕ, ◌+◌, ◌-◌, ◌*◌, ◌/◌, ◌<◌, ◌≤◌, Bool, true, false, List, length, set, Some, Ok, Err, refl, sym, ◌∙◌, ap, subst, arith}
+use Rattle.std.specs.Prelude.{Result, sum}
 use Rattle.std.proofs.Math.ListN.{length-set}
 use Rattle.std.proofs.lemmas.Bool.{cases_lt}
-use Rattle.cfs_base.specs.Calls.{HasTried, MakesAtMost, OnlyReads}
-use Rattle.cfs_base.specs.Disk.{Image}
+use Rattle.cfs_base.specs.Calls.{HasTried}
 use Rattle.cfs_base.specs.Refusals.{after_try}
 use Rattle.cfs_base.specs.Run.{Leaves}
 use Rattle.cfs_base.specs.declared.disk.Disk.{Ghosts}
@@ -39,7 +38,7 @@ use Rattle.special_files.specs.Refusal.{IsRefusal, is_damaged, is_full, told_aft
 use Rattle.special_files.specs.declared.node.NodeRead.{NodeRead}
 use Rattle.special_files.proofs.Endings.{ends_then_err, ends_then_ok, makes_none, not_untried}
 use Rattle.special_files.proofs.Needs.{need_is, no_need, takes_less}
-use Rattle.special_files.proofs.WriteLeaf.{if_err, on_ok}
+use Rattle.special_files.proofs.WriteLeaf.{if_err}
 use Rattle.special_files.proofs.Writes.{WrittenTo, written_begin, written_end, written_more}
 
 -- ---- endings with other bounds

@@ -1,5 +1,5 @@
 -- Entries that are changed one after another, as a commit and an abort do.
-use Rattle.std.specs.Prelude.{◌≡◌, ◌⊎◌, ℕ, ◌≤◌, true, false, List, [], ◌∷◌, ◌++◌, set, IfErr, OnOk, Result, Ok, Err, Option, Some, None, option_to_list}
+use Rattle.std.specs.Prelude.{◌≡◌, ◌⊎◌, ℕ, ◌≤◌, ◌≢◌, ◌%◌, true, false, List, [], ◌∷◌, ◌++◌, set, IfErr, OnOk, Result, Ok, Err, Option, Some, None, option_to_list}
 use Rattle.cfs_base.specs.Codes.{past_disk}
 use Rattle.cfs_base.specs.Calls.{HasFailed, MakesAtMost}
 use Rattle.cfs_base.specs.Disk.{Image, block_at}
@@ -10,7 +10,8 @@ use Rattle.cfs_base.specs.declared.disk.Disk.{Ghosts}
 use Rattle.cfs_base.specs.declared.identifier.Puid.{Puid}
 use Rattle.cfs_base.specs.declared.refusal.Trouble.{Trouble}
 use Rattle.cfs_base.specs.declared.refusal.Trouble.TheVariants as trouble
-use Rattle.cyl_alloc.specs.Space.{AreCounts, Kept, after_giving}
+use Rattle.block_tree.specs.Root.{root_spelling}
+use Rattle.cyl_alloc.specs.Space.{IsLeastFree, AreCounts, Kept, after_giving}
 use Rattle.cyl_map.specs.declared.entry.MapEntry.{MapEntry}
 use Rattle.cyl_map.specs.Volume.{entry_in, is_free_in, with_entry}
 use Rattle.intentions.specs.Course.{Course, IsCourse, IsOn, Keeps, MayPut}
@@ -143,6 +144,7 @@ pub record CarriedOut {D : Type 0} (g : Ghosts D) (graph : Graph) (id : Puid) (o
   pub only : ChangesOnly (λ entry. of_owners (id.block ∷ option_to_list created) entry) (g.content old) (g.content new)
   pub counts : AreCounts (g.content old) before → AreCounts (g.content new) after
   pub tree : tree_in (g.content new) (block_at (g.content new) id.block) ≡ tree_in (g.content old) (block_at (g.content old) s)
+  pub left : (n : ℕ) → n % 64 ≢ 0 → n ≢ id.block → block_at (g.content new) n ≡ block_at (g.content old) n
 
 -- A draft that stands ready becomes its object. Each image that a crash leaves on the way has all old, or all new, and no damage is met.
 pub record Finishes {D : Type 0} (g : Ghosts D) (at s : ℕ) (taken dropped : List ℕ) (created : Option ℕ) (old new : D) (before after : Kept) (result : Result (Unit {0}) Trouble) : Type 0 where
@@ -185,6 +187,8 @@ pub record Committed {D : Type 0} (g : Ghosts D) (graph : Graph) (ds : List Open
   pub only : ChangesOnly (λ entry. of_owners (id.block ∷ option_to_list (root_of made)) entry) (g.content old) (g.content new)
   -- the object's tree is the draft's: each node and leaf stands where it stood, in the same block, with its part and content
   pub tree : (d : Opened) → drafts_of ds id ≡ d ∷ [] → tree_in (g.content new) (block_at (g.content new) id.block) ≡ tree_in (g.content old) (content_of d)
+  -- a draft without a shadow root took the least Free block for it, in which its root still is
+  pub order : (d : Opened) → drafts_of ds id ≡ d ∷ [] → d.shadow ≡ None → (s : ℕ) × IsLeastFree (g.content old) s × (block_at (g.content new) s ≡ root_spelling d.root)
 
 -- how a commit ends where the store has the draft
 pub record CommitEnds {D : Type 0} (g : Ghosts D) (graph : Graph) (ds : List Opened) (id : Puid) (o : Object) (made : Option Making) (old new : D) (space : Kept) (result : Result (Unit {0}) Trouble) : Type 0 where

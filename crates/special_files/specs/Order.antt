@@ -1,14 +1,23 @@
 -- Which leaves and nodes of a draft take blocks, and in what order.
-use Rattle.std.specs.Prelude.{ℕ, zero, suc, ◌+◌, ◌-◌, ◌/◌, Bool, true, false, List, [], ◌∷◌, ◌++◌, get_or, set, if◌then◌else◌}
+use Rattle.std.specs.Prelude.{◌≡◌, ◌⊎◌, map, ℕ, zero, suc, ◌+◌, ◌-◌, ◌/◌, Bool, true, false, List, [], ◌∷◌, ◌++◌, get_or, set, if◌then◌else◌}
 use Rattle.cfs_base.specs.declared.kind.Place.TheVariants.{Leaf, Node}
+use Rattle.cfs_base.specs.Disk.{Image}
+use Rattle.claims.specs.Claims.{AreClaimed}
 use Rattle.cyl_alloc.specs.Space.{intended}
+use Rattle.cyl_map.specs.Volume.{entry_in, is_free_in}
+use Rattle.ufs_model.specs.Numbers.{first_level, lacking, next_levels}
+use Rattle.vol_owners.specs.Account.{is_meant_for}
 use Rattle.cyl_map.specs.declared.entry.MapEntry.{MapEntry}
 use Rattle.special_files.specs.Drafting.{Drafting}
+
+-- of a node, where it isn't fresh
+abbrev pub node_claims : (at : ℕ) → (nodes : List Bool) → ℕ → List MapEntry
+node_claims at nodes n = if get_or nodes n false then [] else intended (Node n) at ∷ []
 
 -- with these fresh leaves and nodes: a leaf that isn't fresh takes a block, and after it its node, where that isn't
 abbrev pub leaf_claims : (at : ℕ) → (leaves nodes : List Bool) → ℕ → List MapEntry
 leaf_claims at leaves nodes leaf =
-    if get_or leaves leaf false then [] else intended (Leaf leaf) at ∷ (if get_or nodes (leaf / 128) false then [] else intended (Node (leaf / 128)) at ∷ [])
+    if get_or leaves leaf false then [] else intended (Leaf leaf) at ∷ node_claims at nodes (leaf / 128)
 
 -- so many leaves, one after another from one on; each is fresh then, and so is its node
 abbrev pub claims_from : (at : ℕ) → (leaves nodes : List Bool) → (leaf count : ℕ) → List MapEntry
@@ -19,3 +28,16 @@ claims_from at leaves nodes leaf (suc n) =
 -- the leaves of a draft from one on and before another
 abbrev pub claims_of : Drafting → (from to : ℕ) → List MapEntry
 claims_of drafting from to = claims_from drafting.at drafting.leaves drafting.nodes from (to - from)
+
+-- of the blocks that the model writes anew those that aren't fresh: leaves, and then nodes
+abbrev pub claims_anew : (at : ℕ) → (anew fresh : List (List ℕ)) → List MapEntry
+claims_anew at anew fresh =
+    map (λ l. intended (Leaf l) at) (lacking (first_level anew) (first_level fresh))
+    ++ map (λ n. intended (Node n) at) (lacking (first_level (next_levels anew)) (first_level (next_levels fresh)))
+
+-- From image a on these are claimed, and of the blocks that are meant for an owner then some are Free in image b; all others are
+-- as they were.
+pub record ClaimsAndDrops (owner : ℕ) (es : List MapEntry) (a b : Image) : Type 0 where
+  pub mid : Image
+  pub claimed : AreClaimed es a mid
+  pub left : (n : ℕ) → (entry_in b n ≡ entry_in mid n) ⊎ ((is_meant_for mid owner n ≡ true) × (is_free_in b n ≡ true))

@@ -16,12 +16,14 @@ use Rattle.cfs_base.specs.declared.disk.Disk.{Ghosts}
 use Rattle.cfs_base.specs.declared.identifier.Puid.{Puid}
 use Rattle.block_tree.specs.Tree.{tree_of}
 use Rattle.cyl_alloc.specs.Space.{Kept}
+use Rattle.cyl_map.specs.declared.entry.MapEntry.{MapEntry}
 use Rattle.ufs_model.specs.Graph.{Graph}
 use Rattle.ufs_model.specs.Numbers.{has_number}
 use Rattle.vol_image.specs.Sound.{Holds}
 use Rattle.vol_owners.specs.Account.{Opened, content_of, is_meant_for, numbers_differ}
-use Rattle.special_files.specs.Drafting.{Drafting, IsOpen, is_fresh_leaf, is_fresh_node, leaf_takes, node_of, one_unless, shadow_need}
+use Rattle.special_files.specs.Drafting.{Drafting, IsOpen, is_fresh_leaf, is_fresh_node, leaf_takes, node_of, one_unless}
 use Rattle.special_files.specs.Leaves.{draft_in, leaves_of}
+use Rattle.special_files.specs.Order.{ClaimsAndDrops, node_claims}
 use Rattle.special_files.specs.Puts.{StaysBut, drafts_with}
 use Rattle.special_files.specs.Refusal.{is_damaged}
 use Rattle.special_files.specs.Store.{Steps}
@@ -76,6 +78,10 @@ pub record Forgets (from block : ℕ) (was now : Drafting) : Type 0 where
   pub past : (m : ℕ) → from ≤ 128 * m → (is_fresh_node now m ≡ false) × (node_of now.root m ≡ 0)
   pub here : from % 128 ≢ 0 → (is_fresh_node now (from / 128) ≡ true) × (node_of now.root (from / 128) ≡ block)
 
+-- what it claims: a block for the node of the first leaf dropped, where that lies within one and isn't fresh
+abbrev pub border_claims : Drafting → ℕ → List MapEntry
+border_claims was from = if from % 128 == 0 then [] else node_claims was.at was.nodes (from / 128)
+
 -- the same of the store, and of the draft that the model has then
 pub record DropsFrom {D : Type 0} (g : Ghosts D) (graph : Graph) (ds : List Opened) (id : Puid) (from : ℕ) (old new : D) (after : Kept) (was now : Drafting) : Type 0 where
   pub steps : Steps g graph id (drafts_with (g.content new) ds id now) old new after
@@ -84,6 +90,7 @@ pub record DropsFrom {D : Type 0} (g : Ghosts D) (graph : Graph) (ds : List Open
   pub forgets : Forgets from block was now
   pub gone : (l : ℕ) → from ≤ l → leaves_of (g.content new) now.root l ≡ None
   pub kept : (l : ℕ) → l < from → leaves_of (g.content new) now.root l ≡ leaves_of (g.content old) was.root l
+  pub order : ClaimsAndDrops id.block (border_claims was from) (g.content old) (g.content new)
 
 -- what it takes: a block for the node, where it isn't fresh
 abbrev pub border_takes : Drafting → ℕ → ℕ

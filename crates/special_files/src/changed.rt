@@ -21,7 +21,7 @@ use block_tree::{Node, Root};
 use cfs_base::{BlockNo, Disk, Trouble};
 
 /// Lists a block, unless it is 0 or the same as the other.
-fn add_unlike(list: &mut Blocks, block: u32, other: u32)
+pub(crate) fn add_unlike(list: &mut Blocks, block: u32, other: u32)
     requires { length list.old < 15480 }
     ensures { list.new ≡ list.old ++ spec.unlike block other }
 {

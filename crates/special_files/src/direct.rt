@@ -1,5 +1,6 @@
 //! A draft committed that has no shadow root yet.
-ghost use Rattle.std.specs.Prelude.{◌≡◌, ◌≢◌, ◌<◌, ◌≤◌, ◌*◌, ℕ, List, false, length, sum, Option, None, Some, IfErr, OnOk};
+ghost use Rattle.std.specs.Prelude.{◌≡◌, ◌≢◌, ◌<◌, ◌≤◌, ◌+◌, ◌*◌, ℕ, List, false, length, sum, Option, None, Some, IfErr, OnOk};
+ghost use Rattle.std.specs.List.{All};
 ghost use Rattle.cfs_base.specs.Calls.{HasTried, MakesAtMost};
 ghost use Rattle.cfs_base.specs.Refusals.{refused_by};
 ghost use Rattle.cfs_base.specs.declared.identifier.Puid.{Puid};
@@ -8,8 +9,9 @@ ghost use Rattle.cfs_base.specs.declared.refusal.Refused.TheVariants as refused;
 ghost use Rattle.cyl_alloc.specs.Enters.{Enters};
 ghost use Rattle.cyl_alloc.specs.Space.{intended};
 ghost use Rattle.intentions.specs.Store.{StoreHas};
+ghost use Rattle.special_files.specs.Changed.{IsChanged};
 ghost use Rattle.special_files.specs.Committing as spec;
-ghost use Rattle.special_files.specs.Drafting.{Drafting, IsOpen, number_of};
+ghost use Rattle.special_files.specs.Drafting.{Drafting, IsOpen, number_of, opened_as};
 ghost use Rattle.special_files.specs.Refusal.{IsTrouble, is_full};
 ghost use Rattle.ufs_model.specs.Graph.{Graph, object_at};
 ghost use Rattle.ufs_model.specs.declared.object.Draft as drafts;
@@ -51,7 +53,48 @@ fn claim_shadow<D: Disk>(disk: &mut D, space: &mut Space, at: BlockNo) -> Result
     }
 }
 
-/// Commits a draft of these parts: its shadow root is claimed and written, and then all is carried out.
+/// Commits a draft of these parts, which takes and drops these blocks: its shadow root is claimed and written, and then all
+/// is carried out.
+pub(crate) fn commit_listed<D: Disk>(
+    disk: &mut D,
+    space: &mut Space,
+    at: BlockNo,
+    root: &Root,
+    taken: &[u32],
+    dropped: &[u32],
+    created: Option<BlockNo>,
+) -> Result<(), Trouble>
+    requires some { at.0 ≢ 0 }
+    requires on_disk { at.0 < D.blocks disk.old }
+    requires size { D.blocks disk.old ≡ 64 * length space.old.free }
+    requires room { 1 ≤ sum space.old.free }
+    requires taken_on_disk { All (λ n. n < D.blocks disk.old) taken.now }
+    requires dropped_on_disk { All (λ n. n < D.blocks disk.old) dropped.now }
+    requires created_on_disk { (n : ℕ) → number_of created ≡ Some n → n < D.blocks disk.old }
+    ensures commits { (graph : Graph) (ds : List Opened) (id : Puid) (o : Object) (was : Drafting) (d : drafts.Draft)
+        (made : Option spec.Making) → StoreHas D.Disk graph ds disk.old space.old → object_at graph id ≡ Some o
+        → IsOpen ds id was d → spec.AreParts was at.0 None was.own root.now (number_of created)
+        → spec.Makes (D.content disk.old) (number_of created) made
+        → IsChanged (D.content disk.old) id (opened_as id was d) taken.now dropped.now
+        → spec.CommitEnds D.Disk graph ds id d.object made disk.old disk.new space.new result }
+    ensures refused { IfErr result (IsTrouble D.Disk at.0 disk.old disk.new space.new) }
+    ensures made { OnOk result (HasTried D.Disk disk.old disk.new) }
+    ensures cylinders { length space.new.free ≡ length space.old.free }
+    ensures calls { MakesAtMost D.Disk (2 * length taken.now + 4 * length dropped.now + 18)
+        (length taken.now + 2 * length dropped.now + 12) disk.old disk.new }
+{
+    let shadow = match claim_shadow(disk, space, at) {
+        Ok(block) => block,
+        Err(trouble) => return Err(trouble),
+    };
+    match write_own(disk, shadow, &root.encode()) {
+        Ok(()) => {}
+        Err(_) => return Err(Trouble::Disk { tried: true }),
+    }
+    finish(disk, space, at, shadow, taken, dropped, created)
+}
+
+/// Commits a draft of these parts, which has no shadow root.
 pub(crate) fn commit_direct<D: Disk>(
     disk: &mut D,
     space: &mut Space,
@@ -81,19 +124,11 @@ pub(crate) fn commit_direct<D: Disk>(
         Ok(()) => {}
         Err(trouble) => return Err(trouble),
     }
-    let shadow = match claim_shadow(disk, space, at) {
-        Ok(block) => block,
-        Err(trouble) => return Err(trouble),
-    };
-    match write_own(disk, shadow, &root.encode()) {
-        Ok(()) => {}
-        Err(_) => return Err(Trouble::Disk { tried: true }),
-    }
-    finish(
+    commit_listed(
         disk,
         space,
         at,
-        shadow,
+        root,
         taken.as_slice(),
         dropped.as_slice(),
         created,

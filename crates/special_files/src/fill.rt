@@ -1,5 +1,5 @@
 //! A slot of an index filled or emptied in a draft.
-ghost use Rattle.std.specs.Prelude.{◌≡◌, ◌+◌, ◌*◌, ◌/◌, ◌<◌, ◌≤◌, ◌&&◌, ℕ, true, false, is_none, length, sum, List, None, Some, IfErr, IfOk, OnOk};
+ghost use Rattle.std.specs.Prelude.{◌≡◌, ◌+◌, ◌*◌, ◌/◌, ◌<◌, ◌≤◌, ◌&&◌, ℕ, true, false, is_none, is_some, length, sum, List, None, Some, IfErr, IfOk, IfSome, OnOk};
 ghost use Rattle.block_tree.specs.Root.{root_spelling};
 ghost use Rattle.cfs_base.specs.Calls.{HasTried, OnlyReads};
 ghost use Rattle.cfs_base.specs.Run.{Leaves};
@@ -11,7 +11,7 @@ ghost use Rattle.leaf_changes.specs.Bytes.{IsSlot};
 ghost use Rattle.special_files.specs.Becomes.{Becomes};
 ghost use Rattle.special_files.specs.Drafting.{IsOpen, leaf_takes};
 ghost use Rattle.special_files.specs.Ends.{Ends};
-ghost use Rattle.special_files.specs.Fills.{filled_draft};
+ghost use Rattle.special_files.specs.Fills.{IsNearSwap, IsSwapped, filled_draft};
 ghost use Rattle.special_files.specs.Leaves.{SameBeside};
 ghost use Rattle.special_files.specs.Order.{leaf_claims};
 ghost use Rattle.special_files.specs.Puts.{StaysBut};
@@ -33,6 +33,14 @@ use cfs_base::{Block, Disk, Puid, Refused};
 use cyl_alloc::Space;
 use leaf_changes::{put_slot, slot_at};
 
+/// What was put: the number of its leaf, and the block that the leaf was in, 0 where it was absent, and is in.
+#[derive(Debug, Clone, Copy)]
+pub struct Swap {
+    pub leaf: u32,
+    pub was: u32,
+    pub is: u32,
+}
+
 /// Whether a slot of this leaf is to be emptied, and is empty.
 fn is_empty_already(content: &Block, slot: usize, what: Option<Puid>) -> bool
     requires { slot < 64 }
@@ -42,16 +50,16 @@ fn is_empty_already(content: &Block, slot: usize, what: Option<Puid>) -> bool
 }
 
 impl Draft {
-    /// Puts an identifier into a slot of an index, or empties the slot, and answers true. The slot's leaf alone is read, and
-    /// put with this in it. False where the slot is empty and is to be: nothing is done then. Has no floor, and never answers
-    /// `Memory`.
+    /// Puts an identifier into a slot of an index, or empties the slot, and answers what was put: the slot's leaf alone is
+    /// read, and put with this in it. `None` where the slot is empty and is to be: nothing is done then. Has no floor, and
+    /// never answers `Memory`.
     pub fn fill<D: Disk>(
         &mut self,
         disk: &mut D,
         space: &mut Space,
         slot: u64,
         what: Option<Puid>,
-    ) -> Result<bool, Refused>
+    ) -> Result<Option<Swap>, Refused>
         requires on_disk { self.old.at < D.blocks disk.old }
         requires size { D.blocks disk.old ≡ 64 * length space.old.free }
         requires within { 8 * slot + 8 ≤ self.old.root.size }
@@ -64,8 +72,15 @@ impl Draft {
         // Its leaf takes the least Free block where it isn't fresh, and after it its node.
         ensures order { (graph : Graph) (ds : List Opened) (id : Puid) (o : Object) (d : drafts.Draft) (i : Index)
             → StoreHas D.Disk graph ds disk.old space.old → object_at graph id ≡ Some o → IsOpen ds id self.old d
-            → d.object ≡ objects.Index i → IfOk result (λ put. put ≡ true
+            → d.object ≡ objects.Index i → IfOk result (λ put. is_some put ≡ true
             → AreClaimed (leaf_claims self.old.at self.old.leaves self.old.nodes (slot / 64)) (D.content disk.old) (D.content disk.new)) }
+        // Where the draft was its object its commit takes the leaf and its node that are put, and drops those that stood.
+        ensures swaps { (graph : Graph) (ds : List Opened) (id : Puid) (o : Object) (d : drafts.Draft) (i : Index)
+            → StoreHas D.Disk graph ds disk.old space.old → object_at graph id ≡ Some o → IsOpen ds id self.old d
+            → d.object ≡ objects.Index i → self.old.root ≡ self.old.own → IfOk result (λ put.
+            IfSome put (IsSwapped (D.content disk.new) id self.new (filled_draft i slot what d))) }
+        ensures near { self.old.root ≡ self.old.own
+            → IfOk result (λ put. IfSome put (IsNearSwap (D.blocks disk.new) self.new)) }
         // Of the draft's tree that leaf and its node alone are others then.
         ensures beside { (graph : Graph) (ds : List Opened) (id : Puid) (o : Object) (d : drafts.Draft) (i : Index)
             → StoreHas D.Disk graph ds disk.old space.old → object_at graph id ≡ Some o → IsOpen ds id self.old d
@@ -76,10 +91,10 @@ impl Draft {
             → Leaves D.Disk disk.old disk.new (λ c. Holds c graph) }
         ensures stays { StaysBut self.old self.new }
         ensures ends { Ends D.Disk self.old.at 0 8 4 (leaf_takes self.old (slot / 64)) disk.old disk.new space.old space.new result }
-        ensures done { IfOk result (λ put. put ≡ true → HasTried D.Disk disk.old disk.new) }
-        ensures spared { IfOk result (λ put. put ≡ false
+        ensures done { IfOk result (λ put. is_some put ≡ true → HasTried D.Disk disk.old disk.new) }
+        ensures spared { IfOk result (λ put. put ≡ None
             → (self.new ≡ self.old) × (space.new ≡ space.old) × OnlyReads D.Disk 2 disk.old disk.new) }
-        ensures empty { IfOk result (λ put. put ≡ false → what ≡ None) }
+        ensures empty { IfOk result (λ put. put ≡ None → what ≡ None) }
         ensures kept { IfErr result (λ e. e ≡ refused.Disk false → self.new ≡ self.old) }
         // Never Full where the blocks that it takes are Free.
         ensures room { leaf_takes self.old (slot / 64) ≤ sum space.old.free → IfErr result (λ e. is_full e ≡ false) }
@@ -93,11 +108,16 @@ impl Draft {
         let mut read = NodeRead::nothing();
         let mut content = self.leaf_bytes(disk, &mut read, leaf)?;
         if is_empty_already(&content, place, what) {
-            return Ok(false);
+            return Ok(None);
         }
         put_slot(&mut content, place, what);
+        let was = read.node.leaves[(leaf % 128) as usize];
         match self.put_leaf(disk, space, &mut read, leaf, &content) {
-            Ok(()) => Ok(true),
+            Ok(()) => Ok(Some(Swap {
+                leaf,
+                was,
+                is: read.node.leaves[(leaf % 128) as usize],
+            })),
             Err(error) => Err(error),
         }
     }

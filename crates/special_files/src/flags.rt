@@ -1,5 +1,6 @@
 //! One flag for each leaf, or each node.
-ghost use Rattle.std.specs.Prelude.{◌≡◌, ◌-◌, ◌<◌, ◌≤◌, ℕ, false, count_by, get_or, length, replicate, set, IfOk};
+ghost use Rattle.std.specs.Prelude.{◌≡◌, ◌-◌, ◌<◌, ◌≤◌, ◌+◌, ◌++◌, ℕ, false, count_by, get_or, length, replicate, set, IfOk};
+ghost use Rattle.std.specs.Vec.{vec_capacity};
 ghost use Rattle.special_files.specs.Drafting as spec;
 
 use cfs_base::NoMemory;
@@ -9,18 +10,33 @@ use std::marker::Model;
 /// Flags, and how many of them are set. Clauses see the list of them.
 #[derive(Debug, Drop)]
 pub(crate) struct Flags {
+    /// Those up to the last that was ever put. No other is set.
     items: Vec<bool>,
+    len: u32,
     count: u32,
 }
 
 impl Model for Flags {
-    ghost use Rattle.std.specs.Prelude.{◌≡◌, ◌≤◌, Bool, List, count_by, length};
+    ghost use Rattle.std.specs.Prelude.{◌≡◌, ◌≤◌, ◌-◌, ◌++◌, Bool, List, count_by, false, length, replicate};
+    ghost use Rattle.std.specs.Vec.{vec_capacity};
 
     ghost Value = { List Bool };
 
-    ghost view = { λ a. a.items.items };
+    ghost view = { λ a. a.items.items ++ replicate (a.len - length a.items.items) false };
 
-    ghost invariant = { λ a. (a.count ≡ count_by (λ b. b) a.items.items) × (length a.items.items ≤ 15360) };
+    ghost invariant = { λ a. (a.count ≡ count_by (λ b. b) a.items.items) × (length a.items.items ≤ a.len) × (a.len ≤ 15360)
+        × (a.len ≤ vec_capacity a.items) };
+}
+
+/// Makes a list so long, with flags that aren't set.
+fn reach(items: &mut Vec<bool>, len: usize)
+    requires { len ≤ vec_capacity items.old }
+    ensures items { items.new.items ≡ items.old.items ++ replicate (len - length items.old.items) false }
+    ensures room { vec_capacity items.old ≤ vec_capacity items.new }
+{
+    if items.len() < len {
+        let _ = items.resize(len, false);
+    }
 }
 
 fn one_unless(flag: bool) -> u32
@@ -35,8 +51,12 @@ impl Flags {
         requires { count ≤ 15360 }
         ensures { IfOk result (λ flags. flags ≡ replicate count false) }
     {
-        let items = vec![in alloc; false; count]?;
-        Ok(Flags { items, count: 0 })
+        let items = Vec::with_capacity(alloc, count)?;
+        Ok(Flags {
+            items,
+            len: count as u32,
+            count: 0,
+        })
     }
 
     /// How many are set.
@@ -51,7 +71,8 @@ impl Flags {
         requires { at < length self.now }
         ensures { result ≡ get_or self.now at false }
     {
-        self.items[at as usize]
+        let at = at as usize;
+        at < self.items.len() && self.items[at]
     }
 
     pub fn put(&mut self, at: u32, flag: bool)
@@ -59,6 +80,7 @@ impl Flags {
         ensures { self.new ≡ set self.old at flag }
     {
         let at = at as usize;
+        reach(&mut self.items, at + 1);
         let was = self.items[at];
         self.items[at] = flag;
         self.count = self.count - was as u32 + flag as u32;
@@ -70,8 +92,8 @@ impl Flags {
         ensures before { (k : ℕ) → k < from → get_or self.new k false ≡ get_or self.old k false }
         ensures after { (k : ℕ) → from ≤ k → get_or self.new k false ≡ false }
     {
-        let count = self.items.len() as u32;
-        for at in from..count {
+        let reached = self.items.len() as u32;
+        for at in from..reached {
             self.put(at, false);
         }
     }

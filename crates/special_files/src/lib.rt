@@ -24,3 +24,4 @@ mod whole;
 mod write;
 
 pub use draft::Draft;
+pub use fill::Swap;

@@ -15,9 +15,11 @@ ghost use Rattle.special_files.specs.Drafting.{IsOpen, leaf_takes, need_beside, 
 ghost use Rattle.special_files.specs.Ends.{Ends};
 ghost use Rattle.special_files.specs.Leaves.{leaves_of};
 ghost use Rattle.special_files.specs.Nodes.{IsNear, IsRead, IsSafe};
+ghost use Rattle.special_files.specs.Order.{ClaimsAndDrops, claims_anew};
 ghost use Rattle.special_files.specs.Puts.{PutsLeaf, StaysBut};
 ghost use Rattle.special_files.specs.Refusal.{IsTrouble, is_damage, is_damaged, is_full};
 ghost use Rattle.ufs_model.specs.Graph.{Graph, object_at};
+ghost use Rattle.ufs_model.specs.Object.{written_anew};
 ghost use Rattle.ufs_model.specs.State.{changed_draft};
 ghost use Rattle.ufs_model.specs.declared.change.Change.TheVariants.{SetSize};
 ghost use Rattle.ufs_model.specs.declared.object.Draft as drafts;
@@ -49,6 +51,10 @@ impl Draft {
             → StoreHas D.Disk graph ds _disk.now space.now → object_at graph id ≡ Some o → IsOpen ds id self.old d
             → d.object ≡ objects.File f → OnOk result
             (Becomes D.Disk graph ds id (changed_draft (SetSize size) d) _disk.now _disk.now space.now self.new) }
+        ensures order { (graph : Graph) (ds : List Opened) (id : Puid) (o : Object) (d : drafts.Draft) (f : File)
+            → StoreHas D.Disk graph ds _disk.now space.now → object_at graph id ≡ Some o → IsOpen ds id self.old d
+            → d.object ≡ objects.File f → OnOk result (ClaimsAndDrops id.block (claims_anew self.old.at
+            (written_anew (SetSize size) d.object d.fresh) d.fresh) (D.content _disk.now) (D.content _disk.now)) }
         ensures only_size { OnOk result (self.new ≡ record self.old { root = record self.old.root { size = size } }) }
         // Full exactly where the model's need and the floor aren't Free; the draft is as it was.
         ensures full { (graph : Graph) (ds : List Opened) (id : Puid) (o : Object) (d : drafts.Draft) (f : File)

@@ -12,10 +12,12 @@ ghost use Rattle.special_files.specs.Drafting.{IsOpen, need_beside, node_of, sha
 ghost use Rattle.special_files.specs.Ends.{Ends};
 ghost use Rattle.special_files.specs.Leaves.{leaves_of};
 ghost use Rattle.special_files.specs.Nodes.{IsRead, IsSafe};
+ghost use Rattle.special_files.specs.Order.{ClaimsAndDrops, claims_anew};
 ghost use Rattle.special_files.specs.Puts.{PutsLeaf, StaysBut};
 ghost use Rattle.special_files.specs.Refusal.{is_damaged, is_full};
 ghost use Rattle.special_files.specs.Shed as spec;
 ghost use Rattle.ufs_model.specs.Graph.{Graph, object_at};
+ghost use Rattle.ufs_model.specs.Object.{written_anew};
 ghost use Rattle.ufs_model.specs.State.{changed_draft};
 ghost use Rattle.ufs_model.specs.declared.change.Change.TheVariants.{SetSize};
 ghost use Rattle.ufs_model.specs.declared.object.Draft as drafts;
@@ -273,6 +275,11 @@ impl Draft {
             → StoreHas D.Disk graph ds disk.old space.old → object_at graph id ≡ Some o → IsOpen ds id self.old d
             → d.object ≡ objects.File f → OnOk result
             (Becomes D.Disk graph ds id (changed_draft (SetSize size) d) disk.old disk.new space.new self.new) }
+        // Its blocks are claimed in their order, each the least Free; what it drops of its own is Free then.
+        ensures order { (graph : Graph) (ds : List Opened) (id : Puid) (o : Object) (d : drafts.Draft) (f : File)
+            → StoreHas D.Disk graph ds disk.old space.old → object_at graph id ≡ Some o → IsOpen ds id self.old d
+            → d.object ≡ objects.File f → OnOk result (ClaimsAndDrops id.block (claims_anew self.old.at
+            (written_anew (SetSize size) d.object d.fresh) d.fresh) (D.content disk.old) (D.content disk.new)) }
         ensures leaves { (graph : Graph) (ds : List Opened) (id : Puid) (o : Object) (d : drafts.Draft)
             → StoreHas D.Disk graph ds disk.old space.old → object_at graph id ≡ Some o → IsOpen ds id self.old d
             → Leaves D.Disk disk.old disk.new (λ c. Holds c graph) }
@@ -341,6 +348,11 @@ impl Draft {
             → StoreHas D.Disk graph ds disk.old space.old → object_at graph id ≡ Some o → IsOpen ds id self.old d
             → d.object ≡ objects.File f → OnOk result
             (Becomes D.Disk graph ds id (changed_draft (SetSize size) d) disk.old disk.new space.new self.new) }
+        // Its blocks are claimed in their order, each the least Free; what it drops of its own is Free then.
+        ensures order { (graph : Graph) (ds : List Opened) (id : Puid) (o : Object) (d : drafts.Draft) (f : File)
+            → StoreHas D.Disk graph ds disk.old space.old → object_at graph id ≡ Some o → IsOpen ds id self.old d
+            → d.object ≡ objects.File f → OnOk result (ClaimsAndDrops id.block (claims_anew self.old.at
+            (written_anew (SetSize size) d.object d.fresh) d.fresh) (D.content disk.old) (D.content disk.new)) }
         ensures leaves { (graph : Graph) (ds : List Opened) (id : Puid) (o : Object) (d : drafts.Draft)
             → StoreHas D.Disk graph ds disk.old space.old → object_at graph id ≡ Some o → IsOpen ds id self.old d
             → Leaves D.Disk disk.old disk.new (λ c. Holds c graph) }

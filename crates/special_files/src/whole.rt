@@ -1,11 +1,13 @@
 //! A draft becomes its object.
-ghost use Rattle.std.specs.Prelude.{◌≡◌, ◌≢◌, ◌<◌, ◌≤◌, ◌*◌, ℕ, List, false, length, sum, Option, None, Some, IfErr, OnOk};
+ghost use Rattle.std.specs.Prelude.{◌≡◌, ◌≢◌, ◌<◌, ◌≤◌, ◌*◌, ◌++◌, ℕ, List, false, length, sum, Option, None, Some, IfErr, OnOk};
 ghost use Rattle.cfs_base.specs.Calls.{HasTried, MakesAtMost};
 ghost use Rattle.cfs_base.specs.Run.{Leaves};
 ghost use Rattle.cfs_base.specs.declared.identifier.Puid.{Puid};
 ghost use Rattle.intentions.specs.Store.{StoreHas};
+ghost use Rattle.special_files.specs.Changed.{unlike};
 ghost use Rattle.special_files.specs.Committing as spec;
 ghost use Rattle.special_files.specs.Drafting.{Drafting, IsOpen, number_of};
+ghost use Rattle.special_files.specs.Fills.{IsNearSwap, IsSwapped};
 ghost use Rattle.special_files.specs.Refusal.{IsTrouble, is_damage};
 ghost use Rattle.ufs_model.specs.Graph.{Graph, object_at};
 ghost use Rattle.ufs_model.specs.declared.object.Draft as drafts;
@@ -13,9 +15,11 @@ ghost use Rattle.ufs_model.specs.declared.object.Object.{Object};
 ghost use Rattle.vol_owners.specs.Account.{Opened};
 
 use crate::blocks::Blocks;
+use crate::changed::add_unlike;
 use crate::commit::commit_begun;
-use crate::direct::commit_direct;
+use crate::direct::{commit_direct, commit_listed};
 use crate::draft::Draft;
+use crate::fill::Swap;
 use block_tree::Root;
 use cfs_base::{BlockNo, Damage, Disk, Trouble, code};
 use cyl_alloc::Space;
@@ -88,6 +92,15 @@ fn commit_parts<D: Disk>(
     }
 }
 
+/// Lists a node and a leaf, each unless it is 0 or the same as the other at its place.
+fn list_two(list: &mut Blocks, node: u32, other_node: u32, leaf: u32, other_leaf: u32)
+    ensures { list.new ≡ unlike node other_node ++ unlike leaf other_leaf }
+{
+    list.clear();
+    add_unlike(list, node, other_node);
+    add_unlike(list, leaf, other_leaf);
+}
+
 impl Draft {
     /// Makes the draft its object. A draft without a shadow root takes one Free block for it. Done, all is durable, and the
     /// object's blocks are exactly those of the draft; of an object that is made with it the root is Allocated. Where it is
@@ -128,6 +141,50 @@ impl Draft {
             &draft.root,
             &mut draft.taken,
             &mut draft.dropped,
+            draft.created,
+        )
+    }
+
+    /// The same of a draft without a shadow root that equalled its object until one slot was filled, by what was put. No node
+    /// is read.
+    pub fn commit_swap<D: Disk>(
+        mut self,
+        disk: &mut D,
+        space: &mut Space,
+        swap: Swap,
+    ) -> Result<(), Trouble>
+        requires on_disk { self.at < D.blocks disk.old }
+        requires size { D.blocks disk.old ≡ 64 * length space.old.free }
+        requires room { 1 ≤ sum space.old.free }
+        requires direct { self.shadow ≡ None }
+        requires near { IsNearSwap (D.blocks disk.old) self swap }
+        ensures commits { (graph : Graph) (ds : List Opened) (id : Puid) (o : Object) (d : drafts.Draft)
+            (made : Option spec.Making) → StoreHas D.Disk graph ds disk.old space.old → object_at graph id ≡ Some o
+            → IsOpen ds id self d → spec.Makes (D.content disk.old) self.created made
+            → IsSwapped (D.content disk.old) id self d swap
+            → spec.CommitEnds D.Disk graph ds id d.object made disk.old disk.new space.new result }
+        ensures refused { IfErr result (IsTrouble D.Disk self.at disk.old disk.new space.new) }
+        ensures made { OnOk result (HasTried D.Disk disk.old disk.new) }
+        ensures cylinders { length space.new.free ≡ length space.old.free }
+        ensures calls { MakesAtMost D.Disk 30 18 disk.old disk.new }
+    {
+        let draft = &mut self;
+        match part_on_disk(disk, draft.at, draft.created) {
+            Ok(()) => {}
+            Err(trouble) => return Err(trouble),
+        }
+        let number = (swap.leaf / 128) as usize;
+        let own = draft.own.nodes[number];
+        let node = draft.root.nodes[number];
+        list_two(&mut draft.taken, node, own, swap.is, swap.was);
+        list_two(&mut draft.dropped, own, node, swap.was, swap.is);
+        commit_listed(
+            disk,
+            space,
+            draft.at,
+            &draft.root,
+            draft.taken.as_slice(),
+            draft.dropped.as_slice(),
             draft.created,
         )
     }

@@ -1,10 +1,11 @@
-use Rattle.std.proofs.Common.{sym, subst}
+use Rattle.std.proofs.Common.{sym, subst, arith}
 use Rattle.cyl_alloc.specs.Space.{Kept}
 use Rattle.puid_space.specs.Directory.{Listing}
 use Rattle.vol_image.specs.Sound.{IsSoundAs}
 use Rattle.vol_label.specs.declared.label.Label.{Label}
 use Rattle.cfs_recover.specs.Recovered.{IsRecovered}
 use Rattle.cfs_recover.proofs.Opening.{leads_reads, settled_reads, stores_content}
+use Rattle.cfs_recover.proofs.Writing.{writes_after}
 use Rattle.cfs_recover.proofs.recovery.open_settled.Goals as goal
 
 pub returns-in_err-tidy_volume-clause-unsound : goal.returns-in_err-tidy_volume-clause-unsound
@@ -43,7 +44,9 @@ returns-clause-opened g c settled =
     let a = g.D.Disk.content d in
     let survey = c.in_ok-survey.ensures.told a (stores_content g.D.Disk d settled.tells (g.met.D.Disk.sized d settled.tells.honest) (g.met.D.Disk.of_blocks d settled.tells.honest)) in
     let done = c.in_ok-tidy_volume.ensures.recovered a (settled_reads g.D.Disk d c.survey_volume.new.disk _ reads settled) reads.content survey in
-    let is = c.hand_over.ensures in
-    subst (λ (label : Label). IsRecovered g.D.Disk a new label c.hand_over.result.names c.hand_over.result.space) (sym is.label)
-    (subst (λ (names : Listing). IsRecovered g.D.Disk a new c.in_ok-survey.survey.grounds.label names c.hand_over.result.space) (sym is.names)
-    (subst (λ (space : Kept). IsRecovered g.D.Disk a new c.in_ok-survey.survey.grounds.label c.in_ok-survey.survey.walked.walk.names space) (sym is.space) done))
+    let is = c.hand_over.ensures in (
+      subst (λ (label : Label). IsRecovered g.D.Disk a new label c.hand_over.result.names c.hand_over.result.space) (sym is.label)
+          (subst (λ (names : Listing). IsRecovered g.D.Disk a new c.in_ok-survey.survey.grounds.label names c.hand_over.result.space) (sym is.names)
+          (subst (λ (space : Kept). IsRecovered g.D.Disk a new c.in_ok-survey.survey.grounds.label c.in_ok-survey.survey.walked.walk.names space) (sym is.space) done.0)),
+      writes_after g.D.Disk d c.survey_volume.new.disk new 2 2 reads.content (omega (arith, reads.tries)) done.1,
+    )

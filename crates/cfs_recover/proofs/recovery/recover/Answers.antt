@@ -1,10 +1,12 @@
-use Rattle.std.proofs.Common.{◌≡◌, ◌⊎◌, inl, inr, sym, subst}
+use Rattle.std.proofs.Common.{◌≡◌, ◌⊎◌, inl, inr, sym, subst, arith}
 use Rattle.cfs_base.specs.Disk.{Image}
 use Rattle.vol_image.specs.Sound.{IsSoundAs}
 use Rattle.cfs_recover.specs.Grounds.{IsOpenFault}
+use Rattle.cfs_recover.specs.Recovered.{IsRecovered, WritesWhatDiffers}
 use Rattle.cfs_recover.specs.declared.fault.RecoverFault.TheVariants as faults
-use Rattle.cfs_recover.proofs.Opening.{err_as, untouched_then}
+use Rattle.cfs_recover.proofs.Opening.{err_as, ok_as, on_ok, untouched_then}
 use Rattle.cfs_recover.proofs.Refused.{sound_refused}
+use Rattle.cfs_recover.proofs.Writing.{writes_after}
 use Rattle.cfs_recover.proofs.recovery.recover.Goals as goal
 
 pub returns-in_err-flush-clause-images : goal.returns-in_err-flush-clause-images
@@ -37,3 +39,16 @@ returns-clause-unsound g c honest none =
     let settled = c.in_ok-flush.ensures.settled honest in
     untouched_then g.D.Disk c.args.disk.now c.flush.new.disk c.open_settled.new.disk was
     (c.open_settled.ensures.unsound settled.tells (λ sound. none (sound.0, subst (λ (i : Image). IsSoundAs i sound.0) was.content sound.1)))
+
+pub returns-clause-writes : goal.returns-clause-writes
+returns-clause-writes g c honest =
+    let new = c.open_settled.new.disk in
+    on_ok _ (WritesWhatDiffers g.D.Disk 3 c.args.disk.now new) c.open_settled.result
+    (λ r done. writes_after g.D.Disk c.args.disk.now c.flush.new.disk new 2 3 c.in_ok-flush.ensures.untouched.content (omega (arith, c.in_ok-flush.ensures.calls.tries)) done.1)
+    (c.open_settled.ensures.opened (c.in_ok-flush.ensures.settled honest))
+
+pub returns-clause-opened : goal.returns-clause-opened
+returns-clause-opened g c honest =
+    ok_as _ _ c.open_settled.result
+    (λ r done. subst (λ (i : Image). IsRecovered g.D.Disk i c.open_settled.new.disk r.label r.names r.space) c.in_ok-flush.ensures.untouched.content done.0)
+    (c.open_settled.ensures.opened (c.in_ok-flush.ensures.settled honest))

@@ -1,13 +1,17 @@
-use Rattle.std.proofs.Common.{Bool, List, length, refl, sym, subst, arith}
+use Rattle.std.proofs.Common.{◌+◌, ◌≤◌, Bool, List, length, refl, sym, ◌∙◌, ap, subst, arith}
+use Rattle.cfs_base.specs.Disk.{Image}
 use Rattle.cyl_map.specs.declared.entry.MapEntry.{MapEntry}
 use Rattle.ufs_model.specs.Graph.{Graph}
 use Rattle.vol_image.specs.Sound.{IsSoundAs}
 use Rattle.vol_image.proofs.Unique.{reading_is_one}
+use Rattle.cfs_recover.specs.Copies.{AreCopies}
 use Rattle.cfs_recover.specs.Keeps.{AreAllCopies, Leads}
+use Rattle.cfs_recover.specs.Recovered.{changed_maps}
 use Rattle.cfs_recover.specs.Stored.{AreMapsOf}
 use Rattle.cfs_recover.specs.Tidy.{AreTidied, IsTidying}
 use Rattle.cfs_recover.specs.declared.copies.Copied.{Copied}
-use Rattle.cfs_recover.proofs.Recovering.{all_copies, maps_b, recovers, roots_lead, tidies_lead, tidying}
+use Rattle.cfs_recover.proofs.Recovering.{all_copies, map_kept, maps_b, recovers, roots_lead, tidies_lead, tidying}
+use Rattle.cfs_recover.proofs.Writing.{changed_from, writes_these}
 use Rattle.cfs_recover.proofs.recovery.tidy_volume.Goals as goal
 
 pub returns-in_err-copy_roots-clause-leads : goal.returns-in_err-copy_roots-clause-leads
@@ -57,5 +61,13 @@ returns-clause-recovered g c a settled is survey =
     let done = c.in_ok-tidy_maps.ensures.tidied b graph roots.0 refl marks maps in
     let tidied = subst (λ (ms : List (List MapEntry)). AreTidied (g.D.Disk.content d) ms s.walked.walk.held.items free (length ms)) c.deref-2.ensures.value
     (subst (λ (held : List Bool). AreTidied (g.D.Disk.content d) c.deref-2.result.now held free (length c.deref-2.result.now)) c.deref-3.ensures.value done.2) in
-    recovers a s survey b roots.1 roots.2 (g.D.Disk.content d) done.1 free tidied g.D.Disk d done.0 refl (g.met.D.Disk.sized d done.0.tells.honest)
-    (omega (arith, c.tidy_maps.ensures.size, c.deref-2.ensures.len))
+    let most = subst (λ (ms : List (List MapEntry)). g.D.Disk.tries d ≤ g.D.Disk.tries c.copy_roots.new.disk + 1 + changed_maps b (g.D.Disk.content d) (length ms)) c.deref-2.ensures.value done.3 in
+    let few = subst (λ (cs : List Copied). g.D.Disk.tries c.copy_roots.new.disk ≤ g.D.Disk.tries c.args.disk.now + (length cs + 1)) c.deref.ensures.value c.copy_roots.ensures.calls.tries in
+    let same = changed_from a b (g.D.Disk.content d) (length s.grounds.maps.items) (map_kept a s survey b roots.1 roots.2) in (
+      recovers a s survey b roots.1 roots.2 (g.D.Disk.content d) done.1 free tidied g.D.Disk d done.0 refl (g.met.D.Disk.sized d done.0.tells.honest)
+          (omega (arith, c.tidy_maps.ensures.size, c.deref-2.ensures.len)),
+      writes_these g.D.Disk c.args.disk.now d s.walked.walk.found.items (length s.walked.walk.found.items) s.walked.copies.items 2 (length s.grounds.maps.items)
+          (subst (λ (i : Image). AreCopies i s.walked.walk.found.items (length s.walked.walk.found.items) s.walked.copies.items) (sym is) survey.walked.copies)
+          (ap length is ∙ survey.maps.size)
+          (omega (arith, most, few, same, ap (λ (i : Image). changed_maps i (g.D.Disk.content d) (length s.grounds.maps.items)) is)),
+    )

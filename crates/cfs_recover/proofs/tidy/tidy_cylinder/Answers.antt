@@ -1,4 +1,7 @@
-use Rattle.std.proofs.Common.{◌∙◌, arith}
+use Rattle.std.proofs.Common.{ℕ, ◌+◌, ◌*◌, ◌≤◌, List, sym, ◌∙◌, subst, arith}
+use Rattle.cfs_base.specs.Disk.{block_at}
+use Rattle.cyl_map.specs.Map.{map_spelling}
+use Rattle.cfs_recover.specs.Recovered.{changed}
 use Rattle.cfs_recover.proofs.TidyCylinders.{free_most, given_here, given_others, given_size, written_here, written_others}
 use Rattle.cfs_recover.proofs.tidy.tidy_cylinder.Goals as goal
 
@@ -23,3 +26,9 @@ returns-clause-counts g c k other = given_others c.args.space.now c.gave.new.sel
 
 pub returns-clause-size : goal.returns-clause-size
 returns-clause-size g c = given_size c.args.space.now c.gave.new.self c.args.cylinder c.free_count.result c.gave.ensures.given
+
+pub returns-clause-differs : goal.returns-clause-differs
+returns-clause-differs g c inside was =
+    let here = written_here (g.D.Disk.content c.args.disk.now) (g.D.Disk.content c.write_tidy.new.disk) c.args.cylinder c.args.map.now c.in_ok-tidy.tidy c.in_ok-tidy.ensures.written inside was in
+    subst (λ (b : List ℕ). g.D.Disk.tries c.write_tidy.new.disk ≤ g.D.Disk.tries c.args.disk.now + changed b (block_at (g.D.Disk.content c.write_tidy.new.disk) (64 * c.args.cylinder))) (sym was)
+    (subst (λ (b : List ℕ). g.D.Disk.tries c.write_tidy.new.disk ≤ g.D.Disk.tries c.args.disk.now + changed (map_spelling c.args.map.now) b) (sym here) c.in_ok-tidy.ensures.differs)

@@ -1,5 +1,6 @@
-use Rattle.std.proofs.Common.{length, sym, subst}
+use Rattle.std.proofs.Common.{length, sym, ap, subst, arith}
 use Rattle.cfs_base.specs.Disk.{Image}
+use Rattle.cfs_recover.specs.Recovered.{changed_maps}
 use Rattle.cfs_recover.specs.Tidy.{AreTidied, Tidies}
 use Rattle.cfs_recover.proofs.Keepings.{leads_on}
 use Rattle.cfs_recover.proofs.tidy.tidy_maps.Goals as goal
@@ -19,4 +20,5 @@ returns-clause-tidied g c a graph settled is tidying are =
       c.in_ok-flush.ensures.settled done.0.tells.honest,
       subst (Tidies a graph) (sym same) done.0.content,
       subst (λ (i : Image). AreTidied i c.args.maps.now c.args.held.now c.write_maps.new.space.free (length c.args.maps.now)) (sym same) done.1,
+      omega (arith, done.2, c.flush.ensures.calls.tries, ap (λ (i : Image). changed_maps a i (length c.args.maps.now)) same),
     )

@@ -1,11 +1,12 @@
-use Rattle.std.proofs.Common.{◌≡◌, ◌+◌, ◌*◌, ◌<◌, List, [], length, get_or, sym, ◌∙◌, ap, subst, arith}
+use Rattle.std.proofs.Common.{◌≡◌, ℕ, ◌+◌, ◌*◌, ◌<◌, ◌≤◌, List, [], length, get_or, sym, ◌∙◌, ap, subst, arith}
 use Rattle.cfs_base.specs.Disk.{Image, block_at}
 use Rattle.cfs_base.proofs.Calls.{makes_then}
 use Rattle.cyl_map.specs.declared.entry.MapEntry.{MapEntry}
 use Rattle.cyl_map.specs.Map.{map_spelling}
+use Rattle.cfs_recover.specs.Recovered.{changed_maps}
 use Rattle.cfs_recover.specs.Tidy.{HasTidied, IsMapIn, Tidies}
 use Rattle.cfs_recover.proofs.Keepings.{keeps_begin, keeps_lead, makes_none}
-use Rattle.cfs_recover.proofs.TidyCylinders.{map_in, none_counted, none_size, the_map, tidied_more}
+use Rattle.cfs_recover.proofs.TidyCylinders.{changed_more, map_in, none_counted, none_size, the_map, tidied_more}
 use Rattle.cfs_recover.proofs.Tidyings.{tidies_begin}
 use Rattle.cfs_recover.proofs.tidy.write_maps.Goals as goal
 
@@ -18,6 +19,7 @@ loop-cylinder-init g c = record {
     keeps_begin g.D.Disk (Tidies a graph) c.args.disk.now settled (subst (Tidies a graph) (sym is) (tidies_begin a graph tidying.holds)),
     λ k none. absurd (omega (arith, none)),
     λ k le. ap (λ (i : Image). block_at i (64 * k)) is,
+    omega arith,
   );
 }
 
@@ -45,6 +47,8 @@ loop-cylinder-preserved g c =
             tidied_more (g.D.Disk.content c.loop-cylinder.disk) (g.D.Disk.content c.tidy_cylinder.new.disk) maps held c.loop-cylinder.space.free c.tidy_cylinder.new.space.free n were.1 done.others done.counts
                 (subst (λ (m : List MapEntry). HasTidied (g.D.Disk.content c.tidy_cylinder.new.disk) n m held (get_or c.tidy_cylinder.new.space.free n 0)) (sym here) tidied),
             λ k le. done.others (64 * k) (λ same. absurd (omega (arith, same, le))) ∙ were.2 k (omega (arith, le)),
+            changed_more a (g.D.Disk.content c.loop-cylinder.disk) (g.D.Disk.content c.tidy_cylinder.new.disk) n (g.D.Disk.tries c.tidy_cylinder.new.disk) (g.D.Disk.tries c.args.disk.now)
+                (were.2 n (omega arith)) done.others (omega (arith, were.3, done.differs within spelled)),
           );
     }
 
@@ -63,5 +67,8 @@ returns-clause-leads g c a graph settled is tidying are =
 
 pub returns-clause-keeps : goal.returns-clause-keeps
 returns-clause-keeps g c a graph settled is tidying are =
-    let were = c.loop-cylinder.invariant.keeps a graph settled is tidying are in
-    (were.0, λ k less. were.1 k (omega (arith, less)))
+    let were = c.loop-cylinder.invariant.keeps a graph settled is tidying are in (
+      were.0,
+      λ k less. were.1 k (omega (arith, less)),
+      subst (λ (n : ℕ). g.D.Disk.tries c.loop-cylinder.disk ≤ g.D.Disk.tries c.args.disk.now + changed_maps a (g.D.Disk.content c.loop-cylinder.disk) n) (omega arith) were.3,
+    )

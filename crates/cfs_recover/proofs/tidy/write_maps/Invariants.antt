@@ -1,9 +1,10 @@
-use Rattle.std.proofs.Common.{◌≡◌, ◌*◌, ◌≤◌, ℕ, length, get_or}
+use Rattle.std.proofs.Common.{◌≡◌, ◌+◌, ◌*◌, ◌≤◌, ℕ, length, get_or}
 use Rattle.cfs_base.specs.Calls.{MakesAtMost}
 use Rattle.cfs_base.specs.Disk.{Image, block_at}
 use Rattle.cfs_base.specs.Run.{IsSettled}
 use Rattle.ufs_model.specs.Graph.{Graph}
 use Rattle.cfs_recover.specs.Keeps.{Keeps}
+use Rattle.cfs_recover.specs.Recovered.{changed_maps}
 use Rattle.cfs_recover.specs.Stored.{AreMapsOf}
 use Rattle.cfs_recover.specs.Tidy.{AreTidied, IsTidying, Tidies}
 use Rattle.cfs_recover.proofs.tidy.write_maps.Given as goal
@@ -15,5 +16,6 @@ invariant-loop-cylinder g l = record {
   zero : (k : ℕ) → l.cylinder ≤ k → get_or l.space.free k 0 ≡ 0;
   keeps : (a : Image) (graph : Graph) → IsSettled g.D.Disk l.initial.disk → g.D.Disk.content l.initial.disk ≡ a → IsTidying a graph l.held → AreMapsOf a l.maps
       → Keeps g.D.Disk (Tidies a graph) l.initial.disk l.disk × AreTidied (g.D.Disk.content l.disk) l.maps l.held l.space.free l.cylinder
-      × ((k : ℕ) → l.cylinder ≤ k → block_at (g.D.Disk.content l.disk) (64 * k) ≡ block_at a (64 * k));
+      × ((k : ℕ) → l.cylinder ≤ k → block_at (g.D.Disk.content l.disk) (64 * k) ≡ block_at a (64 * k))
+      × (g.D.Disk.tries l.disk ≤ g.D.Disk.tries l.initial.disk + changed_maps a (g.D.Disk.content l.disk) l.cylinder);
 }

@@ -1,7 +1,12 @@
-use Rattle.std.proofs.Common.{inr, refl, sym, ◌∙◌}
+use Rattle.std.proofs.Common.{◌≡◌, inr, Bool, cond, refl, sym, ◌∙◌, ap, arith}
 use Rattle.std.specs.Cmp.Lexicographic.{same_text}
+use Rattle.cyl_map.specs.Map.{map_spelling}
+use Rattle.cfs_recover.specs.Recovered.{changed}
 use Rattle.cfs_recover.proofs.TidyMaps.{tidy_map_comes}
 use Rattle.cfs_recover.proofs.tidy.write_tidy.Goals as goal
+
+pub returns-then-eq-clause-differs : goal.returns-then-eq-clause-differs
+returns-then-eq-clause-differs g c = omega arith
 
 pub returns-in_err-write_map-clause-leads : goal.returns-in_err-write_map-clause-leads
 returns-in_err-write_map-clause-leads g c a graph start run tidying here =
@@ -17,3 +22,8 @@ returns-clause-leads g c a graph start run tidying here =
 
 pub returns-then-eq-clause-written : goal.returns-then-eq-clause-written
 returns-then-eq-clause-written g c = inr (refl, same_text _ _ (sym c.if-eq.true ∙ c.eq.ensures))
+
+pub returns-clause-differs : goal.returns-clause-differs
+returns-clause-differs g c =
+    let one : changed (map_spelling c.args.map.now) (map_spelling c.tidy_map-tidy.result) ≡ 1 = ap (λ (t : Bool). cond t 0 1) (sym c.eq.ensures ∙ c.if-eq.false) in
+    omega (arith, one, c.write_map.ensures.calls.tries)

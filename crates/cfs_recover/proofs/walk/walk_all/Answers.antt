@@ -54,6 +54,7 @@ loop-next-preserved g c =
             now.0,
             c.in_ok-note_copy.ensures.told image c.walk_object.new.walk.found.items n
                 (copies_on image w.found.items c.walk_object.new.walk.found.items n c.loop-next.copies.items were.0.walk.within grows.found were.1)
-                item (grows.found n item at) refl now.1,
+                item (grows.found n item at) refl now.1
+                (λ j y here is. now.0.walk.once j n y item here (grows.found n item at) is),
           );
     }

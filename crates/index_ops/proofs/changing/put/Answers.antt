@@ -1,9 +1,13 @@
-use Rattle.std.proofs.Common.{ℕ, ◌+◌, ◌*◌, ◌/◌, ◌<◌, Err, None, length, refl, sym, ◌∙◌, ap, subst, arith}
-use Rattle.std.specs.Prelude.{sum}
+use Rattle.std.proofs.Common.{ℕ, List, ◌+◌, ◌*◌, ◌/◌, ◌<◌, Err, None, length, refl, sym, ◌∙◌, ap, subst, arith}
+use Rattle.std.specs.Prelude.{is_some, sum}
 use Rattle.cfs_base.specs.Refusals.{refused_by}
 use Rattle.cfs_base.specs.declared.refusal.Refused.{Refused}
+use Rattle.cfs_base.specs.declared.identifier.Puid.{Puid}
 use Rattle.cyl_alloc.specs.Space.{Kept}
-use Rattle.index_ops.specs.Changes.{PutsSlot, short_at}
+use Rattle.index_ops.specs.Changes.{HasSlot, PutsSlot, short_at}
+use Rattle.ufs_model.specs.Graph.{Graph}
+use Rattle.ufs_model.specs.declared.object.Index.{Index}
+use Rattle.vol_owners.specs.Account.{Opened}
 use Rattle.special_files.specs.Drafting.{Drafting}
 use Rattle.special_files.specs.Fills.{filled_draft}
 use Rattle.special_files.specs.Refusal.{IsTrouble}
@@ -37,21 +41,21 @@ fill-requires-clause-within g c = omega (arith, c.if-size-slot.false, c.size.ens
 
 -- ---- nothing was to be done
 
-pub returns-in-Ok-false : goal.returns-in-Ok-false
-returns-in-Ok-false g c =
+pub returns-in-Ok-None : goal.returns-in-Ok-None
+returns-in-Ok-None g c =
     let d0 = c.args.disk.now in
     let k0 = c.args.space.now in
     let d1 = c.begin_direct.new.disk in
     let was = c.in-Ok.draft in
     let reads = c.in-Ok.ensures.reads in
-    let spared = c.in-Ok-false.ensures.spared c.in-Ok-false.field-0-test in
+    let spared = c.in-Ok-None.ensures.spared c.in-Ok-None.field-0-is in
     let kept = spared.1 ∙ c.in-Ok.ensures.space in
-    ends_settled g.D.Disk c.args.index.0 c.args.slot c.args.what d0 k0 d1 c.fill.new.disk c.settle.new.disk c.fill.new.space reads spared.2 kept (c.in-Ok-false.ensures.empty c.in-Ok-false.field-0-test) c.settle.result c.settle.ensures
+    ends_settled g.D.Disk c.args.index.0 c.args.slot c.args.what d0 k0 d1 c.fill.new.disk c.settle.new.disk c.fill.new.space reads spared.2 kept (c.in-Ok-None.ensures.empty c.in-Ok-None.field-0-is) c.settle.result c.settle.ensures
     (λ graph ds id i has settled store.
     let begun = c.in-Ok.ensures.store graph ds id (objects.Index i) has.store has.root has.there has.shut in
     let open_now = begun_open g.D.Disk graph ds id i c.args.index.0 c.args.slot c.args.what d0 d1 k0 was has c.in-Ok.ensures.begun reads in
     settle_done g.D.Disk graph ds id i c.args.index.0 c.args.slot c.args.what d0 d1 k0 was has c.in-Ok.ensures.begun reads c.fill.new.disk c.settle.new.disk c.begin_direct.new.space c.fill.new.space c.fill.new.self spared.0
-    (c.in-Ok-false.ensures.filled graph _ id (objects.Index i) (begun_draft i) i begun has.there open_now refl) begun kept spared.2 settled c.settle.ensures.content store)
+    (c.in-Ok-None.ensures.filled graph _ id (objects.Index i) (begun_draft i) i begun has.there open_now refl) begun kept spared.2 settled c.settle.ensures.content store)
 
 -- ---- refused while it was filled
 
@@ -71,68 +75,72 @@ returns-in-Err-fill g c =
 
 -- ---- filled, and committed or not
 
-pub commit-requires-clause-on_disk : goal.commit-requires-clause-on_disk
-commit-requires-clause-on_disk g c = omega (arith, c.fill.ensures.stays.at, ap (λ (x : Drafting). x.at) c.in-Ok.ensures.begun, c.requires.on_disk, c.in-Ok.ensures.reads.same.size, c.in-Ok-true.ensures.ends.calls.same.size)
+pub commit_swap-requires-clause-on_disk : goal.commit_swap-requires-clause-on_disk
+commit_swap-requires-clause-on_disk g c = omega (arith, c.fill.ensures.stays.at, ap (λ (x : Drafting). x.at) c.in-Ok.ensures.begun, c.requires.on_disk, c.in-Ok.ensures.reads.same.size, c.in-Ok-Some.ensures.ends.calls.same.size)
 
-pub commit-requires-clause-size : goal.commit-requires-clause-size
-commit-requires-clause-size g c = omega (arith, c.requires.size, c.in-Ok.ensures.reads.same.size, c.in-Ok-true.ensures.ends.calls.same.size, c.in-Ok-true.ensures.ends.cylinders, ap (λ (k : Kept). length k.free) c.in-Ok.ensures.space)
+pub commit_swap-requires-clause-size : goal.commit_swap-requires-clause-size
+commit_swap-requires-clause-size g c = omega (arith, c.requires.size, c.in-Ok.ensures.reads.same.size, c.in-Ok-Some.ensures.ends.calls.same.size, c.in-Ok-Some.ensures.ends.cylinders, ap (λ (k : Kept). length k.free) c.in-Ok.ensures.space)
 
-pub commit-requires-clause-room : goal.commit-requires-clause-room
-commit-requires-clause-room g c = λ none. omega (arith, c.requires.room, takes_two c.in-Ok.draft (c.args.slot / 64), c.in-Ok-true.ensures.ends.takes, ap (λ (k : Kept). sum k.free) c.in-Ok.ensures.space)
+pub commit_swap-requires-clause-room : goal.commit_swap-requires-clause-room
+commit_swap-requires-clause-room g c = omega (arith, c.requires.room, takes_two c.in-Ok.draft (c.args.slot / 64), c.in-Ok-Some.ensures.ends.takes, ap (λ (k : Kept). sum k.free) c.in-Ok.ensures.space)
 
-pub returns-in-Ok-commit : goal.returns-in-Ok-commit
-returns-in-Ok-commit g c =
+pub returns-in-Ok-commit_swap : goal.returns-in-Ok-commit_swap
+returns-in-Ok-commit_swap g c =
+    let G = g.D.Disk in
+    let at = c.args.index.0 in
+    let slot = c.args.slot in
+    let what = c.args.what in
     let d0 = c.args.disk.now in
     let k0 = c.args.space.now in
     let d1 = c.begin_direct.new.disk in
+    let d2 = c.fill.new.disk in
+    let k2 = c.fill.new.space in
+    let d3 = c.commit_swap.new.disk in
+    let k3 = c.commit_swap.new.space in
     let was = c.in-Ok.draft in
+    let begun = c.in-Ok.ensures.begun in
     let reads = c.in-Ok.ensures.reads in
-    let created = c.fill.ensures.stays.created ∙ ap (λ (x : Drafting). x.created) c.in-Ok.ensures.begun in
-    ok_commit g.D.Disk c.args.index.0 c.args.slot c.args.what d0 k0 d1 c.fill.new.disk c.begin_direct.new.space c.fill.new.space c.in-Ok.ensures.space was reads c.commit.new.disk c.commit.new.space c.in-Ok-true.field-0 c.in-Ok-true.ensures.ends
-    (c.in-Ok-true.ensures.done c.in-Ok-true.field-0-test) c.in-Ok-commit.ensures.cylinders 93138 46452 (omega arith) (omega arith) c.in-Ok-commit.ensures.calls
-    (λ graph ds id i has.
-    let begun = c.in-Ok.ensures.store graph ds id (objects.Index i) has.store has.root has.there has.shut in
-    let open_now = begun_open g.D.Disk graph ds id i c.args.index.0 c.args.slot c.args.what d0 d1 k0 was has c.in-Ok.ensures.begun reads in
-    let becomes = c.in-Ok-true.ensures.filled graph _ id (objects.Index i) (begun_draft i) i begun has.there open_now refl in (
-      c.fill.ensures.leaves graph _ id (objects.Index i) (begun_draft i) begun has.there open_now,
-      c.commit.ensures.leaves graph _ id (objects.Index i) (filled_draft i c.args.slot c.args.what (begun_draft i)) None becomes.steps.store has.there becomes.is_open created,
-    ))
-    (λ graph ds id i has.
-    let begun = c.in-Ok.ensures.store graph ds id (objects.Index i) has.store has.root has.there has.shut in
-    let open_now = begun_open g.D.Disk graph ds id i c.args.index.0 c.args.slot c.args.what d0 d1 k0 was has c.in-Ok.ensures.begun reads in
-    let becomes = c.in-Ok-true.ensures.filled graph _ id (objects.Index i) (begun_draft i) i begun has.there open_now refl in
-    commit_done g.D.Disk graph ds id i c.args.index.0 c.args.slot c.args.what d0 d1 k0 was has c.in-Ok.ensures.begun reads c.fill.new.disk c.commit.new.disk c.fill.new.space c.commit.new.space c.fill.new.self becomes
-    (c.in-Ok-commit.ensures.done graph _ id (objects.Index i) (filled_draft i c.args.slot c.args.what (begun_draft i)) None becomes.steps.store has.there becomes.is_open created))
-    (λ graph ds id i has.
-    let begun = c.in-Ok.ensures.store graph ds id (objects.Index i) has.store has.root has.there has.shut in
-    let open_now = begun_open g.D.Disk graph ds id i c.args.index.0 c.args.slot c.args.what d0 d1 k0 was has c.in-Ok.ensures.begun reads in
-    let becomes = c.in-Ok-true.ensures.filled graph _ id (objects.Index i) (begun_draft i) i begun has.there open_now refl in
-    commit_leaf g.D.Disk graph ds id i c.args.index.0 c.args.slot c.args.what d0 d1 k0 was has c.in-Ok.ensures.begun reads c.fill.new.disk c.commit.new.disk c.fill.new.space c.commit.new.space c.fill.new.self becomes
-    (c.in-Ok.ensures.root has.store.carries.tells) (c.in-Ok-true.ensures.order graph _ id (objects.Index i) (begun_draft i) i begun has.there open_now refl c.in-Ok-true.field-0-test)
-    (c.in-Ok-true.ensures.beside graph _ id (objects.Index i) (begun_draft i) i begun has.there open_now refl)
-    (c.in-Ok-commit.ensures.done graph _ id (objects.Index i) (filled_draft i c.args.slot c.args.what (begun_draft i)) None becomes.steps.store has.there becomes.is_open created))
+    let begins = λ (graph : Graph) (ds : List Opened) (id : Puid) (i : Index) (has : HasSlot G graph ds d0 k0 at id i slot). c.in-Ok.ensures.store graph ds id (objects.Index i) has.store has.root has.there has.shut in
+    let opens = λ (graph : Graph) (ds : List Opened) (id : Puid) (i : Index) (has : HasSlot G graph ds d0 k0 at id i slot). begun_open G graph ds id i at slot what d0 d1 k0 was has begun reads in
+    let becomes = λ (graph : Graph) (ds : List Opened) (id : Puid) (i : Index) (has : HasSlot G graph ds d0 k0 at id i slot).
+    c.in-Ok-Some.ensures.filled graph _ id (objects.Index i) (begun_draft i) i (begins graph ds id i has) has.there (opens graph ds id i has) refl in
+    let ends = λ (graph : Graph) (ds : List Opened) (id : Puid) (i : Index) (has : HasSlot G graph ds d0 k0 at id i slot).
+    let is = becomes graph ds id i has in
+    c.in-Ok-commit_swap.ensures.commits graph _ id (objects.Index i) (filled_draft i slot what (begun_draft i)) None is.steps.store has.there is.is_open (c.fill.ensures.stays.created ∙ ap (λ (x : Drafting). x.created) begun)
+    (rw c.in-Ok-Some.field-0-is at (c.in-Ok-Some.ensures.swaps graph _ id (objects.Index i) (begun_draft i) i (begins graph ds id i has) has.there (opens graph ds id i has) refl (ap (λ (x : Drafting). x.root) begun))) in
+    ok_commit G at slot what d0 k0 d1 d2 c.begin_direct.new.space k2 c.in-Ok.ensures.space was reads d3 k3 _ c.in-Ok-Some.ensures.ends (c.in-Ok-Some.ensures.done (ap is_some c.in-Ok-Some.field-0-is)) c.commit_swap.ensures.cylinders c.commit_swap.ensures.calls
+    (λ graph ds id i has. (c.fill.ensures.leaves graph _ id (objects.Index i) (begun_draft i) (begins graph ds id i has) has.there (opens graph ds id i has), (ends graph ds id i has).leaves))
+    (λ graph ds id i has. commit_done G graph ds id i at slot what d0 d1 k0 was has begun reads d2 d3 k2 k3 c.fill.new.self (becomes graph ds id i has) (ends graph ds id i has).done)
+    (λ graph ds id i has. commit_leaf G graph ds id i at slot what d0 d1 k0 was has begun reads d2 d3 k2 k3 c.fill.new.self (becomes graph ds id i has) (c.in-Ok.ensures.root has.store.carries.tells)
+    (c.in-Ok-Some.ensures.order graph _ id (objects.Index i) (begun_draft i) i (begins graph ds id i has) has.there (opens graph ds id i has) refl (ap is_some c.in-Ok-Some.field-0-is))
+    (c.in-Ok-Some.ensures.beside graph _ id (objects.Index i) (begun_draft i) i (begins graph ds id i has) has.there (opens graph ds id i has) refl) (ends graph ds id i has).done)
 
-pub returns-in-Err-commit : goal.returns-in-Err-commit
-returns-in-Err-commit g c =
+pub returns-in-Err-commit_swap : goal.returns-in-Err-commit_swap
+returns-in-Err-commit_swap g c =
+    let G = g.D.Disk in
+    let at = c.args.index.0 in
+    let slot = c.args.slot in
+    let what = c.args.what in
     let d0 = c.args.disk.now in
     let k0 = c.args.space.now in
     let d1 = c.begin_direct.new.disk in
+    let d2 = c.fill.new.disk in
+    let k2 = c.fill.new.space in
+    let d3 = c.commit_swap.new.disk in
+    let k3 = c.commit_swap.new.space in
     let was = c.in-Ok.draft in
+    let begun = c.in-Ok.ensures.begun in
     let reads = c.in-Ok.ensures.reads in
-    let created = c.fill.ensures.stays.created ∙ ap (λ (x : Drafting). x.created) c.in-Ok.ensures.begun in
-    subst (λ (e : Refused). PutsSlot g.D.Disk c.args.index.0 c.args.slot c.args.what d0 c.commit.new.disk k0 c.commit.new.space (Err e)) (sym (c.from.ensures ∙ ap refused_by c.after_try.ensures))
-    (err_commit g.D.Disk c.args.index.0 c.args.slot c.args.what d0 k0 d1 c.fill.new.disk c.begin_direct.new.space c.fill.new.space c.in-Ok.ensures.space was reads c.commit.new.disk c.commit.new.space c.in-Ok-true.field-0 c.in-Ok-true.ensures.ends
-    (c.in-Ok-true.ensures.done c.in-Ok-true.field-0-test) c.in-Err-commit.ensures.cylinders 93138 46452 (omega arith) (omega arith) c.in-Err-commit.ensures.calls
-    (λ graph ds id i has.
-    let begun = c.in-Ok.ensures.store graph ds id (objects.Index i) has.store has.root has.there has.shut in
-    let open_now = begun_open g.D.Disk graph ds id i c.args.index.0 c.args.slot c.args.what d0 d1 k0 was has c.in-Ok.ensures.begun reads in
-    let becomes = c.in-Ok-true.ensures.filled graph _ id (objects.Index i) (begun_draft i) i begun has.there open_now refl in (
-      c.fill.ensures.leaves graph _ id (objects.Index i) (begun_draft i) begun has.there open_now,
-      c.commit.ensures.leaves graph _ id (objects.Index i) (filled_draft i c.args.slot c.args.what (begun_draft i)) None becomes.steps.store has.there becomes.is_open created,
-    ))
-    c.in-Err-commit.trouble (subst (λ (n : ℕ). IsTrouble g.D.Disk n c.fill.new.disk c.commit.new.disk c.commit.new.space c.in-Err-commit.trouble) (c.fill.ensures.stays.at ∙ ap (λ (x : Drafting). x.at) c.in-Ok.ensures.begun) c.in-Err-commit.ensures.refused)
-    (λ graph ds id i has.
-    let begun = c.in-Ok.ensures.store graph ds id (objects.Index i) has.store has.root has.there has.shut in
-    let open_now = begun_open g.D.Disk graph ds id i c.args.index.0 c.args.slot c.args.what d0 d1 k0 was has c.in-Ok.ensures.begun reads in
-    let becomes = c.in-Ok-true.ensures.filled graph _ id (objects.Index i) (begun_draft i) i begun has.there open_now refl in
-    c.in-Err-commit.ensures.sound graph _ id (objects.Index i) (filled_draft i c.args.slot c.args.what (begun_draft i)) None becomes.steps.store has.there becomes.is_open created))
+    let begins = λ (graph : Graph) (ds : List Opened) (id : Puid) (i : Index) (has : HasSlot G graph ds d0 k0 at id i slot). c.in-Ok.ensures.store graph ds id (objects.Index i) has.store has.root has.there has.shut in
+    let opens = λ (graph : Graph) (ds : List Opened) (id : Puid) (i : Index) (has : HasSlot G graph ds d0 k0 at id i slot). begun_open G graph ds id i at slot what d0 d1 k0 was has begun reads in
+    let becomes = λ (graph : Graph) (ds : List Opened) (id : Puid) (i : Index) (has : HasSlot G graph ds d0 k0 at id i slot).
+    c.in-Ok-Some.ensures.filled graph _ id (objects.Index i) (begun_draft i) i (begins graph ds id i has) has.there (opens graph ds id i has) refl in
+    let ends = λ (graph : Graph) (ds : List Opened) (id : Puid) (i : Index) (has : HasSlot G graph ds d0 k0 at id i slot).
+    let is = becomes graph ds id i has in
+    c.in-Err-commit_swap.ensures.commits graph _ id (objects.Index i) (filled_draft i slot what (begun_draft i)) None is.steps.store has.there is.is_open (c.fill.ensures.stays.created ∙ ap (λ (x : Drafting). x.created) begun)
+    (rw c.in-Ok-Some.field-0-is at (c.in-Ok-Some.ensures.swaps graph _ id (objects.Index i) (begun_draft i) i (begins graph ds id i has) has.there (opens graph ds id i has) refl (ap (λ (x : Drafting). x.root) begun))) in
+    subst (λ (e : Refused). PutsSlot G at slot what d0 d3 k0 k3 (Err e)) (sym (c.from.ensures ∙ ap refused_by c.after_try.ensures))
+    (err_commit G at slot what d0 k0 d1 d2 c.begin_direct.new.space k2 c.in-Ok.ensures.space was reads d3 k3 _ c.in-Ok-Some.ensures.ends (c.in-Ok-Some.ensures.done (ap is_some c.in-Ok-Some.field-0-is)) c.commit_swap.ensures.cylinders c.commit_swap.ensures.calls
+    (λ graph ds id i has. (c.fill.ensures.leaves graph _ id (objects.Index i) (begun_draft i) (begins graph ds id i has) has.there (opens graph ds id i has), (ends graph ds id i has).leaves))
+    c.in-Err-commit_swap.trouble (subst (λ (n : ℕ). IsTrouble G n d2 d3 k3 c.in-Err-commit_swap.trouble) (c.fill.ensures.stays.at ∙ ap (λ (x : Drafting). x.at) begun) c.in-Err-commit_swap.ensures.refused)
+    (λ graph ds id i has. (ends graph ds id i has).sound))

@@ -1,34 +1,29 @@
-use Rattle.std.proofs.Common.{◌≡◌, ◌⊎◌, inl, inr, ℕ, ◌/◌, ◌∷◌, Bool, true, false, None, Some, Ok, Err, refl, sym, ◌∙◌, ap, subst, arith}
-use Rattle.std.proofs.lemmas.Bool.{cases_Bool}
+use Rattle.std.proofs.Common.{◌≡◌, ◌⊎◌, inl, ℕ, ◌/◌, ◌∷◌, false, None, Some, Ok, Err, refl, sym, ◌∙◌, ap, subst, arith}
+use Rattle.std.specs.Prelude.{Option, is_some}
 use Rattle.block_tree.specs.Root.{root_spelling}
 use Rattle.cfs_base.specs.Disk.{Image}
-use Rattle.cfs_base.specs.Refusals.{after_try, refused_by, trouble_after_try}
-use Rattle.cfs_base.specs.declared.identifier.Puid.{Puid}
+use Rattle.cfs_base.specs.Refusals.{after_try, refused_by}
 use Rattle.cfs_base.specs.declared.refusal.Refused.{Refused}
 use Rattle.cfs_base.specs.declared.refusal.Refused.TheVariants as refusals
-use Rattle.cfs_base.specs.declared.refusal.Trouble.{Trouble}
-use Rattle.cfs_base.specs.declared.refusal.Trouble.TheVariants as trouble
 use Rattle.cfs_base.proofs.Calls.{makes_then}
 use Rattle.cfs_base.proofs.Runs.{then, wider}
 use Rattle.claims.specs.Claims.{AreClaimed}
 use Rattle.index_ops.specs.Creates.{begun_of, with_made}
 use Rattle.special_files.specs.Committing.{Making, named}
-use Rattle.special_files.specs.Drafting.{Drafting, IsOpen, leaf_takes, opened_as}
+use Rattle.special_files.specs.Drafting.{Drafting, IsOpen, begun_at, leaf_takes, opened_as}
 use Rattle.special_files.specs.Ends.{Ends}
 use Rattle.special_files.specs.Fills.{filled_draft}
+use Rattle.special_files.specs.declared.fill.Swap.{Swap}
 use Rattle.special_files.specs.Leaves.{SameBeside}
 use Rattle.special_files.specs.Order.{leaf_claims}
-use Rattle.special_files.specs.Refusal.{IsRefusal, IsTrouble, is_damage, is_damaged, is_full}
+use Rattle.special_files.specs.Refusal.{IsRefusal, IsTrouble, is_damaged, is_full}
 use Rattle.ufs_model.specs.declared.object.Object.TheVariants as objects
 use Rattle.vol_image.specs.Reading.{bare_object}
 use Rattle.vol_image.specs.Seen.{tree_in}
 use Rattle.vol_image.specs.Sound.{Holds}
-use Rattle.index_ops.proofs.NewObjects.{commit_calls, commit_refused, created, fill_refused, open_now, root_entry, still_makes, store_makes}
-use Rattle.index_ops.proofs.Putting.{takes_two}
+use Rattle.index_ops.proofs.NewObjects.{commit_refused, created, fill_refused, open_now, root_entry, still_makes, store_makes}
+use Rattle.index_ops.proofs.Putting.{sound_by, takes_two}
 use Rattle.index_ops.proofs.creating.make_at.Goals as goal
-
-some_none : (x : Puid) → Some x ≡ None → ⊥
-some_none x same = cc
 
 tried_sound : (e : Refused) → is_damaged e ≡ false → is_damaged (after_try e) ≡ false
 tried_sound (refusals.Full need) is = refl
@@ -36,9 +31,9 @@ tried_sound (refusals.Disk tried) is = refl
 tried_sound (refusals.Damaged damage) is = is
 tried_sound refusals.Memory is = refl
 
-trouble_sound : (t : Trouble) → is_damage t ≡ false → is_damaged (refused_by (trouble_after_try t)) ≡ false
-trouble_sound (trouble.Disk tried) is = refl
-trouble_sound (trouble.Damaged damage) is = is
+-- a draft that was just begun is its object
+same_root : (was now : Drafting) (c : ℕ) → was ≡ begun_at was.at None was.own → now ≡ record was { created = Some c } → now.root ≡ now.own
+same_root was now c begun is = ap (λ (x : Drafting). x.root) is ∙ ap (λ (x : Drafting). x.root) begun ∙ sym (ap (λ (x : Drafting). x.own) is)
 
 pub returns-in-Err-clause-makes : goal.returns-in-Err-clause-makes
 returns-in-Err-clause-makes g c = λ graph ds id i store at here shut least bare.
@@ -65,9 +60,6 @@ fill-requires-clause-on_disk g c = omega (arith, ap (λ (x : Drafting). x.at) c.
 pub fill-requires-clause-size : goal.fill-requires-clause-size
 fill-requires-clause-size g c = omega (arith, c.requires.size, (c.in-Ok.ensures.ends 0).calls.same.size, (c.in-Ok.ensures.ends 0).cylinders)
 
-pub fill-requires-clause-slot : goal.fill-requires-clause-slot
-fill-requires-clause-slot g c = (omega (arith, c.requires.some), omega arith, c.fits.ensures)
-
 pub returns-in-Err-fill-clause-makes : goal.returns-in-Err-fill-clause-makes
 returns-in-Err-fill-clause-makes g c = λ graph ds id i store at here shut least bare.
     let G = g.D.Disk in
@@ -79,10 +71,6 @@ returns-in-Err-fill-clause-makes g c = λ graph ds id i store at here shut least
     let n = c.args.block.0 in
     let root = c.args.root.now in
     let d2 = c.fill.new.disk in
-    let k2 = c.fill.new.space in
-    let j = leaf_takes c.adopt.new.self (c.args.slot / 64) in
-    let first = c.in-Ok.ensures.ends was.at in
-    let at_is = ap (λ (x : Drafting). x.at) c.adopt.ensures in
     let es = opened_as id was (begun_of i) ∷ ds in
     let fs = opened_as id (record was { created = Some n }) (begun_of i) ∷ ds in
     let root_ends = c.in-Ok.ensures.made graph es store least in
@@ -102,14 +90,12 @@ returns-in-Err-fill-clause-refused g c =
     let d1 = c.make_root.new.disk in
     let k1 = c.make_root.new.space in
     let was = c.args.draft in
-    let n = c.args.block.0 in
-    let root = c.args.root.now in
     let d2 = c.fill.new.disk in
     let k2 = c.fill.new.space in
     let j = leaf_takes c.adopt.new.self (c.args.slot / 64) in
     let first = c.in-Ok.ensures.ends was.at in
     let at_is = ap (λ (x : Drafting). x.at) c.adopt.ensures in
-    let second = subst (λ (a : ℕ). Ends {A = Bool} G a 0 8 4 j d1 d2 k1 k2 (Err c.in-Err-fill.error)) at_is c.in-Err-fill.ensures.ends in
+    let second = subst (λ (a : ℕ). Ends {A = Option Swap} G a 0 8 4 j d1 d2 k1 k2 (Err c.in-Err-fill.error)) at_is c.in-Err-fill.ensures.ends in
     let spare = c.in-Err-fill.ensures.room (omega (arith, c.requires.room, takes_two c.adopt.new.self (c.args.slot / 64), first.takes)) in
     subst (λ (e : Refused). IsRefusal G was.at 0 d0 d2 k2 e × (is_full e ≡ false)) (sym c.after_try.ensures) (fill_refused G was.at d0 d1 d2 k0 k1 k2 j first c.in-Ok.ensures.tried c.in-Err-fill.error second spare)
 
@@ -117,19 +103,19 @@ pub returns-in-Err-fill-clause-cylinders : goal.returns-in-Err-fill-clause-cylin
 returns-in-Err-fill-clause-cylinders g c = c.in-Err-fill.ensures.ends.cylinders ∙ (c.in-Ok.ensures.ends 0).cylinders
 
 pub returns-in-Err-fill-clause-calls : goal.returns-in-Err-fill-clause-calls
-returns-in-Err-fill-clause-calls g c = makes_then g.D.Disk c.args.disk.now c.make_root.new.disk c.fill.new.disk 3 8 93149 2 4 46458 (c.in-Ok.ensures.ends 0).calls c.in-Err-fill.ensures.ends.calls (omega arith) (omega arith)
+returns-in-Err-fill-clause-calls g c = makes_then g.D.Disk c.args.disk.now c.make_root.new.disk c.fill.new.disk 3 8 41 2 4 24 (c.in-Ok.ensures.ends 0).calls c.in-Err-fill.ensures.ends.calls (omega arith) (omega arith)
 
-pub commit-requires-clause-on_disk : goal.commit-requires-clause-on_disk
-commit-requires-clause-on_disk g c = omega (arith, c.fill.ensures.stays.at, ap (λ (x : Drafting). x.at) c.adopt.ensures, c.requires.at, (c.in-Ok.ensures.ends 0).calls.same.size, c.in-Ok-fill.ensures.ends.calls.same.size)
+pub commit_swap-requires-clause-on_disk : goal.commit_swap-requires-clause-on_disk
+commit_swap-requires-clause-on_disk g c = omega (arith, c.fill.ensures.stays.at, ap (λ (x : Drafting). x.at) c.adopt.ensures, c.requires.at, (c.in-Ok.ensures.ends 0).calls.same.size, c.in-Ok-Some.ensures.ends.calls.same.size)
 
-pub commit-requires-clause-size : goal.commit-requires-clause-size
-commit-requires-clause-size g c = omega (arith, c.requires.size, (c.in-Ok.ensures.ends 0).calls.same.size, (c.in-Ok.ensures.ends 0).cylinders, c.in-Ok-fill.ensures.ends.calls.same.size, c.in-Ok-fill.ensures.ends.cylinders)
+pub commit_swap-requires-clause-size : goal.commit_swap-requires-clause-size
+commit_swap-requires-clause-size g c = omega (arith, c.requires.size, (c.in-Ok.ensures.ends 0).calls.same.size, (c.in-Ok.ensures.ends 0).cylinders, c.in-Ok-Some.ensures.ends.calls.same.size, c.in-Ok-Some.ensures.ends.cylinders)
 
-pub commit-requires-clause-room : goal.commit-requires-clause-room
-commit-requires-clause-room g c = λ none. omega (arith, c.requires.room, takes_two c.adopt.new.self (c.args.slot / 64), c.in-Ok-fill.ensures.ends.takes, (c.in-Ok.ensures.ends 0).takes)
+pub commit_swap-requires-clause-room : goal.commit_swap-requires-clause-room
+commit_swap-requires-clause-room g c = omega (arith, c.requires.room, takes_two c.adopt.new.self (c.args.slot / 64), c.in-Ok-Some.ensures.ends.takes, (c.in-Ok.ensures.ends 0).takes)
 
-pub returns-in-Ok-commit-clause-makes : goal.returns-in-Ok-commit-clause-makes
-returns-in-Ok-commit-clause-makes g c = λ graph ds id i store at here shut least bare.
+pub returns-in-Ok-commit_swap-clause-makes : goal.returns-in-Ok-commit_swap-clause-makes
+returns-in-Ok-commit_swap-clause-makes g c = λ graph ds id i store at here shut least bare.
     let G = g.D.Disk in
     let d0 = c.args.disk.now in
     let k0 = c.args.space.now in
@@ -140,9 +126,6 @@ returns-in-Ok-commit-clause-makes g c = λ graph ds id i store at here shut leas
     let root = c.args.root.now in
     let d2 = c.fill.new.disk in
     let k2 = c.fill.new.space in
-    let j = leaf_takes c.adopt.new.self (c.args.slot / 64) in
-    let first = c.in-Ok.ensures.ends was.at in
-    let at_is = ap (λ (x : Drafting). x.at) c.adopt.ensures in
     let es = opened_as id was (begun_of i) ∷ ds in
     let fs = opened_as id (record was { created = Some n }) (begun_of i) ∷ ds in
     let root_ends = c.in-Ok.ensures.made graph es store least in
@@ -152,28 +135,32 @@ returns-in-Ok-commit-clause-makes g c = λ graph ds id i store at here shut leas
     let P : Image → Type 0 = (λ x. Holds x graph ⊎ Holds x (with_made graph id i c.args.slot (named n root.word) (bare_object root))) in
     let left1 = wider G d0 d1 _ P root_ends.leaves (λ x h. inl h) in
     let left2 = then G d0 d1 d2 P _ left1 (c.fill.ensures.leaves graph fs id (objects.Index i) (begun_of i) store1 at open1) (λ x h. inl h) in
-    let d3 = c.commit.new.disk in
-    let k3 = c.commit.new.space in
+    let d3 = c.commit_swap.new.disk in
+    let k3 = c.commit_swap.new.space in
     let made : Making = record { id = named n root.word; object = bare_object root } in
-    let becomes = c.in-Ok-fill.ensures.filled graph fs id (objects.Index i) (begun_of i) i store1 at open1 refl in
+    let becomes = c.in-Ok-Some.ensures.filled graph fs id (objects.Index i) (begun_of i) i store1 at open1 refl in
     let stays = c.fill.ensures.stays.created ∙ ap (λ (x : Drafting). x.created) c.adopt.ensures in
     let still = still_makes G graph ds id i d0 d1 k0 k1 was n root store at here shut c.requires.begun least entry root_ends.done c.in-Ok.ensures.spelled bare c.args.slot d2 d3 k2 k3 c.fill.new.self becomes stays in
-    let put : c.in-Ok-fill.field-0 ≡ true = elim (cases_Bool c.in-Ok-fill.field-0) [ inl is ↦ is | inr none ↦ absurd (some_none _ (c.in-Ok-fill.ensures.empty none)) ] in
-    let claims = subst (λ (x : Drafting). AreClaimed (leaf_claims x.at x.leaves x.nodes (c.args.slot / 64)) (G.content d1) (G.content d2)) c.adopt.ensures (c.in-Ok-fill.ensures.order graph fs id (objects.Index i) (begun_of i) i store1 at open1 refl put) in
-    let beside = subst (λ (x : Drafting). SameBeside (c.args.slot / 64) (tree_in (G.content d1) (root_spelling x.root)) (tree_in (G.content d2) (root_spelling c.fill.new.self.root))) c.adopt.ensures (c.in-Ok-fill.ensures.beside graph fs id (objects.Index i) (begun_of i) i store1 at open1 refl) in
-    let committed = c.in-Ok-commit.ensures.done graph _ id (objects.Index i) (filled_draft i c.args.slot (Some (named n root.word)) (begun_of i)) (Some made) becomes.steps.store at becomes.is_open still in
-    let left = c.commit.ensures.leaves graph _ id (objects.Index i) (filled_draft i c.args.slot (Some (named n root.word)) (begun_of i)) (Some made) becomes.steps.store at becomes.is_open still in
+    let claims = subst (λ (x : Drafting). AreClaimed (leaf_claims x.at x.leaves x.nodes (c.args.slot / 64)) (G.content d1) (G.content d2)) c.adopt.ensures (c.in-Ok-Some.ensures.order graph fs id (objects.Index i) (begun_of i) i store1 at open1 refl (ap is_some c.in-Ok-Some.field-0-is)) in
+    let beside = subst (λ (x : Drafting). SameBeside (c.args.slot / 64) (tree_in (G.content d1) (root_spelling x.root)) (tree_in (G.content d2) (root_spelling c.fill.new.self.root))) c.adopt.ensures (c.in-Ok-Some.ensures.beside graph fs id (objects.Index i) (begun_of i) i store1 at open1 refl) in
+    let swapped = rw c.in-Ok-Some.field-0-is at (c.in-Ok-Some.ensures.swaps graph fs id (objects.Index i) (begun_of i) i store1 at open1 refl (same_root was c.adopt.new.self n c.requires.begun c.adopt.ensures)) in
+    let ends = c.in-Ok-commit_swap.ensures.commits graph _ id (objects.Index i) (filled_draft i c.args.slot (Some (named n root.word)) (begun_of i)) (Some made) becomes.steps.store at becomes.is_open still swapped in
     record {
-      done = created G graph ds id i d0 d1 k0 k1 was n root store at here shut c.requires.begun least entry root_ends.done c.in-Ok.ensures.spelled bare c.args.slot d2 d3 k2 k3 c.fill.new.self becomes stays claims beside committed;
-      leaves = then G d0 d2 d3 P _ left2 left (λ x h. h);
+      done = created G graph ds id i d0 d1 k0 k1 was n root store at here shut c.requires.begun least entry root_ends.done c.in-Ok.ensures.spelled bare c.args.slot d2 d3 k2 k3 c.fill.new.self becomes stays claims beside ends.done;
+      leaves = then G d0 d2 d3 P _ left2 ends.leaves (λ x h. h);
       sound = tt;
     }
 
-pub returns-in-Ok-commit-clause-cylinders : goal.returns-in-Ok-commit-clause-cylinders
-returns-in-Ok-commit-clause-cylinders g c = c.in-Ok-commit.ensures.cylinders ∙ c.in-Ok-fill.ensures.ends.cylinders ∙ (c.in-Ok.ensures.ends 0).cylinders
+pub returns-in-Ok-commit_swap-clause-cylinders : goal.returns-in-Ok-commit_swap-clause-cylinders
+returns-in-Ok-commit_swap-clause-cylinders g c = c.in-Ok-commit_swap.ensures.cylinders ∙ c.in-Ok-Some.ensures.ends.cylinders ∙ (c.in-Ok.ensures.ends 0).cylinders
 
-pub returns-in-Ok-commit-clause-calls : goal.returns-in-Ok-commit-clause-calls
-returns-in-Ok-commit-clause-calls g c =
+pub returns-in-Ok-commit_swap-clause-calls : goal.returns-in-Ok-commit_swap-clause-calls
+returns-in-Ok-commit_swap-clause-calls g c =
+    let first = makes_then g.D.Disk c.args.disk.now c.make_root.new.disk c.fill.new.disk 3 8 11 2 4 6 (c.in-Ok.ensures.ends 0).calls c.in-Ok-Some.ensures.ends.calls (omega arith) (omega arith) in
+    makes_then g.D.Disk c.args.disk.now c.fill.new.disk c.commit_swap.new.disk 11 30 41 6 18 24 first c.commit_swap.ensures.calls (omega arith) (omega arith)
+
+pub returns-in-Err-commit_swap-clause-makes : goal.returns-in-Err-commit_swap-clause-makes
+returns-in-Err-commit_swap-clause-makes g c = λ graph ds id i store at here shut least bare.
     let G = g.D.Disk in
     let d0 = c.args.disk.now in
     let k0 = c.args.space.now in
@@ -184,27 +171,6 @@ returns-in-Ok-commit-clause-calls g c =
     let root = c.args.root.now in
     let d2 = c.fill.new.disk in
     let k2 = c.fill.new.space in
-    let j = leaf_takes c.adopt.new.self (c.args.slot / 64) in
-    let first = c.in-Ok.ensures.ends was.at in
-    let at_is = ap (λ (x : Drafting). x.at) c.adopt.ensures in
-    let second = subst (λ (a : ℕ). Ends {A = Bool} G a 0 8 4 j d1 d2 k1 k2 (Ok c.in-Ok-fill.field-0)) at_is c.in-Ok-fill.ensures.ends in
-    commit_calls G was.at d0 d1 d2 k0 k1 k2 j first c.in-Ok.ensures.tried c.in-Ok-fill.field-0 second c.commit.new.disk c.commit.new.space c.in-Ok-commit.ensures.calls
-
-pub returns-in-Err-commit-clause-makes : goal.returns-in-Err-commit-clause-makes
-returns-in-Err-commit-clause-makes g c = λ graph ds id i store at here shut least bare.
-    let G = g.D.Disk in
-    let d0 = c.args.disk.now in
-    let k0 = c.args.space.now in
-    let d1 = c.make_root.new.disk in
-    let k1 = c.make_root.new.space in
-    let was = c.args.draft in
-    let n = c.args.block.0 in
-    let root = c.args.root.now in
-    let d2 = c.fill.new.disk in
-    let k2 = c.fill.new.space in
-    let j = leaf_takes c.adopt.new.self (c.args.slot / 64) in
-    let first = c.in-Ok.ensures.ends was.at in
-    let at_is = ap (λ (x : Drafting). x.at) c.adopt.ensures in
     let es = opened_as id was (begun_of i) ∷ ds in
     let fs = opened_as id (record was { created = Some n }) (begun_of i) ∷ ds in
     let root_ends = c.in-Ok.ensures.made graph es store least in
@@ -214,57 +180,42 @@ returns-in-Err-commit-clause-makes g c = λ graph ds id i store at here shut lea
     let P : Image → Type 0 = (λ x. Holds x graph ⊎ Holds x (with_made graph id i c.args.slot (named n root.word) (bare_object root))) in
     let left1 = wider G d0 d1 _ P root_ends.leaves (λ x h. inl h) in
     let left2 = then G d0 d1 d2 P _ left1 (c.fill.ensures.leaves graph fs id (objects.Index i) (begun_of i) store1 at open1) (λ x h. inl h) in
-    let d3 = c.commit.new.disk in
-    let k3 = c.commit.new.space in
+    let d3 = c.commit_swap.new.disk in
+    let k3 = c.commit_swap.new.space in
     let made : Making = record { id = named n root.word; object = bare_object root } in
-    let becomes = c.in-Ok-fill.ensures.filled graph fs id (objects.Index i) (begun_of i) i store1 at open1 refl in
+    let becomes = c.in-Ok-Some.ensures.filled graph fs id (objects.Index i) (begun_of i) i store1 at open1 refl in
     let stays = c.fill.ensures.stays.created ∙ ap (λ (x : Drafting). x.created) c.adopt.ensures in
     let still = still_makes G graph ds id i d0 d1 k0 k1 was n root store at here shut c.requires.begun least entry root_ends.done c.in-Ok.ensures.spelled bare c.args.slot d2 d3 k2 k3 c.fill.new.self becomes stays in
-    let left = c.commit.ensures.leaves graph _ id (objects.Index i) (filled_draft i c.args.slot (Some (named n root.word)) (begun_of i)) (Some made) becomes.steps.store at becomes.is_open still in
-    let sound = c.in-Err-commit.ensures.sound graph _ id (objects.Index i) (filled_draft i c.args.slot (Some (named n root.word)) (begun_of i)) (Some made) becomes.steps.store at becomes.is_open still in
+    let swapped = rw c.in-Ok-Some.field-0-is at (c.in-Ok-Some.ensures.swaps graph fs id (objects.Index i) (begun_of i) i store1 at open1 refl (same_root was c.adopt.new.self n c.requires.begun c.adopt.ensures)) in
+    let ends = c.in-Err-commit_swap.ensures.commits graph _ id (objects.Index i) (filled_draft i c.args.slot (Some (named n root.word)) (begun_of i)) (Some made) becomes.steps.store at becomes.is_open still swapped in
     record {
       done = tt;
-      leaves = then G d0 d2 d3 P _ left2 left (λ x h. h);
-      sound = subst (λ (e : Refused). is_damaged e ≡ false) (sym (c.from.ensures ∙ ap refused_by c.after_try-in-Err-commit.ensures)) (trouble_sound c.in-Err-commit.trouble sound);
+      leaves = then G d0 d2 d3 P _ left2 ends.leaves (λ x h. h);
+      sound = subst (λ (e : Refused). is_damaged e ≡ false) (sym (c.from.ensures ∙ ap refused_by c.after_try-in-Err-commit_swap.ensures)) (sound_by c.in-Err-commit_swap.trouble ends.sound);
     }
 
-pub returns-in-Err-commit-clause-refused : goal.returns-in-Err-commit-clause-refused
-returns-in-Err-commit-clause-refused g c =
+pub returns-in-Err-commit_swap-clause-refused : goal.returns-in-Err-commit_swap-clause-refused
+returns-in-Err-commit_swap-clause-refused g c =
     let G = g.D.Disk in
     let d0 = c.args.disk.now in
     let k0 = c.args.space.now in
     let d1 = c.make_root.new.disk in
     let k1 = c.make_root.new.space in
     let was = c.args.draft in
-    let n = c.args.block.0 in
-    let root = c.args.root.now in
     let d2 = c.fill.new.disk in
     let k2 = c.fill.new.space in
     let j = leaf_takes c.adopt.new.self (c.args.slot / 64) in
     let first = c.in-Ok.ensures.ends was.at in
     let at_is = ap (λ (x : Drafting). x.at) c.adopt.ensures in
-    let second = subst (λ (a : ℕ). Ends {A = Bool} G a 0 8 4 j d1 d2 k1 k2 (Ok c.in-Ok-fill.field-0)) at_is c.in-Ok-fill.ensures.ends in
-    let why = subst (λ (a : ℕ). IsTrouble G a d2 c.commit.new.disk c.commit.new.space c.in-Err-commit.trouble) (c.fill.ensures.stays.at ∙ at_is) c.in-Err-commit.ensures.refused in
-    subst (λ (e : Refused). IsRefusal G was.at 0 d0 c.commit.new.disk c.commit.new.space e × (is_full e ≡ false)) (sym (c.from.ensures ∙ ap refused_by c.after_try-in-Err-commit.ensures))
-    (commit_refused G was.at d0 d1 d2 k0 k1 k2 j first c.in-Ok.ensures.tried c.in-Ok-fill.field-0 second c.commit.new.disk c.commit.new.space c.in-Err-commit.trouble why)
+    let second = subst (λ (a : ℕ). Ends {A = Option Swap} G a 0 8 4 j d1 d2 k1 k2 (Ok c.in-Ok-Some.field-0)) at_is c.in-Ok-Some.ensures.ends in
+    let why = subst (λ (a : ℕ). IsTrouble G a d2 c.commit_swap.new.disk c.commit_swap.new.space c.in-Err-commit_swap.trouble) (c.fill.ensures.stays.at ∙ at_is) c.in-Err-commit_swap.ensures.refused in
+    subst (λ (e : Refused). IsRefusal G was.at 0 d0 c.commit_swap.new.disk c.commit_swap.new.space e × (is_full e ≡ false)) (sym (c.from.ensures ∙ ap refused_by c.after_try-in-Err-commit_swap.ensures))
+    (commit_refused G was.at d0 d1 d2 k0 k1 k2 j first c.in-Ok.ensures.tried _ second c.commit_swap.new.disk c.commit_swap.new.space c.in-Err-commit_swap.trouble why)
 
-pub returns-in-Err-commit-clause-cylinders : goal.returns-in-Err-commit-clause-cylinders
-returns-in-Err-commit-clause-cylinders g c = c.in-Err-commit.ensures.cylinders ∙ c.in-Ok-fill.ensures.ends.cylinders ∙ (c.in-Ok.ensures.ends 0).cylinders
+pub returns-in-Err-commit_swap-clause-cylinders : goal.returns-in-Err-commit_swap-clause-cylinders
+returns-in-Err-commit_swap-clause-cylinders g c = c.in-Err-commit_swap.ensures.cylinders ∙ c.in-Ok-Some.ensures.ends.cylinders ∙ (c.in-Ok.ensures.ends 0).cylinders
 
-pub returns-in-Err-commit-clause-calls : goal.returns-in-Err-commit-clause-calls
-returns-in-Err-commit-clause-calls g c =
-    let G = g.D.Disk in
-    let d0 = c.args.disk.now in
-    let k0 = c.args.space.now in
-    let d1 = c.make_root.new.disk in
-    let k1 = c.make_root.new.space in
-    let was = c.args.draft in
-    let n = c.args.block.0 in
-    let root = c.args.root.now in
-    let d2 = c.fill.new.disk in
-    let k2 = c.fill.new.space in
-    let j = leaf_takes c.adopt.new.self (c.args.slot / 64) in
-    let first = c.in-Ok.ensures.ends was.at in
-    let at_is = ap (λ (x : Drafting). x.at) c.adopt.ensures in
-    let second = subst (λ (a : ℕ). Ends {A = Bool} G a 0 8 4 j d1 d2 k1 k2 (Ok c.in-Ok-fill.field-0)) at_is c.in-Ok-fill.ensures.ends in
-    commit_calls G was.at d0 d1 d2 k0 k1 k2 j first c.in-Ok.ensures.tried c.in-Ok-fill.field-0 second c.commit.new.disk c.commit.new.space c.in-Err-commit.ensures.calls
+pub returns-in-Err-commit_swap-clause-calls : goal.returns-in-Err-commit_swap-clause-calls
+returns-in-Err-commit_swap-clause-calls g c =
+    let first = makes_then g.D.Disk c.args.disk.now c.make_root.new.disk c.fill.new.disk 3 8 11 2 4 6 (c.in-Ok.ensures.ends 0).calls c.in-Ok-Some.ensures.ends.calls (omega arith) (omega arith) in
+    makes_then g.D.Disk c.args.disk.now c.fill.new.disk c.commit_swap.new.disk 11 30 41 6 18 24 first c.commit_swap.ensures.calls (omega arith) (omega arith)

@@ -1,7 +1,7 @@
 use Rattle.std.proofs.Common.{◌∙◌, Bool, ap, sym, arith}
 use Rattle.std.specs.Prelude.{◌||◌}
 use Rattle.normal_files.specs.Laid.{node_of}
-use Rattle.normal_files.proofs.Boths.{gone_as, leaves_then, may_then, or_twice}
+use Rattle.normal_files.proofs.TakeRun.{gone_as, leaves_then, may_then, or_twice}
 use Rattle.normal_files.proofs.Ending.{finishes_within}
 use Rattle.normal_files.proofs.both.take_both.Goals as goal
 

@@ -1,7 +1,7 @@
 use Rattle.std.proofs.Common.{ℕ, false, true, IsTrue, List, Ok, sym, subst}
 use Rattle.normal_files.specs.Steps.{HasStoppedBy, WritesBlock}
 use Rattle.normal_files.proofs.Come.{come_begins, come_stopped, come_wrote}
-use Rattle.normal_files.proofs.GrowRun.{flushed_images, grown_stores, written_images}
+use Rattle.normal_files.proofs.Grown.{flushed_images, grown_entries, grown_stores, written_images}
 use Rattle.normal_files.proofs.grow.grow.Goals as goal
 
 pub returns-in_err-write_block-clause-images : goal.returns-in_err-write_block-clause-images
@@ -16,6 +16,7 @@ returns-in-Ok-clause-grown g c = λ graph ds id f kept is.
           (subst (λ (v : List ℕ). WritesBlock g.D.Disk 1 c.args.at.0 v c.args.disk.now c.write_block.new.disk (Ok tt)) c.encode.ensures.spelled c.in_ok-write_block.ensures)
           c.flush.new.disk c.flush.ensures.content settled,
       settled,
+      grown_entries g.D.Disk graph ds id f c.args.root.now c.args.at.0 c.args.size c.args.disk.now kept is c.write_block.new.disk (subst (λ (v : List ℕ). WritesBlock g.D.Disk 1 c.args.at.0 v c.args.disk.now c.write_block.new.disk (Ok tt)) c.encode.ensures.spelled c.in_ok-write_block.ensures) c.flush.new.disk c.flush.ensures.content settled,
     )
 
 pub returns-in-Ok-clause-images : goal.returns-in-Ok-clause-images

@@ -1,10 +1,10 @@
-use Rattle.std.proofs.Common.{◌∙◌, ◌/◌, ◌≤◌, Bool, true, false, Err, ap, sym, subst, arith}
+use Rattle.std.proofs.Common.{◌∙◌, ◌/◌, Err, ap, sym, subst, arith}
 use Rattle.cfs_base.specs.declared.refusal.Refused.{Refused}
 use Rattle.normal_files.specs.Ends.{Finishes, is_damaged}
 use Rattle.normal_files.specs.Takes.{leaf_takes}
 use Rattle.normal_files.specs.declared.take.Taken.{Taken}
-use Rattle.normal_files.proofs.Ending.{enters_err, leaf_done, node_err}
-use Rattle.normal_files.proofs.TakeCall.{call_claim_leaves, call_claim_sound, call_node_leaves, call_node_sound, call_taken, call_write_leaves}
+use Rattle.normal_files.proofs.Ending.{enters_err, leaf_done, node_err, takes_one}
+use Rattle.normal_files.proofs.TakeLeaf.{call_claim_leaves, call_claim_sound, call_node_leaves, call_node_sound, call_taken, call_write_leaves}
 use Rattle.normal_files.proofs.take.take_leaf.Goals as goal
 
 pub returns-in-Err-clause-leaves : goal.returns-in-Err-clause-leaves
@@ -21,11 +21,7 @@ returns-in-Err-clause-sound g c = λ graph id f root offset bytes last start may
 
 pub returns-in-Err-clause-ends : goal.returns-in-Err-clause-ends
 returns-in-Err-clause-ends g c =
-    enters_err g.D.Disk c.args.disk.now c.claim.new.disk c.args.space.now c.claim.new.self _ c.in-Err.error c.in-Err.ensures.enters 5 3 (leaf_takes c.args.held) (omega arith) (omega arith) (least c.args.held)
-  where
-    least : (h : Bool) → 1 ≤ leaf_takes h
-    least true = omega arith
-    least false = omega arith
+    enters_err g.D.Disk c.args.disk.now c.claim.new.disk c.args.space.now c.claim.new.self _ c.in-Err.error c.in-Err.ensures.enters 5 3 (leaf_takes c.args.held) (omega arith) (omega arith) (takes_one c.args.held)
 
 pub returns-in-Err-take_node-clause-leaves : goal.returns-in-Err-take_node-clause-leaves
 returns-in-Err-take_node-clause-leaves g c = λ offset bytes. record {

@@ -1,13 +1,13 @@
 use Rattle.std.proofs.Common.{◌∙◌, length, refl, ap, sym, subst, arith}
 use Rattle.cfs_base.specs.Disk.{Image}
-use Rattle.cfs_base.proofs.Calls.{makes_then}
+use Rattle.cfs_base.proofs.Calls.{makes_then, reads_make}
 use Rattle.claims.specs.Claims.{AreClaimed}
 use Rattle.normal_files.specs.Ends.{is_damaged}
 use Rattle.normal_files.specs.Order.{claims_of}
 use Rattle.normal_files.specs.WriteRefusal.{IsWriteRefusal, TellsNeed, needs}
-use Rattle.normal_files.proofs.Come.{makes_none}
-use Rattle.normal_files.proofs.WriteCall.{damage_same, file_of, images_on, images_read, parts_refused, parts_tell, parts_untried, read_refused, reads_make, room_refused, room_tells, stop_on, trouble_tells, writes_on}
-use Rattle.normal_files.proofs.PartsNeed.{parts_need}
+use Rattle.normal_files.proofs.Come.{makes_within}
+use Rattle.normal_files.proofs.FileCalls.{damage_same, file_of, images_on, images_read, parts_refused, parts_tell, parts_untried, read_refused, room_refused, room_tells, stop_on, trouble_tells, writes_on}
+use Rattle.normal_files.proofs.NeedOf.{parts_need}
 use Rattle.normal_files.proofs.writing.write.Goals as goal
 
 pub returns-in-Err-clause-images : goal.returns-in-Err-clause-images
@@ -23,7 +23,7 @@ pub returns-in-Err-clause-untried : goal.returns-in-Err-clause-untried
 returns-in-Err-clause-untried g c = λ h. (refl, c.in-Err.ensures.reads.content)
 
 pub returns-in-Err-clause-calls : goal.returns-in-Err-clause-calls
-returns-in-Err-clause-calls g c = makes_then g.D.Disk c.args.disk.now c.args.disk.now c.read.new.disk 0 3 _ 0 0 _ (makes_none g.D.Disk c.args.disk.now 0 0) (reads_make g.D.Disk c.args.disk.now c.read.new.disk c.in-Err.ensures.reads) (omega arith) (omega arith)
+returns-in-Err-clause-calls g c = makes_within g.D.Disk c.args.disk.now c.read.new.disk 3 0 _ _ (omega arith) (omega arith) (reads_make g.D.Disk c.args.disk.now c.read.new.disk _ c.in-Err.ensures.reads)
 
 pub returns-in-Err-has_room-clause-images : goal.returns-in-Err-has_room-clause-images
 returns-in-Err-has_room-clause-images g c = λ graph ds id f store there no_draft here inside. images_read g.D.Disk c.args.disk.now c.read.new.disk c.in-Ok.ensures.reads _
@@ -38,27 +38,27 @@ pub returns-in-Err-has_room-clause-untried : goal.returns-in-Err-has_room-clause
 returns-in-Err-has_room-clause-untried g c = λ h. (refl, c.in-Ok.ensures.reads.content)
 
 pub returns-in-Err-has_room-clause-calls : goal.returns-in-Err-has_room-clause-calls
-returns-in-Err-has_room-clause-calls g c = makes_then g.D.Disk c.args.disk.now c.args.disk.now c.read.new.disk 0 3 _ 0 0 _ (makes_none g.D.Disk c.args.disk.now 0 0) (reads_make g.D.Disk c.args.disk.now c.read.new.disk c.in-Ok.ensures.reads) (omega arith) (omega arith)
+returns-in-Err-has_room-clause-calls g c = makes_within g.D.Disk c.args.disk.now c.read.new.disk 3 0 _ _ (omega arith) (omega arith) (reads_make g.D.Disk c.args.disk.now c.read.new.disk _ c.in-Ok.ensures.reads)
 
 pub returns-in-Ok-write_parts-clause-written : goal.returns-in-Ok-write_parts-clause-written
-returns-in-Ok-write_parts-clause-written g c = λ graph ds id f store there no_draft here inside. c.in-Ok-write_parts.ensures.written graph ds id f (writes_on g.D.Disk c.args.disk.now c.read.new.disk c.in-Ok.ensures.reads graph ds id f c.args.space.now c.args.at.0 c.args.offset c.args.bytes.now c.in-Ok.file.root c.in-Ok.file.low c.in-Ok.file.high store there no_draft here inside (g.met.D.Disk.of_blocks c.args.disk.now store.carries.tells.honest) (c.in-Ok.ensures.root store.carries.tells) (c.in-Ok.ensures.low_is store.carries.tells) (c.in-Ok.ensures.high_is store.carries.tells))
+returns-in-Ok-write_parts-clause-written g c = λ graph ds id f store there no_draft here inside. c.in-Ok-write_parts.ensures.written graph ds id f (writes_on g.D.Disk c.args.disk.now c.read.new.disk c.in-Ok.ensures.reads graph ds id f c.args.space.now c.args.at.0 c.in-Ok.file.root store there no_draft here (g.met.D.Disk.of_blocks c.args.disk.now store.carries.tells.honest) (c.in-Ok.ensures.root store.carries.tells) c.args.offset c.args.bytes.now c.in-Ok.file.low c.in-Ok.file.high inside (c.in-Ok.ensures.low_is store.carries.tells) (c.in-Ok.ensures.high_is store.carries.tells))
 
 pub returns-in-Ok-write_parts-clause-order : goal.returns-in-Ok-write_parts-clause-order
 returns-in-Ok-write_parts-clause-order g c = λ graph ds id f store there no_draft here inside.
     subst (λ (i : Image). AreClaimed (claims_of c.args.at.0 f c.args.offset (length c.args.bytes.now)) i (g.D.Disk.content c.write_parts.new.disk)) c.in-Ok.ensures.reads.content
-    (c.in-Ok-write_parts.ensures.order graph ds id f (writes_on g.D.Disk c.args.disk.now c.read.new.disk c.in-Ok.ensures.reads graph ds id f c.args.space.now c.args.at.0 c.args.offset c.args.bytes.now c.in-Ok.file.root c.in-Ok.file.low c.in-Ok.file.high store there no_draft here inside (g.met.D.Disk.of_blocks c.args.disk.now store.carries.tells.honest) (c.in-Ok.ensures.root store.carries.tells) (c.in-Ok.ensures.low_is store.carries.tells) (c.in-Ok.ensures.high_is store.carries.tells)) c.in-Ok.ensures.some)
+    (c.in-Ok-write_parts.ensures.order graph ds id f (writes_on g.D.Disk c.args.disk.now c.read.new.disk c.in-Ok.ensures.reads graph ds id f c.args.space.now c.args.at.0 c.in-Ok.file.root store there no_draft here (g.met.D.Disk.of_blocks c.args.disk.now store.carries.tells.honest) (c.in-Ok.ensures.root store.carries.tells) c.args.offset c.args.bytes.now c.in-Ok.file.low c.in-Ok.file.high inside (c.in-Ok.ensures.low_is store.carries.tells) (c.in-Ok.ensures.high_is store.carries.tells)) c.in-Ok.ensures.some)
 
 pub returns-in-Ok-write_parts-clause-images : goal.returns-in-Ok-write_parts-clause-images
-returns-in-Ok-write_parts-clause-images g c = λ graph ds id f store there no_draft here inside. images_on g.D.Disk c.args.disk.now c.read.new.disk c.in-Ok.ensures.reads c.write_parts.new.disk _ (c.in-Ok-write_parts.ensures.images graph ds id f (writes_on g.D.Disk c.args.disk.now c.read.new.disk c.in-Ok.ensures.reads graph ds id f c.args.space.now c.args.at.0 c.args.offset c.args.bytes.now c.in-Ok.file.root c.in-Ok.file.low c.in-Ok.file.high store there no_draft here inside (g.met.D.Disk.of_blocks c.args.disk.now store.carries.tells.honest) (c.in-Ok.ensures.root store.carries.tells) (c.in-Ok.ensures.low_is store.carries.tells) (c.in-Ok.ensures.high_is store.carries.tells)))
+returns-in-Ok-write_parts-clause-images g c = λ graph ds id f store there no_draft here inside. images_on g.D.Disk c.args.disk.now c.read.new.disk c.in-Ok.ensures.reads c.write_parts.new.disk _ (c.in-Ok-write_parts.ensures.images graph ds id f (writes_on g.D.Disk c.args.disk.now c.read.new.disk c.in-Ok.ensures.reads graph ds id f c.args.space.now c.args.at.0 c.in-Ok.file.root store there no_draft here (g.met.D.Disk.of_blocks c.args.disk.now store.carries.tells.honest) (c.in-Ok.ensures.root store.carries.tells) c.args.offset c.args.bytes.now c.in-Ok.file.low c.in-Ok.file.high inside (c.in-Ok.ensures.low_is store.carries.tells) (c.in-Ok.ensures.high_is store.carries.tells)))
 
 pub returns-in-Ok-write_parts-clause-calls : goal.returns-in-Ok-write_parts-clause-calls
-returns-in-Ok-write_parts-clause-calls g c = makes_then g.D.Disk c.args.disk.now c.read.new.disk c.write_parts.new.disk 3 _ _ 0 _ _ (reads_make g.D.Disk c.args.disk.now c.read.new.disk c.in-Ok.ensures.reads) c.in-Ok-write_parts.ensures.calls (omega (arith, c.in-Ok.ensures.few)) (omega (arith, c.in-Ok.ensures.few))
+returns-in-Ok-write_parts-clause-calls g c = makes_then g.D.Disk c.args.disk.now c.read.new.disk c.write_parts.new.disk 3 _ _ 0 _ _ (reads_make g.D.Disk c.args.disk.now c.read.new.disk _ c.in-Ok.ensures.reads) c.in-Ok-write_parts.ensures.calls (omega (arith, c.in-Ok.ensures.few)) (omega (arith, c.in-Ok.ensures.few))
 
 pub returns-in-Err-write_parts-clause-images : goal.returns-in-Err-write_parts-clause-images
-returns-in-Err-write_parts-clause-images g c = λ graph ds id f store there no_draft here inside. images_on g.D.Disk c.args.disk.now c.read.new.disk c.in-Ok.ensures.reads c.write_parts.new.disk _ (c.in-Err-write_parts.ensures.images graph ds id f (writes_on g.D.Disk c.args.disk.now c.read.new.disk c.in-Ok.ensures.reads graph ds id f c.args.space.now c.args.at.0 c.args.offset c.args.bytes.now c.in-Ok.file.root c.in-Ok.file.low c.in-Ok.file.high store there no_draft here inside (g.met.D.Disk.of_blocks c.args.disk.now store.carries.tells.honest) (c.in-Ok.ensures.root store.carries.tells) (c.in-Ok.ensures.low_is store.carries.tells) (c.in-Ok.ensures.high_is store.carries.tells)))
+returns-in-Err-write_parts-clause-images g c = λ graph ds id f store there no_draft here inside. images_on g.D.Disk c.args.disk.now c.read.new.disk c.in-Ok.ensures.reads c.write_parts.new.disk _ (c.in-Err-write_parts.ensures.images graph ds id f (writes_on g.D.Disk c.args.disk.now c.read.new.disk c.in-Ok.ensures.reads graph ds id f c.args.space.now c.args.at.0 c.in-Ok.file.root store there no_draft here (g.met.D.Disk.of_blocks c.args.disk.now store.carries.tells.honest) (c.in-Ok.ensures.root store.carries.tells) c.args.offset c.args.bytes.now c.in-Ok.file.low c.in-Ok.file.high inside (c.in-Ok.ensures.low_is store.carries.tells) (c.in-Ok.ensures.high_is store.carries.tells)))
 
 pub returns-in-Err-write_parts-clause-sound : goal.returns-in-Err-write_parts-clause-sound
-returns-in-Err-write_parts-clause-sound g c = λ graph ds id f store there no_draft here inside. c.in-Err-write_parts.ensures.sound graph ds id f (writes_on g.D.Disk c.args.disk.now c.read.new.disk c.in-Ok.ensures.reads graph ds id f c.args.space.now c.args.at.0 c.args.offset c.args.bytes.now c.in-Ok.file.root c.in-Ok.file.low c.in-Ok.file.high store there no_draft here inside (g.met.D.Disk.of_blocks c.args.disk.now store.carries.tells.honest) (c.in-Ok.ensures.root store.carries.tells) (c.in-Ok.ensures.low_is store.carries.tells) (c.in-Ok.ensures.high_is store.carries.tells))
+returns-in-Err-write_parts-clause-sound g c = λ graph ds id f store there no_draft here inside. c.in-Err-write_parts.ensures.sound graph ds id f (writes_on g.D.Disk c.args.disk.now c.read.new.disk c.in-Ok.ensures.reads graph ds id f c.args.space.now c.args.at.0 c.in-Ok.file.root store there no_draft here (g.met.D.Disk.of_blocks c.args.disk.now store.carries.tells.honest) (c.in-Ok.ensures.root store.carries.tells) c.args.offset c.args.bytes.now c.in-Ok.file.low c.in-Ok.file.high inside (c.in-Ok.ensures.low_is store.carries.tells) (c.in-Ok.ensures.high_is store.carries.tells))
 
 pub returns-in-Err-write_parts-clause-refused : goal.returns-in-Err-write_parts-clause-refused
 returns-in-Err-write_parts-clause-refused g c = parts_refused g.D.Disk c.args.at.0 c.args.floor c.args.disk.now c.write_parts.new.disk c.args.space.now c.write_parts.new.space c.in-Err-write_parts.error (stop_on g.D.Disk c.args.disk.now c.read.new.disk c.in-Ok.ensures.reads c.write_parts.new.disk c.write_parts.new.space c.in-Err-write_parts.error c.in-Err-write_parts.ensures.refused)
@@ -67,20 +67,20 @@ pub returns-in-Err-write_parts-clause-untried : goal.returns-in-Err-write_parts-
 returns-in-Err-write_parts-clause-untried g c = λ h. let two = parts_untried g.D.Disk c.args.disk.now c.read.new.disk c.write_parts.new.disk _ c.args.space.now c.write_parts.new.space c.in-Err-write_parts.error c.in-Err-write_parts.ensures.refused c.in-Err-write_parts.ensures.untried h in (two.0, two.1 ∙ c.in-Ok.ensures.reads.content)
 
 pub returns-in-Err-write_parts-clause-calls : goal.returns-in-Err-write_parts-clause-calls
-returns-in-Err-write_parts-clause-calls g c = makes_then g.D.Disk c.args.disk.now c.read.new.disk c.write_parts.new.disk 3 _ _ 0 _ _ (reads_make g.D.Disk c.args.disk.now c.read.new.disk c.in-Ok.ensures.reads) c.in-Err-write_parts.ensures.calls (omega (arith, c.in-Ok.ensures.few)) (omega (arith, c.in-Ok.ensures.few))
+returns-in-Err-write_parts-clause-calls g c = makes_then g.D.Disk c.args.disk.now c.read.new.disk c.write_parts.new.disk 3 _ _ 0 _ _ (reads_make g.D.Disk c.args.disk.now c.read.new.disk _ c.in-Ok.ensures.reads) c.in-Err-write_parts.ensures.calls (omega (arith, c.in-Ok.ensures.few)) (omega (arith, c.in-Ok.ensures.few))
 
 pub returns-in-Err-clause-full : goal.returns-in-Err-clause-full
 returns-in-Err-clause-full g c = λ graph ds id f store there no_draft here inside. subst (TellsNeed (needs f c.args.offset (length c.args.bytes.now))) (sym c.from.ensures) (trouble_tells (needs f c.args.offset (length c.args.bytes.now)) c.in-Err.trouble)
 
 pub returns-in-Err-has_room-clause-full : goal.returns-in-Err-has_room-clause-full
 returns-in-Err-has_room-clause-full g c = λ graph ds id f store there no_draft here inside.
-    let w = (writes_on g.D.Disk c.args.disk.now c.read.new.disk c.in-Ok.ensures.reads graph ds id f c.args.space.now c.args.at.0 c.args.offset c.args.bytes.now c.in-Ok.file.root c.in-Ok.file.low c.in-Ok.file.high store there no_draft here inside (g.met.D.Disk.of_blocks c.args.disk.now store.carries.tells.honest) (c.in-Ok.ensures.root store.carries.tells) (c.in-Ok.ensures.low_is store.carries.tells) (c.in-Ok.ensures.high_is store.carries.tells)) in
+    let w = (writes_on g.D.Disk c.args.disk.now c.read.new.disk c.in-Ok.ensures.reads graph ds id f c.args.space.now c.args.at.0 c.in-Ok.file.root store there no_draft here (g.met.D.Disk.of_blocks c.args.disk.now store.carries.tells.honest) (c.in-Ok.ensures.root store.carries.tells) c.args.offset c.args.bytes.now c.in-Ok.file.low c.in-Ok.file.high inside (c.in-Ok.ensures.low_is store.carries.tells) (c.in-Ok.ensures.high_is store.carries.tells)) in
     let is = (parts_need (g.D.Disk.content c.read.new.disk) id f c.in-Ok.file.root w.starts.rooted w.starts.same _ c.args.offset (length c.args.bytes.now) c.in-Ok.file.low c.in-Ok.file.high c.in-Ok.ensures.low c.in-Ok.ensures.high w.low_is w.high_is c.in-Ok.ensures.first c.in-Ok.ensures.next c.in-Ok.ensures.last c.in-Ok.ensures.apart c.in-Ok.ensures.some c.requires.least) in
     room_tells _ _ _ c.in-Err-has_room.error c.in-Err-has_room.ensures.full.0 (omega (arith, is, c.need-low.ensures.count, c.need-high.ensures.count))
 
 pub returns-in-Ok-write_parts-clause-room : goal.returns-in-Ok-write_parts-clause-room
 returns-in-Ok-write_parts-clause-room g c = λ graph ds id f store there no_draft here inside.
-    let w = (writes_on g.D.Disk c.args.disk.now c.read.new.disk c.in-Ok.ensures.reads graph ds id f c.args.space.now c.args.at.0 c.args.offset c.args.bytes.now c.in-Ok.file.root c.in-Ok.file.low c.in-Ok.file.high store there no_draft here inside (g.met.D.Disk.of_blocks c.args.disk.now store.carries.tells.honest) (c.in-Ok.ensures.root store.carries.tells) (c.in-Ok.ensures.low_is store.carries.tells) (c.in-Ok.ensures.high_is store.carries.tells)) in
+    let w = (writes_on g.D.Disk c.args.disk.now c.read.new.disk c.in-Ok.ensures.reads graph ds id f c.args.space.now c.args.at.0 c.in-Ok.file.root store there no_draft here (g.met.D.Disk.of_blocks c.args.disk.now store.carries.tells.honest) (c.in-Ok.ensures.root store.carries.tells) c.args.offset c.args.bytes.now c.in-Ok.file.low c.in-Ok.file.high inside (c.in-Ok.ensures.low_is store.carries.tells) (c.in-Ok.ensures.high_is store.carries.tells)) in
     let is = (parts_need (g.D.Disk.content c.read.new.disk) id f c.in-Ok.file.root w.starts.rooted w.starts.same _ c.args.offset (length c.args.bytes.now) c.in-Ok.file.low c.in-Ok.file.high c.in-Ok.ensures.low c.in-Ok.ensures.high w.low_is w.high_is c.in-Ok.ensures.first c.in-Ok.ensures.next c.in-Ok.ensures.last c.in-Ok.ensures.apart c.in-Ok.ensures.some c.requires.least) in
     omega (arith, is, c.need-low.ensures.count, c.need-high.ensures.count, c.in-Ok-has_room.ensures.room)
 

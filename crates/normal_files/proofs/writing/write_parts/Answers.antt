@@ -2,14 +2,14 @@ use Rattle.std.proofs.Common.{◌∙◌, refl, ap, sym, subst, arith}
 use Rattle.normal_files.specs.Ends.{IsStop, is_damaged}
 use Rattle.cfs_base.proofs.Calls.{makes_then}
 use Rattle.normal_files.proofs.Come.{makes_none}
-use Rattle.normal_files.proofs.Ending.{stopped_sound}
-use Rattle.normal_files.proofs.WriteParts.{end_err, end_images, end_order, end_stores, gone_puts, may, partly, put_stops, put_untried}
+use Rattle.normal_files.proofs.Ending.{stop_by, stopped_sound}
+use Rattle.normal_files.proofs.WriteParts.{end_err, end_images, end_order, end_stores, gone_puts, may, partly, put_untried}
 use Rattle.normal_files.proofs.writing.write_parts.Goals as goal
 
 -- ---- how it ends
 
 pub returns-in-Err-clause-refused : goal.returns-in-Err-clause-refused
-returns-in-Err-clause-refused g c = subst (IsStop g.D.Disk c.args.disk.now c.put_both.new.disk c.args.space.now) (sym c.from.ensures) (put_stops g.D.Disk c.args.disk.now c.put_both.new.disk c.args.space.now c.in-Err.trouble c.in-Err.ensures.stopped)
+returns-in-Err-clause-refused g c = subst (IsStop g.D.Disk c.args.disk.now c.put_both.new.disk c.args.space.now) (sym c.from.ensures) (stop_by g.D.Disk c.args.disk.now c.put_both.new.disk c.args.space.now c.in-Err.trouble c.in-Err.ensures.stopped)
 
 pub returns-in-Err-clause-images : goal.returns-in-Err-clause-images
 returns-in-Err-clause-images g c = λ graph ds id f is.

@@ -1,4 +1,4 @@
-use Rattle.std.proofs.Common.{ℕ, sym, ◌∙◌, ap, subst, arith}
+use Rattle.std.proofs.Common.{ℕ, ◌∙◌, ap, subst, arith}
 use Rattle.cfs_base.specs.Disk.{Image}
 use Rattle.cfs_base.proofs.Calls.{tells_on}
 use Rattle.special_files.specs.Changed.{Adds}

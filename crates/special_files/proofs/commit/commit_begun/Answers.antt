@@ -1,4 +1,4 @@
-use Rattle.std.proofs.Common.{◌≡◌, ℕ, ◌+◌, ◌*◌, ◌<◌, false, List, length, None, refl, sym, ◌∙◌, ap, subst, arith}
+use Rattle.std.proofs.Common.{Some, ◌≡◌, ℕ, ◌+◌, ◌*◌, ◌<◌, false, List, length, None, refl, sym, ◌∙◌, ap, subst, arith}
 use Rattle.std.specs.List.{All}
 use Rattle.cfs_base.specs.Disk.{Image, block_at}
 use Rattle.cfs_base.specs.declared.refusal.Trouble.{Trouble}
@@ -77,6 +77,7 @@ returns g c =
           (amid_reads g.D.Disk graph ds id o c.args.disk.now c.args.space.now store at c.write_own.new.disk c.changed.new.disk c.args.space.now 240 amid reads)
           (subst (λ (i : Image). IsReady i graph id o d.object c.args.shadow.0 c.as_slice.result.now c.as_slice-2.result.now None) (sym reads.content) ready)
           (ap (λ (i : Image). tree_in i (block_at i c.args.shadow.0)) reads.content ∙ tree1 g.D.Disk graph ds id o c.args.disk.now c.write_own.new.disk c.changed.new.disk c.args.space.now was d c.args.shadow.0 c.encode.result store at opened parts.shadow_is c.write_own.ensures.images c.in-Ok.ensures.written told c.write_own.ensures.calls.same (c.encode.ensures.spelled ∙ ap root_spelling (sym parts.root_is)))
+          (λ none. let no : Some c.args.shadow.0 ≡ None = sym parts.shadow_is ∙ none in cc)
           made makes c.args.at.0 (opened.at ∙ parts.at_is) c.finish.new.disk c.finish.new.space c.finish.result c.finish.ensures.finishes;
       refused = finish_tried g.D.Disk c.args.at.0 c.args.disk.now c.changed.new.disk c.finish.new.disk c.finish.new.space 241 1 _ _ first (λ tells. tells_on g.D.Disk c.write_own.new.disk c.changed.new.disk c.finish.new.disk 240 reads (still_tells g.D.Disk tells told c.write_own.ensures.calls.same)) c.finish.ensures.calls tried c.finish.result c.finish.ensures.fails;
       made = tried;

@@ -20,7 +20,7 @@ invariant_of-self g c =
     let p = c.index_mut-port.result.now in
     let q = c.port_turn.new.port in
     let ps = c.self.inside.ports.items in
-    let moves = c.port_turn.ensures in
+    let moves = c.port_turn.ensures.moves in
     let at = (found ps c.args.self.now.ports c.args.session p (ap (λ x. x.ports) c.self.view_is) c.requires.at c.requires.stays c.index_mut-port.ensures.value).0 in
     let less = work_on ps c.args.session p q moves.event at moves.kind in
     let k = c.self.invariant in (
@@ -35,6 +35,6 @@ returns g c =
     let p = c.index_mut-port.result.now in
     let q = c.port_turn.new.port in
     let ps = c.self.inside.ports.items in
-    let moves = c.port_turn.ensures in
+    let moves = c.port_turn.ensures.moves in
     let at = (found ps c.args.self.now.ports c.args.session p (ap (λ x. x.ports) c.self.view_is) c.requires.at c.requires.stays c.index_mut-port.ensures.value).0 in
     rw (← c.self.view_is) (turns_of_port ps c.args.session p q moves.event at moves.kind)

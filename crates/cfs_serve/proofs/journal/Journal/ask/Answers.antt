@@ -28,5 +28,5 @@ invariant_of-self g c =
       c.starved_by-self-inside.ensures c.args.session c.args.request ∙ ap (λ b. wants_memory e || b) kept.4 ∙ sym (any-push wants_memory trail e),
     )
 
-pub returns : goal.returns
-returns g c = rw (← c.self.view_is) (record { reply = c.answer-reply.result; answered = c.answer.ensures; events = c.push.ensures.events; room = c.push.ensures.room })
+pub returns-clause-serves : goal.returns-clause-serves
+returns-clause-serves g c = rw (← c.self.view_is) (record { reply = c.answer-reply.result; answered = c.answer.ensures; events = c.push.ensures.events; room = c.push.ensures.room })

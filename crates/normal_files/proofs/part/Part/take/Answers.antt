@@ -6,7 +6,7 @@ use Rattle.normal_files.specs.Laid.{node_of}
 use Rattle.normal_files.specs.Parts.{part_need}
 use Rattle.normal_files.specs.Takes.{stop}
 use Rattle.normal_files.proofs.Ending.{finishes_within, gone_within}
-use Rattle.normal_files.proofs.TakeNode.{no_node, node_ends, node_leaves, node_stops, node_taken}
+use Rattle.normal_files.proofs.TakeOne.{no_node, node_ends, node_leaves, node_stops, node_taken}
 use Rattle.normal_files.proofs.part.Part.take.Goals as goal
 
 pub returns-in-Err-clause-stopped : goal.returns-in-Err-clause-stopped

@@ -1,5 +1,5 @@
 use Rattle.normal_files.proofs.Refusals.{reads_one, tells_after}
-use Rattle.normal_files.proofs.WriteCall.{near_after}
+use Rattle.normal_files.proofs.FileCalls.{near_after}
 use Rattle.normal_files.proofs.touched.Touched.read.Goals as goal
 
 pub returns-in-Err-read-clause-sound : goal.returns-in-Err-read-clause-sound

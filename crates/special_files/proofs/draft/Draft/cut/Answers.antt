@@ -1,10 +1,8 @@
-use Rattle.std.proofs.Common.{◌≡◌, ℕ, ◌/◌, Err, sym, ◌∙◌, ap, subst, arith}
-use Rattle.cfs_base.specs.Disk.{Image}
+use Rattle.std.proofs.Common.{◌/◌, Err, sym, ◌∙◌, ap, subst, arith}
 use Rattle.cfs_base.specs.declared.refusal.Refused.{Refused}
 use Rattle.leaf_changes.proofs.Contents.{length-leaf_content}
 use Rattle.special_files.specs.Drafting.{leaf_takes}
 use Rattle.special_files.specs.Ends.{Ends}
-use Rattle.special_files.specs.Nodes.{IsRead}
 use Rattle.special_files.specs.Refusal.{is_damaged}
 use Rattle.special_files.proofs.Refusals.{damaged_by}
 use Rattle.special_files.proofs.WriteLeaf.{ends_since, ends_trouble, images_since, leaf_changed, near_there, cut_fits, read_since, store_now, the_draft_there}

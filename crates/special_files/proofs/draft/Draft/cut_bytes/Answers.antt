@@ -1,4 +1,4 @@
-use Rattle.std.proofs.Common.{◌≡◌, ℕ, List, ◌/◌, ◌∙◌, ap, subst}
+use Rattle.std.proofs.Common.{◌∙◌, ap}
 use Rattle.leaf_changes.specs.Bytes.{cut}
 use Rattle.special_files.specs.Drafting.{Drafting}
 use Rattle.special_files.proofs.draft.Draft.cut_bytes.Goals as goal

@@ -1,16 +1,14 @@
-use Rattle.std.proofs.Common.{◌≡◌, ◌≢◌, ℕ, ◌*◌, ◌/◌, ◌%◌, ◌<◌, ◌≤◌, Bool, true, false, List, length, Ok, Err, refl, sym, ◌∙◌, ap, subst, arith}
+use Rattle.std.proofs.Common.{ℕ, ◌*◌, ◌/◌, ◌%◌, ◌<◌, length, Ok, Err, sym, ◌∙◌, ap, subst, arith}
 use Rattle.std.specs.Prelude.{◌==◌, not, sum}
 use Rattle.std.specs.List.{All}
 use Rattle.cfs_base.specs.declared.refusal.Refused.{Refused}
-use Rattle.cfs_base.specs.declared.refusal.Refused.TheVariants as refused
-use Rattle.cyl_alloc.specs.Space.{Kept}
 use Rattle.special_files.specs.Committing.{given_all}
 use Rattle.special_files.specs.Drafting.{Drafting, node_of, opened_as}
 use Rattle.special_files.specs.Ends.{Ends}
 use Rattle.special_files.specs.Nodes.{IsRead, IsSafe}
 use Rattle.special_files.specs.Puts.{StaysBut}
 use Rattle.special_files.specs.Refusal.{IsTrouble, is_damaged, is_full, told_after}
-use Rattle.special_files.specs.Shed.{AreShed, Drops, Forgets, PutsWithin, border_takes}
+use Rattle.special_files.specs.Shed.{AreShed, Forgets, PutsWithin}
 use Rattle.special_files.proofs.Fills.{leaves_read, not_full}
 use Rattle.special_files.proofs.Refusals.{damaged_by}
 use Rattle.special_files.proofs.ShedDrop.{drop_done, drop_ok_ends, drop_put_err, drop_undo_err, ne_false, ne_true, put_ends, put_err_ends, put_full, undo_err_ends}

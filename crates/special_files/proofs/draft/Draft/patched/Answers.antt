@@ -1,4 +1,4 @@
-use Rattle.std.proofs.Common.{◌≡◌, ℕ, List, ◌*◌, sym, ◌∙◌, ap, subst, arith}
+use Rattle.std.proofs.Common.{◌∙◌, ap}
 use Rattle.leaf_changes.specs.Bytes.{patched}
 use Rattle.leaf_changes.proofs.Contents.{length-leaf_content}
 use Rattle.vol_image.specs.Reading.{leaf_content}

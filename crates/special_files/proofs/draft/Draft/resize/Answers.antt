@@ -57,3 +57,9 @@ returns-clause-kept g c = c.shrink.ensures.kept
 
 pub returns-clause-sound : goal.returns-clause-sound
 returns-clause-sound g c = c.shrink.ensures.sound
+
+pub returns-clause-order : goal.returns-clause-order
+returns-clause-order g c = c.shrink.ensures.order
+
+pub returns-then-self-size-clause-order : goal.returns-then-self-size-clause-order
+returns-then-self-size-clause-order g c = c.grow.ensures.order

@@ -1,4 +1,4 @@
-use Rattle.std.proofs.Common.{◌≡◌, ℕ, ◌+◌, ◌-◌, ◌*◌, ◌/◌, ◌%◌, ◌<◌, ◌≤◌, Bool, true, false, length, Ok, Err, refl, sym, ◌∙◌, ap, subst, arith}
+use Rattle.std.proofs.Common.{ℕ, ◌-◌, ◌/◌, length, Err, refl, sym, ◌∙◌, ap, subst, arith}
 use Rattle.std.specs.Prelude.{sum}
 use Rattle.std.proofs.lemmas.Bool.{both_ways}
 use Rattle.cfs_base.specs.declared.refusal.Refused.{Refused}
@@ -9,11 +9,11 @@ use Rattle.special_files.specs.Becomes.{Becomes}
 use Rattle.special_files.specs.Drafting.{Drafting}
 use Rattle.special_files.specs.Ends.{Ends}
 use Rattle.special_files.specs.Puts.{StaysBut}
-use Rattle.special_files.specs.Refusal.{is_damaged, is_full, told_after}
-use Rattle.special_files.specs.Shed.{border_takes, cut_takes, shrink_takes, sized}
+use Rattle.special_files.specs.Refusal.{is_damaged, is_full}
+use Rattle.special_files.specs.Shed.{cut_takes, sized}
 use Rattle.special_files.proofs.Fills.{leaves_read, not_full}
 use Rattle.special_files.proofs.Refusals.{damaged_by}
-use Rattle.special_files.proofs.ShrinkCall.{call_done, call_drops, call_images, call_need}
+use Rattle.special_files.proofs.ShrinkCall.{call_done, call_drops, call_images, call_order, call_need}
 use Rattle.special_files.proofs.ShrinkRun.{both_take, cut_less, kept_then, shrink_err_ends, shrink_ok_ends, sized_stays}
 use Rattle.special_files.proofs.WriteLeaf.{ends_since, ends_trouble, images_since, near_there, read_since, store_now}
 use Rattle.special_files.proofs.WriteRuns.{ends_any, ends_wider, full_ends, stays_then, still_room, still_sound}
@@ -150,6 +150,13 @@ returns-clause-leaves g c = λ graph ds id o d store at opened.
     c.leaves_in-to.ensures (ap (λ (n : ℕ). n / 128) (c.saturating_sub-number.ensures ∙ ap (λ (t : ℕ). t - 1) c.leaves_in-to.ensures)) c.in-Ok.ensures.number (c.in-Ok.ensures.node store.carries.tells (λ few. absurd (omega (arith, few, c.nothing-read.ensures)))) c.border-from.ensures c.is_cut-cut.ensures c.cut_if.new.disk c.cut_if.new.space c.cut_if.new.self c.cut_if.new.read c.in-Ok-cut_if.ensures.stays c.in-Ok-cut_if.ensures.number c.in-Ok-cut_if.ensures.put
     (λ whole. let all = c.in-Ok-cut_if.ensures.none whole in (all.1, all.2, all.3, all.4)) c.in-Ok-cut_if.ensures.leaves
     c.drop_from.new.disk c.drop_from.new.space c.drop_from.new.self _ c.in-Ok-drop_from.ensures.drops
+
+pub returns-clause-order : goal.returns-clause-order
+returns-clause-order g c = λ graph ds id o d f store at opened file.
+    call_order g.D.Disk graph ds id o at c.args.disk.now c.turn_to.new.disk c.args.space.now c.args.self.now d store opened c.in-Ok.ensures.reads c.args.size c.requires.less (omega (arith, ap (λ (w : Drafting). w.root.size) c.self.view_is, c.self.invariant.3)) c.leaves_in-to.result (c.saturating_sub-number.result / 128) c.border-from.result c.is_cut-cut.result c.turn_to.new.read
+    c.leaves_in-to.ensures (ap (λ (n : ℕ). n / 128) (c.saturating_sub-number.ensures ∙ ap (λ (t : ℕ). t - 1) c.leaves_in-to.ensures)) c.in-Ok.ensures.number (c.in-Ok.ensures.node store.carries.tells (λ few. absurd (omega (arith, few, c.nothing-read.ensures)))) c.border-from.ensures c.is_cut-cut.ensures c.cut_if.new.disk c.cut_if.new.space c.cut_if.new.self c.cut_if.new.read c.in-Ok-cut_if.ensures.stays c.in-Ok-cut_if.ensures.number c.in-Ok-cut_if.ensures.put
+    (λ whole. let all = c.in-Ok-cut_if.ensures.none whole in (all.1, all.2, all.3, all.4)) c.in-Ok-cut_if.ensures.leaves
+    c.drop_from.new.disk c.drop_from.new.space c.drop_from.new.self _ c.in-Ok-drop_from.ensures.drops refl f file
 
 pub returns-clause-stays : goal.returns-clause-stays
 returns-clause-stays g c = subst (λ (w : Drafting). StaysBut (sized c.args.self.now c.args.size) (sized w c.args.size)) (sym c.self-2.view_is) (sized_stays c.args.size c.args.self.now c.drop_from.new.self (stays_then c.args.self.now c.cut_if.new.self c.drop_from.new.self c.in-Ok-cut_if.ensures.stays c.in-Ok-drop_from.ensures.stays))

@@ -6,4 +6,5 @@ invariant-loop-at l = record {
   long : length l.self ≡ length l.initial.self;
   before : (k : ℕ) → k < l.from → get_or l.self k false ≡ get_or l.initial.self k false;
   past : (k : ℕ) → l.from ≤ k → k < l.at → get_or l.self k false ≡ false;
+  later : (k : ℕ) → l.at ≤ k → get_or l.self k false ≡ get_or l.initial.self k false;
 }

@@ -1,0 +1,51 @@
+-- A file of which each leaf is as in one file or as in another, whatever its root leads to.
+use Rattle.std.proofs.Common.{◌≡◌, ◌≢◌, ◌⊎◌, inl, inr, ℕ, length, Option, sym, ◌∙◌, ap, subst}
+use Rattle.cfs_base.specs.Disk.{Image}
+use Rattle.cfs_base.specs.declared.identifier.Puid.{Puid}
+use Rattle.cfs_base.specs.declared.kind.Kind.TheVariants as kinds
+use Rattle.cfs_base.specs.declared.kind.FileKind.{FileKind}
+use Rattle.cfs_base.specs.declared.kind.FileKind.TheVariants as file_kinds
+use Rattle.block_tree.specs.declared.root.Root as roots
+use Rattle.leaf_changes.specs.Changes.{SetsSize}
+use Rattle.leaf_changes.specs.Gives.{GivesFile, kind_of}
+use Rattle.leaf_changes.specs.Leaves.{LeavesFit, bytes_held}
+use Rattle.leaf_changes.proofs.Between.{between, leaf_of}
+use Rattle.leaf_changes.proofs.Contents.{same_content}
+use Rattle.leaf_changes.proofs.Given.{file_to_leaves, same_kind, some_file}
+use Rattle.ufs_model.specs.declared.object.File.{File}
+use Rattle.ufs_model.specs.declared.object.Object.TheVariants as objects
+use Rattle.ufs_model.specs.Graph.{Graph}
+use Rattle.vol_image.specs.Frame.{Frames}
+use Rattle.vol_image.specs.Reading.{leaf_content}
+use Rattle.vol_image.specs.Seen.{Held}
+use Rattle.vol_image.specs.Sight.{sight}
+use Rattle.vol_image.specs.Sound.{Holds, ReadsAs}
+use Rattle.vol_image.specs.Survives.{leaf_of_file}
+use Rattle.vol_image.proofs.Changes.{object_put, others}
+use Rattle.normal_files.specs.Laid.{IsRooted, leaves_of}
+use Rattle.normal_files.specs.Standing.{IsPartly}
+use Rattle.normal_files.proofs.Laid.{rooted_reads}
+
+pub no_index : (k : FileKind) → kind_of k ≢ kinds.Index
+no_index file_kinds.Normal same = cc
+no_index file_kinds.Special same = cc
+
+-- the old file with its root and leaves, and the new one with its own
+module _ (a : Image) (graph : Graph) (id : Puid) (holds : Holds a graph) (root next : roots.Root) (old new : ℕ → Option Held) (f to : File) (fit : LeavesFit root old) (gives : GivesFile root old f) (next_fit : LeavesFit next new) (next_gives : GivesFile next new to)
+    (fill : next.fill ≡ root.fill) (c : Image) (r : roots.Root) (head : SetsSize r.size root r) (mixed : (l : ℕ) → (bytes_held (leaves_of c r l) ≡ bytes_held (old l)) ⊎ (bytes_held (leaves_of c r l) ≡ bytes_held (new l))) where
+  content_of : (l : ℕ) → (leaf_content r.fill (leaves_of c r l) ≡ leaf_of_file f l) ⊎ (leaf_content r.fill (leaves_of c r l) ≡ leaf_of_file to l)
+  content_of l = elim (mixed l) [
+    | inl was ↦ inl (ap (λ (b : ℕ). leaf_content b (leaves_of c r l)) head.fill ∙ same_content root.fill (leaves_of c r l) (old l) was ∙ sym (leaf_of root old f fit gives l))
+    | inr now ↦ inr (ap (λ (b : ℕ). leaf_content b (leaves_of c r l)) (head.fill ∙ sym fill) ∙ same_content next.fill (leaves_of c r l) (new l) now ∙ sym (leaf_of next new to next_fit next_gives l))
+  ]
+
+  pub partly : Frames a (others graph id) c → IsRooted c id r → LeavesFit r (leaves_of c r) → (r.size ≡ root.size) ⊎ (r.size ≡ next.size) → IsPartly c graph id f to
+  partly frames rooted now_fit sized =
+      let some = some_file r (leaves_of c r) (λ index. no_index f.kind (sym gives.kind ∙ sym head.kind ∙ index)) in
+      let now = file_to_leaves r (leaves_of c r) some.0 some.1 in
+      let reads = subst (λ o. ReadsAs (length c) id (sight c id.block) o) some.1 (rooted_reads c id r rooted) in (
+        some.0,
+        object_put a c graph id (objects.File some.0) holds frames (subst (λ (n : ℕ). ReadsAs n id (sight c id.block) (objects.File some.0)) frames.size reads),
+        between r (leaves_of c r) some.0 now_fit now f to (same_kind some.0.kind f.kind r.kind now.kind (head.kind ∙ gives.kind)) (head.fill ∙ sym gives.fill)
+            (elim sized [ inl was ↦ inl (was ∙ sym gives.size) | inr is ↦ inr (is ∙ sym next_gives.size) ]) content_of,
+      )

@@ -1,0 +1,38 @@
+use Rattle.std.proofs.Common.{ℕ, inl, inr, sym, ap, ◌∙◌, subst, arith}
+use Rattle.cfs_base.specs.Disk.{Image}
+use Rattle.block_tree.specs.Tree.{bytes_in}
+use Rattle.leaf_changes.specs.Bytes.{cut}
+use Rattle.normal_files.specs.Laid.{node_of}
+use Rattle.normal_files.specs.Nodes.{IsNear, leaves_at}
+use Rattle.normal_files.proofs.Refusals.{stopped_undamaged, tells_after}
+use Rattle.normal_files.proofs.cut.read_end.Goals as goal
+
+pub returns-clause-read : goal.returns-clause-read
+returns-clause-read g c =
+    let same = ap (node_of c.args.root.now) c.last_node-last.ensures.node in
+    record {
+      own = c.in-Ok.ensures.leaves;
+      count = c.in-Ok.ensures.count;
+      cut = c.cut_block-cut.ensures.block;
+      near = c.cut_block-cut.ensures.near _ c.requires.some c.in-Ok.ensures.leaves;
+      before = λ k early. c.shortened-node.ensures.before k (omega (arith, early, c.leaves_in-keep.ensures, c.last_node-last.ensures.node));
+      past = λ k small late. c.shortened-node.ensures.past k (omega (arith, late, c.leaves_in-keep.ensures, c.last_node-last.ensures.node)) small;
+      kept = elim c.kept_block-kept.ensures [ inl node ↦ inl (node.0 ∙ same, node.1) | inr none ↦ inr none ];
+      there = (let is = c.in-Ok.ensures.there in omega (arith, is, same));
+    }
+
+pub returns-clause-end : goal.returns-clause-end
+returns-clause-end g c = λ tells.
+    let fill = c.args.root.now.fill in
+    record {
+      own = c.in-Ok.ensures.node tells ∙ ap (λ (k : ℕ). leaves_at (g.D.Disk.content c.args.disk.now) (node_of c.args.root.now k)) c.last_node-last.ensures.node;
+      content = c.in-Ok-cut_content.ensures.content (tells_after g.D.Disk c.args.disk.now c.read_node.new.disk c.in-Ok.ensures.reads tells)
+          ∙ ap (λ (i : Image). cut c.args.size fill (bytes_in i fill c.cut_block-cut.result)) c.in-Ok.ensures.reads.content;
+    }
+
+pub returns-in-Err-clause-sound : goal.returns-in-Err-clause-sound
+returns-in-Err-clause-sound g c = λ tells near.
+    c.in-Err.ensures.sound tells (subst (IsNear (g.D.Disk.blocks c.args.disk.now) (g.D.Disk.content c.args.disk.now)) (sym (ap (node_of c.args.root.now) c.last_node-last.ensures.node)) near)
+
+pub returns-in-Err-cut_content-clause-sound : goal.returns-in-Err-cut_content-clause-sound
+returns-in-Err-cut_content-clause-sound g c = λ tells near. stopped_undamaged g.D.Disk c.read_node.new.disk c.cut_content.new.disk c.in-Err-cut_content.trouble c.in-Err-cut_content.ensures.refused

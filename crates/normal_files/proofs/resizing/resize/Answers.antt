@@ -1,0 +1,46 @@
+use Rattle.std.proofs.Common.{◌∙◌, ap, sym, subst, arith}
+use Rattle.cfs_base.specs.Disk.{Image}
+use Rattle.normal_files.specs.Ends.{is_damaged}
+use Rattle.normal_files.specs.Frees.{IsResizeRefusal, TakesNone}
+use Rattle.normal_files.proofs.FileCalls.{damage_same, file_of, grows_on, images_on, shrink_refused, shrinks_to}
+use Rattle.normal_files.proofs.resizing.resize.Goals as goal
+
+pub returns-in-Err-read_root-clause-sound : goal.returns-in-Err-read_root-clause-sound
+returns-in-Err-read_root-clause-sound g c = λ graph ds id f store there no_draft here.
+    let file = file_of (g.D.Disk.content c.args.disk.now) graph ds id f c.args.at.0 store.account there here in
+    ap is_damaged c.from.ensures ∙ damage_same c.in-Err-read_root.trouble ∙ c.in-Err-read_root.ensures.sound file.root store.carries.tells file.tree.spelled
+
+pub returns-in-Ok-grow-clause-resized : goal.returns-in-Ok-grow-clause-resized
+returns-in-Ok-grow-clause-resized g c = λ graph ds id f store there no_draft here.
+    let done = c.in-Ok-grow.ensures.grown graph ds id f c.args.space.now (grows_on g.D.Disk c.args.disk.now c.read_root.new.disk c.in-Ok-read_root.ensures.reads graph ds id f c.args.space.now c.args.at.0 c.in-Ok-read_root.root store there no_draft here (g.met.D.Disk.of_blocks c.args.disk.now store.carries.tells.honest) (c.in-Ok-read_root.ensures.root store.carries.tells) c.args.size c.requires.allowed c.if-root-size.true) in
+    (done.0, subst (λ (i : Image). TakesNone i (g.D.Disk.content c.grow.new.disk)) c.in-Ok-read_root.ensures.reads.content done.2)
+
+pub returns-in-Ok-grow-clause-settled : goal.returns-in-Ok-grow-clause-settled
+returns-in-Ok-grow-clause-settled g c = λ graph ds id f store there no_draft here less. (c.in-Ok-grow.ensures.grown graph ds id f c.args.space.now (grows_on g.D.Disk c.args.disk.now c.read_root.new.disk c.in-Ok-read_root.ensures.reads graph ds id f c.args.space.now c.args.at.0 c.in-Ok-read_root.root store there no_draft here (g.met.D.Disk.of_blocks c.args.disk.now store.carries.tells.honest) (c.in-Ok-read_root.ensures.root store.carries.tells) c.args.size c.requires.allowed c.if-root-size.true)).1
+
+pub returns-in-Ok-grow-clause-images : goal.returns-in-Ok-grow-clause-images
+returns-in-Ok-grow-clause-images g c = λ graph ds id f store there no_draft here. images_on g.D.Disk c.args.disk.now c.read_root.new.disk c.in-Ok-read_root.ensures.reads c.grow.new.disk _ (c.in-Ok-grow.ensures.images graph ds id f c.args.space.now (grows_on g.D.Disk c.args.disk.now c.read_root.new.disk c.in-Ok-read_root.ensures.reads graph ds id f c.args.space.now c.args.at.0 c.in-Ok-read_root.root store there no_draft here (g.met.D.Disk.of_blocks c.args.disk.now store.carries.tells.honest) (c.in-Ok-read_root.ensures.root store.carries.tells) c.args.size c.requires.allowed c.if-root-size.true))
+
+pub returns-in-Err-grow-clause-images : goal.returns-in-Err-grow-clause-images
+returns-in-Err-grow-clause-images g c = λ graph ds id f store there no_draft here. images_on g.D.Disk c.args.disk.now c.read_root.new.disk c.in-Ok-read_root.ensures.reads c.grow.new.disk _ (c.in-Err-grow.ensures.images graph ds id f c.args.space.now (grows_on g.D.Disk c.args.disk.now c.read_root.new.disk c.in-Ok-read_root.ensures.reads graph ds id f c.args.space.now c.args.at.0 c.in-Ok-read_root.root store there no_draft here (g.met.D.Disk.of_blocks c.args.disk.now store.carries.tells.honest) (c.in-Ok-read_root.ensures.root store.carries.tells) c.args.size c.requires.allowed c.if-root-size.true))
+
+pub returns-in-Ok-shrink-clause-resized : goal.returns-in-Ok-shrink-clause-resized
+returns-in-Ok-shrink-clause-resized g c = λ graph ds id f store there no_draft here.
+    let done = c.in-Ok-shrink.ensures.shrunk graph ds id f (shrinks_to g.D.Disk c.args.disk.now c.read_root.new.disk c.in-Ok-read_root.ensures.reads graph ds id f c.args.space.now c.args.at.0 c.in-Ok-read_root.root store there no_draft here (g.met.D.Disk.of_blocks c.args.disk.now store.carries.tells.honest) (c.in-Ok-read_root.ensures.root store.carries.tells) c.args.size (omega (arith, c.if-root-size.false))) in
+    (done.0, subst (λ (i : Image). TakesNone i (g.D.Disk.content c.shrink.new.disk)) c.in-Ok-read_root.ensures.reads.content done.1)
+
+pub returns-in-Ok-shrink-clause-settled : goal.returns-in-Ok-shrink-clause-settled
+returns-in-Ok-shrink-clause-settled g c = λ graph ds id f store there no_draft here more. let less = (shrinks_to g.D.Disk c.args.disk.now c.read_root.new.disk c.in-Ok-read_root.ensures.reads graph ds id f c.args.space.now c.args.at.0 c.in-Ok-read_root.root store there no_draft here (g.met.D.Disk.of_blocks c.args.disk.now store.carries.tells.honest) (c.in-Ok-read_root.ensures.root store.carries.tells) c.args.size (omega (arith, c.if-root-size.false))).less in absurd (omega (arith, less, more))
+
+pub returns-in-Ok-shrink-clause-images : goal.returns-in-Ok-shrink-clause-images
+returns-in-Ok-shrink-clause-images g c = λ graph ds id f store there no_draft here. images_on g.D.Disk c.args.disk.now c.read_root.new.disk c.in-Ok-read_root.ensures.reads c.shrink.new.disk _ (c.in-Ok-shrink.ensures.images graph ds id f (shrinks_to g.D.Disk c.args.disk.now c.read_root.new.disk c.in-Ok-read_root.ensures.reads graph ds id f c.args.space.now c.args.at.0 c.in-Ok-read_root.root store there no_draft here (g.met.D.Disk.of_blocks c.args.disk.now store.carries.tells.honest) (c.in-Ok-read_root.ensures.root store.carries.tells) c.args.size (omega (arith, c.if-root-size.false))))
+
+pub returns-in-Err-shrink-clause-images : goal.returns-in-Err-shrink-clause-images
+returns-in-Err-shrink-clause-images g c = λ graph ds id f store there no_draft here. images_on g.D.Disk c.args.disk.now c.read_root.new.disk c.in-Ok-read_root.ensures.reads c.shrink.new.disk _ (c.in-Err-shrink.ensures.images graph ds id f (shrinks_to g.D.Disk c.args.disk.now c.read_root.new.disk c.in-Ok-read_root.ensures.reads graph ds id f c.args.space.now c.args.at.0 c.in-Ok-read_root.root store there no_draft here (g.met.D.Disk.of_blocks c.args.disk.now store.carries.tells.honest) (c.in-Ok-read_root.ensures.root store.carries.tells) c.args.size (omega (arith, c.if-root-size.false))))
+
+pub returns-in-Err-shrink-clause-sound : goal.returns-in-Err-shrink-clause-sound
+returns-in-Err-shrink-clause-sound g c = λ graph ds id f store there no_draft here. ap is_damaged c.from-in-Err-shrink.ensures ∙ damage_same c.in-Err-shrink.trouble ∙ c.in-Err-shrink.ensures.sound graph ds id f (shrinks_to g.D.Disk c.args.disk.now c.read_root.new.disk c.in-Ok-read_root.ensures.reads graph ds id f c.args.space.now c.args.at.0 c.in-Ok-read_root.root store there no_draft here (g.met.D.Disk.of_blocks c.args.disk.now store.carries.tells.honest) (c.in-Ok-read_root.ensures.root store.carries.tells) c.args.size (omega (arith, c.if-root-size.false)))
+
+pub returns-in-Err-shrink-clause-refused : goal.returns-in-Err-shrink-clause-refused
+returns-in-Err-shrink-clause-refused g c = subst (IsResizeRefusal g.D.Disk c.args.at.0 c.args.floor c.args.disk.now c.shrink.new.disk c.args.space.now) (sym c.from-in-Err-shrink.ensures)
+    (shrink_refused g.D.Disk c.args.at.0 c.args.floor c.args.disk.now c.read_root.new.disk c.shrink.new.disk c.in-Ok-read_root.ensures.reads c.args.space.now c.in-Err-shrink.trouble c.in-Err-shrink.ensures.refused)

@@ -1,0 +1,84 @@
+-- A file set to less: the leaf in which it ends is cut, and the last node that it keeps is written without the leaves past it.
+use Rattle.std.specs.Prelude.{◌≡◌, ◌≢◌, ◌⊎◌, ℕ, ◌+◌, ◌-◌, ◌*◌, ◌/◌, ◌%◌, ◌<◌, ◌≤◌, ◌==◌, if◌then◌else◌, List, [], length, get_or, set}
+use Rattle.std.specs.List.{All}
+use Rattle.cfs_base.specs.Disk.{Image, Written}
+use Rattle.cfs_base.specs.declared.disk.Disk.{Ghosts}
+use Rattle.cfs_base.specs.declared.identifier.Puid.{Puid}
+use Rattle.block_tree.specs.declared.root.Root as roots
+use Rattle.block_tree.specs.Node.{node_spelling}
+use Rattle.block_tree.specs.Tree.{bytes_in}
+use Rattle.cyl_alloc.specs.Space.{Kept}
+use Rattle.intentions.specs.Store.{StoreHas}
+use Rattle.leaf_changes.specs.Bytes.{cut}
+use Rattle.leaf_changes.specs.Changes.{SetsSize}
+use Rattle.ufs_model.specs.declared.object.File.{File}
+use Rattle.ufs_model.specs.Graph.{Graph}
+use Rattle.ufs_model.specs.Object.{leaves_in}
+use Rattle.vol_owners.specs.Account.{Opened, drafts_of}
+use Rattle.normal_files.specs.Laid.{node_of}
+use Rattle.normal_files.specs.Nodes.{leaves_at}
+use Rattle.normal_files.specs.Steps.{Starts}
+use Rattle.normal_files.specs.declared.cut.End.{End}
+
+-- the last node of which a file of this size may keep a leaf
+abbrev pub last_node : ℕ → ℕ
+last_node size = (leaves_in size - 1) / 128
+
+-- the block of the leaf within which it ends, in this node; 0 where it ends between leaves, or the leaf is absent
+abbrev pub cut_block : ℕ → List ℕ → ℕ
+cut_block size leaves = if size % 512 == 0 then 0 else get_or leaves (size / 512 % 128) 0
+
+-- all that is known of the end on any disk
+pub record IsReadEnd (blocks : ℕ) (root : roots.Root) (size : ℕ) (end : End) : Type 0 where
+  pub own : All (λ leaf. leaf < blocks) end.own.leaves
+  pub count : length end.own.leaves ≡ 128
+  pub cut : end.cut ≡ cut_block size end.own.leaves
+  pub near : end.cut < blocks
+  pub before : (k : ℕ) → 128 * last_node size + k < leaves_in size → get_or end.node.leaves k 0 ≡ get_or end.own.leaves k 0
+  pub past : (k : ℕ) → k < 128 → leaves_in size ≤ 128 * last_node size + k → get_or end.node.leaves k 0 ≡ 0
+  pub kept : ((end.kept ≡ node_of root (last_node size)) × ((k : ℕ) × (k < 128) × (get_or end.node.leaves k 0 ≢ 0)))
+      ⊎ ((end.kept ≡ 0) × ((k : ℕ) → k < 128 → get_or end.node.leaves k 0 ≡ 0))
+  pub there : node_of root (last_node size) < blocks
+
+-- it is that of the file with this root
+pub record IsEnd (image : Image) (root : roots.Root) (size : ℕ) (end : End) : Type 0 where
+  pub own : end.own.leaves ≡ leaves_at image (node_of root (last_node size))
+  pub content : end.content ≡ cut size root.fill (bytes_in image root.fill end.cut)
+
+-- ---- blocks that are written, if there are any
+
+-- a block that is 0 is none
+abbrev pub put_at : Image → ℕ → List ℕ → Image
+put_at c block content = if block == 0 then c else set c block content
+
+abbrev pub MayPut : (Image → Type 0) → ℕ → List ℕ → Image → Type 0
+MayPut images block content c = images c ⊎ ((block ≢ 0) × Written images block content c)
+
+-- the image once both are
+abbrev pub trimmed : Image → End → Image
+trimmed c end = put_at (put_at c end.cut end.content) end.kept (node_spelling end.node)
+
+abbrev pub MayTrim : (Image → Type 0) → End → Image → Type 0
+MayTrim images end = MayPut (MayPut images end.cut end.content) end.kept (node_spelling end.node)
+
+-- ---- the root
+
+-- the node from which on the root leads nowhere
+abbrev pub first_gone : (size kept : ℕ) → ℕ
+first_gone size kept = if kept == 0 then last_node size else last_node size + 1
+
+pub record IsCutRoot (root : roots.Root) (size from : ℕ) (next : roots.Root) : Type 0 where
+  pub head : SetsSize size root next
+  pub word : next.word ≡ root.word
+  pub before : (n : ℕ) → n < from → node_of next n ≡ node_of root n
+  pub past : (n : ℕ) → from ≤ n → n < 120 → node_of next n ≡ 0
+
+-- ---- when
+
+-- The store has a file without a draft, whose root is in this block, and the size is less than the file's.
+pub record Shrinks {D : Type 0} (g : Ghosts D) (graph : Graph) (ds : List Opened) (id : Puid) (f : File) (root : roots.Root) (at size : ℕ) (disk : D) (kept : Kept) : Type 0 where
+  pub store : StoreHas g graph ds disk kept
+  pub starts : Starts g graph id f root disk
+  pub no_draft : drafts_of ds id ≡ []
+  pub here : id.block ≡ at
+  pub less : size < length f.bytes

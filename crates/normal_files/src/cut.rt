@@ -1,0 +1,209 @@
+//! The end of a file that is set to less: the leaf in which it ends, and the last node that it keeps.
+ghost use Rattle.std.specs.Prelude.{◌≡◌, ◌≢◌, ◌⊎◌, ◌+◌, ◌-◌, ◌*◌, ◌/◌, ◌<◌, ◌≤◌, ℕ, true, false, length, get_or, slice_index, IsTrue, IfErr, IfOk, OnOk};
+ghost use Rattle.std.specs.List.{All};
+ghost use Rattle.block_tree.specs.Node.{IsNode};
+ghost use Rattle.block_tree.specs.Tree.{bytes_in};
+ghost use Rattle.cfs_base.specs.Calls.{HasTried, MakesAtMost, OnlyReads};
+ghost use Rattle.cfs_base.specs.Refusals.{trouble_had_tried};
+ghost use Rattle.cfs_base.specs.Run.{IsSettled, Leaves as LeavesOf, Tells, left_now};
+ghost use Rattle.cfs_base.specs.declared.refusal.Trouble.TheVariants as troubles;
+ghost use Rattle.leaf_changes.specs.Bytes.{cut};
+ghost use Rattle.normal_files.specs.Cuts as spec;
+ghost use Rattle.normal_files.specs.Laid.{node_of};
+ghost use Rattle.normal_files.specs.Nodes.{IsNear};
+ghost use Rattle.normal_files.specs.Refusal.{IsTrouble, is_damage};
+ghost use Rattle.normal_files.specs.Steps.{HasStoppedBy};
+ghost use Rattle.ufs_model.specs.Object.{leaves_in as leaves_of};
+
+use crate::nodes::{read_leaf, read_node};
+use crate::range::leaves_in;
+use block_tree::{Node, Root};
+use cfs_base::{Block, BlockNo, Disk, Trouble};
+use leaf_changes::cut_leaf;
+
+/// The last node of which a file of this size may keep a leaf.
+pub(crate) fn last_node(size: u64) -> u32
+    requires { size ≤ 7864320 }
+    ensures node { result ≡ spec.last_node size }
+    ensures few { result < 120 }
+{
+    leaves_in(size).saturating_sub(1) / 128
+}
+
+/// How a file is to end.
+#[derive(Clone, Copy)]
+pub(crate) struct End {
+    /// The last node of which it may keep a leaf, as it stands and as it is to be.
+    pub own: Node,
+    pub node: Node,
+    /// The block of that node, and 0 where it is not kept.
+    pub kept: u32,
+    /// The block of the leaf that is cut, and 0 where none is; and what it is to hold.
+    pub cut: u32,
+    pub content: Block,
+}
+
+/// A node without its leaves from a place on.
+fn shortened(node: &Node, from: u32) -> Node
+    ensures before { (k : ℕ) → k < from → slice_index result.leaves k ≡ slice_index node.now.leaves k }
+    ensures past { (k : ℕ) → from ≤ k → k < 128 → slice_index result.leaves k ≡ 0 }
+{
+    let mut kept = *node;
+    for place in from..128 {
+        kept.leaves[place as usize] = 0;
+    }
+    kept
+}
+
+/// Whether a node has a leaf.
+fn leads(node: &Node) -> bool
+    ensures some { result ≡ true → (k : ℕ) × (k < 128) × (slice_index node.now.leaves k ≢ 0) }
+    ensures none { result ≡ false → (k : ℕ) → k < 128 → slice_index node.now.leaves k ≡ 0 }
+{
+    for place in 0..128u32 {
+        if node.leaves[place as usize] != 0 {
+            return true;
+        }
+    }
+    false
+}
+
+/// The block of a node, if it is kept with these leaves.
+fn kept_block(node: &Node, block: u32) -> u32
+    ensures { ((result ≡ block) × ((k : ℕ) × (k < 128) × (slice_index node.now.leaves k ≢ 0)))
+        ⊎ ((result ≡ 0) × ((k : ℕ) → k < 128 → slice_index node.now.leaves k ≡ 0)) }
+{
+    if leads(node) {
+        return block;
+    }
+    0
+}
+
+/// The block of the leaf within which a file of this size ends.
+fn cut_block(own: &Node, size: u64) -> u32
+    ensures block { result ≡ spec.cut_block size own.now.leaves }
+    ensures near { (blocks : ℕ) → 0 < blocks → All (λ leaf. leaf < blocks) own.now.leaves → result < blocks }
+{
+    if size % 512 == 0 {
+        return 0;
+    }
+    own.leaves[(size / 512 % 128) as usize]
+}
+
+/// What that leaf is to hold.
+fn cut_content<D: Disk>(disk: &mut D, block: u32, size: u64, fill: u8) -> Result<Block, Trouble>
+    requires { block < D.blocks disk.old }
+    ensures content { Tells D.Disk disk.old
+        → IfOk result (λ content. content ≡ cut size fill (bytes_in (D.content disk.old) fill block)) }
+    ensures refused { IfErr result (HasStoppedBy D.Disk disk.old disk.new) }
+    ensures untried { IfErr result (λ trouble. trouble_had_tried trouble ≡ false) }
+    ensures reads { OnlyReads D.Disk 1 disk.old disk.new }
+{
+    let mut content = match read_leaf(disk, block, fill) {
+        Ok(content) => content,
+        Err(trouble) => return Err(trouble),
+    };
+    cut_leaf(&mut content, size, fill);
+    Ok(content)
+}
+
+/// How the file with this root is to end where it has this size. `Damaged` as in `read_node`.
+pub(crate) fn read_end<D: Disk>(
+    disk: &mut D,
+    at: BlockNo,
+    root: &Root,
+    size: u64,
+) -> Result<End, Trouble>
+    requires some { 0 < D.blocks disk.old }
+    requires size { size ≤ 7864320 }
+    ensures read { IfOk result (spec.IsReadEnd (D.blocks disk.old) root.now size) }
+    ensures end { Tells D.Disk disk.old → IfOk result (spec.IsEnd (D.content disk.old) root.now size) }
+    ensures refused { IfErr result (IsTrouble D.Disk at.0 disk.old disk.new) }
+    ensures untried { IfErr result (λ trouble. trouble_had_tried trouble ≡ false) }
+    ensures sound { Tells D.Disk disk.old
+        → IsNear (D.blocks disk.old) (D.content disk.old) (node_of root.now (spec.last_node size))
+        → IfErr result (λ trouble. is_damage trouble ≡ false) }
+    ensures reads { OnlyReads D.Disk 2 disk.old disk.new }
+{
+    let keep = leaves_in(size);
+    let last = last_node(size);
+    let block = root.nodes[last as usize];
+    let own = match read_node(disk, block, at) {
+        Ok(own) => own,
+        Err(trouble) => return Err(trouble),
+    };
+    let cut = cut_block(&own, size);
+    let content = match cut_content(disk, cut, size, root.fill) {
+        Ok(content) => content,
+        Err(trouble) => return Err(trouble),
+    };
+    let node = shortened(&own, keep - 128 * last);
+    let kept = kept_block(&node, block);
+    Ok(End {
+        own,
+        node,
+        kept,
+        cut,
+        content,
+    })
+}
+
+/// Writes a block, unless it is 0.
+fn put_at<D: Disk>(disk: &mut D, block: u32, content: &Block) -> Result<(), Trouble>
+    requires { block < D.blocks disk.old }
+    ensures done { OnOk result (D.content disk.new ≡ spec.put_at (D.content disk.old) block content.now) }
+    ensures told { OnOk result ((b : ℕ) → IsTrue (D.told disk.old b) → IsTrue (D.told disk.new b)) }
+    ensures images { LeavesOf D.Disk disk.old disk.new (spec.MayPut (left_now D.Disk disk.old) block content.now) }
+    ensures tried { IfErr result (λ t. t ≡ troubles.Disk true) }
+    ensures stopped { IfErr result (HasStoppedBy D.Disk disk.old disk.new) }
+    ensures calls { MakesAtMost D.Disk 1 1 disk.old disk.new }
+{
+    if block == 0 {
+        return Ok(());
+    }
+    match disk.write(BlockNo(block), content) {
+        Ok(()) => Ok(()),
+        Err(_) => Err(Trouble::Disk { tried: true }),
+    }
+}
+
+/// Cuts the leaf in which a file is to end, and writes the last node that it keeps. Both outlast a crash then.
+pub(crate) fn trim<D: Disk>(disk: &mut D, end: &End) -> Result<(), Trouble>
+    requires cut { end.now.cut < D.blocks disk.old }
+    requires kept { end.now.kept < D.blocks disk.old }
+    ensures node { IsNode end.now.node }
+    ensures done { OnOk result (D.content disk.new ≡ spec.trimmed (D.content disk.old) end.now) }
+    ensures settled { Tells D.Disk disk.old → OnOk result (IsSettled D.Disk disk.new) }
+    ensures told { OnOk result ((b : ℕ) → IsTrue (D.told disk.old b) → IsTrue (D.told disk.new b)) }
+    ensures images { LeavesOf D.Disk disk.old disk.new (spec.MayTrim (left_now D.Disk disk.old) end.now) }
+    ensures made { OnOk result (HasTried D.Disk disk.old disk.new) }
+    ensures tried { IfErr result (λ t. t ≡ troubles.Disk true) }
+    ensures stopped { IfErr result (HasStoppedBy D.Disk disk.old disk.new) }
+    ensures calls { MakesAtMost D.Disk 3 3 disk.old disk.new }
+{
+    let node = end.node.encode();
+    match put_at(disk, end.cut, &end.content) {
+        Ok(()) => {}
+        Err(trouble) => return Err(trouble),
+    }
+    match put_at(disk, end.kept, &node) {
+        Ok(()) => {}
+        Err(trouble) => return Err(trouble),
+    }
+    match disk.barrier() {
+        Ok(()) => Ok(()),
+        Err(_) => Err(Trouble::Disk { tried: true }),
+    }
+}
+
+/// The root with another size, which leads to no node from one on.
+pub(crate) fn cut_root(root: &Root, size: u64, from: u32) -> Root
+    ensures { spec.IsCutRoot root.now size from result }
+{
+    let mut next = *root;
+    next.size = size;
+    for number in from..120 {
+        next.nodes[number as usize] = 0;
+    }
+    next
+}

@@ -1,0 +1,146 @@
+//! Blocks that a file no longer has, given back.
+ghost use Rattle.std.specs.Prelude.{◌≡◌, ◌+◌, ◌*◌, ◌<◌, ◌≤◌, ◌==◌, if◌then◌else◌, length};
+ghost use Rattle.std.specs.List.{All};
+ghost use Rattle.normal_files.specs.Cuts.{IsReadEnd, last_node as node_at};
+ghost use Rattle.normal_files.specs.Frees as spec;
+ghost use Rattle.ufs_model.specs.Object.{leaves_in as leaves_of};
+
+use crate::cut::{End, last_node};
+use crate::nodes::read_node;
+use crate::range::leaves_in;
+use block_tree::{Node, Root};
+use cfs_base::{BlockNo, Disk, Trouble};
+use cyl_alloc::Space;
+
+/// Frees a block, unless it is 0.
+fn free<D: Disk>(disk: &mut D, space: &mut Space, at: BlockNo, block: u32) -> Result<(), Trouble>
+    requires size { D.blocks disk.old ≡ 64 * length space.old.free }
+    requires on_disk { block < D.blocks disk.old }
+    ensures frees { spec.FreesBlock D.Disk block disk.old disk.new space.old space.new result }
+    ensures follows { spec.Follows D.Disk at.0 2 1 disk.old disk.new space.old space.new result }
+{
+    if block == 0 {
+        return Ok(());
+    }
+    match space.release(disk, BlockNo(block)) {
+        Ok(()) => Ok(()),
+        Err(trouble) => Err(trouble.after_try()),
+    }
+}
+
+/// Frees the leaves of a node from a place on.
+fn free_leaves<D: Disk>(
+    disk: &mut D,
+    space: &mut Space,
+    at: BlockNo,
+    root: &Root,
+    node: &Node,
+    number: u32,
+    from: u32,
+) -> Result<(), Trouble>
+    requires size { D.blocks disk.old ≡ 64 * length space.old.free }
+    requires near { All (λ leaf. leaf < D.blocks disk.old) node.now.leaves }
+    requires from { from ≤ 128 }
+    ensures frees { spec.FreesTo D.Disk root.now (spec.GivesLeaves root.now node.now.leaves number from)
+        (128 * number + from) number (128 * number + 128) number disk.old disk.new space.old space.new result }
+    ensures follows { spec.Follows D.Disk at.0 256 128 disk.old disk.new space.old space.new result }
+{
+    for place in from..128 {
+        match free(disk, space, at, node.leaves[place as usize]) {
+            Ok(()) => {}
+            Err(trouble) => return Err(trouble),
+        }
+    }
+    Ok(())
+}
+
+/// Frees a node that is there, with all its leaves. `Damaged` as in `read_node`.
+fn free_node<D: Disk>(
+    disk: &mut D,
+    space: &mut Space,
+    at: BlockNo,
+    root: &Root,
+    number: u32,
+) -> Result<(), Trouble>
+    requires size { D.blocks disk.old ≡ 64 * length space.old.free }
+    requires some { 0 < D.blocks disk.old }
+    requires number { number < 120 }
+    ensures frees { spec.FreesTo D.Disk root.now (spec.GivesNode number)
+        (128 * number) number (128 * number + 128) (number + 1) disk.old disk.new space.old space.new result }
+    ensures follows { spec.Follows D.Disk at.0 259 129 disk.old disk.new space.old space.new result }
+{
+    let block = root.nodes[number as usize];
+    let node = match read_node(disk, block, at) {
+        Ok(node) => node,
+        Err(trouble) => return Err(trouble.after_try()),
+    };
+    match free_leaves(disk, space, at, root, &node, number, 0) {
+        Ok(()) => {}
+        Err(trouble) => return Err(trouble),
+    }
+    free(disk, space, at, block)
+}
+
+/// Frees the nodes from one on, with their leaves.
+fn free_nodes<D: Disk>(
+    disk: &mut D,
+    space: &mut Space,
+    at: BlockNo,
+    root: &Root,
+    from: u32,
+) -> Result<(), Trouble>
+    requires size { D.blocks disk.old ≡ 64 * length space.old.free }
+    requires some { 0 < D.blocks disk.old }
+    requires from { from ≤ 120 }
+    ensures frees { spec.FreesTo D.Disk root.now (spec.GivesNodes from)
+        (128 * from) from 15360 120 disk.old disk.new space.old space.new result }
+    ensures follows { spec.Follows D.Disk at.0 31080 15480 disk.old disk.new space.old space.new result }
+{
+    for number in from..120 {
+        match free_node(disk, space, at, root, number) {
+            Ok(()) => {}
+            Err(trouble) => return Err(trouble),
+        }
+    }
+    Ok(())
+}
+
+/// The block of the last node, if it isn't kept.
+fn gone_block(end: &End, block: u32) -> u32
+    ensures { result ≡ (if end.now.kept == 0 then block else 0) }
+{
+    if end.kept == 0 {
+        return block;
+    }
+    0
+}
+
+/// Frees what a file of this size has past its end, which was read. `Damaged` as in `read_node`.
+pub(crate) fn free_past<D: Disk>(
+    disk: &mut D,
+    space: &mut Space,
+    at: BlockNo,
+    root: &Root,
+    end: &End,
+    size: u64,
+) -> Result<(), Trouble>
+    requires size { D.blocks disk.old ≡ 64 * length space.old.free }
+    requires some { 0 < D.blocks disk.old }
+    requires allowed { size ≤ 7864320 }
+    requires read { IsReadEnd (D.blocks disk.old) root.now size end.now }
+    ensures frees { spec.FreesTo D.Disk root.now (spec.GivesEnd root.now size end.now)
+        (leaves_of size) (node_at size) 15360 120 disk.old disk.new space.old space.new result }
+    ensures follows { spec.Follows D.Disk at.0 31338 15609 disk.old disk.new space.old space.new result }
+{
+    let keep = leaves_in(size);
+    let last = last_node(size);
+    match free_leaves(disk, space, at, root, &end.own, last, keep - 128 * last) {
+        Ok(()) => {}
+        Err(trouble) => return Err(trouble),
+    }
+    match free(disk, space, at, gone_block(end, root.nodes[last as usize])) {
+        Ok(()) => {}
+        Err(trouble) => return Err(trouble),
+    }
+    free_nodes(disk, space, at, root, last + 1)
+}

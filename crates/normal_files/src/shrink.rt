@@ -1,0 +1,79 @@
+//! A smaller size, set.
+ghost use Rattle.std.specs.Prelude.{◌≡◌, ◌*◌, ◌+◌, ◌<◌, ◌≤◌, List, false, length, IfErr, OnOk};
+ghost use Rattle.cfs_base.specs.Calls.{MakesAtMost};
+ghost use Rattle.cfs_base.specs.Run.{Leaves as LeavesOf};
+ghost use Rattle.cfs_base.specs.declared.identifier.Puid.{Puid};
+ghost use Rattle.cfs_base.specs.declared.refusal.Trouble.TheVariants as troubles;
+ghost use Rattle.intentions.specs.Store.{StoreHas};
+ghost use Rattle.normal_files.specs.Cuts as spec;
+ghost use Rattle.normal_files.specs.Frees.{IsShrinkTrouble, TakesNone};
+ghost use Rattle.normal_files.specs.Refusal.{is_damage};
+ghost use Rattle.normal_files.specs.Standing.{IsPartly};
+ghost use Rattle.ufs_model.specs.Graph.{Graph, with_object};
+ghost use Rattle.ufs_model.specs.Object.{resized};
+ghost use Rattle.ufs_model.specs.declared.object.File as files;
+ghost use Rattle.ufs_model.specs.declared.object.Object.TheVariants as objects;
+ghost use Rattle.vol_owners.specs.Account.{Opened};
+
+use crate::cut::{End, cut_root, last_node, read_end, trim};
+use crate::free::free_past;
+use crate::link::write_through;
+use crate::put::after;
+use block_tree::Root;
+use cfs_base::{BlockNo, Disk, Trouble};
+use cyl_alloc::Space;
+
+/// The node from which on a file of this size has none.
+fn first_gone(end: &End, size: u64) -> u32
+    requires { size ≤ 7864320 }
+    ensures { result ≡ spec.first_gone size end.now.kept }
+{
+    let last = last_node(size);
+    if end.kept == 0 { last } else { last + 1 }
+}
+
+/// Sets the size of a file to less. First the leaf in which it ends and the last node that it keeps outlast a crash, then
+/// its root, and then what it no longer has becomes Free, which no barrier follows. `Damaged` as in `read_node`, or it
+/// names a map, with code 2, that is none.
+pub(crate) fn shrink<D: Disk>(
+    disk: &mut D,
+    space: &mut Space,
+    at: BlockNo,
+    root: &Root,
+    size: u64,
+) -> Result<(), Trouble>
+    requires size { D.blocks disk.old ≡ 64 * length space.old.free }
+    requires on_disk { at.0 < D.blocks disk.old }
+    requires allowed { size ≤ 7864320 }
+    ensures shrunk { (graph : Graph) (ds : List Opened) (id : Puid) (f : files.File)
+        → spec.Shrinks D.Disk graph ds id f root.now at.0 size disk.old space.old
+        → OnOk result (StoreHas D.Disk (with_object graph id (objects.File (resized f size))) ds disk.new space.new
+        × TakesNone (D.content disk.old) (D.content disk.new)) }
+    ensures images { (graph : Graph) (ds : List Opened) (id : Puid) (f : files.File)
+        → spec.Shrinks D.Disk graph ds id f root.now at.0 size disk.old space.old
+        → LeavesOf D.Disk disk.old disk.new (λ c. IsPartly c graph id f (resized f size)) }
+    ensures sound { (graph : Graph) (ds : List Opened) (id : Puid) (f : files.File)
+        → spec.Shrinks D.Disk graph ds id f root.now at.0 size disk.old space.old
+        → IfErr result (λ t. is_damage t ≡ false) }
+    ensures refused { IfErr result (IsShrinkTrouble D.Disk at.0 disk.old disk.new) }
+    ensures untried { IfErr result (λ t. t ≡ troubles.Disk false → (space.new ≡ space.old)
+        × (D.content disk.new ≡ D.content disk.old)) }
+    ensures cylinders { length space.new.free ≡ length space.old.free }
+    ensures calls { MakesAtMost D.Disk 31345 15614 disk.old disk.new }
+{
+    let end = match read_end(disk, at, root, size) {
+        Ok(end) => end,
+        Err(trouble) => return Err(trouble),
+    };
+    let next = cut_root(root, size, first_gone(&end, size));
+    let content = next.encode();
+    match trim(disk, &end) {
+        Ok(()) => {}
+        Err(trouble) => return Err(trouble),
+    }
+    match write_through(disk, at.0, &content) {
+        Ok(()) => {}
+        Err(trouble) => return Err(after(true, trouble)),
+    }
+    free_past(disk, space, at, root, &end, size)
+}
