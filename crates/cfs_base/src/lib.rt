@@ -1,4 +1,5 @@
-//! The plain types that every layer speaks of, and the traits of the outside: disk, source, sink and gate.
+//! The plain types that every layer speaks of, and the traits of the outside: disk, source, sink and gate;
+//! and of work that is made in turns.
 //! The layers above use the meanings of these traits, and that a call answers `Failed` only where the count of
 //! faults of its own object rose.
 #![tactic(auto)]
@@ -9,6 +10,7 @@ mod gate;
 mod identifier;
 mod kind;
 mod lists;
+mod machine;
 mod outside;
 mod refusal;
 #[cfg(test)]
@@ -20,5 +22,6 @@ pub use gate::Gate;
 pub use identifier::{BlockNo, Puid, Session, Tuid};
 pub use kind::{FileKind, Kind, Mode, Place};
 pub use lists::{Bytes, Ids};
+pub use machine::Machine;
 pub use outside::{Sink, Source};
 pub use refusal::{Damage, Failed, Need, NoMemory, Refused, Trouble, code};

@@ -1,9 +1,10 @@
-//! Disks, sources and sinks in memory, and a gate that holds nobody up. Each keeps the meaning of its trait, and a
+//! Disks, sources and sinks in memory, and gates that hold nobody up, or workers back. Each keeps the meaning of its trait, and a
 //! recording disk gives exactly the images that a crash may leave, so that what the layers above promise can be tried.
 #![tactic(auto)]
 
 mod faults;
 mod gate;
+mod hold_gate;
 mod kept;
 mod listed;
 mod memory_disk;
@@ -17,6 +18,7 @@ mod tests;
 mod untold;
 
 pub use gate::OpenGate;
+pub use hold_gate::{Hold, HoldGate};
 pub use kept::Pick;
 pub use memory_disk::MemoryDisk;
 pub use memory_sink::MemorySink;

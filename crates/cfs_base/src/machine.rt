@@ -1,0 +1,42 @@
+//! Work that is made in turns.
+ghost use Rattle.std.specs.Prelude.{◌≡◌, ◌≢◌, ℕ, ◌<◌, ◌≤◌, Bool, true, false};
+
+/// Work that workers make in turns. Workers are numbered from 0.
+pub trait Machine {
+    /// How many workers it has.
+    ghost worker_count: { Self → ℕ };
+
+    /// Whether a worker is done.
+    ghost done: { Self → ℕ → Bool };
+
+    /// How many turns a worker has left at most.
+    ghost left: { Self → ℕ → ℕ };
+
+    /// What each turn of a worker that isn't done keeps to, from the machine before it to the one after.
+    ghost turned: { Self → ℕ → Self → Type 0 };
+
+    fn workers(&self) -> u32
+        ensures { result ≡ worker_count self.now };
+
+    fn is_done(&self, worker: u32) -> bool
+        ensures { result ≡ done self.now worker };
+
+    fn turns_left(&self, worker: u32) -> u64
+        ensures { result ≡ left self.now worker };
+
+    /// Makes one turn of a worker, and answers whether that worker is done afterwards. A turn of a worker that is done
+    /// changes nothing.
+    fn turn(&mut self, worker: u32) -> bool
+        ensures answer { result ≡ done self.new worker }
+        ensures nearer { done self.old worker ≡ false → left self.new worker < left self.old worker }
+        ensures turned { done self.old worker ≡ false → turned self.old worker self.new }
+        ensures still { done self.old worker ≡ true → self.new ≡ self.old }
+        // Whether others are done is no matter of this worker's.
+        ensures others { (w : ℕ) → w ≢ worker → done self.new w ≡ done self.old w }
+        ensures workers { worker_count self.new ≡ worker_count self.old };
+
+    /// There is nobody beyond the workers.
+    ghost outside: { (m : Self) (w : ℕ) → worker_count m ≤ w → done m w ≡ true };
+
+    ghost at_rest: { (m : Self) (w : ℕ) → worker_count m ≤ w → left m w ≡ 0 };
+}

@@ -1,0 +1,11 @@
+//! A machine under one lock, and threads that make its turns. The layer above uses that the machine which is taken out is one
+//! of the type that was put in, whose invariant held at each turn, and that the turns which are left then bring all to an end.
+#![tactic(auto)]
+
+mod floor;
+mod rest;
+mod workers;
+
+pub use floor::Floor;
+pub use rest::make_turns_left;
+pub use workers::{Share, run_workers, shares_of};
