@@ -1,5 +1,5 @@
 //! The table of entries: a row for each kind of place.
-ghost use Rattle.std.specs.Prelude.{◌≡◌, ◌≢◌, ◌↔◌, ◌<◌, ◌≤◌, ℕ, Bool, true, slice_index, IsTrue, IfOk, IfErr, IfSome, IfNone};
+ghost use Rattle.std.specs.Prelude.{◌≡◌, ◌≢◌, ◌↔◌, ◌+◌, ◌*◌, ◌^◌, ◌<◌, ◌≤◌, ℕ, Bool, true, slice_index, IsTrue, IfOk, IfErr, IfSome, IfNone};
 ghost use Rattle.cyl_map.specs.Entry as spec;
 ghost use Rattle.cyl_map.specs.Reading.{place_of as said_place};
 ghost use Rattle.cyl_map.specs.Row.{IsFirstBadOf, IsFirstOfOwner, IsSpelledBy};
@@ -122,6 +122,23 @@ fn first_of_owner(bytes: &[u8; 8]) -> Option<u8>
     None
 }
 
+/// The number in the first four bytes, little-endian. It and the next have functions of their own, so that four bytes are
+/// read at once.
+fn little_endian(bytes: &[u8; 8]) -> u32
+    ensures { result ≡ slice_index bytes.now 0 + slice_index bytes.now 1 * 2 ^ 8 + slice_index bytes.now 2 * 2 ^ 16
+        + slice_index bytes.now 3 * 2 ^ 24 }
+{
+    u32::from_le_bytes([bytes[0], bytes[1], bytes[2], bytes[3]])
+}
+
+/// The number in the first four bytes, big-endian.
+fn big_endian(bytes: &[u8; 8]) -> u32
+    ensures { result ≡ slice_index bytes.now 0 * 2 ^ 24 + slice_index bytes.now 1 * 2 ^ 16 + slice_index bytes.now 2 * 2 ^ 8
+        + slice_index bytes.now 3 }
+{
+    u32::from_be_bytes([bytes[0], bytes[1], bytes[2], bytes[3]])
+}
+
 impl Row {
     /// The state and the commit bit that the first byte tells, where the row lets them stand.
     fn state_in(&self, first: u8) -> Option<(BlockState, bool)>
@@ -143,14 +160,18 @@ impl Row {
     pub fn spells(&self, bytes: &[u8; 8]) -> bool
         ensures { IsTrue result ↔ IsSpelledBy self.now bytes.now }
     {
-        let state = bytes[0] % 0x80;
-        let number = u16::from_be_bytes([bytes[2], bytes[3]]);
+        let told = little_endian(bytes) % 0x1_0000; // first byte and kind
+        let number = big_endian(bytes) % 0x1_0000;
         let owner = u32::from_be_bytes([bytes[4], bytes[5], bytes[6], bytes[7]]);
-        (self.from.code() <= state)
-            & (state <= self.to.code())
-            & ((bytes[0] < 0x80) | self.may_commit)
-            & (bytes[1] == place_code(self.last))
-            & (number <= place_number(self.last))
+        let least = place_code(self.last) as u32 * 0x100;
+        let head = if self.may_commit {
+            told / 0x100 * 0x100 + told % 0x80
+        } else {
+            told
+        };
+        (least + self.from.code() as u32 <= head)
+            & (head <= least + self.to.code() as u32)
+            & (number <= place_number(self.last) as u32)
             & ((owner != NO_OWNER) == self.owned)
     }
 
