@@ -1,6 +1,7 @@
 //! The map of a cylinder.
-ghost use Rattle.std.specs.Prelude.{◌≡◌, ◌↔◌, ◌<◌, ℕ, List, Some, IfOk, IfSome, IsTrue, IsNone, length, position, slice_get, slice_set};
-ghost use Rattle.cyl_map.specs.Entry.{IsEntry};
+ghost use Rattle.std.specs.Prelude.{◌≡◌, ◌↔◌, ◌<◌, ℕ, List, Some, IfOk, IfErr, OnOk, IfSome, IsTrue, IsNone, length, position, slice_get, slice_set};
+ghost use Rattle.std.specs.Int.{to_be_bytes, w64};
+ghost use Rattle.cyl_map.specs.Entry.{IsEntry, spelling};
 ghost use Rattle.cyl_map.specs.Map as spec;
 ghost use Rattle.cyl_map.specs.Reading.{said_by};
 ghost use Rattle.cyl_map.specs.Volume.{with_bytes};
@@ -46,6 +47,13 @@ fn eights(block: &[u8; 512]) -> &[[u8; 8]]
     ensures count { length result.now ≡ 64 }
 {
     block.as_chunks::<8>().0
+}
+
+/// The number that is spelled so.
+fn number_of(bytes: &[u8; 8]) -> u64
+    ensures { to_be_bytes w64 result ≡ bytes.now }
+{
+    u64::from_be_bytes(*bytes)
 }
 
 /// Puts eight bytes in place of an entry's.
@@ -109,6 +117,36 @@ impl Map {
             return Err(first_bad(bytes));
         }
         Ok(Map { bytes: *bytes })
+    }
+
+    /// Whether a block spells a map, refused as by `decode`. Nothing is copied.
+    pub fn check(block: &Block) -> Result<(), BadMap>
+        ensures map { OnOk result (spec.SpellsMap block.now) }
+        ensures refused { IfErr result (λ bad. spec.IsFirstBadEntry block.now bad.entry bad.byte) }
+    {
+        let bytes = block.bytes();
+        if !is_spelled(bytes) {
+            return Err(first_bad(bytes));
+        }
+        Ok(())
+    }
+
+    /// An entry of the map that a block spells.
+    pub fn entry_in(block: &Block, entry: u8) -> MapEntry
+        requires below { entry < 64 }
+        ensures { result ≡ said_by (spec.bytes_at block.now entry) }
+    {
+        let entries = eights(block.bytes());
+        MapEntry::said_by(&entries[entry as usize])
+    }
+
+    /// Puts an entry into the block in place of another.
+    pub fn put_in(block: &mut Block, entry: u8, value: MapEntry)
+        requires below { entry < 64 }
+        requires entry { IsEntry value }
+        ensures { block.new ≡ with_bytes block.old entry (spelling value) }
+    {
+        block.put_u64(8 * entry as usize, number_of(&value.encode()));
     }
 
     /// The one spelling of the map.

@@ -6,6 +6,7 @@ ghost use Rattle.cfs_base.specs.Run.{IsSettled, Leaves, Tells, left_now};
 ghost use Rattle.cfs_base.specs.declared.refusal.Trouble.TheVariants as troubles;
 ghost use Rattle.cfs_base.specs.declared.identifier.Puid.{Puid};
 ghost use Rattle.cyl_map.specs.Entry.{IsEntry};
+ghost use Rattle.cyl_map.specs.Map.{SpellsMap, entries_of};
 ghost use Rattle.cyl_map.specs.Volume.{with_entry};
 ghost use Rattle.cyl_alloc.specs.Maps.{IsMapOf};
 ghost use Rattle.intentions.specs.Calls as spec;
@@ -18,7 +19,7 @@ ghost use Rattle.vol_image.specs.Run.{Carries};
 ghost use Rattle.vol_image.specs.Sound.{Holds};
 
 use crate::change::Change;
-use crate::entry::{Found, put_entry, read_entry};
+use crate::entry::{put_entry, read_entry};
 use cfs_base::{Block, BlockNo, Disk, Trouble};
 use cyl_map::MapEntry;
 
@@ -43,15 +44,16 @@ pub fn barrier<D: Disk>(disk: &mut D) -> Result<(), Trouble>
 fn put_between<D: Disk>(
     disk: &mut D,
     block: BlockNo,
-    found: Found,
+    map: &mut Block,
     entry: MapEntry,
 ) -> Result<(), Trouble>
     requires on_disk { block.0 < D.blocks disk.old }
     requires entry { IsEntry entry }
-    ensures written { IsMapOf (D.content disk.old) block.0 found.map →
+    requires spells { SpellsMap map.old }
+    ensures written { IsMapOf (D.content disk.old) block.0 (entries_of map.old) →
         OnOk result (D.content disk.new ≡ with_entry (D.content disk.old) block.0 entry) }
     ensures settled { Tells D.Disk disk.old → OnOk result (IsSettled D.Disk disk.new) }
-    ensures images { Tells D.Disk disk.old → IsMapOf (D.content disk.old) block.0 found.map
+    ensures images { Tells D.Disk disk.old → IsMapOf (D.content disk.old) block.0 (entries_of map.old)
         → Leaves D.Disk disk.old disk.new (λ c. c ≡ with_entry (D.content disk.old) block.0 entry) }
     ensures refused { IfErr result (λ trouble. trouble ≡ troubles.Disk true) }
     ensures stopped { OnErr result (HasStopped D.Disk true disk.old disk.new) }
@@ -59,7 +61,7 @@ fn put_between<D: Disk>(
     ensures calls { MakesAtMost D.Disk 3 3 disk.old disk.new }
 {
     barrier(disk)?; // what the entry leads to
-    put_entry(disk, block, found, entry)?;
+    put_entry(disk, block, map, entry)?;
     barrier(disk) // the entry
 }
 
@@ -69,9 +71,10 @@ fn change_bit<D: Disk>(disk: &mut D, root: BlockNo, how: Change) -> Result<(), T
     requires fits { entries.Fits how }
     ensures changes { spec.ChangesBit D.Disk root.0 (λ e. entries.changed how e) disk.old disk.new result }
 {
-    let found = read_entry(disk, root)?;
-    let now = how.of(found.entry);
-    put_between(disk, root, found, now)
+    let mut map = Block::zero();
+    let entry = read_entry(disk, root, &mut map)?;
+    let now = how.of(entry);
+    put_between(disk, root, &mut map, now)
 }
 
 /// Sets the commit bit of a root. The barrier before it makes all durable to which it leads; from the one after it on the

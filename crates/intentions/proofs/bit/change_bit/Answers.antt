@@ -1,10 +1,11 @@
-use Rattle.std.proofs.Common.{◌≡◌, subst}
+use Rattle.std.proofs.Common.{◌≡◌, subst, rules}
 use Rattle.std.specs.Prelude.{OnOk}
 use Rattle.cfs_base.specs.Run.{Leaves}
+use Rattle.cyl_map.specs.Map.{entries_of}
 use Rattle.cyl_map.specs.Volume.{with_entry}
 use Rattle.cyl_map.specs.declared.entry.MapEntry.{MapEntry}
 use Rattle.intentions.specs.Entries as entries
-use Rattle.intentions.proofs.Changes.{rewrites_bit}
+use Rattle.intentions.proofs.Changes.{nothing_more, rewrites_bit}
 use Rattle.intentions.proofs.bit.change_bit.Goals as goal
 
 pub returns : goal.returns
@@ -14,10 +15,31 @@ returns g c =
     let n = c.args.root.0 in
     let value = c.of-now.ensures.value in
     record {
-      changes = rewrites_bit g.D.Disk n (λ e. entries.changed c.args.how e) c.in_ok-found.found.entry c.in_ok-found.found.map c.args.disk.now read new c.put_between.result c.in_ok-found.ensures.reads
-          c.in_ok-found.ensures.entry c.in_ok-found.ensures.map c.in_ok-found.ensures.whole
+      changes = rewrites_bit g.D.Disk n (λ e. entries.changed c.args.how e) c.in_ok-entry.entry (entries_of c.read_entry.new.map) c.args.disk.now read new c.put_between.result c.in_ok-entry.ensures.reads
+          c.in_ok-entry.ensures.entry c.in_ok-entry.ensures.map c.in_ok-entry.ensures.whole
           (λ is. subst (λ (e : MapEntry). OnOk c.put_between.result (g.D.Disk.content new ≡ with_entry (g.D.Disk.content read) n e)) value (c.put_between.ensures.written is))
           c.put_between.ensures.settled
           (λ tells is. subst (λ (e : MapEntry). Leaves g.D.Disk read new (λ k. k ≡ with_entry (g.D.Disk.content read) n e)) value (c.put_between.ensures.images tells is))
           c.put_between.ensures.refused c.put_between.ensures.stopped c.put_between.ensures.made c.put_between.ensures.calls;
+    }
+
+pub returns-in_err-entry : goal.returns-in_err-entry
+returns-in_err-entry g c =
+    let old = c.args.disk.now in
+    let new = c.read_entry.new.disk in
+    let reads = c.in_err-entry.ensures.reads in
+    record {
+      changes = record {
+        put = search rules;
+        settled = search rules;
+        tried = search rules;
+        images = λ tells e here. nothing_more g.D.Disk old new _ reads.images;
+        keeps = search rules;
+        leaves = λ course e fit run here may. nothing_more g.D.Disk old new _ reads.images;
+        refused = search rules;
+        unless_tried = search rules;
+        whole = search rules;
+        whole_tried = search rules;
+        calls = search rules;
+      };
     }

@@ -1,0 +1,23 @@
+use Rattle.std.proofs.Common.{◌≡◌, ◌*◌, ◌/◌, ◌%◌, ℕ, List, set, ◌∙◌, ap, sym, subst}
+use Rattle.std.specs.Prelude.{OnOk}
+use Rattle.cfs_base.specs.Disk.{Written}
+use Rattle.cfs_base.specs.Run.{Leaves, left_now}
+use Rattle.cyl_map.specs.Entry.{spelling}
+use Rattle.cyl_map.specs.Map.{entries_of}
+use Rattle.cyl_map.specs.Volume.{map_with, with_bytes, with_entry}
+use Rattle.cyl_alloc.specs.Maps.{IsMapOf}
+use Rattle.cyl_alloc.proofs.maps.store_entry.Goals as goal
+
+-- what is written is the map with the entry
+block : (g : _) (c : goal.After-write g) → IsMapOf (g.D.Disk.content c.args.disk.now) c.args.block (entries_of c.args.map.now) → c.put_in.new.block ≡ map_with (g.D.Disk.content c.args.disk.now) c.args.block c.args.entry
+block g c is = c.put_in.ensures ∙ ap (λ (b : List ℕ). with_bytes b (c.args.block % 64) (spelling c.args.entry)) (c.requires.spells.spelled ∙ sym is.spelled)
+
+pub returns-clause-written : goal.returns-clause-written
+unfolding with_entry
+returns-clause-written g c is =
+    let image = g.D.Disk.content c.args.disk.now in
+    subst (λ (b : List ℕ). OnOk c.write.result (g.D.Disk.content c.write.new.self ≡ set image (64 * (c.args.block / 64)) b)) (block g c is) c.write.ensures.written
+
+pub returns-clause-images : goal.returns-clause-images
+returns-clause-images g c is =
+    subst (λ (b : List ℕ). Leaves g.D.Disk c.args.disk.now c.write.new.self (Written (left_now g.D.Disk c.args.disk.now) (64 * (c.args.block / 64)) b)) (block g c is) c.write.ensures.images
