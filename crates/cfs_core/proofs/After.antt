@@ -1,5 +1,5 @@
 -- A call that reads, and then goes on.
-use Rattle.std.proofs.Common.{◌≡◌, ℕ, ◌<◌, length, true, false, Some, None, Result, Ok, Err, refl, ◌∙◌, subst, arith}
+use Rattle.std.proofs.Common.{◌≡◌, ℕ, ◌<◌, length, true, false, None, Result, Ok, Err, refl, ◌∙◌, subst, arith}
 use Rattle.std.specs.Prelude.{IfErr, sum}
 use Rattle.cfs_base.specs.Calls.{OnlyReads}
 use Rattle.cfs_base.specs.Disk.{Image}
@@ -10,22 +10,20 @@ use Rattle.cfs_base.specs.declared.refusal.Refused.{Refused}
 use Rattle.cfs_base.specs.declared.refusal.Refused.TheVariants as refusals
 use Rattle.cfs_base.proofs.Calls.{stopped_after_reads}
 use Rattle.cfs_base.proofs.Runs.{then, wider}
-use Rattle.puid_space.specs.Directory.{kind_in}
 use Rattle.ufs_model.specs.declared.asked.Reply.{Reply}
 use Rattle.ufs_model.specs.declared.asked.Reply.TheVariants as replies
 use Rattle.ufs_model.specs.declared.asked.Request.{Request}
 use Rattle.ufs_model.specs.declared.object.Index.{Index}
 use Rattle.ufs_model.specs.declared.object.Object.{Object}
 use Rattle.ufs_model.specs.declared.object.Object.TheVariants as objects
-use Rattle.ufs_model.specs.Graph.{object_at}
 use Rattle.ufs_model.specs.Refusal.{refusal_of}
 use Rattle.ufs_model.specs.State.{State}
 use Rattle.cfs_core.specs.Calls.{Answers, EndsSo, IsCause, Owes, Tries, TriesOn}
 use Rattle.cfs_core.specs.Kernel.{Kernel}
-use Rattle.cfs_core.specs.Looks.{unfit_of}
 use Rattle.cfs_core.specs.Makes.{IsMaking, TriesToMake}
 use Rattle.cfs_core.specs.StandsFor.{Serves}
-use Rattle.cfs_core.proofs.Answering.{known}
+use Rattle.cfs_core.specs.Ways.{Reaches}
+use Rattle.cfs_core.proofs.Answering.{ReachesAll}
 use Rattle.cfs_core.proofs.Serving.{serves_on}
 
 module _ {D : Type 0} (g : Ghosts D) (n : ℕ) (old : Kernel D) (d : D) (new : Kernel D) (reads : OnlyReads g n old.disk d) (request : Request) where
@@ -58,12 +56,12 @@ module _ {D : Type 0} (g : Ghosts D) (n : ℕ) (old : Kernel D) (d : D) (new : K
   cause (Err (refusals.Damaged damage)) is = tt
   cause (Err refusals.Memory) is = tt
 
-  pub tries_then : (index : Puid) (slot : ℕ) (result : Result Reply Refused) → unfit_of (kind_in old.names.named index) ≡ None → TriesOn g mid new index slot request result
-      → ((s : State) (who : ℕ) (i : Index) → Serves g old s → object_at s.graph index ≡ Some (objects.Index i) → (slot < length i.slots) × (refusal_of s who request ≡ None)) → Tries g old new request result
-  tries_then index slot result fit tries goes = record {
-    ends = λ s who serves none.
-        let i = known g old index fit s serves in
-        let may = goes s who i.0 serves i.1 in
+  pub tries_then : (index : Puid) (slot : ℕ) (who : ℕ) (result : Result Reply Refused) → ReachesAll g old who request index → TriesOn g mid new index slot request result
+      → ((s : State) (i : Index) → Serves g old s → Reaches s who request index (objects.Index i) → (slot < length i.slots) × (refusal_of s who request ≡ None)) → Tries g old new who request result
+  tries_then index slot who result reaches tries goes = record {
+    ends = λ s serves none.
+        let i = reaches s serves in
+        let may = goes s i.0 serves i.1 in
         ends s who result (tries.ends s who i.0 (serves_on g n old mid reads refl s serves) none i.1 may.0 may.1);
     plain = tries.plain;
     cause = cause result tries.cause;
@@ -75,9 +73,9 @@ module _ {D : Type 0} (g : Ghosts D) (n : ℕ) (old : Kernel D) (d : D) (new : K
   }
 
   -- the same of a request that makes an object
-  pub makes_then : (index : Puid) (slot : ℕ) (o : Object) → IsMaking request index slot o → (result : Result Reply Refused) → unfit_of (kind_in old.names.named index) ≡ None → TriesToMake g mid new index slot o result
-      → ((s : State) (who : ℕ) (i : Index) → Serves g old s → object_at s.graph index ≡ Some (objects.Index i) → (slot < length i.slots) × (refusal_of s who request ≡ None)) → Tries g old new request result
-  makes_then index slot o making result fit tries goes = tries_then index slot result fit (record {
+  pub makes_then : (index : Puid) (slot : ℕ) (o : Object) → IsMaking request slot o → (who : ℕ) (result : Result Reply Refused) → ReachesAll g old who request index → TriesToMake g mid new index slot o result
+      → ((s : State) (i : Index) → Serves g old s → Reaches s who request index (objects.Index i) → (slot < length i.slots) × (refusal_of s who request ≡ None)) → Tries g old new who request result
+  makes_then index slot o making who result reaches tries goes = tries_then index slot who result reaches (record {
     ends = tries.ends request making;
     plain = tries.plain;
     cause = tries.cause;

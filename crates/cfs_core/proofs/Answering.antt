@@ -1,29 +1,24 @@
 -- How a call ends that only reads: a refusal, what was asked for, or the failure of a device call.
-use Rattle.std.proofs.Common.{◌≡◌, inl, inr, ℕ, [], length, Bool, true, false, Option, Some, None, Result, Ok, Err, IsTrue, refl, sym, ◌∙◌, ap, subst, arith}
+use Rattle.std.proofs.Common.{◌≡◌, inl, inr, ℕ, length, Bool, true, false, Option, Some, None, Result, Ok, Err, IsTrue, refl, sym, ◌∙◌, ap, subst, arith}
 use Rattle.std.specs.Prelude.{IfErr, IfOk, sum}
 use Rattle.cfs_base.specs.Calls.{OnlyReads}
 use Rattle.cfs_base.specs.Disk.{Image}
 use Rattle.cfs_base.specs.Refusals.{refused_by}
 use Rattle.cfs_base.specs.declared.disk.Disk.{Ghosts}
 use Rattle.cfs_base.specs.declared.identifier.Puid.{Puid}
-use Rattle.cfs_base.specs.declared.identifier.Tuid.{Tuid}
 use Rattle.cfs_base.specs.declared.kind.Kind.{Kind}
 use Rattle.cfs_base.specs.declared.kind.Kind.TheVariants as kinds
 use Rattle.cfs_base.specs.declared.refusal.Refused.{Refused}
 use Rattle.cfs_base.specs.declared.refusal.Refused.TheVariants as refusals
 use Rattle.cfs_base.specs.declared.refusal.Trouble.{Trouble}
 use Rattle.cfs_base.specs.declared.refusal.Trouble.TheVariants as trouble
-use Rattle.puid_space.specs.Directory.{kind_in}
 use Rattle.special_files.specs.Committing.{as_refused}
 use Rattle.special_files.specs.Refusal.{is_damage}
 use Rattle.ufs_model.specs.declared.asked.Event.{Event}
 use Rattle.ufs_model.specs.declared.asked.Event.TheVariants as events
-use Rattle.ufs_model.specs.declared.asked.Ref.{Ref}
-use Rattle.ufs_model.specs.declared.asked.Ref.TheVariants.{Direct, Through}
 use Rattle.ufs_model.specs.declared.asked.Reply.{Reply}
 use Rattle.ufs_model.specs.declared.asked.Reply.TheVariants as replies
 use Rattle.ufs_model.specs.declared.asked.Request.{Request}
-use Rattle.ufs_model.specs.declared.asked.Wanted.TheVariants.{AnIndex}
 use Rattle.ufs_model.specs.declared.object.Index.{Index}
 use Rattle.ufs_model.specs.declared.object.Object.TheVariants as objects
 use Rattle.ufs_model.specs.Graph.{object_at}
@@ -31,7 +26,7 @@ use Rattle.ufs_model.specs.Need.{need_of}
 use Rattle.ufs_model.specs.Next.{next}
 use Rattle.ufs_model.specs.Outcome.{creates}
 use Rattle.ufs_model.specs.Plain.{IsPlainReply}
-use Rattle.ufs_model.specs.Refusal.{refusal_of, retains_nothing, target, wanted}
+use Rattle.ufs_model.specs.Refusal.{refusal_of}
 use Rattle.ufs_model.specs.State.{State}
 use Rattle.ufs_model.proofs.Legal.{answer_legal, outcome_legal, refused_answer, refused_plain}
 use Rattle.ufs_model.proofs.Outcomes.{outcome_plain}
@@ -39,8 +34,9 @@ use Rattle.cfs_core.specs.Calls.{Answers, ByOutcome, ByRefusal, EndsSo, IsCause,
 use Rattle.cfs_core.specs.Kernel.{Kernel}
 use Rattle.cfs_core.specs.Looks.{IsCalm, IsCalmCause, Knows, unfit_of}
 use Rattle.cfs_core.specs.StandsFor.{Serves, drafts_of_seats}
-use Rattle.cfs_core.proofs.Refusing.{IsSeen, index_there, no_grant, unfit_refused}
-use Rattle.cfs_core.proofs.Serving.{kind_there, no_grants, running, stays}
+use Rattle.cfs_core.specs.Ways.{Reaches}
+use Rattle.cfs_core.proofs.Refusing.{IsSeen}
+use Rattle.cfs_core.proofs.Serving.{running, stays}
 
 -- what is owed is so of a reply in which no device call failed
 pub owes : (seed : ℕ) (s : State) (who : ℕ) (request : Request) (image : Image) (free : ℕ) (reply : Reply) → IsPlainReply reply → IsOwed seed s who request image free reply → Owes seed s who request image free reply
@@ -101,9 +97,9 @@ module _ {D : Type 0} (g : Ghosts D) (left_sized : (d : D) (t : ℕ) (c : Image)
     memory request = record { event = on (events.Ask who request replies.Memory) refl; still = λ all. reads.content; owed = tt }
 
   -- what the call itself owes
-  pub tries_so : (request : Request) (result : Result Reply Refused) → ((s : State) (who : ℕ) → Serves g old s → old.stop ≡ None → EndsSo g old new s who request result)
-      → IfOk result IsPlainReply → IfErr result (IsCause g old.disk new.disk) → Tries g old new request result
-  tries_so request result ends plain cause = record {
+  pub tries_so : (who : ℕ) (request : Request) (result : Result Reply Refused) → ((s : State) → Serves g old s → old.stop ≡ None → EndsSo g old new s who request result)
+      → IfOk result IsPlainReply → IfErr result (IsCause g old.disk new.disk) → Tries g old new who request result
+  tries_so who request result ends plain cause = record {
     ends = ends;
     plain = plain;
     cause = cause;
@@ -115,65 +111,59 @@ module _ {D : Type 0} (g : Ghosts D) (left_sized : (d : D) (t : ℕ) (c : Image)
   }
 
   -- a read of an index that failed
-  pub failed : (at : ℕ) (t : Trouble) → ((i : Index) → Knows g old.disk at i → is_damage t ≡ false) → IsCalmCause g old.disk new.disk t → (request : Request)
-      → ((s : State) → Serves g old s → (i : Index) × Knows g old.disk at i) → Tries g old new request (Err (refused_by t))
-  failed at (trouble.Disk tried) sound cause request knows = subst (λ (b : Bool). Tries g old new request (Err (refusals.Disk b))) (sym cause.0)
-      (tries_so request (Err (refusals.Disk false)) (λ s who serves none. disk_failed s who serves none request) tt cause.1)
-  failed at (trouble.Damaged damage) sound cause request knows = tries_so request (Err (refusals.Damaged damage))
-      (λ s who serves none. let k = knows s serves in let no = sound k.0 k.1 in cc) tt tt
+  pub failed : (at : ℕ) (t : Trouble) → ((i : Index) → Knows g old.disk at i → is_damage t ≡ false) → IsCalmCause g old.disk new.disk t → (who : ℕ) (request : Request)
+      → ((s : State) → Serves g old s → (i : Index) × Knows g old.disk at i) → Tries g old new who request (Err (refused_by t))
+  failed at (trouble.Disk tried) sound cause who request knows = subst (λ (b : Bool). Tries g old new who request (Err (refusals.Disk b))) (sym cause.0)
+      (tries_so who request (Err (refusals.Disk false)) (λ s serves none. disk_failed s who serves none request) tt cause.1)
+  failed at (trouble.Damaged damage) sound cause who request knows = tries_so who request (Err (refusals.Damaged damage))
+      (λ s serves none. let k = knows s serves in let no = sound k.0 k.1 in cc) tt tt
 
--- the index that a core has at this block
-pub known : {D : Type 0} (g : Ghosts D) (k : Kernel D) (index : Puid) → unfit_of (kind_in k.names.named index) ≡ None → (s : State) → Serves g k s
-    → (i : Index) × (object_at s.graph index ≡ Some (objects.Index i)) × Knows g k.disk index.block i
-known g k index fit s serves =
-    let found = index_there (object_at s.graph index) (sym (ap unfit_of (kind_there g k s serves index)) ∙ fit) in
-    (found.0, found.1, record { graph = s.graph; drafts = drafts_of_seats k.seats s.grants; space = k.space; id = index; store = serves.store; root = refl; there = found.1 })
+-- the store has the index that is reached
+pub known : {D : Type 0} (g : Ghosts D) (k : Kernel D) (s : State) → Serves g k s → (index : Puid) (i : Index) → object_at s.graph index ≡ Some (objects.Index i) → Knows g k.disk index.block i
+known g k s serves index i there = record { graph = s.graph; drafts = drafts_of_seats k.seats s.grants; space = k.space; id = index; store = serves.store; root = refl; there = there }
 
 -- an identifier that names no index
-unfit_plain : (k : Option Kind) (reply : Reply) → unfit_of k ≡ Some reply → IsPlainReply reply
+pub unfit_plain : (k : Option Kind) (reply : Reply) → unfit_of k ≡ Some reply → IsPlainReply reply
 unfit_plain None reply is = let same : replies.NoObject ≡ reply = cc in subst IsPlainReply same tt
 unfit_plain (Some kinds.Index) reply is = cc
 unfit_plain (Some kinds.Normal) reply is = let same : replies.NotIndex ≡ reply = cc in subst IsPlainReply same tt
 unfit_plain (Some kinds.Special) reply is = let same : replies.NotIndex ≡ reply = cc in subst IsPlainReply same tt
 
-pub unfit : {D : Type 0} (g : Ghosts D) (left_sized : (d : D) (t : ℕ) (c : Image) → g.left_since d t c → length c ≡ g.blocks d) (sized : (d : D) → IsTrue (g.honest d) → length (g.content d) ≡ g.blocks d)
-    (k : Kernel D) (request : Request) (index : Puid) (reply : Reply) → target request ≡ Direct index → wanted request ≡ AnIndex
-    → ((s : State) → Serves g k s → retains_nothing s request ≡ false) → unfit_of (kind_in k.names.named index) ≡ Some reply → Tries g k k request (Ok reply)
-unfit g left_sized sized k request index reply to an_index retains is = tries_so g left_sized sized 0 k k (reads_none g 0 k.disk) refl request (Ok reply)
-    (λ s who serves none. refused g left_sized sized 0 k k (reads_none g 0 k.disk) refl s who serves none request reply
-    (unfit_refused s who request index to an_index (retains s serves) reply (sym (ap unfit_of (kind_there g k s serves index)) ∙ is)))
-    (unfit_plain (kind_in k.names.named index) reply is) tt
+-- a request that is refused as the core stands
+pub tries_refusal : {D : Type 0} (g : Ghosts D) (left_sized : (d : D) (t : ℕ) (c : Image) → g.left_since d t c → length c ≡ g.blocks d) (sized : (d : D) → IsTrue (g.honest d) → length (g.content d) ≡ g.blocks d)
+    (k : Kernel D) (who : ℕ) (request : Request) (reply : Reply) → IsPlainReply reply → ((s : State) → Serves g k s → refusal_of s who request ≡ Some reply) → Tries g k k who request (Ok reply)
+tries_refusal g left_sized sized k who request reply plain is = tries_so g left_sized sized 0 k k (reads_none g 0 k.disk) refl who request (Ok reply)
+    (λ s serves none. refused g left_sized sized 0 k k (reads_none g 0 k.disk) refl s who serves none request reply (is s serves)) plain tt
 
 -- ---- a request that reads an index
 
-module _ {D : Type 0} (g : Ghosts D) (left_sized : (d : D) (t : ℕ) (c : Image) → g.left_since d t c → length c ≡ g.blocks d) (sized : (d : D) → IsTrue (g.honest d) → length (g.content d) ≡ g.blocks d)
-    (k : Kernel D) (index : Puid) (fit : unfit_of (kind_in k.names.named index) ≡ None) (request : Request) (n : ℕ) (d : D) where
-  abbrev IsReplied : (Index → Reply) → Reply → Type 0
-  IsReplied says reply = (s : State) (who : ℕ) (i : Index) → Serves g k s → object_at s.graph index ≡ Some (objects.Index i) → (need_of s who request ≡ 0) × IsSeen k.words.seed s who request (says i)
+-- whatever the core stands for, the request reaches an index
+abbrev pub ReachesAll : {D : Type 0} → Ghosts D → Kernel D → ℕ → Request → Puid → Type 0
+ReachesAll g k who request index = (s : State) → Serves g k s → (i : Index) × Reaches s who request index (objects.Index i)
 
-  pub tries_seen : (says : Index → Reply) (result : Result Reply Trouble) → creates request ≡ false → ((reply : Reply) → IsReplied says reply) → IfOk result IsPlainReply
-      → ((i : Index) → Knows g k.disk index.block i → IfOk result (λ reply. reply ≡ says i)) → IsCalm g n index.block k.disk d result → Tries g k (record k { disk = d }) request (as_refused result)
-  tries_seen says (Ok reply) makes replied plain exact calm = tries_so g left_sized sized n k (record k { disk = d }) calm.reads refl request (Ok reply)
-      (λ s who serves none.
-      let i = known g k index fit s serves in
-      let two = replied reply s who i.0 serves i.1 in
-      subst (Answers g k (record k { disk = d }) s who request) (sym (exact i.0 i.2)) (seen g left_sized sized n k (record k { disk = d }) calm.reads refl s who serves none request (says i.0) two.0 makes two.1))
+module _ {D : Type 0} (g : Ghosts D) (left_sized : (d : D) (t : ℕ) (c : Image) → g.left_since d t c → length c ≡ g.blocks d) (sized : (d : D) → IsTrue (g.honest d) → length (g.content d) ≡ g.blocks d)
+    (k : Kernel D) (index : Puid) (who : ℕ) (request : Request) (reaches : ReachesAll g k who request index) (n : ℕ) (d : D) where
+  abbrev IsReplied : (Index → Reply) → Type 0
+  IsReplied says = (s : State) (i : Index) → Serves g k s → Reaches s who request index (objects.Index i) → (need_of s who request ≡ 0) × IsSeen k.words.seed s who request (says i)
+
+  abbrev knows : (s : State) → Serves g k s → (i : Index) × Knows g k.disk index.block i
+  knows s serves = let two = reaches s serves in (two.0, known g k s serves index two.0 two.1.there)
+
+  pub tries_seen : (says : Index → Reply) (result : Result Reply Trouble) → creates request ≡ false → IsReplied says → IfOk result IsPlainReply
+      → ((i : Index) → Knows g k.disk index.block i → IfOk result (λ reply. reply ≡ says i)) → IsCalm g n index.block k.disk d result → Tries g k (record k { disk = d }) who request (as_refused result)
+  tries_seen says (Ok reply) makes replied plain exact calm = tries_so g left_sized sized n k (record k { disk = d }) calm.reads refl who request (Ok reply)
+      (λ s serves none.
+      let i = reaches s serves in
+      let two = replied s i.0 serves i.1 in
+      subst (Answers g k (record k { disk = d }) s who request) (sym (exact i.0 (knows s serves).1)) (seen g left_sized sized n k (record k { disk = d }) calm.reads refl s who serves none request (says i.0) two.0 makes two.1))
       plain tt
-  tries_seen says (Err t) makes replied plain exact calm = failed g left_sized sized n k (record k { disk = d }) calm.reads refl index.block t calm.sound calm.cause request (λ s serves. let i = known g k index fit s serves in (i.0, i.2))
+  tries_seen says (Err t) makes replied plain exact calm = failed g left_sized sized n k (record k { disk = d }) calm.reads refl index.block t calm.sound calm.cause who request knows
 
   -- it is refused, or the disk couldn't be read
   pub tries_refused : (reply : Reply) → IsPlainReply reply → OnlyReads g n k.disk d
-      → ((s : State) (who : ℕ) (i : Index) → Serves g k s → object_at s.graph index ≡ Some (objects.Index i) → Knows g k.disk index.block i → refusal_of s who request ≡ Some reply) → Tries g k (record k { disk = d }) request (Ok reply)
-  tries_refused reply plain reads is = tries_so g left_sized sized n k (record k { disk = d }) reads refl request (Ok reply)
-      (λ s who serves none. let i = known g k index fit s serves in refused g left_sized sized n k (record k { disk = d }) reads refl s who serves none request reply (is s who i.0 serves i.1 i.2)) plain tt
+      → ((s : State) (i : Index) → Serves g k s → Reaches s who request index (objects.Index i) → Knows g k.disk index.block i → refusal_of s who request ≡ Some reply) → Tries g k (record k { disk = d }) who request (Ok reply)
+  tries_refused reply plain reads is = tries_so g left_sized sized n k (record k { disk = d }) reads refl who request (Ok reply)
+      (λ s serves none. let i = reaches s serves in refused g left_sized sized n k (record k { disk = d }) reads refl s who serves none request reply (is s i.0 serves i.1 (knows s serves).1)) plain tt
 
-  pub tries_failed : (t : Trouble) → OnlyReads g n k.disk d → ((i : Index) → Knows g k.disk index.block i → is_damage t ≡ false) → IsCalmCause g k.disk d t → Tries g k (record k { disk = d }) request (Err (refused_by t))
-  tries_failed t reads sound cause = failed g left_sized sized n k (record k { disk = d }) reads refl index.block t sound cause request (λ s serves. let i = known g k index fit s serves in (i.0, i.2))
-
--- ---- a request through a grant, where nothing is open
-
-pub tries_through : {D : Type 0} (g : Ghosts D) (left_sized : (d : D) (t : ℕ) (c : Image) → g.left_since d t c → length c ≡ g.blocks d) (sized : (d : D) → IsTrue (g.honest d) → length (g.content d) ≡ g.blocks d)
-    (k : Kernel D) (request : Request) (ref : Ref) (t : Tuid) → target request ≡ ref → ref ≡ Through t → k.seats ≡ [] → (reply : Reply) → reply ≡ replies.NoGrant → Tries g k k request (Ok reply)
-tries_through g left_sized sized k request ref t to is none reply same = subst (λ (r : Reply). Tries g k k request (Ok r)) (sym same)
-    (tries_so g left_sized sized 0 k k (reads_none g 0 k.disk) refl request (Ok replies.NoGrant)
-    (λ s who serves running. refused g left_sized sized 0 k k (reads_none g 0 k.disk) refl s who serves running request replies.NoGrant (no_grant s who request t (to ∙ is) (no_grants g k s serves none))) tt tt)
+  pub tries_failed : (t : Trouble) → OnlyReads g n k.disk d → ((i : Index) → Knows g k.disk index.block i → is_damage t ≡ false) → IsCalmCause g k.disk d t → Tries g k (record k { disk = d }) who request (Err (refused_by t))
+  tries_failed t reads sound cause = failed g left_sized sized n k (record k { disk = d }) reads refl index.block t sound cause who request knows

@@ -1,6 +1,6 @@
 -- A request that was asked: of a core that stopped, answered, or refused by what lies below.
-use Rattle.std.proofs.Common.{◌≡◌, inl, inr, ℕ, ◌-◌, [], length, true, false, Option, Some, None, Ok, Err, IsTrue, refl, sym, ◌∙◌, ap, subst, arith}
-use Rattle.std.specs.Prelude.{◌==◌, filter, map, not, sum}
+use Rattle.std.proofs.Common.{◌≡◌, inl, inr, ℕ, ◌-◌, length, true, false, Option, Some, None, Ok, Err, IsTrue, refl, sym, ◌∙◌, ap, subst, arith}
+use Rattle.std.specs.Prelude.{map, sum}
 use Rattle.std.proofs.lemmas.Bool.{eq-eqb}
 use Rattle.cfs_base.specs.Disk.{Image}
 use Rattle.cfs_base.specs.declared.disk.Disk.{Ghosts}
@@ -18,8 +18,8 @@ use Rattle.cfs_core.specs.declared.kernel.Stop.{Stop}
 use Rattle.cfs_core.specs.Asked.{Asks, Happens, IsShortContent, IsToldCause, stopped_by, told}
 use Rattle.cfs_core.specs.Calls.{Answers, EndsSo, IsCause, IsInDoubt, Owes, Tries, leaves_all}
 use Rattle.cfs_core.specs.Kernel.{Kernel, Seat}
-use Rattle.cfs_core.specs.StandsFor.{IsFront, Serves, Stands, StandsFor, front_of}
-use Rattle.cfs_core.proofs.Serving.{empty_map, fits, pending, running, serves_from}
+use Rattle.cfs_core.specs.StandsFor.{IsFront, Serves, Stands}
+use Rattle.cfs_core.proofs.Serving.{fits, pending, running, serves_from}
 
 plain_goes_on : (reply : Reply) → IsPlainReply reply → (before : Option Stop) → stopped_by reply before ≡ before
 plain_goes_on (replies.Disk doubt) plain before = absurd plain
@@ -64,11 +64,11 @@ asks_stopped g k who request stop is = record {
     step s front = rw (front.stopped, is, eq-eqb stop.moment stop.moment refl) refl
 
 -- one that answered
-pub asks_answered : {D : Type 0} (g : Ghosts D) (old new : Kernel D) (who : ℕ) (request : Request) (reply : Reply) → old.stop ≡ None → Tries g old new request (Ok reply) → Asks g old new who request reply
+pub asks_answered : {D : Type 0} (g : Ghosts D) (old new : Kernel D) (who : ℕ) (request : Request) (reply : Reply) → old.stop ≡ None → Tries g old new who request (Ok reply) → Asks g old new who request reply
 asks_answered g old new who request reply none tries = record {
-  event = λ s stands. happens g old new s who request reply (tries.ends s who (serves_from g old s none stands) none);
-  owed = λ _ s stands. (tries.ends s who (serves_from g old s none stands) none).owed;
-  still = λ _ s stands. (tries.ends s who (serves_from g old s none stands) none).still;
+  event = λ s stands. happens g old new s who request reply (tries.ends s (serves_from g old s none stands) none);
+  owed = λ _ s stands. (tries.ends s (serves_from g old s none stands) none).owed;
+  still = λ _ s stands. (tries.ends s (serves_from g old s none stands) none).still;
   stopped = λ stop is. cc;
   stops = λ _. tries.stop ∙ none ∙ sym (plain_goes_on reply tries.plain None);
   cause = λ _. plain_cause g old.disk new.disk reply tries.plain;
@@ -127,11 +127,11 @@ module _ {D : Type 0} (g : Ghosts D) (left_sized : (d : D) (t : ℕ) (c : Image)
   told_cause (refusals.Damaged damage) is = tt
   told_cause refusals.Memory is = tt
 
-  pub asks_refused : (refused : Refused) (new : Kernel D) → new ≡ stopped_as (told refused (g.moment mid.disk)) → Tries g old mid request (Err refused) → Asks g old new who request (told refused (g.moment mid.disk))
+  pub asks_refused : (refused : Refused) (new : Kernel D) → new ≡ stopped_as (told refused (g.moment mid.disk)) → Tries g old mid who request (Err refused) → Asks g old new who request (told refused (g.moment mid.disk))
   asks_refused refused new is tries = subst (λ (k : Kernel D). Asks g old k who request (told refused (g.moment mid.disk))) (sym is) (record {
-    event = λ s stands. let serves = serves_from g old s none stands in told_happens refused (g.moment mid.disk) s serves (tries.ends s who serves none);
-    still = λ _ s stands. told_still refused (g.moment mid.disk) s (tries.ends s who (serves_from g old s none stands) none);
-    owed = λ _ s stands. told_owed refused (g.moment mid.disk) s (tries.ends s who (serves_from g old s none stands) none);
+    event = λ s stands. let serves = serves_from g old s none stands in told_happens refused (g.moment mid.disk) s serves (tries.ends s serves none);
+    still = λ _ s stands. told_still refused (g.moment mid.disk) s (tries.ends s (serves_from g old s none stands) none);
+    owed = λ _ s stands. told_owed refused (g.moment mid.disk) s (tries.ends s (serves_from g old s none stands) none);
     stopped = λ stop same. cc;
     stops = λ _. ap (λ (o : Option Stop). stopped_by (told refused (g.moment mid.disk)) o) (tries.stop ∙ none);
     cause = λ _. told_cause refused tries.cause;
@@ -141,13 +141,3 @@ module _ {D : Type 0} (g : Ghosts D) (left_sized : (d : D) (t : ℕ) (c : Image)
     kept = tries.kept;
     drawn = tries.drawn;
   })
-
--- a session leaves where nothing is open
-pub leaves_nothing : {D : Type 0} (g : Ghosts D) (k : Kernel D) (s : State) (who : ℕ) → k.seats ≡ [] → StandsFor g k s → Happens g k k s (events.Leave who None)
-leaves_nothing g k s who seats stands = record { after = s; step = step; stands = stands; survives = inr (record { disk = refl; after = s; step = step; graph = refl }) }
-  where
-    none : s.grants ≡ []
-    none = empty_map s.grants (sym (ap (map (λ (seat : Seat). seat.grant)) seats) ∙ (front_of g k s stands).grants)
-
-    step : next k.words.seed s (events.Leave who None) ≡ Some s
-    step = ap (λ gs. Some (record s { grants = filter (λ x. not (x.session == who)) gs })) none ∙ ap (λ gs. Some (record s { grants = gs })) (sym none)

@@ -21,11 +21,12 @@ use Rattle.index_ops.specs.Creates.{with_made}
 use Rattle.puid_space.specs.Directory.{has_root_in}
 use Rattle.puid_space.specs.Kinds.{kind_of, kinds_of}
 use Rattle.puid_space.proofs.Graphs.{insert_entry-same, keys_of-kinds_in, kind_in-kinds_in, kinds_in-insert_entry}
-use Rattle.ufs_model.specs.declared.asked.Ref.TheVariants.{Direct}
 use Rattle.ufs_model.specs.declared.asked.Reply.TheVariants as replies
 use Rattle.ufs_model.specs.declared.asked.Request.{Request}
 use Rattle.ufs_model.specs.declared.collection.Collection.{Collection}
 use Rattle.ufs_model.specs.declared.collection.Collection.TheVariants as collections
+use Rattle.ufs_model.specs.declared.change.Change.TheVariants.{Fill}
+use Rattle.ufs_model.specs.declared.object.Draft.{Draft}
 use Rattle.ufs_model.specs.declared.object.Index.{Index}
 use Rattle.ufs_model.specs.declared.object.Object.{Object}
 use Rattle.ufs_model.specs.declared.object.Object.TheVariants as objects
@@ -34,11 +35,12 @@ use Rattle.ufs_model.specs.Identifier.{puid_cmp, rises, same_puid}
 use Rattle.ufs_model.specs.Object.{blocks_of}
 use Rattle.ufs_model.specs.Outcome.{created, with_edge}
 use Rattle.ufs_model.specs.Need.{need_of}
-use Rattle.ufs_model.specs.Refusal.{refusal_of}
-use Rattle.ufs_model.specs.State.{State}
+use Rattle.ufs_model.specs.Refusal.{refusal_of, target}
+use Rattle.ufs_model.specs.State.{State, changed_draft, named, put, seen}
 use Rattle.ufs_model.specs.Word.{word}
 use Rattle.ufs_model.proofs.Graphs.{object_at-with_object, rises-with_object}
 use Rattle.ufs_model.proofs.RootBlocks.{has_block-still}
+use Rattle.ufs_model.proofs.WellStates.{put_object-at, seen_object}
 use Rattle.vol_image.specs.Sound.{Holds}
 use Rattle.vol_image.proofs.Parts.{in_image}
 use Rattle.vol_image.proofs.Reached.{same_puid_is, same_puid_itself}
@@ -49,6 +51,7 @@ use Rattle.vol_owners.proofs.Rooms.{free_is_root}
 use Rattle.cfs_core.specs.Kernel.{Kernel}
 use Rattle.cfs_core.specs.Makes.{IsMaking}
 use Rattle.cfs_core.specs.StandsFor.{HasCollection, Serves, drafts_of_seats}
+use Rattle.cfs_core.specs.Ways.{Reaches}
 use Rattle.cfs_core.proofs.Changed.{of_this}
 use Rattle.cfs_core.proofs.Committed.{IsBeside, IsOutcome}
 use Rattle.cfs_core.proofs.Grown.{filled_blocks, replaced_blocks}
@@ -88,18 +91,18 @@ free_inside image g n holds free = at (entry_in image n) refl free
     at None is none = cc
     at (Some e) is free = in_image image g holds n e is
 
-pub need_is : (s : State) (who : ℕ) (index : Puid) (i : Index) (slot : ℕ) (o : Object) (request : Request) → IsMaking request index slot o → object_at s.graph index ≡ Some (objects.Index i) → need_of s who request ≡ 4
-need_is s who index i slot o request making found = making.need s who ∙ rw found refl
+pub need_is : (s : State) (who : ℕ) (index : Puid) (i : Index) (slot : ℕ) (o : Object) (request : Request) → IsMaking request slot o → Reaches s who request index (objects.Index i) → need_of s who request ≡ 4
+need_is s who index i slot o request making r = making.need s who ∙ rw (r.bare, r.name, r.there) refl
 
 -- ---- an object is made, with block b as its root
 
-module _ {D : Type 0} (g : Ghosts D) (k : Kernel D) (s : State) (who : ℕ) (serves : Serves g k s) (idle : k.collecting ≡ None) (seats : k.seats ≡ []) (index : Puid) (i : Index) (slot : ℕ) (o : Object) (one : blocks_of o ≡ 1) (request : Request) (making : IsMaking request index slot o)
-    (found : object_at s.graph index ≡ Some (objects.Index i)) (goes : refusal_of s who request ≡ None) (enough : 8 ≤ sum k.space.free) (b : ℕ) (least : IsLeastFree (g.content k.disk) b) where
+module _ {D : Type 0} (g : Ghosts D) (k : Kernel D) (s : State) (who : ℕ) (serves : Serves g k s) (idle : k.collecting ≡ None) (index : Puid) (i : Index) (slot : ℕ) (o : Object) (one : blocks_of o ≡ 1) (request : Request) (making : IsMaking request slot o)
+    (r : Reaches s who request index (objects.Index i)) (goes : refusal_of s who request ≡ None) (enough : 8 ≤ sum k.space.free) (b : ℕ) (least : IsLeastFree (g.content k.disk) b) where
   abbrev id : Puid
   id = record { block = b; word = word k.words.seed (s.drawn + 1) }
 
   abbrev after : State
-  after = (created k.words.seed s who (Direct index) slot o b).1
+  after = (created k.words.seed s who (target request) slot o b).1
 
   abbrev with_new : Graph
   with_new = with_object s.graph id o
@@ -122,13 +125,21 @@ module _ {D : Type 0} (g : Ghosts D) (k : Kernel D) (s : State) (who : ℕ) (ser
   apart : same_puid index id ≡ false
   apart = false_from_ne_true _ (λ same.
       let eq : index.block ≡ b = ap (λ (x : Puid). x.block) (same_puid_is index id same) in
-      both_ways _ no_root (subst (λ (n : ℕ). has_block s.graph.objects n ≡ true) eq (block_there s.graph index (objects.Index i) found)))
+      both_ways _ no_root (subst (λ (n : ℕ). has_block s.graph.objects n ≡ true) eq (block_there s.graph index (objects.Index i) r.there)))
 
   still : object_at with_new index ≡ Some (objects.Index i)
-  still = object_at-with_object s.graph id o index ∙ rw apart found
+  still = object_at-with_object s.graph id o index ∙ rw apart r.there
 
   up : rises (ids_of with_new) ≡ true
   up = rises-with_object s.graph id o serves.store.ordered
+
+  -- the identifier is put into the index as it was
+  filled_is : put (record s { graph = with_new; drawn = s.drawn + 1 }) who (target request) (changed_draft (Fill slot (Some id)) (seen s who (target request)))
+      ≡ record s { graph = h; drawn = s.drawn + 1 }
+  filled_is =
+      let more : State = record s { graph = with_new; drawn = s.drawn + 1 } in
+      put_object-at more who (target request) index (changed_draft (Fill slot (Some id)) (seen s who (target request))) r.name r.bare
+      ∙ ap (λ (d : Draft). record more { graph = with_object with_new index (changed_draft (Fill slot (Some id)) d).object }) (seen_object s who (target request) index (objects.Index i) r.name r.bare r.there)
 
   pub outcome : IsOutcome k s who b request (replies.Id id) after h 3
   outcome = record {
@@ -136,7 +147,7 @@ module _ {D : Type 0} (g : Ghosts D) (k : Kernel D) (s : State) (who : ℕ) (ser
     names = λ _. free_root;
     speaks = making.speaks who (replies.Id id);
     out = making.outcome k.words.seed s who b;
-    graph = rw found refl;
+    graph = ap (λ (t : State). t.graph) filled_is;
     few = omega (arith, replaced_blocks with_new index (objects.Index i) (index_with i slot (Some id)) 2 up still (filled_blocks i slot (Some id)), more_sum id o s.graph.objects, one);
     free = omega (arith, enough);
   }
@@ -156,20 +167,21 @@ module _ {D : Type 0} (g : Ghosts D) (k : Kernel D) (s : State) (who : ℕ) (ser
       words = record { seed = k.words.seed; drawn = k.words.drawn + 1 };
     }
 
-    quiet : (c : Collection) → c ≡ collections.None → with_edge (Some index) id c ≡ c
-    quiet c none = rw none refl
+    quiet : (o : Option Puid) (c : Collection) → c ≡ collections.None → with_edge o id c ≡ c
+    quiet None c none = rw none refl
+    quiet (Some x) c none = rw none refl
 
     pub beside : IsBeside k new s after h
     beside = record {
-      grants = refl;
-      stopped = refl;
-      collection = quiet s.collection (subst (HasCollection (g.content k.disk) s) idle serves.collecting);
+      grants = ap (λ (t : State). t.grants) filled_is;
+      stopped = ap (λ (t : State). t.stopped) filled_is;
+      collection = quiet (named s who (target request)) s.collection (subst (HasCollection (g.content k.disk) s) idle serves.collecting);
       rooted = refl;
       seats = refl;
       root = refl;
       collecting = refl;
       stop = refl;
-      drawn = ap (λ n. n + 1) serves.front.drawn;
+      drawn = ap (λ (t : State). t.drawn) filled_is ∙ ap (λ n. n + 1) serves.front.drawn;
       named = names_are;
     }
 

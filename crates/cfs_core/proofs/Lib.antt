@@ -1,4 +1,5 @@
 mod Serving
+mod Ways
 mod Refusing
 mod Answering
 mod Grown
@@ -9,6 +10,7 @@ mod Created
 mod Placed
 mod After
 mod Makings
+mod Regranted
 mod Asked
 mod SoundGraph
 mod Opened

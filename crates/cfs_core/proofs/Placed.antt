@@ -1,5 +1,5 @@
 -- What the store says of an object that is made, as the core has it.
-use Rattle.std.proofs.Common.{◌≡◌, ◌⊎◌, inl, inr, ⊎_elim, ℕ, ◌+◌, ◌<◌, ◌≤◌, List, [], ◌∷◌, length, true, false, Some, None, Result, Ok, Err, IsTrue, refl, sym, ◌∙◌, ap, subst, arith}
+use Rattle.std.proofs.Common.{◌≡◌, ◌⊎◌, inl, inr, ⊎_elim, ℕ, ◌+◌, ◌<◌, ◌≤◌, List, [], ◌∷◌, length, true, false, None, Result, Ok, Err, IsTrue, refl, sym, ◌∙◌, ap, subst, arith}
 use Rattle.std.specs.Prelude.{◌==◌, IfErr, sum}
 use Rattle.std.specs.List.{list_any}
 use Rattle.std.specs.BTreeMap.{insert_entry}
@@ -29,25 +29,24 @@ use Rattle.ufs_model.specs.declared.asked.Request.{Request}
 use Rattle.ufs_model.specs.declared.object.Index.{Index}
 use Rattle.ufs_model.specs.declared.object.Object.{Object}
 use Rattle.ufs_model.specs.declared.object.Object.TheVariants as objects
-use Rattle.ufs_model.specs.Graph.{Graph, has_block, object_at}
+use Rattle.ufs_model.specs.Graph.{Graph, has_block}
 use Rattle.ufs_model.specs.Identifier.{puid_cmp}
 use Rattle.ufs_model.specs.Outcome.{created}
 use Rattle.ufs_model.specs.declared.asked.Event.TheVariants as events
-use Rattle.ufs_model.specs.declared.asked.Ref.TheVariants.{Direct}
 use Rattle.ufs_model.specs.Object.{blocks_of}
-use Rattle.ufs_model.specs.Refusal.{refusal_of}
+use Rattle.ufs_model.specs.Refusal.{refusal_of, target}
 use Rattle.ufs_model.specs.State.{State}
 use Rattle.ufs_model.specs.Word.{word}
 use Rattle.vol_image.specs.Sound.{Holds}
-use Rattle.vol_owners.specs.Account.{drafts_of}
 use Rattle.cfs_core.specs.Calls.{Answers, ByWant, EndsSo, IsCause, IsInDoubt, IsShort}
 use Rattle.cfs_core.specs.Kernel.{Kernel}
 use Rattle.cfs_core.specs.Makes.{IsMaking, Names, TriesToMake}
 use Rattle.cfs_core.specs.StandsFor.{Serves, drafts_of_seats}
+use Rattle.cfs_core.specs.Ways.{Reaches}
 use Rattle.cfs_core.proofs.Answering.{disk_failed, memory, reads_none}
 use Rattle.cfs_core.proofs.Committed.{did, in_doubt}
 use Rattle.cfs_core.proofs.Created.{beside, inside, least_one, least_there, need_is, no_root, not_zero, outcome, theirs}
-use Rattle.cfs_core.proofs.Serving.{no_grants, running, stays}
+use Rattle.cfs_core.proofs.Serving.{running, shut, stays}
 
 root_is : (named : List (Puid × Kind)) (g : Graph) (b : ℕ) → named ≡ kinds_of g → has_root_in named b ≡ has_block g.objects b
 root_is named g b is = ap (λ ns. has_root_in ns b) is ∙ ap (λ ids. list_any (λ (id : Puid). id.block == b) ids) (keys_of-kinds_in g.objects)
@@ -75,7 +74,7 @@ never_full g at slot old new before after need (inl none) = none
 never_full g at slot old new before after need (inr map) = let no = map.is in cc
 
 module _ {D : Type 0} (g : Ghosts D) (left_sized : (d : D) (t : ℕ) (c : Image) → g.left_since d t c → length c ≡ g.blocks d) (sized : (d : D) → IsTrue (g.honest d) → length (g.content d) ≡ g.blocks d)
-    (k : Kernel D) (d : D) (space : Kept) (seats : k.seats ≡ []) (idle : k.collecting ≡ None) (room : k.names.room ≡ g.blocks k.disk) (index : Puid) (slot : ℕ) (o : Object) (one : blocks_of o ≡ 1) (w : ℕ) (word_is : w ≡ word k.words.seed (k.words.drawn + 1))
+    (k : Kernel D) (d : D) (space : Kept) (idle : k.collecting ≡ None) (room : k.names.room ≡ g.blocks k.disk) (index : Puid) (slot : ℕ) (o : Object) (one : blocks_of o ≡ 1) (w : ℕ) (word_is : w ≡ word k.words.seed (k.words.drawn + 1))
     (r : Result Puid Refused) (puts : PutsObject g index.block slot o w k.disk d k.space space r) (enough : 8 ≤ sum k.space.free) where
   abbrev mid : Kernel D
   mid = record k { disk = d; space = space }
@@ -83,13 +82,13 @@ module _ {D : Type 0} (g : Ghosts D) (left_sized : (d : D) (t : ℕ) (c : Image)
   size : g.blocks d ≡ g.blocks k.disk
   size = puts.calls.same.size
 
-  module _ (request : Request) (making : IsMaking request index slot o) (s : State) (who : ℕ) (i : Index) (serves : Serves g k s) (none : k.stop ≡ None) (found : object_at s.graph index ≡ Some (objects.Index i)) (within : slot < length i.slots) (goes : refusal_of s who request ≡ None) where
+  module _ (request : Request) (making : IsMaking request slot o) (s : State) (who : ℕ) (i : Index) (serves : Serves g k s) (none : k.stop ≡ None) (reach : Reaches s who request index (objects.Index i)) (within : slot < length i.slots) (goes : refusal_of s who request ≡ None) where
     has : HasSlot g s.graph (drafts_of_seats k.seats s.grants) k.disk k.space index.block index i slot
     has = record {
       store = serves.store;
       root = refl;
-      there = found;
-      shut = ap (λ x. drafts_of (drafts_of_seats x s.grants) index) seats ∙ ap (λ x. drafts_of (drafts_of_seats [] x) index) (no_grants g k s serves seats);
+      there = reach.there;
+      shut = shut g k s serves index i reach.there;
       inside = within;
     }
 
@@ -104,7 +103,7 @@ module _ {D : Type 0} (g : Ghosts D) (left_sized : (d : D) (t : ℕ) (c : Image)
         (subst (λ (q : Puid). Holds c (with_made s.graph index i slot q o)) (ap (λ n. named n w) (least_one (g.content k.disk) t.0 b t.1 least) ∙ ap (λ n. named b n) word_drawn) t.2)) p)
 
     short : ¬ IsShort s who request (sum k.space.free)
-    short is = omega (arith, is.few, enough, need_is s who index i slot o request making found)
+    short is = omega (arith, is.few, enough, need_is s who index i slot o request making reach)
 
     made : (p : Puid) → r ≡ Ok p → (new : Kernel D) (result : Result Reply Refused) → Names mid new p (kind_of o) result → EndsSo g k new s who request result
     made p is new result names =
@@ -112,16 +111,16 @@ module _ {D : Type 0} (g : Ghosts D) (left_sized : (d : D) (t : ℕ) (c : Image)
         let least = two.1.least in
         let same : id_at p.block ≡ p = ap (λ n. named p.block n) (sym word_drawn ∙ sym two.0) in
         let b = p.block in
-        let there = inside g k s who serves idle seats index i slot o one request making found goes enough b least in
-        let named_so = names.named (not_zero g k s who serves idle seats index i slot o one request making found goes enough b least) (omega (arith, there, room, sized k.disk serves.store.carries.tells.honest))
-        (root_is k.names.named s.graph b serves.front.names ∙ no_root g k s who serves idle seats index i slot o one request making found goes enough b least) in
-        let answers = did g left_sized sized k (kernel_with (id_at b)) size none idle s (created k.words.seed s who (Direct index) slot o b).1 who b request (replies.Id (id_at b)) serves (with_made s.graph index i slot (id_at b) o) 3
-        (outcome g k s who serves idle seats index i slot o one request making found goes enough b least) (leaves_at b least) (beside g k s who serves idle seats index i slot o one request making found goes enough b least d space) (index.block ∷ b ∷ [])
+        let there = inside g k s who serves idle index i slot o one request making reach goes enough b least in
+        let named_so = names.named (not_zero g k s who serves idle index i slot o one request making reach goes enough b least) (omega (arith, there, room, sized k.disk serves.store.carries.tells.honest))
+        (root_is k.names.named s.graph b serves.front.names ∙ no_root g k s who serves idle index i slot o one request making reach goes enough b least) in
+        let answers = did g left_sized sized k (kernel_with (id_at b)) size none idle s (created k.words.seed s who (target request) slot o b).1 who b request (replies.Id (id_at b)) serves (with_made s.graph index i slot (id_at b) o) 3
+        (outcome g k s who serves idle index i slot o one request making reach goes enough b least) (leaves_at b least) (beside g k s who serves idle index i slot o one request making reach goes enough b least d space) (index.block ∷ b ∷ [])
         (record {
           store = subst (λ (q : Puid). StoreHas g (with_made s.graph index i slot q o) (drafts_of_seats k.seats s.grants) d space) (sym same) two.1.store;
           settled = two.1.settled;
           only = two.1.only;
-          these = theirs g k s who serves idle seats index i slot o one request making found goes enough b least;
+          these = theirs g k s who serves idle index i slot o one request making reach goes enough b least;
         })
         tt refl short (λ _. least) in
         subst (EndsSo g k new s who request) (sym named_so.0)
@@ -139,8 +138,8 @@ module _ {D : Type 0} (g : Ghosts D) (left_sized : (d : D) (t : ℕ) (c : Image)
     doubtful : IsInDoubt g k mid s who request
     doubtful =
         let some = least_there (g.content k.disk) (length (g.content k.disk)) 0 (λ m below. absurd (omega (arith, below))) (omega (arith, enough, sum_is (g.content k.disk) k.space serves.store.counts)) in
-        in_doubt g left_sized sized k mid size none idle s (created k.words.seed s who (Direct index) slot o some.0).1 who some.0 request (replies.Id (id_at some.0)) serves (with_made s.graph index i slot (id_at some.0) o) 3
-        (outcome g k s who serves idle seats index i slot o one request making found goes enough some.0 some.1) (leaves_at some.0 some.1) refl
+        in_doubt g left_sized sized k mid size none idle s (created k.words.seed s who (target request) slot o some.0).1 who some.0 request (replies.Id (id_at some.0)) serves (with_made s.graph index i slot (id_at some.0) o) 3
+        (outcome g k s who serves idle index i slot o one request making reach goes enough some.0 some.1) (leaves_at some.0 some.1) refl
 
     as_it_was : (space ≡ k.space) × OnlyReads g 9 k.disk d → mid ≡ record k { disk = d }
     as_it_was two = ap (λ (x : Kept). record k { disk = d; space = x }) two.0
@@ -158,7 +157,7 @@ module _ {D : Type 0} (g : Ghosts D) (left_sized : (d : D) (t : ℕ) (c : Image)
 
   pub tries_made : (p : Puid) → r ≡ Ok p → (new : Kernel D) (result : Result Reply Refused) → Names mid new p (kind_of o) result → TriesToMake g k new index slot o result
   tries_made p is new result names = record {
-    ends = λ request making s who i serves none found within goes. made request making s who i serves none found within goes p is new result names;
+    ends = λ request making s who i serves none reach within goes. made request making s who i serves none reach within goes p is new result names;
     plain = names.plain;
     cause = if_astray g k.disk new.disk result names.astray;
     size = ap g.blocks names.disk ∙ size;
@@ -170,11 +169,11 @@ module _ {D : Type 0} (g : Ghosts D) (left_sized : (d : D) (t : ℕ) (c : Image)
 
   pub tries_unmade : (e : Refused) → r ≡ Err e → TriesToMake g k mid index slot o (Err e)
   tries_unmade e is = record {
-    ends = λ request making s who i serves none found within goes. failed request making s who i serves none found within goes e
+    ends = λ request making s who i serves none reach within goes. failed request making s who i serves none reach within goes e
         (subst (λ (x : Result Puid Refused). IfErr x (λ f. f ≡ refusals.Disk false → (space ≡ k.space) × OnlyReads g 9 k.disk d)) is puts.untried)
         (subst (λ (x : Result Puid Refused). IfErr x (λ f. f ≡ refusals.Memory → (space ≡ k.space) × OnlyReads g 9 k.disk d)) is puts.memory)
         (subst (λ (x : Result Puid Refused). IfErr x (λ f. IsIndexRefusal g index.block slot k.disk d space f ⊎ IsOpenMap g k.disk k.space f)) is puts.refused)
-        (sound_at request making s who i serves none found within goes e is);
+        (sound_at request making s who i serves none reach within goes e is);
     plain = tt;
     cause = refusal_cause g index.block slot k.disk d k.space space e (rw is at puts.refused);
     size = size;
@@ -187,14 +186,14 @@ module _ {D : Type 0} (g : Ghosts D) (left_sized : (d : D) (t : ℕ) (c : Image)
 -- ---- too few blocks are Free
 
 module _ {D : Type 0} (g : Ghosts D) (left_sized : (d : D) (t : ℕ) (c : Image) → g.left_since d t c → length c ≡ g.blocks d) (sized : (d : D) → IsTrue (g.honest d) → length (g.content d) ≡ g.blocks d)
-    (k : Kernel D) (d : D) (space : Kept) (same_disk : d ≡ k.disk) (same_space : space ≡ k.space) (seats : k.seats ≡ []) (index : Puid) (slot : ℕ) (o : Object) (few : sum k.space.free < 8) where
+    (k : Kernel D) (d : D) (space : Kept) (same_disk : d ≡ k.disk) (same_space : space ≡ k.space) (index : Puid) (slot : ℕ) (o : Object) (few : sum k.space.free < 8) where
   reads : OnlyReads g 0 k.disk d
   reads = subst (λ x. OnlyReads g 0 k.disk x) (sym same_disk) (reads_none g 0 k.disk)
 
   pub tries_short : TriesToMake g k (record k { disk = d; space = space }) index slot o (Err (refusals.Full (record { free = sum k.space.free; need = 4 })))
   tries_short = record {
-    ends = λ request making s who i serves none found within goes.
-        let need = need_is s who index i slot o request making found in record {
+    ends = λ request making s who i serves none reach within goes.
+        let need = need_is s who index i slot o request making reach in record {
           event = stays g 0 k (record k { disk = d; space = space }) reads (ap (λ (x : Kept). record k { disk = d; space = x }) same_space) s serves left_sized (sized k.disk serves.store.carries.tells.honest) none
               (events.Ask who request (replies.Full (record { free = sum k.space.free; need = 4 }))) (making.full k.words.seed s who (sum k.space.free) (running g k s serves none) goes need few);
           still = λ all. reads.content;

@@ -1,5 +1,5 @@
 -- What the store says of a slot that is filled or emptied, as the core has it.
-use Rattle.std.proofs.Common.{◌≡◌, ℕ, ◌+◌, ◌<◌, ◌≤◌, [], length, true, false, Option, Some, None, Result, Ok, Err, IsTrue, refl, sym, ◌∙◌, ap, subst, arith}
+use Rattle.std.proofs.Common.{◌≡◌, ℕ, ◌+◌, ◌<◌, ◌≤◌, length, true, false, Option, None, Result, Ok, Err, IsTrue, refl, sym, ap, subst, arith}
 use Rattle.std.specs.Prelude.{IfErr, IfOk, sum}
 use Rattle.cfs_base.specs.Calls.{OnlyReads}
 use Rattle.cfs_base.specs.Disk.{Image}
@@ -11,26 +11,25 @@ use Rattle.cyl_alloc.specs.Space.{Kept}
 use Rattle.index_ops.specs.Changes.{HasSlot, IsIndexRefusal, PutsSlot, index_with}
 use Rattle.ufs_model.specs.declared.asked.Event.TheVariants as events
 use Rattle.cfs_base.specs.declared.refusal.Need.{Need}
-use Rattle.ufs_model.specs.declared.asked.Ref.TheVariants.{Direct}
+use Rattle.ufs_model.specs.declared.asked.Ref.{Ref}
 use Rattle.ufs_model.specs.declared.asked.Reply.TheVariants as replies
 use Rattle.ufs_model.specs.declared.asked.Request.{Request}
 use Rattle.ufs_model.specs.declared.asked.Request.TheVariants as asks
 use Rattle.ufs_model.specs.declared.object.Index.{Index}
 use Rattle.ufs_model.specs.declared.object.Object.TheVariants as objects
-use Rattle.ufs_model.specs.Graph.{object_at}
 use Rattle.ufs_model.specs.Outcome.{creates, outcome_of}
 use Rattle.ufs_model.specs.Refusal.{refusal_of}
 use Rattle.ufs_model.specs.State.{State}
 use Rattle.ufs_model.specs.WellFormed.{IsSpeakable}
-use Rattle.vol_owners.specs.Account.{drafts_of}
 use Rattle.cfs_core.specs.Calls.{ByWant, EndsSo, IsCause, IsShort, TriesOn, done_or}
 use Rattle.cfs_core.specs.Kernel.{Kernel}
 use Rattle.cfs_core.specs.StandsFor.{Serves, drafts_of_seats}
+use Rattle.cfs_core.specs.Ways.{Reaches}
 use Rattle.cfs_core.proofs.Answering.{disk_failed, memory, reads_none}
 use Rattle.cfs_core.proofs.Changed.{slot_did, slot_in_doubt}
 use Rattle.cfs_core.proofs.Grown.{added_by}
 use Rattle.cfs_core.proofs.Refusing.{Puts, retain_full, retain_need}
-use Rattle.cfs_core.proofs.Serving.{no_grants, running, stays}
+use Rattle.cfs_core.proofs.Serving.{running, shut, stays}
 
 refusal_cause : {D : Type 0} (g : Ghosts D) (at slot : ℕ) (old new : D) (after : Kept) (e : Refused) → IsIndexRefusal g at slot old new after e → IsCause g old new e
 refusal_cause g at slot old new after (refusals.Full need) is = tt
@@ -43,21 +42,21 @@ done_cause g at slot old new after (Ok u) is = tt
 done_cause g at slot old new after (Err e) is = refusal_cause g at slot old new after e is
 
 module _ {D : Type 0} (g : Ghosts D) (left_sized : (d : D) (t : ℕ) (c : Image) → g.left_since d t c → length c ≡ g.blocks d) (sized : (d : D) → IsTrue (g.honest d) → length (g.content d) ≡ g.blocks d)
-    (k : Kernel D) (d : D) (space : Kept) (seats : k.seats ≡ []) (idle : k.collecting ≡ None) (index : Puid) (slot : ℕ) (what : Option Puid) (request : Request) (makes : creates request ≡ false)
+    (k : Kernel D) (d : D) (space : Kept) (idle : k.collecting ≡ None) (index : Puid) (slot : ℕ) (what : Option Puid) (request : Request) (makes : creates request ≡ false)
     (speaks : IsSpeakable (events.Ask 0 request replies.Done)) (result : Result (Unit {0}) Refused) (puts : PutsSlot g index.block slot what k.disk d k.space space result)
-    (out : (s : State) (who : ℕ) (i : Index) → Serves g k s → object_at s.graph index ≡ Some (objects.Index i)
+    (out : (s : State) (who : ℕ) (i : Index) → Serves g k s → Reaches s who request index (objects.Index i)
     → (outcome_of k.words.seed s who request 0 ≡ (replies.Done, (outcome_of k.words.seed s who request 0).1)) × Puts s (outcome_of k.words.seed s who request 0).1 index (index_with i slot what))
-    (room : (s : State) (who : ℕ) (i : Index) → Serves g k s → object_at s.graph index ≡ Some (objects.Index i) → (¬ IsShort s who request (sum k.space.free)) × (added_by what + 4 ≤ sum k.space.free)) where
+    (room : (s : State) (who : ℕ) (i : Index) → Serves g k s → Reaches s who request index (objects.Index i) → (¬ IsShort s who request (sum k.space.free)) × (added_by what + 4 ≤ sum k.space.free)) where
   abbrev new : Kernel D
   new = record k { disk = d; space = space }
 
-  module _ (s : State) (who : ℕ) (i : Index) (serves : Serves g k s) (none : k.stop ≡ None) (found : object_at s.graph index ≡ Some (objects.Index i)) (inside : slot < length i.slots) (goes : refusal_of s who request ≡ None) where
+  module _ (s : State) (who : ℕ) (i : Index) (serves : Serves g k s) (none : k.stop ≡ None) (reach : Reaches s who request index (objects.Index i)) (inside : slot < length i.slots) (goes : refusal_of s who request ≡ None) where
     has : HasSlot g s.graph (drafts_of_seats k.seats s.grants) k.disk k.space index.block index i slot
     has = record {
       store = serves.store;
       root = refl;
-      there = found;
-      shut = ap (λ x. drafts_of (drafts_of_seats x s.grants) index) seats ∙ ap (λ x. drafts_of (drafts_of_seats [] x) index) (no_grants g k s serves seats);
+      there = reach.there;
+      shut = shut g k s serves index i reach.there;
       inside = inside;
     }
 
@@ -68,20 +67,20 @@ module _ {D : Type 0} (g : Ghosts D) (left_sized : (d : D) (t : ℕ) (c : Image)
     speak w = speaks
 
     ends : (r : Result (Unit {0}) Refused) → r ≡ result → EndsSo g k new s who request (done_or r)
-    ends (Ok u) is = slot_did g left_sized sized k new size refl none idle s (outcome_of k.words.seed s who request 0).1 who request serves index i found slot what goes makes (speak who)
-        (out s who i serves found).0 (out s who i serves found).1 (room s who i serves found).0 (room s who i serves found).1
+    ends (Ok u) is = slot_did g left_sized sized k new size refl none idle s (outcome_of k.words.seed s who request 0).1 who request serves index i reach.there slot what goes makes (speak who)
+        (out s who i serves reach).0 (out s who i serves reach).1 (room s who i serves reach).0 (room s who i serves reach).1
         (puts.leaves s.graph (drafts_of_seats k.seats s.grants) index i has) (rw (← is) at (puts.done s.graph (drafts_of_seats k.seats s.grants) index i has))
     ends (Err (refusals.Full need)) is = absurd (rw (← is) at puts.refused)
     ends (Err (refusals.Disk false)) is = let two = (rw (← is) at puts.untried) refl in disk_failed g left_sized sized 9 k new two.1 (ap (λ (x : Kept). record k { disk = d; space = x }) two.0) s who serves none request
-    ends (Err (refusals.Disk true)) is = slot_in_doubt g left_sized sized k new size refl none idle s (outcome_of k.words.seed s who request 0).1 who request serves index i found slot what goes makes (speak who)
-        (out s who i serves found).0 (out s who i serves found).1 (room s who i serves found).0 (room s who i serves found).1
+    ends (Err (refusals.Disk true)) is = slot_in_doubt g left_sized sized k new size refl none idle s (outcome_of k.words.seed s who request 0).1 who request serves index i reach.there slot what goes makes (speak who)
+        (out s who i serves reach).0 (out s who i serves reach).1 (room s who i serves reach).0 (room s who i serves reach).1
         (puts.leaves s.graph (drafts_of_seats k.seats s.grants) index i has)
     ends (Err (refusals.Damaged damage)) is = let no : true ≡ false = rw (← is) at (puts.sound s.graph (drafts_of_seats k.seats s.grants) index i has) in cc
     ends (Err refusals.Memory) is = let two = (rw (← is) at puts.memory) refl in memory g left_sized sized 9 k new two.1 (ap (λ (x : Kept). record k { disk = d; space = x }) two.0) s who serves none request
 
   pub tries_put : TriesOn g k new index slot request (done_or result)
   tries_put = record {
-    ends = λ s who i serves none found inside goes. ends s who i serves none found inside goes result refl;
+    ends = λ s who i serves none reach inside goes. ends s who i serves none reach inside goes result refl;
     plain = plain result;
     cause = done_cause g index.block slot k.disk d space result puts.refused;
     size = puts.calls.same.size;
@@ -98,9 +97,9 @@ module _ {D : Type 0} (g : Ghosts D) (left_sized : (d : D) (t : ℕ) (c : Image)
 -- ---- too few blocks are Free
 
 module _ {D : Type 0} (g : Ghosts D) (left_sized : (d : D) (t : ℕ) (c : Image) → g.left_since d t c → length c ≡ g.blocks d) (sized : (d : D) → IsTrue (g.honest d) → length (g.content d) ≡ g.blocks d)
-    (k : Kernel D) (d : D) (space : Kept) (same_disk : d ≡ k.disk) (same_space : space ≡ k.space) (seats : k.seats ≡ []) (index : Puid) (slot : ℕ) (id : Puid) (few : sum k.space.free < 7) where
+    (k : Kernel D) (d : D) (space : Kept) (same_disk : d ≡ k.disk) (same_space : space ≡ k.space) (index : Puid) (to : Ref) (slot : ℕ) (id : Puid) (few : sum k.space.free < 7) where
   abbrev request : Request
-  request = asks.Retain (Direct index) slot id
+  request = asks.Retain to slot id
 
   abbrev need : Need
   need = record { free = sum k.space.free; need = 3 }
@@ -113,12 +112,12 @@ module _ {D : Type 0} (g : Ghosts D) (left_sized : (d : D) (t : ℕ) (c : Image)
 
   pub tries_full : TriesOn g k (record k { disk = d; space = space }) index slot request (Err (refusals.Full need))
   tries_full = record {
-    ends = λ s who i serves none found inside goes. record {
+    ends = λ s who i serves none reach inside goes. record {
       event = stays g 0 k (record k { disk = d; space = space }) reads as_it_was s serves left_sized (sized k.disk serves.store.carries.tells.honest) none (events.Ask who request (replies.Full need))
-          (retain_full k.words.seed s who index i (no_grants g k s serves seats) found slot (sum k.space.free) id (running g k s serves none) goes few);
+          (retain_full k.words.seed s who to index i slot (sum k.space.free) id reach (running g k s serves none) goes few);
       still = λ all. reads.content;
-      owed = ByWant goes (record { delete = refl; few = omega (arith, few, retain_need k.words.seed s who index i (no_grants g k s serves seats) found slot id) })
-          (ap (λ (n : ℕ). replies.Full (record { free = sum k.space.free; need = n })) (sym (retain_need k.words.seed s who index i (no_grants g k s serves seats) found slot id)));
+      owed = ByWant goes (record { delete = refl; few = omega (arith, few, retain_need k.words.seed s who to index i slot id reach) })
+          (ap (λ (n : ℕ). replies.Full (record { free = sum k.space.free; need = n })) (sym (retain_need k.words.seed s who to index i slot id reach)));
     };
     plain = tt;
     cause = tt;

@@ -17,8 +17,11 @@ use Rattle.special_files.proofs.Begun.{store_reads}
 use Rattle.survival.specs.Held.{Fits}
 use Rattle.survival.proofs.Calls.{loose}
 use Rattle.ufs_model.specs.declared.asked.Event.{Event}
-use Rattle.ufs_model.specs.declared.object.Grant.{Grant}
+use Rattle.ufs_model.specs.declared.object.Index.{Index}
 use Rattle.ufs_model.specs.declared.object.Object.{Object}
+use Rattle.ufs_model.specs.declared.object.Object.TheVariants as objects
+use Rattle.open_table.specs.declared.grant.Grant as seats
+use Rattle.open_table.specs.Model.{table_of}
 use Rattle.ufs_model.specs.Graph.{Graph, is_there, object_at}
 use Rattle.ufs_model.specs.Identifier.{same_puid}
 use Rattle.ufs_model.specs.Next.{next}
@@ -27,12 +30,13 @@ use Rattle.ufs_model.proofs.WellGraphs.{closed_graph}
 use Rattle.vol_image.specs.Sound.{Holds, IsClosedGraph, graph_blocks}
 use Rattle.vol_image.proofs.Law.{frames_hold}
 use Rattle.vol_image.proofs.Reached.{same_puid_is}
-use Rattle.vol_owners.specs.Account.{IsSwept, Opened}
+use Rattle.vol_owners.specs.Account.{IsSwept, Opened, drafts_of}
 use Rattle.vol_owners.specs.Room.{blocks_taken}
 use Rattle.vol_owners.proofs.Rooms.{no_strays, room}
 use Rattle.cfs_core.specs.Calls.{Makes}
-use Rattle.cfs_core.specs.Kernel.{Kernel, Seat}
-use Rattle.cfs_core.specs.StandsFor.{HasCollection, Serves, Stands, StandsFor, bare, drafts_of_seats, is_sweeping}
+use Rattle.cfs_core.specs.Kernel.{Kernel, Seat, bare_seats}
+use Rattle.cfs_core.specs.StandsFor.{HasCollection, IsFront, Serves, Stands, StandsFor, drafts_of_seats, is_sweeping}
+use Rattle.cfs_core.proofs.Ways.{grants_of_bare, shut_at}
 
 -- ---- the directory
 
@@ -51,17 +55,17 @@ named_root (e ∷ es) id kind found = elim (same_puid id e.0) as (λ b. same_pui
 pub named_some : (named : List (Puid × Kind)) (id : Puid) (kind : Kind) → has_root_in named 0 ≡ false → kind_in named id ≡ Some kind → id.block ≢ 0
 named_some named id kind none found = λ zero_is. let has = named_root named id kind found in let no : has_root_in named 0 ≡ true = subst (λ (n : ℕ). has_root_in named n ≡ true) zero_is has in cc
 
--- ---- a core without a grant
-
-pub empty_map : (grants : List Grant) → [] ≡ map bare grants → grants ≡ []
-empty_map [] is = refl
-empty_map (grant ∷ grants) is = cc
+-- ---- a core that serves
 
 pub serves_from : {D : Type 0} (g : Ghosts D) (k : Kernel D) (s : State) → k.stop ≡ None → StandsFor g k s → Serves g k s
 serves_from g k s none stands = subst (Stands g k s) none stands
 
 pub stands_from : {D : Type 0} (g : Ghosts D) (k : Kernel D) (s : State) → k.stop ≡ None → Serves g k s → StandsFor g k s
 stands_from g k s none serves = subst (Stands g k s) (sym none) serves
+
+-- the grants of the state, as the core has them
+pub table_is : {D : Type 0} (k : Kernel D) (s : State) → IsFront k s → (grants : List seats.Grant) → k.seats ≡ bare_seats grants → table_of s.grants ≡ grants
+table_is k s front grants is = sym front.grants ∙ ap (map (λ (seat : Seat). seat.grant)) is ∙ grants_of_bare grants
 
 module _ {D : Type 0} (g : Ghosts D) (k : Kernel D) (s : State) (serves : Serves g k s) where
   abbrev drafts : List Opened
@@ -70,8 +74,9 @@ module _ {D : Type 0} (g : Ghosts D) (k : Kernel D) (s : State) (serves : Serves
   pub running : k.stop ≡ None → is_running s ≡ true
   running none = rw (serves.front.stopped, none) refl
 
-  pub no_grants : k.seats ≡ [] → s.grants ≡ []
-  no_grants none = empty_map s.grants (sym (ap (map (λ (seat : Seat). seat.grant)) none) ∙ serves.front.grants)
+  -- an index has no draft
+  pub shut : (index : Puid) (i : Index) → object_at s.graph index ≡ Some (objects.Index i) → drafts_of drafts index ≡ []
+  shut index i found = shut_at s.graph index i found k.seats s.grants serves.front.grants serves.state.grants
 
   pub kind_there : (id : Puid) → kind_in k.names.named id ≡ option_map kind_of (object_at s.graph id)
   kind_there id = ap (λ named. kind_in named id) serves.front.names ∙ kind_in-kinds_in s.graph.objects id

@@ -18,7 +18,6 @@ use Rattle.ufs_model.specs.declared.asked.Request.{Request}
 use Rattle.ufs_model.specs.declared.asked.Request.TheVariants as asks
 use Rattle.ufs_model.specs.declared.object.Index.{Index}
 use Rattle.ufs_model.specs.declared.object.Object.TheVariants as objects
-use Rattle.ufs_model.specs.Graph.{object_at}
 use Rattle.ufs_model.specs.Limits.{reserve}
 use Rattle.ufs_model.specs.Need.{need_of}
 use Rattle.ufs_model.specs.Next.{next}
@@ -31,6 +30,7 @@ use Rattle.vol_image.specs.Sound.{Holds}
 use Rattle.vol_image.specs.Survives.{MayName}
 use Rattle.cfs_core.specs.Kernel.{Kernel}
 use Rattle.cfs_core.specs.StandsFor.{Serves, StandsFor}
+use Rattle.cfs_core.specs.Ways.{Reaches}
 
 -- ---- requests that are served
 
@@ -130,9 +130,9 @@ IsCause g old new (refusals.Disk tried) = HasStopped g tried old new
 IsCause g old new (refusals.Damaged damage) = Unit {0}
 IsCause g old new refusals.Memory = Unit {0}
 
--- A call that tries to answer a request of a core that hasn't stopped, on any disk.
-pub record Tries {D : Type 0} (g : Ghosts D) (old new : Kernel D) (request : Request) (result : Result Reply Refused) : Type 0 where
-  pub ends : (s : State) (who : ℕ) → Serves g old s → old.stop ≡ None → EndsSo g old new s who request result
+-- A call that tries to answer a session's request of a core that hasn't stopped, on any disk.
+pub record Tries {D : Type 0} (g : Ghosts D) (old new : Kernel D) (who : ℕ) (request : Request) (result : Result Reply Refused) : Type 0 where
+  pub ends : (s : State) → Serves g old s → old.stop ≡ None → EndsSo g old new s who request result
   pub plain : IfOk result IsPlainReply
   pub cause : IfErr result (IsCause g old.disk new.disk)
   pub size : g.blocks new.disk ≡ g.blocks old.disk
@@ -143,7 +143,7 @@ pub record Tries {D : Type 0} (g : Ghosts D) (old new : Kernel D) (request : Req
 
 -- The same of a request on a slot that an index has.
 pub record TriesOn {D : Type 0} (g : Ghosts D) (old new : Kernel D) (index : Puid) (slot : ℕ) (request : Request) (result : Result Reply Refused) : Type 0 where
-  pub ends : (s : State) (who : ℕ) (i : Index) → Serves g old s → old.stop ≡ None → object_at s.graph index ≡ Some (objects.Index i) → slot < length i.slots
+  pub ends : (s : State) (who : ℕ) (i : Index) → Serves g old s → old.stop ≡ None → Reaches s who request index (objects.Index i) → slot < length i.slots
       → refusal_of s who request ≡ None → EndsSo g old new s who request result
   pub plain : IfOk result IsPlainReply
   pub cause : IfErr result (IsCause g old.disk new.disk)

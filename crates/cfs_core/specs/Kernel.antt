@@ -1,5 +1,6 @@
 -- What contracts see of a core.
-use Rattle.std.specs.Prelude.{◌≡◌, ℕ, ◌*◌, false, List, length, Option}
+use Rattle.std.specs.Prelude.{◌≡◌, ℕ, ◌*◌, true, false, nat_le, List, map, length, Option, None}
+use Rattle.std.specs.List.{list_all}
 use Rattle.cfs_base.specs.declared.identifier.Puid.{Puid}
 use Rattle.collector_steps.specs.Collecting.{Collecting}
 use Rattle.cyl_alloc.specs.Space.{Kept}
@@ -14,6 +15,10 @@ pub record Seat : Type 0 where
   pub grant : Grant
   pub drafting : Option Drafting
 
+-- the seats of grants that have no draft
+abbrev pub bare_seats : List Grant → List Seat
+bare_seats grants = map (λ grant. record { grant = grant; drafting = None }) grants
+
 pub record Kernel (D : Type 0) : Type 0 where
   pub disk : D
   pub root : Puid
@@ -27,8 +32,10 @@ pub record Kernel (D : Type 0) : Type 0 where
   pub collecting : Option Collecting
   pub stop : Option Stop
 
--- On any disk: it has 64 blocks a cylinder, there is room for the identifier of each, and none has block 0.
-pub record IsSized {D : Type 0} (blocks : D → ℕ) (disk : D) (names : Listing) (space : Kept) : Type 0 where
+-- On any disk: it has 64 blocks a cylinder, there is room for the identifier of each, and none has block 0. Each grant was
+-- drawn.
+pub record IsSized {D : Type 0} (blocks : D → ℕ) (disk : D) (names : Listing) (space : Kept) (grants : List Grant) (drawn : ℕ) : Type 0 where
   pub size : blocks disk ≡ 64 * length space.free
   pub room : names.room ≡ blocks disk
   pub some : has_root_in names.named 0 ≡ false
+  pub drawn_all : list_all (λ grant. nat_le grant.tuid.draw drawn) grants ≡ true

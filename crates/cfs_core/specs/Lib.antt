@@ -3,6 +3,7 @@ pub mod StandsFor
 pub mod Room
 pub mod Calls
 pub mod Looks
+pub mod Ways
 pub mod Makes
 pub mod Asked
 pub mod Opened

@@ -11,7 +11,6 @@ use Rattle.cfs_base.specs.declared.refusal.Refused.{Refused}
 use Rattle.puid_space.specs.Directory.{has_root_in}
 use Rattle.special_files.specs.Refusal.{is_damaged}
 use Rattle.ufs_model.specs.declared.asked.Event.TheVariants as events
-use Rattle.ufs_model.specs.declared.asked.Ref.TheVariants.{Direct}
 use Rattle.ufs_model.specs.declared.asked.Reply.{Reply}
 use Rattle.ufs_model.specs.declared.asked.Reply.TheVariants as replies
 use Rattle.ufs_model.specs.declared.asked.Request.{Request}
@@ -19,30 +18,30 @@ use Rattle.ufs_model.specs.declared.change.Change.TheVariants.{Fill}
 use Rattle.ufs_model.specs.declared.object.Index.{Index}
 use Rattle.ufs_model.specs.declared.object.Object.{Object}
 use Rattle.ufs_model.specs.declared.object.Object.TheVariants as objects
-use Rattle.ufs_model.specs.Graph.{object_at}
 use Rattle.ufs_model.specs.Identifier.{puid_cmp}
 use Rattle.ufs_model.specs.Need.{change_need, need_of}
 use Rattle.ufs_model.specs.Next.{next}
 use Rattle.ufs_model.specs.Outcome.{created, creates, draws, outcome_of}
 use Rattle.ufs_model.specs.Plain.{IsPlainReply}
-use Rattle.ufs_model.specs.Refusal.{refusal_of}
+use Rattle.ufs_model.specs.Refusal.{refusal_of, target}
 use Rattle.ufs_model.specs.State.{State, is_running}
 use Rattle.ufs_model.specs.WellFormed.{IsSpeakable}
 use Rattle.cfs_core.specs.Calls.{EndsSo, IsCause, is_delete}
 use Rattle.cfs_core.specs.Kernel.{Kernel}
 use Rattle.cfs_core.specs.StandsFor.{Serves}
+use Rattle.cfs_core.specs.Ways.{Reaches}
 
 -- the kind of an object that is such a file
 abbrev pub file_kind : FileKind → Kind
 file_kind file_kinds.Normal = kinds.Normal
 file_kind file_kinds.Special = kinds.Special
 
--- the request makes this object, and puts its identifier into a slot of an index
-pub record IsMaking (request : Request) (index : Puid) (slot : ℕ) (o : Object) : Type 0 where
-  pub outcome : (seed : ℕ) (s : State) (who b : ℕ) → outcome_of seed s who request b ≡ created seed s who (Direct index) slot o b
+-- the request makes this object, and puts its identifier into a slot of the index that it goes to
+pub record IsMaking (request : Request) (slot : ℕ) (o : Object) : Type 0 where
+  pub outcome : (seed : ℕ) (s : State) (who b : ℕ) → outcome_of seed s who request b ≡ created seed s who (target request) slot o b
   pub makes : creates request ≡ true
   pub draw : draws request ≡ 1
-  pub need : (s : State) (who : ℕ) → need_of s who request ≡ 1 + change_need s who (Direct index) (Fill slot None)
+  pub need : (s : State) (who : ℕ) → need_of s who request ≡ 1 + change_need s who (target request) (Fill slot None)
   pub delete : is_delete request ≡ false
   pub full : (seed : ℕ) (s : State) (who free : ℕ) → is_running s ≡ true → refusal_of s who request ≡ None → need_of s who request ≡ 4 → free < 8
       → next seed s (events.Ask who request (replies.Full (record { free = free; need = 4 }))) ≡ Some s
@@ -50,8 +49,8 @@ pub record IsMaking (request : Request) (index : Puid) (slot : ℕ) (o : Object)
 
 -- A request that makes such an object, on a slot that the index has.
 pub record TriesToMake {D : Type 0} (g : Ghosts D) (old new : Kernel D) (index : Puid) (slot : ℕ) (o : Object) (result : Result Reply Refused) : Type 0 where
-  pub ends : (request : Request) → IsMaking request index slot o → (s : State) (who : ℕ) (i : Index) → Serves g old s → old.stop ≡ None
-      → object_at s.graph index ≡ Some (objects.Index i) → slot < length i.slots → refusal_of s who request ≡ None → EndsSo g old new s who request result
+  pub ends : (request : Request) → IsMaking request slot o → (s : State) (who : ℕ) (i : Index) → Serves g old s → old.stop ≡ None
+      → Reaches s who request index (objects.Index i) → slot < length i.slots → refusal_of s who request ≡ None → EndsSo g old new s who request result
   pub plain : IfOk result IsPlainReply
   pub cause : IfErr result (IsCause g old.disk new.disk)
   pub size : g.blocks new.disk ≡ g.blocks old.disk

@@ -36,7 +36,7 @@ drafts_of_seats [] grants = []
 drafts_of_seats (seat ∷ seats) [] = []
 
 -- the core has a draft exactly where the grant has one, and that is this one
-abbrev HasDraftOf : List Opened → Seat → Option Drafting → Option Draft → Type 0
+abbrev pub HasDraftOf : List Opened → Seat → Option Drafting → Option Draft → Type 0
 HasDraftOf ds seat None None = Unit {0}
 HasDraftOf ds seat (Some drafting) (Some d) = IsOpen ds seat.grant.id drafting d
 HasDraftOf ds seat None (Some d) = ⊥

@@ -1,13 +1,12 @@
 //! A request, answered.
-ghost use Rattle.std.specs.Prelude.{◌≡◌, ◌<◌, [], true};
+ghost use Rattle.std.specs.Prelude.{◌≡◌, ◌<◌, true};
 ghost use Rattle.cfs_core.specs.Asked.{Asks, stopped_by, told};
 ghost use Rattle.cfs_core.specs.Calls.{Tries, serves};
-ghost use Rattle.ufs_model.specs.declared.asked.Reply.TheVariants as replies;
 
 use crate::kernel::{Core, Stop};
 use cfs_base::{Disk, Refused, Session};
 use std::alloc::Global;
-use ufs_model::{Ref, Reply, Request};
+use ufs_model::{Reply, Request};
 
 impl<D: Disk> Core<D> {
     /// Answers a request of a session, as one event of the definitions. Memory is taken before anything is written. After
@@ -23,59 +22,34 @@ impl<D: Disk> Core<D> {
                 moment: stop.moment,
             };
         }
-        match self.answer(alloc, request) {
+        match self.answer(alloc, who, request) {
             Ok(reply) => reply,
             Err(refused) => self.refuse(refused),
         }
     }
 
     /// Tries to answer a request.
-    fn answer(&mut self, alloc: Global, request: &Request) -> Result<Reply, Refused>
+    fn answer(&mut self, alloc: Global, who: Session, request: &Request) -> Result<Reply, Refused>
         requires served { serves request.now ≡ true }
         requires words { self.old.words.drawn < 4294967295 }
-        ensures { Tries D.Disk self.old self.new request.now result }
+        ensures { Tries D.Disk self.old self.new who request.now result }
     {
         match request {
-            Request::Retain { index, slot, id } => match index {
-                Ref::Direct(index) => self.retain(alloc, *index, *slot, *id),
-                Ref::Through(_) => Ok(self.no_grant()),
-            },
-            Request::Retrieve { index, slot } => match index {
-                Ref::Direct(index) => self.retrieve(*index, *slot),
-                Ref::Through(_) => Ok(self.no_grant()),
-            },
-            Request::Delete { index, slot } => match index {
-                Ref::Direct(index) => self.delete(alloc, *index, *slot),
-                Ref::Through(_) => Ok(self.no_grant()),
-            },
-            Request::Slots { index } => match index {
-                Ref::Direct(index) => self.slots(*index),
-                Ref::Through(_) => Ok(self.no_grant()),
-            },
+            Request::Retain { index, slot, id } => self.retain(alloc, who, *index, *slot, *id),
+            Request::Retrieve { index, slot } => self.retrieve(who, *index, *slot),
+            Request::Delete { index, slot } => self.delete(alloc, who, *index, *slot),
+            Request::Slots { index } => self.slots(who, *index),
             Request::CreateFile {
                 kind,
                 fill,
                 index,
                 slot,
-            } => match index {
-                Ref::Direct(index) => self.create_file(alloc, *kind, *fill, *index, *slot),
-                Ref::Through(_) => Ok(self.no_grant()),
-            },
-            Request::CreateIndex { slots, index, slot } => match index {
-                Ref::Direct(index) => self.create_index(alloc, *slots, *index, *slot),
-                Ref::Through(_) => Ok(self.no_grant()),
-            },
+            } => self.create_file(alloc, who, *kind, *fill, *index, *slot),
+            Request::CreateIndex { slots, index, slot } => {
+                self.create_index(alloc, who, *slots, *index, *slot)
+            }
             _ => Ok(Reply::NoGrant),
         }
-    }
-
-    /// Nothing is open, so no session has a grant.
-    fn no_grant(&self) -> Reply
-        ensures none { self.now.seats ≡ [] }
-        ensures reply { result ≡ replies.NoGrant }
-    {
-        let _disk = &self.disk;
-        Reply::NoGrant
     }
 
     /// The reply to a request that was refused by what lies below. The core stops where what was asked may have been done,

@@ -2,15 +2,16 @@
 ghost use Rattle.std.specs.Prelude.{◌≡◌, ◌≢◌, ◌<◌};
 ghost use Rattle.cfs_core.specs.Calls.{Tries, TriesOn};
 ghost use Rattle.ufs_model.specs.Plain.{is_id};
-ghost use Rattle.ufs_model.specs.declared.asked.Ref.TheVariants.{Direct};
+ghost use Rattle.ufs_model.specs.declared.asked.Ref.{Ref};
 ghost use Rattle.ufs_model.specs.declared.asked.Request.TheVariants as asks;
 
 use crate::kernel::Core;
 use crate::looking::{has_slot, look};
-use cfs_base::{BlockNo, Damage, Disk, Puid, Refused, code};
+use crate::way::Way;
+use cfs_base::{BlockNo, Damage, Disk, Puid, Refused, Session, code};
 use index_ops::{delete, retain};
 use std::alloc::Global;
-use ufs_model::Reply;
+use ufs_model::{Ref, Reply};
 
 /// Whether this reply tells that a slot holds an identifier.
 fn holds_something(reply: &Reply) -> bool
@@ -27,18 +28,22 @@ impl<D: Disk> Core<D> {
     pub(crate) fn retain(
         &mut self,
         alloc: Global,
-        index: Puid,
+        who: Session,
+        to: Ref,
         slot: u64,
         id: Puid,
     ) -> Result<Reply, Refused>
-        ensures { Tries D.Disk self.old self.new (asks.Retain (Direct index) slot id) result }
+        ensures { Tries D.Disk self.old self.new who (asks.Retain to slot id) result }
     {
-        if self.kind(id).is_none() {
-            return Ok(Reply::NoObject);
-        }
-        if let Some(reply) = self.unfit(index) {
-            return Ok(reply);
-        }
+        let way = Way {
+            to,
+            also: Some(id),
+            changes: true,
+        };
+        let index = match self.index_at(who, way) {
+            Ok(index) => index,
+            Err(reply) => return Ok(reply),
+        };
         match has_slot(&mut self.disk, BlockNo(index.block), slot) {
             Ok(true) => self.put(alloc, index, slot, id),
             Ok(false) => Ok(Reply::Slot),
@@ -47,12 +52,24 @@ impl<D: Disk> Core<D> {
     }
 
     /// Empties a slot.
-    pub(crate) fn delete(&mut self, alloc: Global, index: Puid, slot: u64) -> Result<Reply, Refused>
-        ensures { Tries D.Disk self.old self.new (asks.Delete (Direct index) slot) result }
+    pub(crate) fn delete(
+        &mut self,
+        alloc: Global,
+        who: Session,
+        to: Ref,
+        slot: u64,
+    ) -> Result<Reply, Refused>
+        ensures { Tries D.Disk self.old self.new who (asks.Delete to slot) result }
     {
-        if let Some(reply) = self.unfit(index) {
-            return Ok(reply);
-        }
+        let way = Way {
+            to,
+            also: None,
+            changes: true,
+        };
+        let index = match self.index_at(who, way) {
+            Ok(index) => index,
+            Err(reply) => return Ok(reply),
+        };
         match look(&mut self.disk, BlockNo(index.block), slot) {
             Ok(reply) => {
                 if holds_something(&reply) {
@@ -71,7 +88,7 @@ impl<D: Disk> Core<D> {
         requires some { index.block ≢ 0 }
         requires few { slot < 983040 }
         requires id { id.block ≢ 0 }
-        ensures { TriesOn D.Disk self.old self.new index slot (asks.Retain (Direct index) slot id) result }
+        ensures { (to : Ref) → TriesOn D.Disk self.old self.new index slot (asks.Retain to slot id) result }
     {
         match retain(
             alloc,
@@ -91,7 +108,7 @@ impl<D: Disk> Core<D> {
         requires on_disk { index.block < D.blocks self.old.disk }
         requires some { index.block ≢ 0 }
         requires few { slot < 983040 }
-        ensures { TriesOn D.Disk self.old self.new index slot (asks.Delete (Direct index) slot) result }
+        ensures { (to : Ref) → TriesOn D.Disk self.old self.new index slot (asks.Delete to slot) result }
     {
         if self.space.free() < 3 {
             return Err(Refused::Damaged(Damage {

@@ -4,15 +4,15 @@ ghost use Rattle.cfs_base.specs.declared.refusal.Refused.TheVariants as refusals
 ghost use Rattle.cfs_core.specs.Calls.{Tries};
 ghost use Rattle.cfs_core.specs.Makes.{Names, TriesToMake, file_kind};
 ghost use Rattle.index_ops.specs.Creates.{MayBeMade, PutsObject, made_of};
-ghost use Rattle.ufs_model.specs.declared.asked.Ref.TheVariants.{Direct};
 ghost use Rattle.ufs_model.specs.declared.asked.Request.TheVariants as asks;
 
 use crate::kernel::Core;
 use crate::looking::has_slot;
-use cfs_base::{BlockNo, Damage, Disk, FileKind, Kind, Puid, Refused, code};
+use crate::way::Way;
+use cfs_base::{BlockNo, Damage, Disk, FileKind, Kind, Puid, Refused, Session, code};
 use index_ops::create;
 use std::alloc::Global;
-use ufs_model::{MOST_SLOTS, Reply};
+use ufs_model::{MOST_SLOTS, Ref, Reply};
 
 /// The kind of an object that is such a file.
 fn kind_of(kind: FileKind) -> Kind
@@ -29,17 +29,24 @@ impl<D: Disk> Core<D> {
     pub(crate) fn create_file(
         &mut self,
         alloc: Global,
+        who: Session,
         kind: FileKind,
         fill: u8,
-        index: Puid,
+        to: Ref,
         slot: u64,
     ) -> Result<Reply, Refused>
         requires words { self.old.words.drawn < 4294967295 }
-        ensures { Tries D.Disk self.old self.new (asks.CreateFile kind fill (Direct index) slot) result }
+        ensures { Tries D.Disk self.old self.new who (asks.CreateFile kind fill to slot) result }
     {
-        if let Some(reply) = self.unfit(index) {
-            return Ok(reply);
-        }
+        let way = Way {
+            to,
+            also: None,
+            changes: true,
+        };
+        let index = match self.index_at(who, way) {
+            Ok(index) => index,
+            Err(reply) => return Ok(reply),
+        };
         match has_slot(&mut self.disk, BlockNo(index.block), slot) {
             Ok(true) => self.make(alloc, index, slot, kind_of(kind), fill, 0),
             Ok(false) => Ok(Reply::Slot),
@@ -51,16 +58,23 @@ impl<D: Disk> Core<D> {
     pub(crate) fn create_index(
         &mut self,
         alloc: Global,
+        who: Session,
         slots: u64,
-        index: Puid,
+        to: Ref,
         slot: u64,
     ) -> Result<Reply, Refused>
         requires words { self.old.words.drawn < 4294967295 }
-        ensures { Tries D.Disk self.old self.new (asks.CreateIndex slots (Direct index) slot) result }
+        ensures { Tries D.Disk self.old self.new who (asks.CreateIndex slots to slot) result }
     {
-        if let Some(reply) = self.unfit(index) {
-            return Ok(reply);
-        }
+        let way = Way {
+            to,
+            also: None,
+            changes: true,
+        };
+        let index = match self.index_at(who, way) {
+            Ok(index) => index,
+            Err(reply) => return Ok(reply),
+        };
         match has_slot(&mut self.disk, BlockNo(index.block), slot) {
             Ok(true) => {
                 if slots == 0 || slots > MOST_SLOTS {

@@ -1,5 +1,5 @@
 //! A core, and what it tells of itself.
-ghost use Rattle.std.specs.Prelude.{◌≡◌, [], ◌≢◌, ◌+◌, ◌*◌, ◌<◌, length, false, IsOk, IsSome, option_map, option_and_then, sum};
+ghost use Rattle.std.specs.Prelude.{◌≡◌, ◌≢◌, ◌+◌, ◌*◌, ◌<◌, length, false, IsOk, IsSome, option_map, option_and_then, sum};
 ghost use Rattle.cfs_core.specs.Asked.{Happens, halted};
 ghost use Rattle.cfs_core.specs.Room.{IsRoom};
 ghost use Rattle.cfs_core.specs.StandsFor.{Serves, StandsFor, drafts_of_seats, is_sweeping};
@@ -12,6 +12,7 @@ ghost use Rattle.vol_owners.specs.Room.{blocks_taken};
 
 use cfs_base::{Damage, Disk, Kind, Puid, Session};
 use cyl_alloc::Space;
+use open_table::{Grants, table_follows_the_model};
 use puid_space::{Directory, Draw};
 use std::alloc::Global;
 use std::marker::Model;
@@ -52,12 +53,13 @@ pub struct Core<D: Disk> {
     pub(crate) names: Directory,
     pub(crate) space: Space,
     pub(crate) words: Draw,
+    pub(crate) grants: Grants,
     pub(crate) stop: Option<Stop>,
 }
 
 impl<D: Disk> Model for Core<D> {
-    ghost use Rattle.std.specs.Prelude.{[], None};
-    ghost use Rattle.cfs_core.specs.Kernel.{IsSized, Kernel};
+    ghost use Rattle.std.specs.Prelude.{None};
+    ghost use Rattle.cfs_core.specs.Kernel.{IsSized, Kernel, bare_seats};
 
     ghost Value = { Kernel D };
 
@@ -67,12 +69,12 @@ impl<D: Disk> Model for Core<D> {
       names = c.names;
       space = c.space;
       words = c.words;
-      seats = [];
+      seats = bare_seats c.grants.grants;
       collecting = None;
       stop = c.stop;
     } };
 
-    ghost invariant = { λ c. IsSized D.blocks c.disk c.names c.space };
+    ghost invariant = { λ c. IsSized D.blocks c.disk c.names c.space c.grants.grants c.words.drawn };
 }
 
 impl<D: Disk> Core<D> {
@@ -94,7 +96,7 @@ impl<D: Disk> Core<D> {
     {
         Status {
             objects: self.names.len(),
-            grants: 0,
+            grants: self.grants.len(),
             free: self.space.free(),
             running: false,
             called: 0,
@@ -104,11 +106,10 @@ impl<D: Disk> Core<D> {
         }
     }
 
-    /// The Free blocks that the core counts are the room, as long as nothing sweeps; and nothing is open yet, and no
-    /// collection runs. This does nothing: it is a law.
+    /// The Free blocks that the core counts are the room, as long as nothing sweeps; and no collection runs. This does
+    /// nothing: it is a law.
     pub fn has_room(&self)
         ensures size { D.blocks self.now.disk ≡ 64 * length self.now.space.free }
-        ensures closed { (s : State) → Serves D.Disk self.now s → s.grants ≡ [] }
         ensures idle { (s : State) → Serves D.Disk self.now s → s.collection ≡ collections.None }
         ensures room { (s : State) → Serves D.Disk self.now s → is_sweeping s.collection ≡ false
             → IsRoom (length self.now.space.free) s (sum self.now.space.free) }
@@ -116,15 +117,18 @@ impl<D: Disk> Core<D> {
         let _disk = &self.disk;
     }
 
-    /// A session leaves. Nothing is open, so all is as it was. A core that stopped is left as well.
+    /// A session leaves, and its grants are dropped. A core that stopped is left as well.
     pub fn leave(&mut self, who: Session) -> Result<(), Halt>
         ensures event { (s : State) → StandsFor D.Disk self.old s
             → Happens D.Disk self.old self.new s (events.Leave who (halted result)) }
-        ensures same { self.new ≡ self.old }
+        ensures stop { self.new.stop ≡ self.old.stop }
+        ensures disk { self.new.disk ≡ self.old.disk }
+        ensures space { self.new.space ≡ self.old.space }
+        ensures words { self.new.words ≡ self.old.words }
         ensures left { IsOk result }
     {
-        let _who = who;
-        let _disk = &self.disk;
+        table_follows_the_model();
+        self.grants.drop_session(who);
         Ok(())
     }
 

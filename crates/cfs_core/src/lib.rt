@@ -8,6 +8,7 @@ mod creating;
 mod kernel;
 mod looking;
 mod opening;
+mod way;
 
 pub use kernel::{Core, Halt, Status, Stop};
 pub use opening::OpenFault;

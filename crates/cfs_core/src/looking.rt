@@ -3,15 +3,15 @@ ghost use Rattle.std.specs.Prelude.{◌≡◌, ◌≢◌, ◌<◌, nat_lt, lengt
 ghost use Rattle.cfs_core.specs.Calls.{Tries, looked};
 ghost use Rattle.cfs_core.specs.Looks.{IsCalm, Knows, counted, unfit_of};
 ghost use Rattle.puid_space.specs.Directory.{kind_in};
-ghost use Rattle.ufs_model.specs.declared.asked.Ref.TheVariants.{Direct};
 ghost use Rattle.ufs_model.specs.declared.asked.Request.TheVariants as asks;
 ghost use Rattle.ufs_model.specs.Plain.{IsPlainReply, is_id};
 ghost use Rattle.ufs_model.specs.declared.object.Index.{Index};
 
 use crate::kernel::Core;
-use cfs_base::{BlockNo, Disk, Kind, Puid, Refused, Trouble};
+use crate::way::Way;
+use cfs_base::{BlockNo, Disk, Kind, Puid, Refused, Session, Trouble};
 use index_ops::{retrieve, slots};
-use ufs_model::Reply;
+use ufs_model::{Ref, Reply};
 
 /// What a slot of the index at a block holds, as a reply: `Slot` where it has no such slot, `Empty` where it holds nothing.
 pub(crate) fn look<D: Disk>(disk: &mut D, index: BlockNo, slot: u64) -> Result<Reply, Trouble>
@@ -76,12 +76,18 @@ impl<D: Disk> Core<D> {
     }
 
     /// The identifier in a slot.
-    pub(crate) fn retrieve(&mut self, index: Puid, slot: u64) -> Result<Reply, Refused>
-        ensures { Tries D.Disk self.old self.new (asks.Retrieve (Direct index) slot) result }
+    pub(crate) fn retrieve(&mut self, who: Session, to: Ref, slot: u64) -> Result<Reply, Refused>
+        ensures { Tries D.Disk self.old self.new who (asks.Retrieve to slot) result }
     {
-        if let Some(reply) = self.unfit(index) {
-            return Ok(reply);
-        }
+        let way = Way {
+            to,
+            also: None,
+            changes: false,
+        };
+        let index = match self.index_at(who, way) {
+            Ok(index) => index,
+            Err(reply) => return Ok(reply),
+        };
         match look(&mut self.disk, BlockNo(index.block), slot) {
             Ok(reply) => Ok(reply),
             Err(trouble) => Err(Refused::from(trouble)),
@@ -89,12 +95,18 @@ impl<D: Disk> Core<D> {
     }
 
     /// The number of slots.
-    pub(crate) fn slots(&mut self, index: Puid) -> Result<Reply, Refused>
-        ensures { Tries D.Disk self.old self.new (asks.Slots (Direct index)) result }
+    pub(crate) fn slots(&mut self, who: Session, to: Ref) -> Result<Reply, Refused>
+        ensures { Tries D.Disk self.old self.new who (asks.Slots to) result }
     {
-        if let Some(reply) = self.unfit(index) {
-            return Ok(reply);
-        }
+        let way = Way {
+            to,
+            also: None,
+            changes: false,
+        };
+        let index = match self.index_at(who, way) {
+            Ok(index) => index,
+            Err(reply) => return Ok(reply),
+        };
         match count(&mut self.disk, BlockNo(index.block)) {
             Ok(reply) => Ok(reply),
             Err(trouble) => Err(Refused::from(trouble)),

@@ -15,6 +15,7 @@ ghost use Rattle.vol_image.specs.Sound.{IsSound, IsSoundAs};
 use crate::kernel::Core;
 use cfs_base::{Damage, Disk, Failed, code};
 use cfs_recover::{RecoverFault, Recovered, recover};
+use open_table::Grants;
 use puid_space::{Draw, root_word};
 use std::alloc::Global;
 use vol_format::format_volume;
@@ -90,6 +91,7 @@ impl<D: Disk> Core<D> {
                     names: recovered.names,
                     space: recovered.space,
                     words: Draw::new(seed),
+                    grants: Grants::new(alloc),
                     stop: None,
                 })
             }

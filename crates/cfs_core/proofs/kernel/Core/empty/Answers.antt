@@ -1,22 +1,20 @@
-use Rattle.std.proofs.Common.{◌≡◌, [], None, refl, sym, ◌∙◌, ap, subst}
-use Rattle.ufs_model.specs.declared.asked.Ref.TheVariants.{Direct}
+use Rattle.std.proofs.Common.{◌≡◌, None, refl, sym, ◌∙◌, ap, subst}
 use Rattle.ufs_model.specs.declared.asked.Request.TheVariants as asks
 use Rattle.cfs_core.specs.Calls.{TriesOn, done_or}
-use Rattle.cfs_core.specs.Kernel.{Kernel}
+use Rattle.cfs_core.specs.Kernel.{Kernel, bare_seats}
 use Rattle.cfs_core.proofs.Putting.{tries_put}
 use Rattle.cfs_core.proofs.Refusing.{delete_out}
-use Rattle.cfs_core.proofs.Serving.{no_grants}
 use Rattle.cfs_core.proofs.kernel.Core.empty.Goals as goal
 use Rattle.cfs_core.proofs.kernel.Core.empty.Goals.{in-Ok, in-Err}
 
 pub returns : goal.returns
-returns g c =
-    let k : Kernel _ = record { disk = c.self.inside.disk; root = c.self.inside.root; names = c.self.inside.names; space = c.self.inside.space; words = c.self.inside.words; seats = []; collecting = None; stop = c.self.inside.stop } in
+returns g c = λ to.
+    let k : Kernel _ = record { disk = c.self.inside.disk; root = c.self.inside.root; names = c.self.inside.names; space = c.self.inside.space; words = c.self.inside.words; seats = bare_seats c.self.inside.grants.grants; collecting = None; stop = c.self.inside.stop } in
     let new : Kernel _ = record k { disk = c.delete.new.disk; space = c.delete.new.space } in
-    let request = asks.Delete (Direct c.args.index) c.args.slot in
-    let done = tries_put g.D.Disk g.met.D.Disk.left_sized g.met.D.Disk.sized k c.delete.new.disk c.delete.new.space refl refl c.args.index c.args.slot None request refl refl c.delete.result c.delete.ensures
-    (λ s who i serves found. (refl, delete_out k.words.seed s who c.args.index i (no_grants g.D.Disk k s serves refl) found c.args.slot))
-    (λ s who i serves found. ((λ short. let no = short.delete in cc), serves.four)) in
+    let request = asks.Delete to c.args.slot in
+    let done = tries_put g.D.Disk g.met.D.Disk.left_sized g.met.D.Disk.sized k c.delete.new.disk c.delete.new.space refl c.args.index c.args.slot None request refl refl c.delete.result c.delete.ensures
+    (λ s who i serves r. (refl, delete_out k.words.seed s who to c.args.index i c.args.slot r))
+    (λ s who i serves r. ((λ short. let no = short.delete in cc), serves.four)) in
     let told : c.match-delete.result ≡ done_or c.delete.result = elim c.match-delete.branch [
       | in-Ok w ↦ w.result-is ∙ sym (ap done_or w.in-Ok.is)
       | in-Err w ↦ w.result-is ∙ sym (ap done_or w.in-Err.is)

@@ -3,6 +3,7 @@ use Rattle.std.specs.Prelude.{◌==◌}
 use Rattle.std.proofs.lemmas.Bool.Decides.{nat_tests}
 use Rattle.puid_space.specs.Directory.{has_root_in}
 use Rattle.cfs_core.proofs.Created.{none_more}
+use Rattle.cfs_core.proofs.Regranted.{drawn_more}
 use Rattle.cfs_core.proofs.kernel.Core.name.Goals as goal
 
 other : (n : ℕ) → n ≢ 0 → (n == 0) ≡ false
@@ -13,4 +14,5 @@ invariant_of-self g c = record {
   size = c.self.invariant.size;
   room = c.add.ensures.room ∙ c.self.invariant.room;
   some = ap (λ named. has_root_in named 0) c.add.ensures.named ∙ none_more c.args.id c.args.kind c.self.inside.names.named (other c.args.id.block c.if-id-eq0.false) c.self.invariant.some;
+  drawn_all = drawn_more c.self.inside.grants.grants c.self.inside.words.drawn _ (ap (λ w. w.drawn) c.next.ensures.drawn) c.self.invariant.drawn_all;
 }

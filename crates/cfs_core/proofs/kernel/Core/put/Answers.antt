@@ -1,29 +1,27 @@
-use Rattle.std.proofs.Common.{◌≡◌, inl, inr, [], None, Some, refl, sym, ◌∙◌, ap, subst, arith}
+use Rattle.std.proofs.Common.{◌≡◌, inl, inr, None, Some, refl, sym, ◌∙◌, ap, subst, arith}
 use Rattle.std.specs.Prelude.{sum}
 use Rattle.std.proofs.lemmas.Bool.{cases_lt}
-use Rattle.ufs_model.specs.declared.asked.Ref.TheVariants.{Direct}
 use Rattle.ufs_model.specs.declared.asked.Request.TheVariants as asks
 use Rattle.cfs_core.specs.Calls.{TriesOn, done_or}
-use Rattle.cfs_core.specs.Kernel.{Kernel}
+use Rattle.cfs_core.specs.Kernel.{Kernel, bare_seats}
 use Rattle.cfs_core.proofs.Putting.{tries_full, tries_put}
 use Rattle.cfs_core.proofs.Refusing.{retain_need, retain_out}
-use Rattle.cfs_core.proofs.Serving.{no_grants}
 use Rattle.cfs_core.proofs.kernel.Core.put.Goals as goal
 use Rattle.cfs_core.proofs.kernel.Core.put.Goals.{in-Ok, in-Err}
 
 pub returns : goal.returns
-returns g c =
-    let k : Kernel _ = record { disk = c.self.inside.disk; root = c.self.inside.root; names = c.self.inside.names; space = c.self.inside.space; words = c.self.inside.words; seats = []; collecting = None; stop = c.self.inside.stop } in
+returns g c = λ to.
+    let k : Kernel _ = record { disk = c.self.inside.disk; root = c.self.inside.root; names = c.self.inside.names; space = c.self.inside.space; words = c.self.inside.words; seats = bare_seats c.self.inside.grants.grants; collecting = None; stop = c.self.inside.stop } in
     let new : Kernel _ = record k { disk = c.retain.new.disk; space = c.retain.new.space } in
-    let request = asks.Retain (Direct c.args.index) c.args.slot c.args.id in
+    let request = asks.Retain to c.args.slot c.args.id in
     let done : TriesOn g.D.Disk k new c.args.index c.args.slot request (done_or c.retain.result) = elim (cases_lt (sum k.space.free) 7) [
       | inl few ↦
           let full = c.retain.ensures.full few in
           subst (λ r. TriesOn g.D.Disk k new c.args.index c.args.slot request (done_or r)) (sym full.0)
-          (tries_full g.D.Disk g.met.D.Disk.left_sized g.met.D.Disk.sized k c.retain.new.disk c.retain.new.space full.1 full.2 refl c.args.index c.args.slot c.args.id few)
-      | inr enough ↦ tries_put g.D.Disk g.met.D.Disk.left_sized g.met.D.Disk.sized k c.retain.new.disk c.retain.new.space refl refl c.args.index c.args.slot (Some c.args.id) request refl refl c.retain.result (c.retain.ensures.fills enough)
-          (λ s who i serves found. (refl, retain_out k.words.seed s who c.args.index i (no_grants g.D.Disk k s serves refl) found c.args.slot c.args.id serves.collecting))
-          (λ s who i serves found. ((λ short. omega (arith, short.few, enough, retain_need k.words.seed s who c.args.index i (no_grants g.D.Disk k s serves refl) found c.args.slot c.args.id)), omega (arith, enough)))
+          (tries_full g.D.Disk g.met.D.Disk.left_sized g.met.D.Disk.sized k c.retain.new.disk c.retain.new.space full.1 full.2 c.args.index to c.args.slot c.args.id few)
+      | inr enough ↦ tries_put g.D.Disk g.met.D.Disk.left_sized g.met.D.Disk.sized k c.retain.new.disk c.retain.new.space refl c.args.index c.args.slot (Some c.args.id) request refl refl c.retain.result (c.retain.ensures.fills enough)
+          (λ s who i serves r. (refl, retain_out k.words.seed s who to c.args.index i c.args.slot c.args.id r serves.collecting))
+          (λ s who i serves r. ((λ short. omega (arith, short.few, enough, retain_need k.words.seed s who to c.args.index i c.args.slot c.args.id r)), omega (arith, enough)))
     ] in
     let told : c.match-retain.result ≡ done_or c.retain.result = elim c.match-retain.branch [
       | in-Ok w ↦ w.result-is ∙ sym (ap done_or w.in-Ok.is)

@@ -1,29 +1,26 @@
-use Rattle.std.proofs.Common.{◌≡◌, [], None, Err, refl, sym, ◌∙◌, ap, subst}
-use Rattle.puid_space.specs.Directory.{kind_in}
-use Rattle.special_files.specs.Committing.{as_refused}
-use Rattle.ufs_model.specs.declared.asked.Ref.TheVariants.{Direct}
+use Rattle.std.proofs.Common.{◌≡◌, None, Err, refl, sym, ◌∙◌, ap, subst}
 use Rattle.ufs_model.specs.declared.asked.Request.TheVariants as asks
 use Rattle.cfs_core.specs.Calls.{Tries}
-use Rattle.cfs_core.specs.Kernel.{Kernel}
-use Rattle.cfs_core.specs.Looks.{counted, unfit_of}
+use Rattle.cfs_core.specs.Kernel.{Kernel, bare_seats}
+use Rattle.special_files.specs.Committing.{as_refused}
+use Rattle.cfs_core.specs.Looks.{counted}
 use Rattle.cfs_core.proofs.Refusing.{slots_seen}
-use Rattle.cfs_core.proofs.Serving.{no_grants}
-use Rattle.cfs_core.proofs.Answering.{tries_seen, unfit}
+use Rattle.cfs_core.proofs.Answering.{ReachesAll, tries_seen}
+use Rattle.cfs_core.proofs.kernel.Core.slots.Goals.{in-Ok-count, in-Err-count}
 use Rattle.cfs_core.proofs.kernel.Core.slots.Goals as goal
-use Rattle.cfs_core.proofs.kernel.Core.slots.Goals.{in-Ok, in-Err}
 
-pub returns-in-Some : goal.returns-in-Some
-returns-in-Some g c = unfit g.D.Disk g.met.D.Disk.left_sized g.met.D.Disk.sized c.args.self.now (asks.Slots (Direct c.args.index)) c.args.index c.in-Some.reply refl refl (λ s serves. refl) (sym c.unfit.ensures.unfit ∙ c.in-Some.is)
+pub returns-in-Err : goal.returns-in-Err
+returns-in-Err g c = c.in-Err.ensures.refused (asks.Slots c.args.to) (record { to = refl; each = λ s who. refl })
 
 pub returns : goal.returns
 returns g c =
-    let k : Kernel _ = record { disk = c.self.inside.disk; root = c.self.inside.root; names = c.self.inside.names; space = c.self.inside.space; words = c.self.inside.words; seats = []; collecting = None; stop = c.self.inside.stop } in
-    let request = asks.Slots (Direct c.args.index) in
-    let fit = ap (λ x. unfit_of (kind_in x.names.named c.args.index)) c.self.view_is ∙ sym c.unfit.ensures.unfit ∙ c.in_default.is in
-    let done = tries_seen g.D.Disk g.met.D.Disk.left_sized g.met.D.Disk.sized k c.args.index fit request 1 c.count.new.disk counted c.count.result refl
-    (λ reply s who i serves found. (refl, slots_seen k.words.seed s who c.args.index i (no_grants g.D.Disk k s serves refl) found)) c.count.ensures.plain c.count.ensures.exact c.count.ensures.calm in
+    let k : Kernel _ = record { disk = c.self.inside.disk; root = c.self.inside.root; names = c.self.inside.names; space = c.self.inside.space; words = c.self.inside.words; seats = bare_seats c.self.inside.grants.grants; collecting = None; stop = c.self.inside.stop } in
+    let request = asks.Slots c.args.to in
+    let reach = subst (λ x. ReachesAll g.D.Disk x c.args.who request c.in-Ok.index) (sym c.self.view_is) (c.in-Ok.ensures.reached request (record { to = refl; each = λ s who. refl })) in
+    let done = tries_seen g.D.Disk g.met.D.Disk.left_sized g.met.D.Disk.sized k c.in-Ok.index c.args.who request reach 1 c.count.new.disk counted c.count.result refl
+    (λ s i serves r. (refl, slots_seen k.words.seed s c.args.who c.args.to c.in-Ok.index i r)) c.count.ensures.plain c.count.ensures.exact c.count.ensures.calm in
     let told : c.match-count.result ≡ as_refused c.count.result = elim c.match-count.branch [
-      | in-Ok w ↦ w.result-is ∙ sym (ap as_refused w.in-Ok.is)
-      | in-Err w ↦ w.result-is ∙ ap Err w.from.ensures ∙ sym (ap as_refused w.in-Err.is)
+      | in-Ok-count w ↦ w.result-is ∙ sym (ap as_refused w.in-Ok-count.is)
+      | in-Err-count w ↦ w.result-is ∙ ap Err w.from.ensures ∙ sym (ap as_refused w.in-Err-count.is)
     ] in
-    subst (λ x. Tries g.D.Disk x (record k { disk = c.count.new.disk }) request c.match-count.result) c.self.view_is (subst (λ r. Tries g.D.Disk k (record k { disk = c.count.new.disk }) request r) (sym told) done)
+    subst (λ x. Tries g.D.Disk x (record k { disk = c.count.new.disk }) c.args.who request c.match-count.result) c.self.view_is (subst (λ r. Tries g.D.Disk k (record k { disk = c.count.new.disk }) c.args.who request r) (sym told) done)

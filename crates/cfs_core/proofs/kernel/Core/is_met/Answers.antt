@@ -1,0 +1,33 @@
+use Rattle.std.proofs.Common.{◌≡◌, Bool, List, true, false, ◌&&◌, refl, is_some, IsTrue, sym, ◌∙◌, ap, subst}
+use Rattle.std.specs.Prelude.{Option, if◌then◌else◌}
+use Rattle.cfs_base.specs.declared.kind.Mode.{Mode}
+use Rattle.cfs_base.specs.declared.identifier.Puid.{Puid}
+use Rattle.open_table.specs.Grants.{few_each, is_held, mode_in, none_collide, tuids_differ}
+use Rattle.open_table.specs.declared.grant.Grant.{Grant}
+use Rattle.open_table.specs.Model.{is_writing, table_of}
+use Rattle.ufs_model.specs.declared.asked.Ref.TheVariants.{Direct}
+use Rattle.ufs_model.specs.Refusal.{is_open, is_open_for_writing, meets_a_grant}
+use Rattle.ufs_model.specs.State.{State}
+use Rattle.cfs_core.proofs.Serving.{table_is}
+use Rattle.cfs_core.proofs.kernel.Core.is_met.Goals as goal
+
+met : (s : State) (id : Puid) (alone : Bool) (mode : Option Mode) → is_some mode ≡ is_open s id → is_writing mode ≡ is_open_for_writing s id → (if alone then is_some mode else is_writing mode) ≡ meets_a_grant s alone (Direct id)
+met s id true mode all written = all
+met s id false mode all written = written
+
+held : (gs : List Grant) → IsTrue (is_held gs) → none_collide gs ≡ true
+held gs is = at (none_collide gs) (tuids_differ gs) (few_each gs) is
+  where
+    at : (a b c : Bool) → IsTrue (a && b && c) → a ≡ true
+    at true b c is = refl
+    at false b c is = cc
+
+pub returns-in-Direct : goal.returns-in-Direct
+returns-in-Direct g c = λ s serves.
+    let table = sym (table_is c.args.self.now s serves.front c.self.inside.grants.grants (ap (λ k. k.seats) (sym c.self.view_is))) in
+    let mode = c.mode_on.ensures ∙ ap (λ gs. mode_in gs c.in-Direct.id) table in
+    let apart : none_collide (table_of s.grants) ≡ true = held (table_of s.grants) (subst (λ gs. IsTrue (is_held gs)) table c.len.ensures.held) in
+    c.bars.ensures ∙ met s c.in-Direct.id c.args.alone c.mode_on.result (ap is_some mode ∙ c.table_follows_the_model.ensures.open s c.in-Direct.id) (ap is_writing mode ∙ c.table_follows_the_model.ensures.written s c.in-Direct.id apart) ∙ ap (meets_a_grant s c.args.alone) (sym c.in-Direct.is)
+
+pub returns-in-Through : goal.returns-in-Through
+returns-in-Through g c = λ s serves. ap (meets_a_grant s c.args.alone) (sym c.in-Through.is)
