@@ -11,6 +11,7 @@ mod Placed
 mod After
 mod Makings
 mod Regranted
+mod Granted
 mod Asked
 mod SoundGraph
 mod Opened

@@ -5,6 +5,7 @@ use Rattle.cfs_base.specs.Disk.{Image}
 use Rattle.cfs_base.specs.Run.{Leaves}
 use Rattle.cfs_base.specs.declared.disk.Disk.{Ghosts}
 use Rattle.cfs_base.specs.declared.identifier.Puid.{Puid}
+use Rattle.cfs_base.specs.declared.kind.Mode.TheVariants as modes
 use Rattle.cfs_base.specs.declared.refusal.Refused.{Refused}
 use Rattle.cfs_base.specs.declared.refusal.Refused.TheVariants as refusals
 use Rattle.cyl_alloc.specs.Space.{IsLeastFree}
@@ -41,8 +42,9 @@ serves (asks.Retain index slot id) = true
 serves (asks.Retrieve index slot) = true
 serves (asks.Delete index slot) = true
 serves (asks.Slots index) = true
-serves (asks.OpenFor id mode) = false
-serves (asks.Close grant commit) = false
+serves (asks.OpenFor id modes.Reading) = true
+serves (asks.OpenFor id modes.Writing) = false
+serves (asks.Close grant commit) = true
 serves (asks.Read file offset count) = false
 serves (asks.Write file offset bytes) = false
 serves (asks.Size file) = false

@@ -4,7 +4,7 @@ ghost use Rattle.cfs_core.specs.Asked.{Asks, stopped_by, told};
 ghost use Rattle.cfs_core.specs.Calls.{Tries, serves};
 
 use crate::kernel::{Core, Stop};
-use cfs_base::{Disk, Refused, Session};
+use cfs_base::{Disk, Mode, Refused, Session};
 use std::alloc::Global;
 use ufs_model::{Reply, Request};
 
@@ -48,6 +48,11 @@ impl<D: Disk> Core<D> {
             Request::CreateIndex { slots, index, slot } => {
                 self.create_index(alloc, who, *slots, *index, *slot)
             }
+            Request::OpenFor { id, mode } => match mode {
+                Mode::Reading => self.open_to_read(who, *id),
+                Mode::Writing => Ok(Reply::NoGrant),
+            },
+            Request::Close { grant, commit } => Ok(self.close(who, *grant, *commit)),
             _ => Ok(Reply::NoGrant),
         }
     }

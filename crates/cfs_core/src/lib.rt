@@ -5,6 +5,7 @@
 mod asking;
 mod changing;
 mod creating;
+mod granting;
 mod kernel;
 mod looking;
 mod opening;
