@@ -1,15 +1,13 @@
 //! The Cambridge File Server. `cfs play CYLINDERS SEED 0 IN OUT` serves the requests of the file IN on a new volume in
-//! memory, writes a reply for each to OUT, and a report to standard output. `-` is a standard stream. `cfs --help` and
-//! `cfs --version` print a page.
+//! memory, writes a reply for each to OUT, and a report to standard output. `-` is a standard stream. `cfs format VOLUME
+//! CYLINDERS SEED` makes a volume in a file. `cfs --help` and `cfs --version` print a page.
 #![tactic(auto)]
 
-mod no_disk;
 mod opening;
 
 use cfs_fakes::OpenGate;
-use cfs_host::FileSink;
+use cfs_host::{FileDisk, FileSink};
 use cfs_serve::{Bay, top};
-use no_disk::NoDisk;
 use opening::{AnySink, AnySource, open, tell_starved};
 use std::alloc::Global;
 use std::env;
@@ -33,8 +31,8 @@ fn run(rt: &HostRuntime, alloc: Global) -> Result<u8, u8> {
     let Ok(report) = FileSink::named(rt, "-", rt.stdout()) else {
         unreachable!();
     };
-    let bay: Bay<NoDisk, AnySource, AnySink> = Bay {
-        disk: None,
+    let bay: Bay<FileDisk, AnySource, AnySink> = Bay {
+        disk: opened.disk,
         sources: opened.sources,
         sinks: opened.sinks,
         report,

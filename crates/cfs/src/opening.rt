@@ -1,10 +1,11 @@
 //! The files that a command names, opened.
-ghost use Rattle.std.specs.Prelude.{◌≡◌, length, map, string_bytes, IfOk};
+ghost use Rattle.std.specs.Prelude.{◌≡◌, ◌*◌, length, map, option_map, string_bytes, IfOk, IfSome};
 ghost use Rattle.cfs_serve.specs.Words.{asked_in};
-ghost use Rattle.cfs_serve.specs.Whole.{HasPlaces};
+ghost use Rattle.cfs_serve.specs.Whole.{HasCylinders, HasDisk, HasPlaces, volume_blocks};
 
-use cfs_host::{FileSink, FileSource, Stream};
-use cfs_serve::{Path, WordsFault, names};
+use cfs_base::Disk;
+use cfs_host::{FileDisk, FileSink, FileSource, Stream};
+use cfs_serve::{Path, Volume, WordsFault, names};
 use std::alloc::Global;
 use std::fs::File;
 use std::io::{Stdin, Stdout};
@@ -13,9 +14,10 @@ pub(crate) type AnySource = FileSource<Stream<File, Stdin>>;
 
 pub(crate) type AnySink = FileSink<Stream<File, Stdout>>;
 
-/// The sources and the sinks of a run.
+/// The disk of a run's volume, where it has one in a file; its sources and its sinks.
 #[derive(Drop)]
 pub(crate) struct Opened {
+    pub disk: Option<FileDisk>,
     pub sources: Vec<AnySource>,
     pub sinks: Vec<AnySink>,
 }
@@ -30,6 +32,22 @@ pub(crate) fn tell_starved(rt: &HostRuntime) -> u8 {
 fn tell_path(rt: &HostRuntime, path: &Path) -> u8 {
     let _ = println!(rt; "cfs: cannot open {}", path.as_str());
     10
+}
+
+/// Makes the file of the volume, where one is named.
+fn make_volume(rt: &HostRuntime, volume: &Option<Volume>) -> Result<Option<FileDisk>, u8>
+    requires { IfSome volume.now HasCylinders }
+    ensures { IfOk result (λ d. option_map ⟦<FileDisk as Disk>⟧.blocks d ≡ option_map volume_blocks volume.now) }
+{
+    match volume {
+        None => Ok(None),
+        Some(Volume::Fresh { path, cylinders }) => {
+            match FileDisk::fresh(rt, path.as_str(), 64 * cylinders) {
+                Ok(disk) => Ok(Some(disk)),
+                Err(_) => Err(tell_path(rt, path)),
+            }
+        }
+    }
 }
 
 /// Opens the request files, in order.
@@ -67,19 +85,26 @@ fn make_sinks(rt: &HostRuntime, alloc: Global, paths: &[Path]) -> Result<Vec<Any
 /// Opens what the words name, and nothing for a page or for words that are of no form. Where it can't, it tells why and answers the
 /// status.
 pub(crate) fn open(rt: &HostRuntime, alloc: Global, words: &[String]) -> Result<Opened, u8>
-    ensures { IfOk result (λ o. HasPlaces (asked_in (map string_bytes words.now)) (length o.sources.items) (length o.sinks.items)) }
+    ensures disk { IfOk result (λ o. HasDisk (asked_in (map string_bytes words.now)) (option_map ⟦<FileDisk as Disk>⟧.blocks o.disk)) }
+    ensures places { IfOk result (λ o. HasPlaces (asked_in (map string_bytes words.now)) (length o.sources.items) (length o.sinks.items)) }
 {
     let names = match names(alloc, words) {
         Ok(names) => names,
         Err(WordsFault::Words) => {
             return Ok(Opened {
+                disk: None,
                 sources: Vec::new(alloc),
                 sinks: Vec::new(alloc),
             });
         }
         Err(WordsFault::Memory) => return Err(tell_starved(rt)),
     };
+    let disk = make_volume(rt, &names.volume)?;
     let sources = open_sources(rt, alloc, names.sources.as_slice())?;
     let sinks = make_sinks(rt, alloc, names.sinks.as_slice())?;
-    Ok(Opened { sources, sinks })
+    Ok(Opened {
+        disk,
+        sources,
+        sinks,
+    })
 }

@@ -14,9 +14,9 @@ use Rattle.cfs_serve.specs.Report.{report_text}
 use Rattle.cfs_ports.specs.Port.{Replied}
 use Rattle.cfs_serve.specs.Events.{wants_memory}
 use Rattle.cfs_serve.specs.declared.page.Page.{Page}
-use Rattle.cfs_serve.specs.Words.{Asked, Shows, Nothing, is_service}
-use Rattle.cfs_serve.specs.Whole.{ended}
-use Rattle.cfs_serve.specs.Top.{Outside, EachSource, EachSink, HadLeft, AreWithin, SomeRose, source_faults, sink_faults, NoCountRose, WritesReport, IsStatus, EndedWell, Showed, SinkFailed, SourceFailed, MemoryWanting, IsOver, LimitPassed}
+use Rattle.cfs_serve.specs.Words.{Asked, Format, Shows, Formats, Nothing, is_service}
+use Rattle.cfs_serve.specs.Whole.{RoseIn, TellsMade, ended}
+use Rattle.cfs_serve.specs.Top.{Outside, EachSource, EachSink, HadLeft, AreWithin, SomeRose, source_faults, sink_faults, NoCountRose, WritesReport, IsStatus, EndedWell, Showed, Made, DiskFailed, SinkFailed, SourceFailed, MemoryWanting, IsOver, LimitPassed}
 
 -- a service whose sinks took all
 pub record Served (trail : List Event) (old new : Outside) (counts : Option Counts) : Type 0 where
@@ -38,11 +38,16 @@ module _ (asked : Asked) (old new : Outside) (counts : Option Counts) (trail : L
   abbrev Over : Cause → Type 0
   Over cause = IsNone counts × IsOver cause old × ((scripts : List (List ℕ)) → HadLeft old scripts → ¬ (AreWithin scripts))
 
+  -- a volume was asked for, so no source
+  abbrev Volumed : Type 0
+  Volumed = IsNone counts × ((format : Format) × (asked ≡ Formats format)) × ((scripts : List (List ℕ)) → HadLeft old scripts → AreWithin scripts)
+
   -- what a cause shows
   abbrev pub Because : Cause → Type 0
-  Because causes.Nothing = Served trail old new counts
+  Because causes.Nothing = Served trail old new counts ⊎ Volumed
   Because (causes.Page page) = IsNone counts × (asked ≡ Shows page) × ((scripts : List (List ℕ)) → HadLeft old scripts → AreWithin scripts)
   Because causes.Words = IsNone counts × (asked ≡ Nothing) × ((scripts : List (List ℕ)) → HadLeft old scripts → AreWithin scripts)
+  Because causes.Disk = Volumed × RoseIn old.disk new.disk
   Because causes.Sink = IsSome counts × ((scripts : List (List ℕ)) → HadLeft old scripts → AreWithin scripts) × SomeRose (sink_faults old) (sink_faults new)
   Because (causes.Source n) = SourceFailed (told (causes.Source n)) old new × SomeRose (source_faults old) (source_faults new)
   Because causes.Memory = Unit {0}
@@ -63,14 +68,15 @@ module _ (asked : Asked) (old new : Outside) (counts : Option Counts) (trail : L
   status (causes.Page page) false wrote = inr (refl, (refl, wrote.failed))
   status causes.Memory false wrote = inr (refl, (refl, wrote.failed))
   status causes.Words false wrote = inl refl
+  status causes.Disk false wrote = inl refl
   status causes.Sink false wrote = inl refl
   status (causes.Source n) false wrote = inl refl
   status (causes.Long n) false wrote = inl refl
   status causes.LongTotal false wrote = inl refl
 
   pub status_0 : (cause : Cause) (written : Bool) → Because cause → Told cause written → ended written cause ≡ 0
-      → EndedWell (told cause) trail old new ⊎ Showed (told cause) old new
-  status_0 causes.Nothing true because wrote is = inl (record {
+      → EndedWell (told cause) trail old new ⊎ Showed (told cause) old new ⊎ Made asked (told cause) old new
+  status_0 causes.Nothing true (inl because) wrote is = inl (record {
     served = because.served;
     nothing = refl;
     answered = because.answered;
@@ -78,8 +84,14 @@ module _ (asked : Asked) (old new : Outside) (counts : Option Counts) (trail : L
     memory = because.memory;
     reported = wrote;
   })
+  status_0 causes.Nothing true (inr because) wrote is = inr (inr (record {
+    format = because.1.0;
+    asks = because.1.1;
+    is = rw (none_is counts because.0) refl;
+    written = wrote;
+  }))
   status_0 (causes.Page page) true because wrote is =
-      let none = none_is counts because.0 in inr (record { page = page; is = rw none refl; written = rw none at wrote })
+      let none = none_is counts because.0 in inr (inl (record { page = page; is = rw none refl; written = rw none at wrote }))
   status_0 causes.Nothing false because wrote is = absurd (omega (arith, is))
   status_0 cause true because wrote is = absurd (omega (arith, is))
   status_0 cause false because wrote is = absurd (omega (arith, is))
@@ -88,6 +100,11 @@ module _ (asked : Asked) (old new : Outside) (counts : Option Counts) (trail : L
   status_2 causes.Words written because is = because.1
   status_2 cause true because is = absurd (omega (arith, is))
   status_2 cause false because is = absurd (omega (arith, is))
+
+  pub status_4 : (cause : Cause) (written : Bool) → Because cause → ended written cause ≡ 4 → DiskFailed asked (told cause) old new
+  status_4 causes.Disk written because is = (rw because.0.1.1 refl, rw (none_is counts because.0.0) refl, because.1)
+  status_4 cause true because is = absurd (omega (arith, is))
+  status_4 cause false because is = absurd (omega (arith, is))
 
   pub status_5 : (cause : Cause) (written : Bool) → Because cause → Told cause written → ended written cause ≡ 5
       → SinkFailed (told cause) old new
@@ -117,7 +134,9 @@ module _ (asked : Asked) (old new : Outside) (counts : Option Counts) (trail : L
 
   pub over : (cause : Cause) (written : Bool) → Because cause → (scripts : List (List ℕ)) → HadLeft old scripts → ¬ (AreWithin scripts)
       → (ended written cause ≡ 9) ⊎ (cause ≡ causes.Memory) ⊎ (ended written cause ≡ 6)
-  over causes.Nothing written because scripts had past = absurd (past (because.within scripts had))
+  over causes.Nothing written (inl because) scripts had past = absurd (past (because.within scripts had))
+  over causes.Nothing written (inr because) scripts had past = absurd (past (because.2 scripts had))
+  over causes.Disk written because scripts had past = absurd (past (because.0.2 scripts had))
   over (causes.Page page) written because scripts had past = absurd (past (because.2 scripts had))
   over causes.Words written because scripts had past = absurd (past (because.2 scripts had))
   over causes.Sink written because scripts had past = absurd (past (because.1 scripts had))
@@ -135,6 +154,10 @@ module _ (asked : Asked) (old new : Outside) (counts : Option Counts) (trail : L
   complete causes.Memory true because wrote is scripts had within quiet = inr refl
   complete causes.Nothing false because wrote is scripts had within quiet = absurd (quiet.report wrote.failed)
   complete causes.Memory false because wrote is scripts had within quiet = absurd (quiet.report wrote.failed)
+  complete causes.Disk written because wrote is scripts had within quiet = absurd (not_so (rw because.0.1.1 at is))
+    where
+      not_so : false ≡ true → ⊥
+      not_so e = cc
   complete causes.Words written because wrote is scripts had within quiet = absurd (not_so (rw because.1 at is))
     where
       not_so : false ≡ true → ⊥
@@ -151,6 +174,12 @@ module _ (asked : Asked) (old new : Outside) (counts : Option Counts) (trail : L
 pub shown : (page : Page) (old new : Outside) (text : List ℕ) (written : Bool) → Replied old.report new.report text written → NoCountRose old new → ended written (causes.Page page) ≡ 0
 shown page old new text true wrote quiet = refl
 shown page old new text false wrote quiet = absurd (quiet.report wrote.failed)
+
+pub formatted : (cause : Cause) (old new : Outside) (text : List ℕ) (written : Bool) → TellsMade cause old.disk new.disk → Replied old.report new.report text written
+    → NoCountRose old new → ended written cause ≡ 0
+formatted cause old new text true (inl is) wrote quiet = rw is refl
+formatted cause old new text false (inl is) wrote quiet = absurd (quiet.report wrote.failed)
+formatted cause old new text written (inr failed) wrote quiet = absurd (quiet.disk failed.1)
 
 pub is_2 : (written : Bool) → ended written causes.Words ≡ 2
 is_2 true = refl

@@ -1,5 +1,5 @@
 -- What `top` says of a run, from what the run came to.
-use Rattle.std.proofs.Common.{◌≡◌, ◌↔◌, inl, inr, ℕ, ◌+◌, ◌<◌, ◌≤◌, Bool, true, false, cond, not, ◌&&◌, List, [], ◌∷◌, ◌++◌, length, map, filter, Option, Some, None, is_some, unwrap_or, refl, sym, ap, ◌∙◌, arith}
+use Rattle.std.proofs.Common.{◌≡◌, ◌↔◌, inl, inr, ℕ, ◌<◌, ◌≤◌, Bool, true, false, cond, not, ◌&&◌, List, [], ◌∷◌, ◌++◌, length, map, filter, Option, Some, None, is_some, unwrap_or, refl, sym, ap, ◌∙◌, arith}
 use Rattle.std.specs.List.{list_any, list_all}
 use Rattle.cfs_base.specs.Outside.{Intake, Supply}
 use Rattle.cfs_streams.proofs.WriteLaws.{nothing}
@@ -15,9 +15,9 @@ use Rattle.cfs_serve.specs.declared.report.Cause.TheVariants as causes
 use Rattle.cfs_serve.specs.declared.report.Report.{Report}
 use Rattle.cfs_serve.specs.Events.{events_of, is_calm, is_finish, is_of, is_sessions, wants_memory}
 use Rattle.cfs_serve.specs.declared.page.Page.{Page}
-use Rattle.cfs_serve.specs.Words.{Asked, Play, Shows, Serves, Nothing}
+use Rattle.cfs_serve.specs.Words.{Asked, Format, Play, Shows, Formats, Serves, Nothing}
 use Rattle.cfs_serve.specs.Played.{IsPlayed, IsScript, IsCause, IsRunOf, opened, report_on, spoiled_by}
-use Rattle.cfs_serve.specs.Whole.{HasPlaces, Asks}
+use Rattle.cfs_serve.specs.Whole.{HasPlaces, Asks, TellsMade}
 use Rattle.cfs_serve.specs.Top.{Outside, AreWithin, IsServedFrom, counts_of, took_all, Did}
 use Rattle.cfs_serve.proofs.Because.{Because}
 
@@ -25,8 +25,8 @@ use Rattle.cfs_serve.proofs.Because.{Because}
 abbrev pub Facts : Asked → (old new : Outside) → Report → List Event → Type 0
 Facts asked old new told trail = Did asked old new told trail × Because asked old new told.counts trail told.cause
 
-abbrev pub places : List Supply → List Intake → Intake → Outside
-places sources sinks report = record { sources = sources; sinks = sinks; report = report }
+abbrev pub places : Option ℕ → List Supply → List Intake → Intake → Outside
+places disk sources sinks report = record { disk = disk; sources = sources; sinks = sinks; report = report }
 
 -- ---- scripts of one source
 
@@ -74,8 +74,8 @@ within source script whole short few scripts had =
 
 -- ---- no service was asked for
 
-pub of_nothing : (report report_after : Intake) → Facts Nothing (places [] [] report) (places [] [] report_after) (record { counts = None; cause = causes.Words }) []
-of_nothing report report_after = (
+pub of_nothing : (disk disk_after : Option ℕ) (report report_after : Intake) → Facts Nothing (places disk [] [] report) (places disk_after [] [] report_after) (record { counts = None; cause = causes.Words }) []
+of_nothing disk disk_after report report_after = (
   record {
     places = (refl, refl);
     unserved = λ none. (refl, refl);
@@ -92,15 +92,16 @@ of_nothing report report_after = (
     words = ((λ is. refl), (λ is. refl));
     page = λ page. ((λ is. cc), (λ is. cc));
     counted = tt;
-    cause = λ none e. cc;
+    cause = λ none no e. cc;
+    made = λ no. absurd (clash-sym no);
     memory = λ served. absurd (clash-sym served);
   },
   (refl, refl, no_scripts),
 )
 
-pub of_page : (shown : Page) (report report_after : Intake)
-    → Facts (Shows shown) (places [] [] report) (places [] [] report_after) (record { counts = None; cause = causes.Page shown }) []
-of_page shown report report_after = (
+pub of_page : (shown : Page) (disk disk_after : Option ℕ) (report report_after : Intake)
+    → Facts (Shows shown) (places disk [] [] report) (places disk_after [] [] report_after) (record { counts = None; cause = causes.Page shown }) []
+of_page shown disk disk_after report report_after = (
   record {
     places = (refl, refl);
     unserved = λ none. (refl, refl);
@@ -117,20 +118,57 @@ of_page shown report report_after = (
     words = ((λ is. cc), (λ is. cc));
     page = λ page. ((λ is. cc), (λ is. cc));
     counted = tt;
-    cause = λ none e. cc;
+    cause = λ none no e. cc;
+    made = λ no. absurd (clash-sym no);
     memory = λ served. absurd (clash-sym served);
   },
   (refl, refl, no_scripts),
 )
 
+-- ---- a volume was asked for
+
+module _ (format : Format) (disk disk_after : Option ℕ) (report report_after : Intake) where
+  abbrev Volumed : Cause → Type 0
+  Volumed cause = Facts (Formats format) (places disk [] [] report) (places disk_after [] [] report_after) (record { counts = None; cause = cause }) []
+
+  volumed : (cause : Cause) → ¬ (cause ≡ causes.Words) → ((page : Page) → ¬ (cause ≡ causes.Page page)) → TellsMade cause disk disk_after
+      → Because (Formats format) (places disk [] [] report) (places disk_after [] [] report_after) None [] cause → Volumed cause
+  volumed cause other paged told because = (
+    record {
+      places = (refl, refl);
+      unserved = λ none. (refl, refl);
+      unasked = λ none. refl;
+      leaves = λ served. absurd (clash-sym served);
+      legal = tt;
+      calm = refl;
+      sessions = refl;
+      others = λ k past. refl;
+      exact = tt;
+      turns = tt;
+      replied = tt;
+      broken = λ served. absurd (clash-sym served);
+      words = ((λ is. absurd (other is)), (λ is. cc));
+      page = λ page. ((λ is. absurd (paged page is)), (λ is. cc));
+      counted = tt;
+      cause = λ none no. absurd (clash no);
+      made = λ makes. told;
+      memory = λ served. absurd (clash-sym served);
+    },
+    because,
+  )
+
+  pub of_format : (cause : Cause) → TellsMade cause disk disk_after → Volumed cause
+  of_format cause (inl is) = rw is (volumed causes.Nothing (λ e. cc) (λ page e. cc) (inl refl) (inr (refl, (format, refl), no_scripts)))
+  of_format cause (inr failed) = rw failed.0 (volumed causes.Disk (λ e. cc) (λ page e. cc) (inr (refl, failed.1)) ((refl, (format, refl), no_scripts), failed.1))
+
 -- ---- nothing was served
 
-module _ (play : Play) (source source_after : Supply) (sink report report_after : Intake) where
+module _ (play : Play) (disk disk_after : Option ℕ) (source source_after : Supply) (sink report report_after : Intake) where
   abbrev Unserved : Cause → Type 0
-  Unserved cause = Facts (Serves play) (places (source ∷ []) (sink ∷ []) report) (places (source_after ∷ []) (sink ∷ []) report_after) (record { counts = None; cause = cause }) []
+  Unserved cause = Facts (Serves play) (places disk (source ∷ []) (sink ∷ []) report) (places disk_after (source_after ∷ []) (sink ∷ []) report_after) (record { counts = None; cause = cause }) []
 
   unserved : (cause : Cause) → took_all cause ≡ true → ¬ (cause ≡ causes.Words) → ((page : Page) → ¬ (cause ≡ causes.Page page)) → ¬ (cause ≡ causes.Nothing)
-      → Because (Serves play) (places (source ∷ []) (sink ∷ []) report) (places (source_after ∷ []) (sink ∷ []) report_after) None [] cause → Unserved cause
+      → Because (Serves play) (places disk (source ∷ []) (sink ∷ []) report) (places disk_after (source_after ∷ []) (sink ∷ []) report_after) None [] cause → Unserved cause
   unserved cause took other paged told because = (
     record {
       places = (refl, refl);
@@ -148,7 +186,8 @@ module _ (play : Play) (source source_after : Supply) (sink report report_after 
       words = ((λ is. absurd (other is)), (λ is. cc));
       page = λ page. ((λ is. absurd (paged page is)), (λ is. cc));
       counted = tt;
-      cause = λ none. told;
+      cause = λ none no. told;
+      made = λ no. absurd (clash-sym no);
       memory = λ served. absurd (clash-sym served);
     },
     because,
@@ -178,6 +217,7 @@ module _ (play : Play) (source source_after : Supply) (sink report report_after 
   of_none causes.Nothing is = absurd is
   of_none (causes.Page page) is = absurd is
   of_none causes.Words is = absurd is
+  of_none causes.Disk is = absurd is
   of_none causes.Sink is = absurd is
 
 -- ---- a session was served
@@ -220,13 +260,13 @@ calm_end [] who None all = refl
 calm_end [] who (Some moment) all = absurd (clash-sym all)
 calm_end (e ∷ turns) who stopped all = calm_end turns who stopped (and_right (is_calm e) (list_all is_calm (turns ++ events.Leave who stopped ∷ [])) all)
 
-module _ (play : Play) (source source_after : Supply) (sink sink_after report report_after : Intake) (script : List ℕ) (whole : IsScript source script)
+module _ (play : Play) (disk disk_after : Option ℕ) (source source_after : Supply) (sink sink_after report report_after : Intake) (script : List ℕ) (whole : IsScript source script)
     (short : length script ≤ most_script) (few : length (request_lines script) ≤ most_lines) (trail : List Event) where
   abbrev Played : Bool → Bool → Type 0
   Played starved failed = IsPlayed play.cylinders play.seed (request_lines script) sink sink_after trail starved failed
 
   abbrev Session : Bool → Bool → State → Type 0
-  Session starved failed last = Facts (Serves play) (places (source ∷ []) (sink ∷ []) report) (places (source_after ∷ []) (sink_after ∷ []) report_after)
+  Session starved failed last = Facts (Serves play) (places disk (source ∷ []) (sink ∷ []) report) (places disk_after (source_after ∷ []) (sink_after ∷ []) report_after)
       (report_on play.cylinders last trail starved failed) trail
 
   leaves : (starved failed : Bool) (played : Played starved failed) → events_of 0 trail ≡ turns_in 0 trail ++ events.Leave 0 None ∷ []
@@ -256,7 +296,7 @@ module _ (play : Play) (source source_after : Supply) (sink sink_after report re
   session : (starved failed : Bool) (played : Played starved failed) → took_all (spoiled_by starved failed) ≡ not failed → ¬ (spoiled_by starved failed ≡ causes.Words)
       → ((page : Page) → ¬ (spoiled_by starved failed ≡ causes.Page page))
       → (not failed ≡ true → ((spoiled_by starved failed ≡ causes.Memory) ↔ (list_any wants_memory trail ≡ true)))
-      → Because (Serves play) (places (source ∷ []) (sink ∷ []) report) (places (source_after ∷ []) (sink_after ∷ []) report_after) (report_on play.cylinders played.last trail starved failed).counts trail (spoiled_by starved failed)
+      → Because (Serves play) (places disk (source ∷ []) (sink ∷ []) report) (places disk_after (source_after ∷ []) (sink_after ∷ []) report_after) (report_on play.cylinders played.last trail starved failed).counts trail (spoiled_by starved failed)
       → Session starved failed played.last
   session starved failed played took other paged memory because = (
     record {
@@ -276,6 +316,7 @@ module _ (play : Play) (source source_after : Supply) (sink sink_after report re
       page = λ page. ((λ is. absurd (paged page is)), (λ is. cc));
       counted = counted starved failed played;
       cause = λ none. absurd (clash none);
+      made = λ no. absurd (clash-sym no);
       memory = λ served is. memory (sym took ∙ is);
     },
     because,
@@ -285,13 +326,13 @@ module _ (play : Play) (source source_after : Supply) (sink sink_after report re
   of_session starved true played = session starved true played refl (λ e. cc) (λ page e. cc) (λ is. absurd (clash-sym is))
       (refl, within source script whole short few, inl played.over.replied.failed)
   of_session true false played = session true false played refl (λ e. cc) (λ page e. cc) (λ is. ((λ m. sym played.wanting), (λ m. refl))) tt
-  of_session false false played = session false false played refl (λ e. cc) (λ page e. cc) (λ is. ((λ m. absurd (clash-memory m)), (λ m. absurd (clash-sym (played.wanting ∙ m))))) (record {
+  of_session false false played = session false false played refl (λ e. cc) (λ page e. cc) (λ is. ((λ m. absurd (clash-memory m)), (λ m. absurd (clash-sym (played.wanting ∙ m))))) (inl (record {
     served = refl;
     within = within source script whole short few;
     answered = ((λ left is. played.over.answered refl ∙ ap (λ s. length (request_lines s)) (whole left is)), tt);
     replied = (played.over.replied, tt);
     memory = sym played.wanting;
-  })
+  }))
     where
       clash-memory : causes.Nothing ≡ causes.Memory → ⊥
       clash-memory e = cc
@@ -302,28 +343,31 @@ pub no_items : {P : Type 0} (xs : List P) → length xs ≡ 0 → xs ≡ []
 no_items [] none = refl
 no_items (x ∷ xs) none = absurd (omega (arith, none))
 
-of_run : (play : Play) (source source_after : Supply) (sink sink_after report report_after : Intake) (told : Report) (trail : List Event)
+of_run : (play : Play) (disk disk_after : Option ℕ) (source source_after : Supply) (sink sink_after report report_after : Intake) (told : Report) (trail : List Event)
     → IsRunOf play.cylinders play.seed source source_after sink sink_after told trail
-    → Facts (Serves play) (places (source ∷ []) (sink ∷ []) report) (places (source_after ∷ []) (sink_after ∷ []) report_after) told trail
-of_run play source source_after sink sink_after report report_after told trail (inl s) =
-    rw s.served.told (of_session play source source_after sink sink_after report report_after s.script s.whole s.short s.few
+    → Facts (Serves play) (places disk (source ∷ []) (sink ∷ []) report) (places disk_after (source_after ∷ []) (sink_after ∷ []) report_after) told trail
+of_run play disk disk_after source source_after sink sink_after report report_after told trail (inl s) =
+    rw s.served.told (of_session play disk disk_after source source_after sink sink_after report report_after s.script s.whole s.short s.few
     trail s.served.starved s.served.failed s.served.played)
-of_run play source source_after sink sink_after report report_after told trail (inr n) =
-    rw (n.nothing.told, n.nothing.no_event, n.nothing.untouched) (of_none play source source_after sink report report_after n.cause n.is)
+of_run play disk disk_after source source_after sink sink_after report report_after told trail (inr n) =
+    rw (n.nothing.told, n.nothing.no_event, n.nothing.untouched) (of_none play disk disk_after source source_after sink report report_after n.cause n.is)
 
-module _ (sources sources_after : List Supply) (sinks sinks_after : List Intake) (report report_after : Intake) (told : Report) (trail : List Event) where
+module _ (disk disk_after : Option ℕ) (sources sources_after : List Supply) (sinks sinks_after : List Intake) (report report_after : Intake) (told : Report) (trail : List Event) where
   abbrev From : Asked → Type 0
   From asked = HasPlaces asked (length sources) (length sinks)
-      → Asks asked (record { sources = sources; sinks = sinks }) (record { sources = sources_after; sinks = sinks_after }) told trail
-      → Facts asked (places sources sinks report) (places sources_after sinks_after report_after) told trail
+      → Asks asked (record { disk = disk; sources = sources; sinks = sinks }) (record { disk = disk_after; sources = sources_after; sinks = sinks_after }) told trail
+      → Facts asked (places disk sources sinks report) (places disk_after sources_after sinks_after report_after) told trail
 
   pub facts : (asked : Asked) → From asked
   facts Nothing none asks =
-      rw (asks.told, asks.no_event, ap (λ p. p.sources) asks.untouched, ap (λ p. p.sinks) asks.untouched, no_items sources none.0, no_items sinks none.1)
-      (of_nothing report report_after)
+      rw (asks.told, asks.no_event, asks.sources, asks.sinks, no_items sources none.0, no_items sinks none.1)
+      (of_nothing disk disk_after report report_after)
+  facts (Formats format) none asks =
+      rw (asks.0.told, asks.0.no_event, asks.0.sources, asks.0.sinks, no_items sources none.0, no_items sinks none.1)
+      (of_format format disk disk_after report report_after told.cause asks.1)
   facts (Shows page) none asks =
-      rw (asks.told, asks.no_event, ap (λ p. p.sources) asks.untouched, ap (λ p. p.sinks) asks.untouched, no_items sources none.0, no_items sinks none.1)
-      (of_page page report report_after)
+      rw (asks.told, asks.no_event, asks.sources, asks.sinks, no_items sources none.0, no_items sinks none.1)
+      (of_page page disk disk_after report report_after)
   facts (Serves play) places asks =
       rw (asks.sources.0, asks.sources.1, asks.sinks.0, asks.sinks.1)
-      (of_run play asks.source asks.source_after asks.sink asks.sink_after report report_after told trail asks.run)
+      (of_run play disk disk_after asks.source asks.source_after asks.sink asks.sink_after report report_after told trail asks.run)

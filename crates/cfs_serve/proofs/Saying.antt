@@ -10,10 +10,10 @@ use Rattle.cfs_serve.proofs.Facts.{facts}
 
 pub said : (asked : Asked) (old new : Outside) (told : Report) (status : ℕ) (trail : List Event)
     → HasPlaces asked (length old.sources) (length old.sinks)
-    → IsWhole asked (record { sources = old.sources; sinks = old.sinks }) (record { sources = new.sources; sinks = new.sinks }) old.report new.report told status trail
+    → IsWhole asked (record { disk = old.disk; sources = old.sources; sinks = old.sinks }) (record { disk = new.disk; sources = new.sources; sinks = new.sinks }) old.report new.report told status trail
     → Said asked old new told status trail
 said asked old new told status trail given whole =
-    let f = facts old.sources new.sources old.sinks new.sinks old.report new.report told trail asked given whole.run in
+    let f = facts old.disk new.disk old.sources new.sources old.sinks new.sinks old.report new.report told trail asked given whole.run in
     let counts = told.counts in
     let cause = told.cause in
     let wrote = whole.reported in
@@ -27,11 +27,13 @@ said asked old new told status trail given whole =
         (λ so. why.status_2 asked old new counts trail cause whole.written f.1 (is 2 so)),
         (λ none. whole.said ∙ rw (f.0.words.1 none) (why.is_2 whole.written)),
       );
+      status_4 = λ so. why.status_4 asked old new counts trail cause whole.written f.1 (is 4 so);
       status_5 = λ so. why.status_5 asked old new counts trail cause whole.written f.1 wrote (is 5 so);
       status_6 = λ so. why.status_6 asked old new counts trail cause whole.written f.1 (is 6 so);
       status_7 = λ so. why.status_7 asked old new counts trail cause whole.written wrote (is 7 so);
       status_9 = λ so. why.status_9 asked old new counts trail cause whole.written f.1 (is 9 so);
       over = rw whole.said (why.over asked old new counts trail cause whole.written f.1);
       complete = rw whole.said (why.complete asked old new counts trail cause whole.written f.1 wrote);
+      formatted = λ makes quiet. whole.said ∙ why.formatted cause old new _ whole.written (f.0.made makes) wrote quiet;
       shown = λ page shows quiet. whole.said ∙ rw ((f.0.page page).1 shows) (why.shown page old new _ whole.written wrote quiet);
     }

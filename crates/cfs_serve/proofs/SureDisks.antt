@@ -1,5 +1,5 @@
 -- A disk of which no call is listed to fail, and that keeps none, never fails.
-use Rattle.std.proofs.Common.{◌≡◌, ◌⊎◌, inl, inr, ℕ, List, [], true, false, ◌∙◌, arith, length, ◌<◌}
+use Rattle.std.proofs.Common.{inl, inr, ℕ, [], false, ◌∙◌, arith}
 use Rattle.std.specs.Prelude.{Contains, IsTrue}
 use Rattle.cfs_base.specs.Disk.{Image}
 use Rattle.cfs_fakes.specs.declared.memory_disk.MemoryDisk.{MemoryDisk}

@@ -1,5 +1,5 @@
 -- A volume that was made and opened.
-use Rattle.std.proofs.Common.{◌≡◌, ℕ, ◌+◌, ◌*◌, ◌≤◌, Option, Some, None, Result, Ok, Err, IfOk, refl, sym, ◌∙◌, arith, length}
+use Rattle.std.proofs.Common.{◌≡◌, ℕ, ◌*◌, ◌≤◌, Option, Some, None, Result, Ok, Err, IfOk, refl, arith, length}
 use Rattle.std.specs.Prelude.{IfSome, option_map}
 use Rattle.std.specs.Result.{result_ok}
 use Rattle.cfs_base.specs.Outside.{Rose}

@@ -12,4 +12,5 @@ pub mod SureDisk
 pub mod Played
 pub mod Volume
 pub mod Whole
+pub mod Disks
 pub mod Top

@@ -5,6 +5,10 @@ use Rattle.std.specs.Prelude.{ℕ}
 abbrev pub most_cylinders : ℕ
 most_cylinders = 1024
 
+-- the cylinders of the largest volume in a file
+abbrev pub most_file_cylinders : ℕ
+most_file_cylinders = 65536
+
 -- the bytes of the longest request file
 abbrev pub most_script : ℕ
 most_script = 16777216

@@ -89,6 +89,7 @@ IsCause source after causes.Memory = Unit {0}
 IsCause source after causes.Nothing = ⊥
 IsCause source after (causes.Page page) = ⊥
 IsCause source after causes.Words = ⊥
+IsCause source after causes.Disk = ⊥
 IsCause source after causes.Sink = ⊥
 
 -- the source was read and its script served, within the limits

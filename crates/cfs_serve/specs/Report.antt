@@ -11,6 +11,7 @@ abbrev pub status_of : Cause → ℕ
 status_of causes.Nothing = 0
 status_of (causes.Page page) = 0
 status_of causes.Words = 2
+status_of causes.Disk = 4
 status_of causes.Sink = 5
 status_of (causes.Source i) = 6
 status_of causes.Memory = 7
@@ -30,6 +31,7 @@ abbrev pub cause_text : Cause → List ℕ
 cause_text causes.Nothing = []
 cause_text (causes.Page page) = []
 cause_text causes.Words = codes "words\n"
+cause_text causes.Disk = codes "disk\n"
 cause_text causes.Sink = codes "sink\n"
 cause_text (causes.Source i) = told (codes "source") i
 cause_text causes.Memory = codes "memory\n"

@@ -1,5 +1,5 @@
 -- What a whole run comes to, for whoever started it: the trail, the sinks, what is told, and what the status says.
-use Rattle.std.specs.Prelude.{◌≡◌, ◌↔◌, ℕ, ◌+◌, ◌-◌, ◌*◌, ◌<◌, ◌≤◌, ◌⊎◌, Bool, true, false, List, [], ◌∷◌, ◌++◌, map, length, get_or, All, filter, sum_by, slice_index_or, Some, None, IfSome, IsSome, IsNone}
+use Rattle.std.specs.Prelude.{◌≡◌, ◌↔◌, ℕ, ◌+◌, ◌-◌, ◌*◌, ◌<◌, ◌≤◌, ◌⊎◌, Bool, true, false, List, [], ◌∷◌, ◌++◌, map, length, get_or, All, filter, sum_by, slice_index_or, Option, Some, None, IfSome, IsSome, IsNone, option_map}
 use Rattle.std.specs.List.{list_any, list_all}
 use Rattle.cfs_base.specs.Outside.{Intake, Supply, Rose}
 use Rattle.cfs_ports.specs.Port.{Replied}
@@ -27,23 +27,25 @@ use Rattle.cfs_serve.specs.Report.{report_text, status_of}
 use Rattle.cfs_serve.specs.Calls.{AreExact}
 use Rattle.cfs_serve.specs.Events.{BreaksOff, events_of, is_calm, is_finish, is_reply, is_sessions, wants_memory}
 use Rattle.cfs_serve.specs.Played.{opened}
-use Rattle.cfs_serve.specs.Whole.{HasPlaces}
-use Rattle.cfs_serve.specs.Words.{Asked, Shows, Nothing, IfServes, is_service, root_of}
+use Rattle.cfs_serve.specs.Whole.{HasPlaces, RoseIn, TellsMade}
+use Rattle.cfs_serve.specs.Words.{Asked, Format, Formats, Shows, Nothing, IfServes, is_format, is_service, root_of}
 
 -- ---- what is outside
 
--- what is known of the sources, of the sinks, and of the sink of the report
+-- how often the volume's disk failed, where there is one; and what is known of the sources, of the sinks, and of the sink
+-- of the report
 pub record Outside : Type 0 where
+  pub disk : Option ℕ
   pub sources : List Supply
   pub sinks : List Intake
   pub report : Intake
 
 -- as a run begins, and as it has ended
-abbrev pub before : {D S K : Type 0} → (S → Supply) → (K → Intake) → Bay D S K → Outside
-before supply intake bay = record { sources = map supply bay.sources.items; sinks = map intake bay.sinks.items; report = intake bay.report }
+abbrev pub before : {D S K : Type 0} → (D → ℕ) → (S → Supply) → (K → Intake) → Bay D S K → Outside
+before faults supply intake bay = record { disk = option_map faults bay.disk; sources = map supply bay.sources.items; sinks = map intake bay.sinks.items; report = intake bay.report }
 
-abbrev pub after : {D S K : Type 0} → (S → Supply) → (K → Intake) → Ended D S K → Outside
-after supply intake ended = record { sources = map supply ended.sources.items; sinks = map intake ended.sinks.items; report = intake ended.report }
+abbrev pub after : {D S K : Type 0} → (D → ℕ) → (S → Supply) → (K → Intake) → Ended D S K → Outside
+after faults supply intake ended = record { disk = option_map faults ended.disk; sources = map supply ended.sources.items; sinks = map intake ended.sinks.items; report = intake ended.report }
 
 -- this holds of each session, counted from n, and of its source or its sink before and after
 abbrev pub EachFrom : {P : Type 0} → (ℕ → P → P → Type 0) → ℕ → List P → List P → Type 0
@@ -72,6 +74,7 @@ sink_faults o = map (λ s. s.faults) o.sinks
 
 -- no count rose
 pub record NoCountRose (old new : Outside) : Type 0 where
+  pub disk : ¬ (RoseIn old.disk new.disk)
   pub sources : ¬ (SomeRose (source_faults old) (source_faults new))
   pub sinks : ¬ (SomeRose (sink_faults old) (sink_faults new))
   pub report : ¬ (Rose old.report.faults new.report.faults)
@@ -127,6 +130,7 @@ abbrev pub took_all : Cause → Bool
 took_all causes.Nothing = true
 took_all (causes.Page page) = true
 took_all causes.Words = true
+took_all causes.Disk = true
 took_all causes.Sink = false
 took_all (causes.Source n) = true
 took_all causes.Memory = true
@@ -138,6 +142,7 @@ abbrev pub is_mild : Cause → Bool
 is_mild causes.Nothing = true
 is_mild (causes.Page page) = true
 is_mild causes.Words = false
+is_mild causes.Disk = false
 is_mild causes.Sink = false
 is_mild (causes.Source n) = false
 is_mild causes.Memory = true
@@ -175,6 +180,17 @@ pub record Showed (told : Report) (old new : Outside) : Type 0 where
   pub is : told ≡ record { counts = None; cause = causes.Page page }
   pub written : Wrote old.report new.report (page_text page)
 
+-- or a volume was asked for, and is made
+pub record Made (asked : Asked) (told : Report) (old new : Outside) : Type 0 where
+  pub format : Format
+  pub asks : asked ≡ Formats format
+  pub is : told ≡ record { counts = None; cause = causes.Nothing }
+  pub written : Wrote old.report new.report (report_text told)
+
+-- 4: the disk of a volume that was to be made failed
+abbrev pub DiskFailed : Asked → Report → Outside → Outside → Type 0
+DiskFailed asked told old new = (is_format asked ≡ true) × (told ≡ record { counts = None; cause = causes.Disk }) × RoseIn old.disk new.disk
+
 -- 5: a session's sink failed, and so it is told; or that of the report
 abbrev pub SinkFailed : Report → Outside → Outside → Type 0
 SinkFailed told old new = (WasServed told × (told.cause ≡ causes.Sink) × SomeRose (sink_faults old) (sink_faults new)) ⊎ SpoilsReport told.cause old new
@@ -196,6 +212,7 @@ IsOver causes.LongTotal o = (scripts : List (List ℕ)) → HadLeft o scripts �
 IsOver causes.Nothing o = ⊥
 IsOver (causes.Page page) o = ⊥
 IsOver causes.Words o = ⊥
+IsOver causes.Disk o = ⊥
 IsOver causes.Sink o = ⊥
 IsOver (causes.Source n) o = ⊥
 IsOver causes.Memory o = ⊥
@@ -236,8 +253,9 @@ pub record Did (asked : Asked) (old new : Outside) (told : Report) (trail : List
   -- the counts are those of the trail and of the last graph
   pub counted : IfServes asked (λ play. IfSome told.counts (λ counts. (last : State)
       → replay play.seed (opened play.seed) trail ≡ Some last → counts ≡ counts_of play.cylinders (length old.sources) trail last.graph))
-  -- where nothing was served it is told why
-  pub cause : IsNone told.counts → ¬ (told.cause ≡ causes.Nothing)
+  -- where nothing was served it is told why, unless a volume was to be made: of that only a failed disk is told
+  pub cause : IsNone told.counts → is_format asked ≡ false → ¬ (told.cause ≡ causes.Nothing)
+  pub made : is_format asked ≡ true → TellsMade told.cause old.disk new.disk
   -- a service whose sinks took all tells want of memory exactly where a reply told it
   pub memory : WasServed told → took_all told.cause ≡ true → ((told.cause ≡ causes.Memory) ↔ (list_any wants_memory trail ≡ true))
 
@@ -248,8 +266,9 @@ pub record Said (asked : Asked) (old new : Outside) (told : Report) (status : �
   pub reported : WritesReport told old new
   -- the status is that of the cause, or 5 for a report that failed; and what each status says
   pub is_status : IsStatus status told.cause old new
-  pub status_0 : status ≡ 0 → EndedWell told trail old new ⊎ Showed told old new
+  pub status_0 : status ≡ 0 → EndedWell told trail old new ⊎ Showed told old new ⊎ Made asked told old new
   pub status_2 : (status ≡ 2) ↔ (asked ≡ Nothing)
+  pub status_4 : status ≡ 4 → DiskFailed asked told old new
   pub status_5 : status ≡ 5 → SinkFailed told old new
   pub status_6 : status ≡ 6 → SourceFailed told old new
   pub status_7 : status ≡ 7 → MemoryWanting told old new
@@ -257,7 +276,8 @@ pub record Said (asked : Asked) (old new : Outside) (told : Report) (status : �
   -- a limit that was passed gives 9, unless a source failed or memory was wanting
   pub over : (scripts : List (List ℕ)) → HadLeft old scripts → ¬ (AreWithin scripts)
       → (status ≡ 9) ⊎ (told.cause ≡ causes.Memory) ⊎ (status ≡ 6)
-  -- where no limit was passed and no count rose, a service gives 0 or 7; and a page gives 0
+  -- where no limit was passed and no count rose, a service gives 0 or 7; and a page, or a volume to be made, gives 0
   pub complete : is_service asked ≡ true → (scripts : List (List ℕ)) → HadLeft old scripts → AreWithin scripts
       → NoCountRose old new → (status ≡ 0) ⊎ (status ≡ 7)
   pub shown : (page : Page) → asked ≡ Shows page → NoCountRose old new → status ≡ 0
+  pub formatted : is_format asked ≡ true → NoCountRose old new → status ≡ 0

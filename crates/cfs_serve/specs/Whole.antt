@@ -1,31 +1,69 @@
 -- A whole run, step by step: the words, the sources and the sinks, the report and the status. What `top` says follows from it.
-use Rattle.std.specs.Prelude.{◌≡◌, ℕ, Bool, true, false, List, [], ◌∷◌, None}
-use Rattle.cfs_base.specs.Outside.{Intake, Supply}
+use Rattle.std.specs.Prelude.{◌≡◌, ℕ, ◌*◌, ◌≤◌, ◌⊎◌, Bool, true, false, List, [], ◌∷◌, Option, Some, None}
+use Rattle.cfs_base.specs.Outside.{Intake, Supply, Rose}
 use Rattle.cfs_ports.specs.Port.{Replied}
 use Rattle.ufs_model.specs.declared.asked.Event.{Event}
 use Rattle.cfs_serve.specs.declared.report.Cause.{Cause}
 use Rattle.cfs_serve.specs.declared.report.Cause.TheVariants as causes
 use Rattle.cfs_serve.specs.declared.report.Report.{Report}
-use Rattle.cfs_serve.specs.Words.{Asked, Play, Shows, Serves, Nothing}
+use Rattle.cfs_serve.specs.declared.paths.Volume.{Volume}
+use Rattle.cfs_serve.specs.declared.paths.Volume.TheVariants as volumes
+use Rattle.cfs_serve.specs.Limits.{most_file_cylinders}
+use Rattle.cfs_serve.specs.Words.{Asked, Play, Shows, Formats, Serves, Nothing}
 use Rattle.cfs_serve.specs.Report.{status_of, report_text}
 use Rattle.cfs_serve.specs.Played.{IsRunOf}
 
--- what is outside: what is known of the sources, and of the sinks
+-- what is outside: how often the volume's disk failed, where there is one, and what is known of the sources and of the sinks
 pub record Places : Type 0 where
+  pub disk : Option ℕ
   pub sources : List Supply
   pub sinks : List Intake
+
+-- it is named and sized as the words have it, or none is named
+abbrev pub NamesVolume : Asked → Option Volume → Type 0
+NamesVolume (Formats format) volume = volume ≡ Some (volumes.Fresh format.volume format.cylinders)
+NamesVolume (Serves play) volume = volume ≡ None
+NamesVolume (Shows page) volume = volume ≡ None
+NamesVolume Nothing volume = volume ≡ None
+
+-- as many cylinders as a volume may have
+abbrev pub HasCylinders : Volume → Type 0
+HasCylinders (volumes.Fresh path cylinders) = (1 ≤ cylinders) × (cylinders ≤ most_file_cylinders)
+
+-- the blocks of a volume of this size
+abbrev pub volume_blocks : Volume → ℕ
+volume_blocks (volumes.Fresh path cylinders) = 64 * cylinders
+
+-- a disk of so many blocks for a volume that is made, or none
+abbrev pub HasDisk : Asked → (blocks : Option ℕ) → Type 0
+HasDisk (Formats format) blocks = blocks ≡ Some (64 * format.cylinders)
+HasDisk (Serves play) blocks = blocks ≡ None
+HasDisk (Shows page) blocks = blocks ≡ None
+HasDisk Nothing blocks = blocks ≡ None
 
 -- a source and a sink for one session, or none
 abbrev pub HasPlaces : Asked → (sources sinks : ℕ) → Type 0
 HasPlaces (Serves play) sources sinks = (sources ≡ 1) × (sinks ≡ 1)
+HasPlaces (Formats format) sources sinks = (sources ≡ 0) × (sinks ≡ 0)
 HasPlaces (Shows page) sources sinks = (sources ≡ 0) × (sinks ≡ 0)
 HasPlaces Nothing sources sinks = (sources ≡ 0) × (sinks ≡ 0)
 
 -- no service was asked for: nothing was served, no sink took a byte, and this is told
 pub record AsksNone (cause : Cause) (old new : Places) (report : Report) (trail : List Event) : Type 0 where
   pub no_event : trail ≡ []
-  pub untouched : new ≡ old
+  pub sources : new.sources ≡ old.sources
+  pub sinks : new.sinks ≡ old.sinks
   pub told : report ≡ record { counts = None; cause = cause }
+
+-- its count of faults rose
+abbrev pub RoseIn : Option ℕ → Option ℕ → Type 0
+RoseIn (Some old) (Some new) = Rose old new
+RoseIn (Some old) None = ⊥
+RoseIn None new = ⊥
+
+-- of a volume that was made nothing is told; else its disk failed, and that is told
+abbrev pub TellsMade : Cause → (old new : Option ℕ) → Type 0
+TellsMade cause old new = (cause ≡ causes.Nothing) ⊎ ((cause ≡ causes.Disk) × RoseIn old new)
 
 -- one session was asked for, and so it went
 pub record AsksOne (play : Play) (old new : Places) (report : Report) (trail : List Event) : Type 0 where
@@ -39,6 +77,7 @@ pub record AsksOne (play : Play) (old new : Places) (report : Report) (trail : L
 
 abbrev pub Asks : Asked → (old new : Places) → Report → List Event → Type 0
 Asks (Serves play) old new report trail = AsksOne play old new report trail
+Asks (Formats format) old new report trail = AsksNone report.cause old new report trail × TellsMade report.cause old.disk new.disk
 Asks (Shows page) old new report trail = AsksNone (causes.Page page) old new report trail
 Asks Nothing old new report trail = AsksNone causes.Words old new report trail
 
@@ -49,6 +88,7 @@ ended false causes.Nothing = 5
 ended false (causes.Page page) = 5
 ended false causes.Memory = 5
 ended false causes.Words = 2
+ended false causes.Disk = 4
 ended false causes.Sink = 5
 ended false (causes.Source i) = 6
 ended false (causes.Long i) = 9

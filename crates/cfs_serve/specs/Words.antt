@@ -1,12 +1,12 @@
 -- What the words of a command ask for.
-use Rattle.std.specs.Prelude.{ℕ, Bool, true, false, ◌&&◌, ◌==◌, nat_lt, nat_le, if◌then◌else◌, List, [], ◌∷◌, length, map, String, string_bytes, Option, Some, None, codes}
+use Rattle.std.specs.Prelude.{ℕ, Bool, true, false, ◌&&◌, ◌==◌, not, nat_lt, nat_le, if◌then◌else◌, List, [], ◌∷◌, length, map, String, string_bytes, Option, Some, None, codes}
 use Rattle.std.specs.Str.{bytes_eq}
 use Rattle.cfs_base.specs.declared.identifier.Puid.{Puid}
 use Rattle.ufs_model.specs.Spoken.{Reading, Is, Unbound, Bad, number_in}
 use Rattle.ufs_model.specs.Word.{word}
 use Rattle.cfs_serve.specs.declared.page.Page.{Page}
 use Rattle.cfs_serve.specs.declared.page.Page.TheVariants as pages
-use Rattle.cfs_serve.specs.Limits.{most_cylinders}
+use Rattle.cfs_serve.specs.Limits.{most_cylinders, most_file_cylinders}
 
 -- a service of one session on a new volume in memory: its size, its seed, and where the session's requests come from and
 -- where its replies go
@@ -15,6 +15,12 @@ pub record Play : Type 0 where
   pub seed : ℕ
   pub input : List ℕ
   pub output : List ℕ
+
+-- a volume that is made: its file, its size and its seed
+pub record Format : Type 0 where
+  pub volume : List ℕ
+  pub cylinders : ℕ
+  pub seed : ℕ
 
 -- what was read, where something was
 abbrev pub read_or_none : {A : Type 0} → Reading A → Option A
@@ -42,24 +48,46 @@ play_in (verb ∷ cylinders ∷ seed ∷ collections ∷ input ∷ output ∷ []
     if bytes_eq verb (codes "play") then numbered (read_or_none (number_in cylinders)) (read_or_none (number_in seed)) (read_or_none (number_in collections)) input output else None
 play_in words = None
 
+-- a standard stream is no volume
+abbrev is_volume_word : List ℕ → Bool
+is_volume_word w = is_file_word w && not (bytes_eq w (codes "-"))
+
+abbrev format_of : (volume : List ℕ) (cylinders seed : ℕ) → Option Format
+format_of volume cylinders seed =
+    if is_volume_word volume && nat_lt 0 cylinders && nat_le cylinders most_file_cylinders
+    then Some (record { volume = volume; cylinders = cylinders; seed = seed }) else None
+
+abbrev sized : List ℕ → Option ℕ → Option ℕ → Option Format
+sized volume (Some cylinders) (Some seed) = format_of volume cylinders seed
+sized volume (Some cylinders) None = None
+sized volume None seed = None
+
+-- `format VOLUME CYLINDERS SEED`
+abbrev pub format_in : List (List ℕ) → Option Format
+format_in (verb ∷ volume ∷ cylinders ∷ seed ∷ []) =
+    if bytes_eq verb (codes "format") then sized volume (read_or_none (number_in cylinders)) (read_or_none (number_in seed)) else None
+format_in words = None
+
 -- a page, by its word alone
 abbrev pub page_in : List (List ℕ) → Option Page
 page_in (word ∷ []) = if bytes_eq word (codes "--help") then Some pages.Help else if bytes_eq word (codes "--version") then Some pages.Version else None
 page_in words = None
 
--- what the words of a command ask for: a page, a service, or nothing
+-- what the words of a command ask for: a page, a volume, a service, or nothing
 pub data Asked : Type 0 where
   Shows : Page → Asked
+  Formats : Format → Asked
   Serves : Play → Asked
   Nothing : Asked
 
-abbrev either : Option Page → Option Play → Asked
-either (Some page) play = Shows page
-either None (Some play) = Serves play
-either None None = Nothing
+abbrev either : Option Page → Option Format → Option Play → Asked
+either (Some page) format play = Shows page
+either None (Some format) play = Formats format
+either None None (Some play) = Serves play
+either None None None = Nothing
 
 abbrev pub asked_in : List (List ℕ) → Asked
-asked_in words = either (page_in words) (play_in words)
+asked_in words = either (page_in words) (format_in words) (play_in words)
 
 abbrev pub asked_by : {Z : Type 0} → List (String Z) → Asked
 asked_by words = asked_in (map string_bytes words)
@@ -67,13 +95,21 @@ asked_by words = asked_in (map string_bytes words)
 -- where a service is asked for, this holds of it
 abbrev pub IfServes : Asked → (Play → Type 0) → Type 0
 IfServes (Shows page) holds = Unit {0}
+IfServes (Formats format) holds = Unit {0}
 IfServes (Serves play) holds = holds play
 IfServes Nothing holds = Unit {0}
 
 abbrev pub is_service : Asked → Bool
 is_service (Shows page) = false
+is_service (Formats format) = false
 is_service (Serves play) = true
 is_service Nothing = false
+
+abbrev pub is_format : Asked → Bool
+is_format (Shows page) = false
+is_format (Formats format) = true
+is_format (Serves play) = false
+is_format Nothing = false
 
 -- the identifier of the root index of a new volume
 abbrev pub root_of : ℕ → Puid

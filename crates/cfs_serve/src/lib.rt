@@ -1,4 +1,4 @@
-//! A whole run: words are read, a source is read whole, a session is served, and a report is written. The program above
+//! A whole run: words are read; a volume is made on a disk, or a source is read whole and a session is served; and a report is written. The program above
 //! uses one contract, that of `top`. Below it, `serve` serves any number of sessions on whatever server.
 #![tactic(auto)]
 
@@ -16,9 +16,9 @@ mod volume;
 mod words;
 
 pub use hall::{Parts, serve};
-pub use limits::{MOST_CYLINDERS, MOST_LINES, MOST_SCRIPT};
+pub use limits::{MOST_CYLINDERS, MOST_FILE_CYLINDERS, MOST_LINES, MOST_SCRIPT};
 pub use page::Page;
-pub use paths::{Names, Path, Paths, WordsFault};
+pub use paths::{Names, Path, Paths, Volume, WordsFault};
 pub use report::{Cause, Counts, Report};
 pub use run::{Bay, Ended, top};
 pub use server::Server;
@@ -26,5 +26,7 @@ pub use words::names;
 
 #[cfg(test)]
 mod beside;
+#[cfg(test)]
+mod formats;
 #[cfg(test)]
 mod tests;

@@ -20,12 +20,14 @@ impl Page {
                 b"cfs play CYLINDERS SEED 0 IN OUT
     serve the request lines of IN on a new volume in memory: replies to OUT, a report to standard output;
     IN and OUT are files, or - for the standard streams
+cfs format VOLUME CYLINDERS SEED
+    make a volume in the file VOLUME, which must not be there yet
 cfs --help
     print this page
 cfs --version
     print the version
-status: 0 all is well, 2 the words are of no form, 5 a sink failed, 6 a source failed, 7 memory was wanting,
-    9 a limit was passed, 10 a file cannot be opened or made
+status: 0 all is well, 2 the words are of no form, 4 a disk failed, 5 a sink failed, 6 a source failed,
+    7 memory was wanting, 9 a limit was passed, 10 a file cannot be opened or made
 manual: docs/cfs.1, docs/PROGRAM.md
 "
             }

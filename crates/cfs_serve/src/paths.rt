@@ -48,9 +48,17 @@ impl Paths {
     }
 }
 
-/// What a command names: the sources of its sessions and their sinks, session by session.
+/// A volume in a file.
+#[derive(Debug, Drop)]
+pub enum Volume {
+    /// It is to be made, of so many cylinders.
+    Fresh { path: Path, cylinders: u32 },
+}
+
+/// What a command names: its volume, where it has one in a file; the sources of its sessions and their sinks, session by session.
 #[derive(Debug, Drop)]
 pub struct Names {
+    pub volume: Option<Volume>,
     pub sources: Paths,
     pub sinks: Paths,
 }
@@ -64,7 +72,7 @@ pub enum WordsFault {
     Memory,
 }
 
-fn path_of(alloc: Global, text: &str) -> Result<Path, AllocError>
+pub(crate) fn path_of(alloc: Global, text: &str) -> Result<Path, AllocError>
     ensures { IfOk result (λ p. p ≡ text.now) }
 {
     Ok(Path {

@@ -30,6 +30,8 @@ pub enum Cause {
     Page(Page),
     /// The words are of no form.
     Words,
+    /// The volume's disk failed.
+    Disk,
     /// A session's sink failed.
     Sink,
     /// That source failed.
@@ -52,6 +54,7 @@ impl Cause {
         match self {
             Cause::Nothing | Cause::Page(_) => 0,
             Cause::Words => 2,
+            Cause::Disk => 4,
             Cause::Sink => 5,
             Cause::Source(_) => 6,
             Cause::Memory => 7,
@@ -68,6 +71,7 @@ impl Cause {
         match self {
             Cause::Nothing | Cause::Page(_) => Ok(()),
             Cause::Words => write_whole(sink, b"words\n"),
+            Cause::Disk => write_whole(sink, b"disk\n"),
             Cause::Sink => write_whole(sink, b"sink\n"),
             Cause::Source(source) => write_number(sink, b"source", source),
             Cause::Memory => write_whole(sink, b"memory\n"),

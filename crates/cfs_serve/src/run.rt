@@ -1,20 +1,23 @@
 //! A whole run, and the one public call that makes it.
-ghost use Rattle.std.specs.Prelude.{◌≡◌, map, length};
-ghost use Rattle.cfs_serve.specs.Words.{asked_by};
-ghost use Rattle.cfs_serve.specs.Whole.{Asks, HasPlaces, IsWhole, ended};
+ghost use Rattle.std.specs.Prelude.{◌≡◌, ◌⊎◌, ◌%◌, ◌*◌, ◌≤◌, map, length, option_map};
+ghost use Rattle.cfs_base.specs.Outside.{Rose};
+ghost use Rattle.cfs_serve.specs.Words.{Format, asked_by};
+ghost use Rattle.cfs_serve.specs.Whole.{Asks, HasDisk, HasPlaces, IsWhole, ended};
+ghost use Rattle.cfs_serve.specs.Disks.{MakesVolume, OnDisk};
 ghost use Rattle.cfs_serve.specs.Top.{Said, before, after};
 
 use crate::play::{Played, nothing, play};
 use crate::report::{Cause, Report};
-use crate::words::{page_asked, play_asked};
-use cfs_base::{Disk, Gate, Sink, Source};
+use crate::words::{format_asked, page_asked, play_asked};
+use cfs_base::{Disk, Failed, Gate, Sink, Source};
+use cfs_core::Core;
 use cfs_trail::Trail;
 use std::alloc::Global;
 
 /// What is outside a run: its volume, and where bytes come from and go.
 #[derive(Drop)]
 pub struct Bay<D, S, K> {
-    /// Nothing for a volume in memory.
+    /// The file of a volume; nothing for one in memory.
     pub disk: Option<D>,
     /// One for each session.
     pub sources: Vec<S>,
@@ -46,20 +49,42 @@ fn status_of(written: bool, cause: Cause) -> u8
     }
 }
 
-/// Shows the page or serves the session that is asked for. Answers what is to be told, and the trail.
-fn do_asked<S: Source, K: Sink>(
+/// Makes a fresh volume of a disk. Answers what is to be told.
+fn make_volume<D: Disk>(disk: &mut D, seed: u64) -> Cause
+    requires whole { D.blocks disk.old % 64 ≡ 0 }
+    requires some { 1 ≤ D.blocks disk.old }
+    requires most { D.blocks disk.old ≤ 64 * 65536 }
+    ensures made { (format : Format) → format.seed ≡ seed → D.blocks disk.old ≡ 64 * format.cylinders
+        → MakesVolume D.Disk format result disk.old disk.new }
+    ensures told { (result ≡ Cause.Nothing) ⊎ ((result ≡ Cause.Disk) × Rose (D.faults disk.old) (D.faults disk.new)) }
+{
+    match Core::format(disk, seed) {
+        Ok(()) => Cause::Nothing,
+        Err(Failed) => Cause::Disk,
+    }
+}
+
+/// Shows the page, makes the volume or serves the session that is asked for. Answers what is to be told, and the trail.
+fn do_asked<D: Disk, S: Source, K: Sink>(
     alloc: Global,
     words: &[String],
+    disk: &mut Option<D>,
     sources: &mut Vec<S>,
     sinks: &mut Vec<K>,
 ) -> Played
-    requires { HasPlaces (asked_by words.now) (length sources.old.items) (length sinks.old.items) }
-    ensures { Asks (asked_by words.now)
-        (record { sources = map S.supply sources.old.items; sinks = map K.intake sinks.old.items })
-        (record { sources = map S.supply sources.new.items; sinks = map K.intake sinks.new.items }) result.report result.trail.events }
+    requires disk { HasDisk (asked_by words.now) (option_map D.blocks disk.old) }
+    requires places { HasPlaces (asked_by words.now) (length sources.old.items) (length sinks.old.items) }
+    ensures disk { OnDisk D.Disk (asked_by words.now) result.report.cause disk.old disk.new }
+    ensures asks { Asks (asked_by words.now)
+        (record { disk = option_map D.faults disk.old; sources = map S.supply sources.old.items; sinks = map K.intake sinks.old.items })
+        (record { disk = option_map D.faults disk.new; sources = map S.supply sources.new.items; sinks = map K.intake sinks.new.items })
+        result.report result.trail.events }
 {
     if let Some(page) = page_asked(words) {
         return nothing(alloc, Cause::Page(page));
+    }
+    if let (Some(format), Some(disk)) = (format_asked(words), disk) {
+        return nothing(alloc, make_volume(disk, format.seed));
     }
     match play_asked(words) {
         Some(asked) => {
@@ -84,15 +109,16 @@ fn run<D: Disk, S: Source, K: Sink>(
     words: &[String],
     bay: Bay<D, S, K>,
 ) -> Ended<D, S, K>
+    requires disk { HasDisk (asked_by words.now) (option_map D.blocks bay.disk) }
     requires places { HasPlaces (asked_by words.now) (length bay.sources.items) (length bay.sinks.items) }
-    ensures disk { result.disk ≡ bay.disk }
+    ensures disk { OnDisk D.Disk (asked_by words.now) result.told.cause bay.disk result.disk }
     ensures whole { IsWhole (asked_by words.now)
-        (record { sources = map S.supply bay.sources.items; sinks = map K.intake bay.sinks.items })
-        (record { sources = map S.supply result.sources.items; sinks = map K.intake result.sinks.items })
+        (record { disk = option_map D.faults bay.disk; sources = map S.supply bay.sources.items; sinks = map K.intake bay.sinks.items })
+        (record { disk = option_map D.faults result.disk; sources = map S.supply result.sources.items; sinks = map K.intake result.sinks.items })
         (K.intake bay.report) (K.intake result.report) result.told result.status result.trail.events }
 {
     let Bay {
-        disk,
+        mut disk,
         mut sources,
         mut sinks,
         mut report,
@@ -100,7 +126,7 @@ fn run<D: Disk, S: Source, K: Sink>(
     let Played {
         report: told,
         trail,
-    } = do_asked(alloc, words, &mut sources, &mut sinks);
+    } = do_asked(alloc, words, &mut disk, &mut sources, &mut sinks);
     let written = told.write(&mut report).is_ok();
     Ended {
         status: status_of(written, told.cause),
@@ -113,16 +139,18 @@ fn run<D: Disk, S: Source, K: Sink>(
     }
 }
 
-/// Does what the words ask: shows a page, or serves the sessions; and writes the report.
+/// Does what the words ask: shows a page, makes a volume, or serves the sessions; and writes the report.
 pub fn top<D: Disk, S: Source, K: Sink, G: Gate>(
     alloc: Global,
     words: &[String],
     bay: Bay<D, S, K>,
     gate: &G,
 ) -> Ended<D, S, K>
+    requires disk { HasDisk (asked_by words.now) (option_map D.blocks bay.disk) }
     requires places { HasPlaces (asked_by words.now) (length bay.sources.items) (length bay.sinks.items) }
-    ensures disk { result.disk ≡ bay.disk }
-    ensures said { Said (asked_by words.now) (before S.supply K.intake bay) (after S.supply K.intake result) result.told result.status result.trail.events }
+    ensures disk { OnDisk D.Disk (asked_by words.now) result.told.cause bay.disk result.disk }
+    ensures said { Said (asked_by words.now)
+        (before D.faults S.supply K.intake bay) (after D.faults S.supply K.intake result) result.told result.status result.trail.events }
 {
     run(alloc, words, bay)
 }

@@ -1,6 +1,7 @@
 //! Whole runs on sources and sinks in memory.
 ghost use Rattle.cfs_serve.specs.Words.{asked_by};
-ghost use Rattle.cfs_serve.specs.Whole.{HasPlaces};
+ghost use Rattle.std.specs.Prelude.{None};
+ghost use Rattle.cfs_serve.specs.Whole.{HasDisk, HasPlaces};
 
 use crate::{Bay, Cause, Ended, Page, WordsFault, names, top};
 use cfs_base::{Failed, Sink};
@@ -32,10 +33,12 @@ fn words_of(alloc: Global, texts: &[&str]) -> Result<Vec<String>, AllocError> {
 
 /// The words name so many sources, and as many sinks.
 fn expect_places(rt: &impl Abort, alloc: Global, words: &[String], count: usize)
-    ensures { HasPlaces (asked_by words.now) count count }
+    ensures disk { HasDisk (asked_by words.now) None }
+    ensures places { HasPlaces (asked_by words.now) count count }
 {
     match names(alloc, words) {
         Ok(named) => {
+            assert!(rt; named.volume.is_none());
             assert_eq!(rt; named.sources.as_slice().len(), count);
             assert_eq!(rt; named.sinks.as_slice().len(), count);
         }

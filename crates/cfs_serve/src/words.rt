@@ -1,12 +1,12 @@
 //! The words of a command.
-ghost use Rattle.std.specs.Prelude.{◌≡◌, ◌↔◌, ◌≤◌, List, ℕ, [], ◌∷◌, length, map, Some, None, IsNone, IfSome, IfOk, Err, string_bytes};
+ghost use Rattle.std.specs.Prelude.{◌≡◌, ◌↔◌, ◌≤◌, List, ℕ, [], ◌∷◌, length, map, Some, None, IsNone, IfSome, IfErr, IfOk, Err, string_bytes};
 ghost use Rattle.ufs_model.specs.Spoken.{number_in};
-ghost use Rattle.cfs_serve.specs.Whole.{HasPlaces};
-ghost use Rattle.cfs_serve.specs.Words.{read_or_none, Play, Serves, Nothing, asked_in, page_in, play_in};
+ghost use Rattle.cfs_serve.specs.Whole.{HasCylinders, HasPlaces, NamesVolume};
+ghost use Rattle.cfs_serve.specs.Words.{read_or_none, Play, Serves, Nothing, asked_in, format_in, page_in, play_in};
 
-use crate::limits::MOST_CYLINDERS;
+use crate::limits::{MOST_CYLINDERS, MOST_FILE_CYLINDERS};
 use crate::page::Page;
-use crate::paths::{Names, WordsFault, no_paths, one_path};
+use crate::paths::{Names, Volume, WordsFault, no_paths, one_path, path_of};
 use cfs_script::number_of;
 use std::alloc::Global;
 
@@ -17,6 +17,14 @@ pub(crate) struct Played<'a> {
     pub seed: u64,
     pub input: &'a str,
     pub output: &'a str,
+}
+
+/// A volume that is to be made.
+#[derive(Clone, Copy, Debug)]
+pub(crate) struct Formatted<'a> {
+    pub volume: &'a str,
+    pub cylinders: u64,
+    pub seed: u64,
 }
 
 /// The number that a word writes: 1 to 20 decimal digits within a u64.
@@ -80,6 +88,49 @@ pub(crate) fn play_asked(words: &[String]) -> Option<Played<'_>>
     )
 }
 
+/// What four words ask for.
+fn four_words<'a>(verb: &str, volume: &'a str, cylinders: &str, seed: &str) -> Option<Formatted<'a>>
+    ensures none { IsNone result ↔ (format_in (verb.now ∷ volume.now ∷ cylinders.now ∷ seed.now ∷ []) ≡ None) }
+    ensures some { IfSome result (λ a. format_in (verb.now ∷ volume.now ∷ cylinders.now ∷ seed.now ∷ [])
+        ≡ Some (record { volume = a.volume.now; cylinders = a.cylinders; seed = a.seed })) }
+    ensures sized { IfSome result (λ a. (1 ≤ a.cylinders) × (a.cylinders ≤ 65536)) }
+{
+    if verb != "format" {
+        return None;
+    }
+    let cylinders = number(cylinders)?;
+    let seed = number(seed)?;
+    if volume.is_empty() || volume == "-" {
+        return None;
+    }
+    if cylinders == 0 || cylinders > MOST_FILE_CYLINDERS {
+        return None;
+    }
+    Some(Formatted {
+        volume,
+        cylinders,
+        seed,
+    })
+}
+
+/// The volume that the words ask to be made; nothing where they are not of that form.
+pub(crate) fn format_asked(words: &[String]) -> Option<Formatted<'_>>
+    ensures none { IsNone result ↔ (format_in (map string_bytes words.now) ≡ None) }
+    ensures some { IfSome result (λ a. format_in (map string_bytes words.now)
+        ≡ Some (record { volume = a.volume.now; cylinders = a.cylinders; seed = a.seed })) }
+    ensures sized { IfSome result (λ a. (1 ≤ a.cylinders) × (a.cylinders ≤ 65536)) }
+{
+    let [verb, volume, cylinders, seed] = words else {
+        return None;
+    };
+    four_words(
+        verb.as_str(),
+        volume.as_str(),
+        cylinders.as_str(),
+        seed.as_str(),
+    )
+}
+
 /// The page that the words ask for: one word alone.
 pub(crate) fn page_asked(words: &[String]) -> Option<Page>
     ensures { result ≡ page_in (map string_bytes words.now) }
@@ -96,18 +147,44 @@ pub(crate) fn page_asked(words: &[String]) -> Option<Page>
     }
 }
 
+/// The volume that is to be made, and no other file.
+fn volume_names(alloc: Global, volume: &str, cylinders: u64) -> Result<Names, WordsFault>
+    requires { cylinders ≤ 65536 }
+    ensures fault { IfErr result (λ e. e ≡ WordsFault.Memory) }
+    ensures volume { IfOk result (λ n. n.volume ≡ Some (Volume.Fresh volume.now cylinders)) }
+    ensures places { IfOk result (λ n. (n.sources ≡ []) × (n.sinks ≡ [])) }
+{
+    let Ok(path) = path_of(alloc, volume) else {
+        return Err(WordsFault::Memory);
+    };
+    Ok(Names {
+        volume: Some(Volume::Fresh {
+            path,
+            cylinders: cylinders as u32,
+        }),
+        sources: no_paths(alloc),
+        sinks: no_paths(alloc),
+    })
+}
+
 /// What the words of a command name: nothing for a page. `Words` comes exactly where they are of no form.
 pub fn names(alloc: Global, words: &[String]) -> Result<Names, WordsFault>
     ensures words { result ≡ Err WordsFault.Words ↔ (asked_in (map string_bytes words.now) ≡ Nothing) }
+    ensures volume { IfOk result (λ n. NamesVolume (asked_in (map string_bytes words.now)) n.volume) }
+    ensures sized { IfOk result (λ n. IfSome n.volume HasCylinders) }
     ensures places { IfOk result (λ n. HasPlaces (asked_in (map string_bytes words.now)) (length n.sources) (length n.sinks)) }
     ensures sources { IfOk result (λ n. (p : Play) → asked_in (map string_bytes words.now) ≡ Serves p → n.sources ≡ p.input ∷ []) }
     ensures sinks { IfOk result (λ n. (p : Play) → asked_in (map string_bytes words.now) ≡ Serves p → n.sinks ≡ p.output ∷ []) }
 {
     if page_asked(words).is_some() {
         return Ok(Names {
+            volume: None,
             sources: no_paths(alloc),
             sinks: no_paths(alloc),
         });
+    }
+    if let Some(format) = format_asked(words) {
+        return volume_names(alloc, format.volume, format.cylinders);
     }
     let Some(play) = play_asked(words) else {
         return Err(WordsFault::Words);
@@ -118,5 +195,9 @@ pub fn names(alloc: Global, words: &[String]) -> Result<Names, WordsFault>
     let Ok(sinks) = one_path(alloc, play.output) else {
         return Err(WordsFault::Memory);
     };
-    Ok(Names { sources, sinks })
+    Ok(Names {
+        volume: None,
+        sources,
+        sinks,
+    })
 }

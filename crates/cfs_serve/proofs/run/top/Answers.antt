@@ -6,6 +6,6 @@ use Rattle.cfs_serve.proofs.run.top.Goals as goal
 
 pub returns-clause-said : goal.returns-clause-said
 returns-clause-said g c =
-    said (asked_by c.args.words.now) (before g.S.Source.supply g.K.Sink.intake c.args.bay) (after g.S.Source.supply g.K.Sink.intake c.run.result)
+    said (asked_by c.args.words.now) (before g.D.Disk.faults g.S.Source.supply g.K.Sink.intake c.args.bay) (after g.D.Disk.faults g.S.Source.supply g.K.Sink.intake c.run.result)
     c.run.result.told c.run.result.status c.run.result.trail.events
     (rw (length-map c.args.bay.sources.items g.S.Source.supply, length-map c.args.bay.sinks.items g.K.Sink.intake) c.requires.places) c.run.ensures.whole
