@@ -13,8 +13,6 @@ mod memory_source;
 mod recorder;
 mod rerun;
 mod store;
-#[cfg(test)]
-mod tests;
 mod untold;
 
 pub use gate::OpenGate;

@@ -5,8 +5,6 @@
 
 mod marks;
 mod rescues;
-#[cfg(test)]
-mod tests;
 
 pub use marking::{Grey, Rescue};
 pub use marks::Marks;

@@ -8,8 +8,6 @@ mod grants;
 mod laws;
 mod objects;
 mod sessions;
-#[cfg(test)]
-mod tests;
 
 pub use fault::{AcquireFault, NoGrant};
 pub use grant::Grant;

@@ -6,8 +6,6 @@
 mod directory;
 mod draw;
 mod laws;
-#[cfg(test)]
-mod tests;
 
 pub use directory::Directory;
 pub use draw::{Draw, Drawn, root_word};

@@ -123,6 +123,3 @@ impl Plain {
         }
     }
 }
-
-#[cfg(test)]
-mod tests;

@@ -1,6 +1,6 @@
 //! Calls with ample memory, in an order that a collection makes them.
-use super::*;
 use cfs_base::{Kind, Puid};
+use collector_marks::{Grey, Marks, Rescue, Rescues};
 use std::test::Fail;
 
 const ROOT: Puid = Puid { block: 2, word: 7 };

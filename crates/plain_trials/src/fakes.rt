@@ -1,6 +1,6 @@
 //! The fakes, called as a test of the server calls them.
-use crate::{MemoryDisk, MemorySink, MemorySource, OpenGate, Pick};
 use cfs_base::{Block, BlockNo, Disk, Failed, Gate, Sink, Source};
+use cfs_fakes::{MemoryDisk, MemorySink, MemorySource, OpenGate, Pick};
 use std::alloc::Global;
 use std::test::Fail;
 

@@ -1,8 +1,9 @@
+//! Identifiers that are drawn, and a hundred thousand that are kept.
 ghost use Rattle.std.specs.Prelude.{◌≡◌, ◌+◌, ◌≤◌, ◌==◌, length, vec_len, vec_capacity};
 ghost use Rattle.puid_space.specs.Directory.{kept_by};
 
-use crate::{Directory, Draw, Drawn, root_word};
 use cfs_base::{Kind, Puid};
+use puid_space::{Directory, Draw, Drawn, root_word};
 use std::collections::BTreeMap;
 use std::test::Fail;
 

@@ -1,10 +1,8 @@
 //! Runs on the slow server, with the words of seed 0.
-use super::Plain;
-use crate::asked::{Ref, Reply, Request};
-use crate::word::word_of;
 use cfs_base::{Bytes, FileKind, Mode, Puid, Session, Tuid};
 use std::process::Abort;
 use std::test::Fail;
+use ufs_model::{Plain, Ref, Reply, Request, word_of};
 
 const ROOT: Puid = Puid {
     block: 2,

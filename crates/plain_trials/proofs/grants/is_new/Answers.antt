@@ -3,7 +3,7 @@ use Rattle.std.specs.Prelude.{slice_get}
 use Rattle.std.specs.List.{list_any}
 use Rattle.ufs_model.specs.Identifier.{same_tuid}
 use Rattle.open_table.specs.declared.grant.Grant.{Grant}
-use Rattle.open_table.proofs.tests.is_new.Goals as goal
+use Rattle.plain_trials.proofs.grants.is_new.Goals as goal
 
 -- none of one more
 none_more : (p : Grant → Bool) (grants : List Grant) (i : ℕ) (g : Grant) → slice_get grants i ≡ Some g → list_any p (take i grants) ≡ false → p g ≡ false → list_any p (take (i + 1) grants) ≡ false

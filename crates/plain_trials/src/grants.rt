@@ -1,9 +1,10 @@
+//! Grants of many sessions.
 ghost use Rattle.std.specs.Prelude.{◌≡◌, false, IsTrue};
 ghost use Rattle.std.specs.List.{list_any};
 ghost use Rattle.ufs_model.specs.Identifier.{same_tuid};
 
-use crate::{AcquireFault, Grant, Grants, NoGrant};
 use cfs_base::{Mode, Puid, Session, Tuid};
+use open_table::{AcquireFault, Grant, Grants, NoGrant};
 use std::process::Abort;
 use std::test::Fail;
 
