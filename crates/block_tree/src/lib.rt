@@ -11,8 +11,6 @@ mod node;
 mod pointers;
 mod root;
 mod step;
-#[cfg(test)]
-mod tests;
 mod walk;
 
 pub use fault::TreeFault;

@@ -14,14 +14,10 @@ mod leaf;
 mod maps;
 mod node;
 mod recovery;
-#[cfg(test)]
-mod recovery_tests;
 mod slot;
 mod spot;
 mod standing;
 mod survey;
-#[cfg(test)]
-mod tests;
 mod tidy;
 mod walk;
 mod walk_leaf;

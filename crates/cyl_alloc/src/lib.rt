@@ -7,8 +7,6 @@ mod counts;
 mod laws;
 pub mod maps;
 mod space;
-#[cfg(test)]
-mod tests;
 
 pub use laws::counts_follow;
 pub use space::Space;

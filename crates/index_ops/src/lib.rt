@@ -10,8 +10,6 @@ mod creating;
 mod image_tests;
 mod reading;
 #[cfg(test)]
-mod tests;
-#[cfg(test)]
 mod volume;
 #[cfg(test)]
 mod watched;

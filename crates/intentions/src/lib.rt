@@ -7,8 +7,6 @@ mod calls;
 mod change;
 mod entry;
 mod laws;
-#[cfg(test)]
-mod tests;
 
 pub use bit::{barrier, clear_bit, commit, copy_root};
 pub use calls::{finish, intend_claim, intend_release, undo};

@@ -5,8 +5,6 @@
 mod laws;
 mod parts;
 mod slots;
-#[cfg(test)]
-mod tests;
 
 pub use laws::{
     files_are_written, files_between, files_grow, files_shrink, leaves_are_held,

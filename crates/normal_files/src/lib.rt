@@ -3,8 +3,6 @@
 #![tactic(auto)]
 
 mod both;
-#[cfg(test)]
-mod changing;
 mod cut;
 mod flush;
 mod free;
@@ -19,16 +17,10 @@ mod put;
 mod range;
 mod reading;
 mod resizing;
-#[cfg(test)]
-mod resizing_tests;
 mod shrink;
 mod take;
-#[cfg(test)]
-mod tests;
 mod touched;
 mod writing;
-#[cfg(test)]
-mod writing_tests;
 
 pub use laws::files_are_read_by_their_roots;
 pub use reading::read;

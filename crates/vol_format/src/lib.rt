@@ -5,7 +5,5 @@
 
 mod format;
 mod map;
-#[cfg(test)]
-mod tests;
 
 pub use format::format_volume;

@@ -1,124 +1,101 @@
 //! A small volume, and each damage of it.
-use crate::{RecoverFault, check_volume};
-use block_tree::{Node, Root};
-use cfs_base::{Block, BlockNo, Damage, Disk, Failed, Kind, Puid};
+use crate::laid::{
+    LEAF_ENTRY, NODE_ENTRY, RESERVED, ROOT_ENTRY, block_of, get, node_with, put, root_with,
+};
+use block_tree::Node;
+use cfs_base::{Block, Damage, Disk, Failed, Kind, Puid};
 use cfs_fakes::MemoryDisk;
-use leaf_changes::put_slot;
+use cfs_recover::{RecoverFault, check_volume};
 use std::alloc::Global;
 use std::test::Fail;
 use vol_label::Label;
 
 /// The root index, and a file of ten bytes: each has its root, a node and its leaves, from block 2 and from block 5 on.
-pub(crate) const ROOT: Puid = Puid {
+pub const ROOT: Puid = Puid {
     block: 2,
     word: 0xade0_b876,
 };
 
-pub(crate) const FILE: Puid = Puid { block: 5, word: 7 };
+pub const FILE: Puid = Puid { block: 5, word: 7 };
 
-pub(crate) fn put(disk: &mut MemoryDisk, at: u32, block: &Block) -> Result<(), Failed> {
-    if at < disk.blocks() {
-        return disk.write(BlockNo(at), block);
-    }
-    Ok(())
-}
-
-pub(crate) fn put_byte(
-    disk: &mut MemoryDisk,
-    at: u32,
-    place: usize,
-    byte: u8,
-) -> Result<(), Failed> {
-    let mut block = Block::zero();
-    if at < disk.blocks() {
-        disk.read(BlockNo(at), &mut block)?;
-    }
-    let mut bytes = *block.bytes();
+/// Makes a byte of a block another.
+pub fn put_byte(disk: &mut MemoryDisk, at: u32, place: usize, byte: u8) -> Result<(), Failed> {
+    let mut bytes = *get(disk, at)?.bytes();
     if place < 512 {
         bytes[place] = byte;
     }
     put(disk, at, &Block::of(bytes))
 }
 
-pub(crate) fn root(kind: Kind, word: u32, size: u64, node: u32) -> Block {
-    let mut nodes = [0; 120];
-    nodes[0] = node;
-    let root = Root {
-        kind,
-        fill: 0,
-        word,
-        size,
-        nodes,
-    };
-    root.encode()
+/// A special file's root whose tree is below one node.
+pub fn file_root(size: u64, node: u32) -> Block {
+    root_with(Kind::Special, 0, FILE.word, size, &[(0, node)])
 }
 
-/// A node that leads to so many leaves, which stand one after another.
-fn node(first: u32, leaves: u32) -> Block {
+/// Enters a block in its map.
+pub fn put_entry(disk: &mut MemoryDisk, block: u8, entry: u64) -> Result<(), Failed> {
+    let mut map = get(disk, 0)?;
+    map.put_u64(8 * (block % 64) as usize, entry);
+    put(disk, 0, &map)
+}
+
+/// A node that leads to so many leaves, which stand from block 7 on.
+fn file_node(leaves: u32) -> Block {
     let mut node = Node { leaves: [0; 128] };
     for (place, leaf) in node.leaves.iter_mut().enumerate() {
         if (place as u32) < leaves {
-            *leaf = first.wrapping_add(place as u32);
+            *leaf = u32::wrapping_add(7, place as u32);
         }
     }
     node.encode()
 }
 
-/// The bytes of an entry, in its map.
-pub(crate) fn put_entry(disk: &mut MemoryDisk, block: u8, bytes: [u8; 8]) -> Result<(), Failed> {
-    for (place, byte) in bytes.iter().enumerate() {
-        put_byte(disk, 0, 8 * block as usize + place, *byte)?;
-    }
-    Ok(())
-}
+/// The map's first entries.
+pub const ENTRIES: [u64; 7] = [
+    RESERVED,
+    RESERVED,
+    ROOT_ENTRY,
+    NODE_ENTRY,
+    LEAF_ENTRY,
+    0x0101_0000_0000_0005,
+    0x0103_0000_0000_0005,
+];
 
 /// A volume of one cylinder, in which the file has so many leaves and a byte less than they may have.
-pub(crate) fn volume(alloc: Global, leaves: u8) -> Result<MemoryDisk, Fail> {
+pub fn volume(alloc: Global, leaves: u8) -> Result<MemoryDisk, Fail> {
     volume_on(MemoryDisk::new(alloc, 64)?, leaves)
 }
 
 /// The same on this disk, whose blocks are zero.
-pub(crate) fn volume_on(mut disk: MemoryDisk, leaves: u8) -> Result<MemoryDisk, Fail> {
+pub fn volume_on(mut disk: MemoryDisk, leaves: u8) -> Result<MemoryDisk, Fail> {
     let label = Label {
         cylinders: 1,
         root: ROOT,
     };
     put(&mut disk, 1, &label.encode())?;
-    put(&mut disk, 2, &root(Kind::Index, ROOT.word, 512, 3))?;
-    put(&mut disk, 3, &node(4, 1))?;
-    let mut leaf = Block::zero();
-    put_slot(&mut leaf, 0, Some(FILE));
-    put(&mut disk, 4, &leaf)?;
     put(
         &mut disk,
-        5,
-        &root(
-            Kind::Special,
-            FILE.word,
-            (512 * leaves as u64).saturating_sub(1),
-            6,
-        ),
+        2,
+        &root_with(Kind::Index, 0, ROOT.word, 512, &[(0, 3)]),
     )?;
-    put(&mut disk, 6, &node(7, leaves as u32))?;
-    put_entry(&mut disk, 0, [1, 0, 0, 0, 0, 0, 0, 0])?;
-    put_entry(&mut disk, 1, [1, 0, 0, 0, 0, 0, 0, 0])?;
-    put_entry(&mut disk, 2, [1, 1, 0, 0, 0, 0, 0, 2])?;
-    put_entry(&mut disk, 3, [1, 3, 0, 0, 0, 0, 0, 2])?;
-    put_entry(&mut disk, 4, [1, 4, 0, 0, 0, 0, 0, 2])?;
-    put_entry(&mut disk, 5, [1, 1, 0, 0, 0, 0, 0, 5])?;
-    put_entry(&mut disk, 6, [1, 3, 0, 0, 0, 0, 0, 5])?;
-    for number in 0..leaves {
-        put_entry(
-            &mut disk,
-            number.wrapping_add(7),
-            [1, 4, 0, number, 0, 0, 0, 5],
-        )?;
+    put(&mut disk, 3, &node_with(&[(0, 4)]))?;
+    put(&mut disk, 4, &block_of(&[FILE.number()]))?;
+    let size = (512 * leaves as u64).saturating_sub(1);
+    put(&mut disk, 5, &file_root(size, 6))?;
+    put(&mut disk, 6, &file_node(leaves as u32))?;
+    let mut map = block_of(&ENTRIES);
+    for number in 0..57u8 {
+        if number < leaves {
+            let entry = 0x0104_0000_0000_0005 + 0x1_0000_0000 * number as u64;
+            map.put_u64(8 * (7 + number as usize), entry);
+        }
     }
+    put(&mut disk, 0, &map)?;
     Ok(disk)
 }
 
 /// A block, the place of a byte in it, what the byte becomes, and the block and code that are then found.
-pub(crate) const CHANGES: [(u32, usize, u8, u32, u8); 18] = [
+pub const CHANGES: [(u32, usize, u8, u32, u8); 18] = [
     // The label's cylinders; an entry that is none; a root's of another block.
     (1, 11, 2, 1, 1),
     (0, 8 * 20, 5, 0, 2),
@@ -181,17 +158,17 @@ fn a_file_is_read_by_its_shadow_root_where_its_bit_stands(rt: HostRuntime) -> Re
     let alloc = rt.alloc();
     let mut disk = volume(alloc, 2)?;
     // The shadow root has no leaf, so the node and the leaves below the root matter no more.
-    put(&mut disk, 20, &root(Kind::Special, FILE.word, 0, 0))?;
-    put_entry(&mut disk, 20, [2, 2, 0, 0, 0, 0, 0, 5])?;
+    put(&mut disk, 20, &file_root(0, 0))?;
+    put_entry(&mut disk, 20, 0x0202_0000_0000_0005)?;
     put_byte(&mut disk, 6, 0, 1)?;
     let damaged = RecoverFault::Damaged(Damage { block: 6, code: 4 });
     assert_eq!(rt; check_volume(alloc, &mut disk), Err(damaged));
-    put_entry(&mut disk, 5, [0x81, 1, 0, 0, 0, 0, 0, 5])?;
+    put_entry(&mut disk, 5, 0x8101_0000_0000_0005)?;
     assert_eq!(rt; check_volume(alloc, &mut disk), Ok(()));
     put_byte(&mut disk, 20, 7, 8)?;
     let other_word = RecoverFault::Damaged(Damage { block: 20, code: 3 });
     assert_eq!(rt; check_volume(alloc, &mut disk), Err(other_word));
-    put_entry(&mut disk, 21, [2, 2, 0, 0, 0, 0, 0, 5])?;
+    put_entry(&mut disk, 21, 0x0202_0000_0000_0005)?;
     let two = RecoverFault::Damaged(Damage { block: 5, code: 7 });
     assert_eq!(rt; check_volume(alloc, &mut disk), Err(two));
     Ok(())

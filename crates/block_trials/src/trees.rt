@@ -1,79 +1,18 @@
 //! Worked blocks and their values, and one tree on a disk.
-ghost use Rattle.std.specs.Prelude.{[], false};
+ghost use Rattle.std.specs.Prelude.{◌≡◌, length, IfOk};
+ghost use Rattle.cfs_fakes.specs.Memory.{contents};
 
-use crate::{
+use crate::laid::{block_of, node_with, put};
+use block_tree::{
     BadRoot, HeldLeaf, HeldStep, Node, Root, TreeFault, leaf_at, leaf_of, node_again,
     node_block_again, node_of, one_spelling, read_leaf, root_again, root_block_again, step_held,
     walk_held,
 };
-use cfs_base::{Block, BlockNo, Disk, Failed, Kind};
+use cfs_base::{Block, Disk, Kind};
+use cfs_fakes::MemoryDisk;
+use std::alloc::Global;
 use std::process::Abort;
 use std::test::Fail;
-
-/// A disk of six blocks, of which the reads may be made to fail.
-#[derive(Drop)]
-struct SixBlocks {
-    blocks: [Block; 6],
-    failing: bool,
-    calls: u64,
-    tries: u64,
-    faults: u64,
-}
-
-impl Disk for SixBlocks {
-    ghost blocks = { λ d. 6 };
-
-    ghost moment = { λ d. d.calls };
-
-    ghost calls = { λ d. d.calls };
-
-    ghost tries = { λ d. d.tries };
-
-    ghost faults = { λ d. d.faults };
-
-    ghost only_honest = { λ d n h. h };
-
-    ghost sized = { λ d h. Prim.cc };
-
-    ghost of_blocks = { λ d h. Prim.cc };
-
-    ghost left_sized = { λ d t c left. absurd left };
-
-    fn blocks(&self) -> u32 {
-        6
-    }
-
-    fn moment(&self) -> u64 {
-        self.calls
-    }
-
-    fn calls(&self) -> u64 {
-        self.calls
-    }
-
-    fn read(&mut self, at: BlockNo, into: &mut Block) -> Result<(), Failed> {
-        self.calls = self.calls.saturating_add(1);
-        if self.failing {
-            self.faults = self.faults.saturating_add(1);
-            return Err(Failed);
-        }
-        *into = self.blocks[at.0 as usize];
-        Ok(())
-    }
-
-    fn write(&mut self, at: BlockNo, from: &Block) -> Result<(), Failed> {
-        self.calls = self.calls.saturating_add(1);
-        self.tries = self.tries.saturating_add(1);
-        self.blocks[at.0 as usize] = *from;
-        Ok(())
-    }
-
-    fn barrier(&mut self) -> Result<(), Failed> {
-        self.calls = self.calls.saturating_add(1);
-        self.tries = self.tries.saturating_add(1);
-        Ok(())
-    }
-}
 
 /// The root index of a volume in which object a stands in slot 0: node 0 is block 5.
 fn root_index() -> Root {
@@ -88,26 +27,21 @@ fn root_index() -> Root {
     }
 }
 
-/// That volume's first six blocks: leaf 0 of the root index is block 4.
-fn volume() -> SixBlocks {
-    let mut leaves = [0; 128];
-    leaves[0] = 4;
-    let mut slots = Block::zero();
-    slots.put_u64(0, 0x0000_0003_903d_f1a0);
-    SixBlocks {
-        blocks: [
-            Block::zero(),
-            Block::zero(),
-            root_index().encode(),
-            Block::zero(),
-            slots,
-            Node { leaves }.encode(),
-        ],
-        failing: false,
-        calls: 0,
-        tries: 0,
-        faults: 0,
-    }
+/// That volume's first six blocks: leaf 0 of the root index is block 4. The calls at these moments fail, of which these
+/// took three.
+fn volume(alloc: Global, failing: Vec<u64>) -> Result<MemoryDisk, Fail>
+    ensures { IfOk result (λ disk. length (contents disk) ≡ 6) }
+{
+    let mut disk = MemoryDisk::failing(alloc, 6, failing)?;
+    put(&mut disk, 2, &root_index().encode())?;
+    put(&mut disk, 4, &block_of(&[0x0000_0003_903d_f1a0]))?;
+    put(&mut disk, 5, &node_with(&[(0, 4)]))?;
+    Ok(disk)
+}
+
+/// How many calls of the disk there were since this many.
+fn calls_since(disk: &MemoryDisk, before: u64) -> u64 {
+    disk.calls().saturating_sub(before)
 }
 
 /// The first bytes of a block, as numbers of 4 bytes, and no other byte.
@@ -203,20 +137,22 @@ fn the_first_bad_byte_is_named(rt: HostRuntime) {
 }
 
 #[test]
-fn leaves_are_read_from_their_nodes(rt: HostRuntime) {
-    let mut disk = volume();
+fn leaves_are_read_from_their_nodes(rt: HostRuntime) -> Result<(), Fail> {
+    let alloc = rt.alloc();
+    let mut disk = volume(alloc, Vec::new(alloc))?;
+    let calls = disk.calls();
     let root = root_index();
     assert_eq!(rt; leaf_of(512), 1);
     assert_eq!(rt; node_of(128), 1);
     assert_eq!(rt; leaf_at(&mut disk, &root, 0), Ok(4));
     assert_eq!(rt; leaf_at(&mut disk, &root, 1), Ok(0));
-    assert_eq!(rt; disk.calls(), 2);
+    assert_eq!(rt; calls_since(&disk, calls), 2);
     assert_eq!(rt; leaf_at(&mut disk, &root, 128), Ok(0));
-    assert_eq!(rt; disk.calls(), 2);
+    assert_eq!(rt; calls_since(&disk, calls), 2);
     let mut content = Block::zero();
     assert_eq!(rt; read_leaf(&mut disk, &root, 0, &mut content), Ok(()));
     assert_eq!(rt; content.u64_at(0), 0x0000_0003_903d_f1a0);
-    assert_eq!(rt; disk.calls(), 4);
+    assert_eq!(rt; calls_since(&disk, calls), 4);
     let file = Root {
         kind: Kind::Normal,
         fill: 0x2e,
@@ -226,21 +162,26 @@ fn leaves_are_read_from_their_nodes(rt: HostRuntime) {
     };
     assert_eq!(rt; read_leaf(&mut disk, &file, 15_359, &mut content), Ok(()));
     assert_eq!(rt; content, Block::of([0x2e; 512]));
+    Ok(())
 }
 
 #[test]
-fn the_first_held_leaf_is_found(rt: HostRuntime) {
-    let mut disk = volume();
+fn the_first_held_leaf_is_found(rt: HostRuntime) -> Result<(), Fail> {
+    let alloc = rt.alloc();
+    let mut disk = volume(alloc, Vec::new(alloc))?;
+    let calls = disk.calls();
     let root = root_index();
     let held = HeldLeaf { leaf: 0, block: 4 };
     assert_eq!(rt; walk_held(&mut disk, &root, 0), Ok(Some(held)));
     assert_eq!(rt; walk_held(&mut disk, &root, 1), Ok(None));
-    assert_eq!(rt; disk.calls(), 2);
+    assert_eq!(rt; calls_since(&disk, calls), 2);
+    Ok(())
 }
 
 #[test]
-fn a_step_tells_whether_another_held_leaf_follows(rt: HostRuntime) {
-    let mut disk = volume();
+fn a_step_tells_whether_another_held_leaf_follows(rt: HostRuntime) -> Result<(), Fail> {
+    let alloc = rt.alloc();
+    let mut disk = volume(alloc, Vec::new(alloc))?;
     let mut root = root_index();
     let step = |leaf: u32, block: u32, follows: bool| HeldStep {
         held: HeldLeaf { leaf, block },
@@ -248,39 +189,37 @@ fn a_step_tells_whether_another_held_leaf_follows(rt: HostRuntime) {
     };
     assert_eq!(rt; step_held(&mut disk, &root, 0), Ok(Some(step(0, 4, false))));
     assert_eq!(rt; step_held(&mut disk, &root, 1), Ok(None));
-    let mut leaves = [0; 128];
-    leaves[127] = 4;
-    leaves[3] = 5;
-    disk.blocks[3] = Node { leaves }.encode();
+    put(&mut disk, 3, &node_with(&[(127, 4), (3, 5)]))?;
     root.nodes[119] = 3;
     assert_eq!(rt; step_held(&mut disk, &root, 0), Ok(Some(step(0, 4, true))));
-    disk.calls = 0;
+    let calls = disk.calls();
     assert_eq!(rt;
         step_held(&mut disk, &root, 1),
         Ok(Some(step(15_235, 5, true)))
     );
-    assert_eq!(rt; disk.calls(), 2);
+    assert_eq!(rt; calls_since(&disk, calls), 2);
     assert_eq!(rt;
         step_held(&mut disk, &root, 15_236),
         Ok(Some(step(15_359, 4, false)))
     );
-    assert_eq!(rt; disk.calls(), 3);
+    assert_eq!(rt; calls_since(&disk, calls), 3);
     assert_eq!(rt; step_held(&mut disk, &root, 15_360), Ok(None));
-    assert_eq!(rt; disk.calls(), 3);
+    assert_eq!(rt; calls_since(&disk, calls), 3);
+    Ok(())
 }
 
 #[test]
 fn a_pointer_past_the_end_and_a_failed_read_are_told_apart(rt: HostRuntime) -> Result<(), Fail> {
-    let mut disk = volume();
+    let alloc = rt.alloc();
+    let mut disk = volume(alloc, vec![in alloc; 4]?)?;
     let mut root = root_index();
     root.nodes[1] = 6;
     let past = TreeFault::BadPointer { block: 6 };
     assert_eq!(rt; leaf_at(&mut disk, &root, 255), Err(past));
     assert_eq!(rt; walk_held(&mut disk, &root, 1), Err(past));
-    disk.failing = true;
     assert_eq!(rt; leaf_at(&mut disk, &root, 0), Err(TreeFault::Disk));
     assert_eq!(rt;
-        format!(in rt.alloc(); "{past}")?.as_str(),
+        format!(in alloc; "{past}")?.as_str(),
         "a pointer leads to block 6, which the disk doesn't have"
     );
     Ok(())

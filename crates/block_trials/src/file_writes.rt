@@ -1,6 +1,5 @@
 //! Files written on disks of one and two cylinders.
-use crate::changing::{FILE, each_image_has, format, write_at};
-use crate::tests::read_at;
+use crate::files::{FILE, each_image_has, format, read_at, write_at};
 use block_tree::{Node, Root};
 use cfs_base::{Block, BlockNo, Disk, Need, Refused};
 use cfs_fakes::MemoryDisk;

@@ -1,6 +1,6 @@
 //! Leaves and slots with bytes that are worked by hand.
-use crate::{cut_leaf, patch_leaf, put_slot, read_part, slot_at};
 use cfs_base::{Block, Puid};
+use leaf_changes::{cut_leaf, patch_leaf, put_slot, read_part, slot_at};
 
 #[test]
 fn bytes_at_the_end_of_one_leaf_go_on_in_the_next(rt: HostRuntime) {

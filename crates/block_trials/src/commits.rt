@@ -1,9 +1,11 @@
 //! A commit made by hand of single calls on a disk of two cylinders, looked at in images of each moment.
-use crate::{clear_bit, commit, copy_root, finish, intend_claim, intend_release, undo};
-use block_tree::{Node, Root, read_leaf};
+use crate::laid::{
+    LEAF_ENTRY, NODE_ENTRY, RESERVED, ROOT_ENTRY, block_of, get, node_with, put, root_with,
+};
+use block_tree::{Root, read_leaf};
 use cfs_base::{Block, BlockNo, Disk, Failed, Kind, Place};
 use cfs_fakes::{MemoryDisk, Pick};
-use cyl_map::{BlockState, Map, MapEntry};
+use intentions::{clear_bit, commit, copy_root, finish, intend_claim, intend_release, undo};
 use std::alloc::Global;
 use std::process::Abort;
 use std::test::Fail;
@@ -32,85 +34,18 @@ const OLD: u8 = 1;
 
 const NEW: u8 = 2;
 
-/// A map block or the label.
-const RESERVED: MapEntry = MapEntry {
-    state: BlockState::Allocated,
-    committed: false,
-    place: None,
-    owner: 0,
-};
-
-const ROOT_ENTRY: MapEntry = MapEntry {
-    state: BlockState::Allocated,
-    committed: false,
-    place: Some(Place::Root),
-    owner: 2,
-};
-
-const LEAF_ENTRY: MapEntry = MapEntry {
-    state: BlockState::Allocated,
-    committed: false,
-    place: Some(Place::Leaf(0)),
-    owner: 2,
-};
-
-const NODE_ENTRY: MapEntry = MapEntry {
-    state: BlockState::Allocated,
-    committed: false,
-    place: Some(Place::Node(0)),
-    owner: 2,
-};
-
-fn put<D: Disk>(disk: &mut D, at: BlockNo, block: &Block) -> Result<(), Failed> {
-    if at.0 >= disk.blocks() {
-        return Err(Failed);
-    }
-    disk.write(at, block)
-}
-
-fn get<D: Disk>(disk: &mut D, at: BlockNo) -> Result<Block, Failed> {
-    let mut block = Block::zero();
-    if at.0 >= disk.blocks() {
-        return Err(Failed);
-    }
-    disk.read(at, &mut block)?;
-    Ok(block)
-}
-
 fn root_block(node: BlockNo) -> Block {
-    let mut nodes = [0; 120];
-    nodes[0] = node.0;
-    let root = Root {
-        kind: Kind::Special,
-        fill: 0,
-        word: 7,
-        size: 512,
-        nodes,
-    };
-    root.encode()
-}
-
-fn node_block(leaf: BlockNo) -> Block {
-    let mut leaves = [0; 128];
-    leaves[0] = leaf.0;
-    Node { leaves }.encode()
+    root_with(Kind::Special, 0, 7, 512, &[(0, node.0)])
 }
 
 /// The volume with an object of one leaf of these bytes.
 fn prepare<D: Disk>(disk: &mut D) -> Result<(), Fail> {
-    let mut first = Map::decode(&Block::zero())?;
-    first.set(0, RESERVED);
-    first.set(1, RESERVED);
-    first.set(2, ROOT_ENTRY);
-    first.set(3, LEAF_ENTRY);
-    first.set(4, NODE_ENTRY);
-    put(disk, BlockNo(0), &first.encode())?;
-    let mut second = Map::decode(&Block::zero())?;
-    second.set(0, RESERVED);
-    put(disk, BlockNo(64), &second.encode())?;
-    put(disk, ROOT, &root_block(NODE))?;
-    put(disk, NODE, &node_block(LEAF))?;
-    put(disk, LEAF, &Block::of([OLD; 512]))?;
+    let first = [RESERVED, RESERVED, ROOT_ENTRY, LEAF_ENTRY, NODE_ENTRY];
+    put(disk, 0, &block_of(&first))?;
+    put(disk, 64, &block_of(&[RESERVED]))?;
+    put(disk, ROOT.0, &root_block(NODE))?;
+    put(disk, NODE.0, &node_with(&[(0, LEAF.0)]))?;
+    put(disk, LEAF.0, &Block::of([OLD; 512]))?;
     disk.barrier()?;
     Ok(())
 }
@@ -123,9 +58,9 @@ fn draft<D: Disk>(disk: &mut D) -> Result<(), Fail> {
     intend_claim(disk, SHADOW, Place::ShadowRoot, 2)?;
     intend_claim(disk, NEW_LEAF, Place::Leaf(0), 2)?;
     intend_claim(disk, NEW_NODE, Place::Node(0), 2)?;
-    put(disk, NEW_LEAF, &Block::of([NEW; 512]))?;
-    put(disk, NEW_NODE, &node_block(NEW_LEAF))?;
-    put(disk, SHADOW, &root_block(NEW_NODE))?;
+    put(disk, NEW_LEAF.0, &Block::of([NEW; 512]))?;
+    put(disk, NEW_NODE.0, &node_with(&[(0, NEW_LEAF.0)]))?;
+    put(disk, SHADOW.0, &root_block(NEW_NODE))?;
     Ok(())
 }
 
@@ -160,17 +95,18 @@ fn carry_out<D: Disk>(disk: &mut D) -> Result<(), Fail> {
     Ok(())
 }
 
-fn state_of<D: Disk>(disk: &mut D, block: BlockNo) -> Result<MapEntry, Fail> {
-    let map = Map::decode(&get(disk, BlockNo(64 * (block.0 / 64)))?)?;
-    Ok(map.get((block.0 % 64) as u8))
+/// The entry of a block, as it is spelled.
+fn entry_of<D: Disk>(disk: &mut D, block: BlockNo) -> Result<u64, Fail> {
+    let map = get(disk, block.0 - block.0 % 64)?;
+    Ok(map.u64_at(8 * (block.0 % 64) as usize))
 }
 
 /// The first byte of the object, read by its shadow root where the commit bit and that stand.
 fn first_byte<D: Disk>(disk: &mut D) -> Result<u8, Fail> {
-    let bit = state_of(disk, ROOT)?.committed;
-    let stands = state_of(disk, SHADOW)?.state == BlockState::IntendAllocate;
+    let bit = entry_of(disk, ROOT)? >> 56 >= 0x80;
+    let stands = entry_of(disk, SHADOW)? >> 56 == 2;
     let source = if bit && stands { SHADOW } else { ROOT };
-    let root = Root::decode(&get(disk, source)?)?;
+    let root = Root::decode(&get(disk, source.0)?)?;
     let mut leaf = Block::zero();
     read_leaf(disk, &root, 0, &mut leaf)?;
     Ok(leaf.bytes()[0])
@@ -235,11 +171,11 @@ fn a_commit_is_old_or_new_at_each_moment(rt: HostRuntime) -> Result<(), Fail> {
     for at in decided..=ended {
         each_image_reads(&rt, alloc, &disk, at, &AFTER, &[NEW])?;
     }
-    assert_eq!(rt; state_of(&mut disk, ROOT)?, ROOT_ENTRY);
-    assert_eq!(rt; state_of(&mut disk, NEW_LEAF)?, LEAF_ENTRY);
-    assert_eq!(rt; state_of(&mut disk, NEW_NODE)?, NODE_ENTRY);
+    assert_eq!(rt; entry_of(&mut disk, ROOT)?, ROOT_ENTRY);
+    assert_eq!(rt; entry_of(&mut disk, NEW_LEAF)?, LEAF_ENTRY);
+    assert_eq!(rt; entry_of(&mut disk, NEW_NODE)?, NODE_ENTRY);
     for block in [LEAF, NODE, SHADOW] {
-        assert_eq!(rt; state_of(&mut disk, block)?.state, BlockState::Free);
+        assert_eq!(rt; entry_of(&mut disk, block)?, 0);
     }
     Ok(())
 }

@@ -1,6 +1,6 @@
 use Rattle.std.proofs.Common.{◌≡◌, ◌*◌, length}
 use Rattle.cfs_fakes.specs.Memory.{contents}
-use Rattle.cyl_alloc.proofs.tests.formatted.Given as goal
+use Rattle.block_trials.proofs.free_blocks.formatted.Given as goal
 
 abbrev pub invariant-loop-cylinder : goal.invariant-loop-cylinder
-invariant-loop-cylinder l = length (contents l.disk.memory) ≡ 64 * l.cylinders
+invariant-loop-cylinder l = length (contents l.disk.disk) ≡ 64 * l.cylinders

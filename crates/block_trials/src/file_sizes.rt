@@ -1,6 +1,5 @@
 //! Sizes of files set on disks of one and two cylinders.
-use crate::changing::{counted, each_image_has, format, resize_to, write_at};
-use crate::tests::read_at;
+use crate::files::{counted, each_image_has, format, read_at, resize_to, write_at};
 use cfs_base::{Disk, Need, Refused};
 use cfs_fakes::MemoryDisk;
 use std::alloc::Global;

@@ -2,38 +2,23 @@
 ghost use Rattle.std.specs.Prelude.{◌≡◌, length, IfOk};
 ghost use Rattle.cfs_fakes.specs.Memory.{contents};
 
-use crate::{retrieve, slots};
-use block_tree::{Node, Root};
-use cfs_base::{Block, BlockNo, Damage, Disk, Failed, Kind, Puid, Trouble};
+use crate::laid::{node_with, put, root_with};
+use cfs_base::{Block, BlockNo, Damage, Disk, Kind, Puid, Trouble};
 use cfs_fakes::MemoryDisk;
+use index_ops::{retrieve, slots};
 use leaf_changes::put_slot;
 use std::alloc::Global;
 use std::test::Fail;
 
 /// An index of 983,040 slots with these nodes as its nodes 0, 1 and 119.
 fn index_block(first: u32, second: u32, last: u32) -> Block {
-    let mut nodes = [0; 120];
-    nodes[0] = first;
-    nodes[1] = second;
-    nodes[119] = last;
-    let root = Root {
-        kind: Kind::Index,
-        fill: 0,
-        word: 1,
-        size: 7_864_320,
-        nodes,
-    };
-    root.encode()
-}
-
-/// A node with a leaf at two places.
-fn node_block(at: usize, leaf: u32, other: usize, other_leaf: u32) -> Block {
-    let mut leaves = [0; 128];
-    if at < 128 && other < 128 {
-        leaves[at] = leaf;
-        leaves[other] = other_leaf;
-    }
-    Node { leaves }.encode()
+    root_with(
+        Kind::Index,
+        0,
+        1,
+        7_864_320,
+        &[(0, first), (1, second), (119, last)],
+    )
 }
 
 /// A leaf with an identifier in one of its slots.
@@ -45,24 +30,15 @@ fn leaf_block(slot: usize, block: u32) -> Block {
     leaf
 }
 
-fn put<D: Disk>(disk: &mut D, at: u32, block: &Block) -> Result<(), Failed>
-    ensures { D.blocks disk.new ≡ D.blocks disk.old }
-{
-    if at >= disk.blocks() {
-        return Err(Failed);
-    }
-    disk.write(BlockNo(at), block)
-}
-
 /// Its leaves 0 and 127 hang on node 0, leaf 128 on node 1, and leaf 15,359 on node 119 in the second cylinder.
 fn prepared(alloc: Global) -> Result<MemoryDisk, Fail>
     ensures { IfOk result (λ disk. length (contents disk) ≡ 128) }
 {
     let mut disk = MemoryDisk::failing(alloc, 128, Vec::new(alloc))?;
     put(&mut disk, 2, &index_block(5, 6, 70))?;
-    put(&mut disk, 5, &node_block(0, 10, 127, 11))?;
-    put(&mut disk, 6, &node_block(0, 12, 1, 200))?;
-    put(&mut disk, 70, &node_block(127, 71, 126, 0))?;
+    put(&mut disk, 5, &node_with(&[(0, 10), (127, 11)]))?;
+    put(&mut disk, 6, &node_with(&[(0, 12), (1, 200)]))?;
+    put(&mut disk, 70, &node_with(&[(127, 71)]))?;
     put(&mut disk, 10, &leaf_block(0, 30))?;
     put(&mut disk, 11, &leaf_block(63, 31))?;
     put(&mut disk, 12, &leaf_block(0, 32))?;

@@ -2,107 +2,36 @@
 ghost use Rattle.std.specs.Prelude.{◌≡◌, ◌*◌, ◌≤◌, length, IfOk};
 ghost use Rattle.cfs_fakes.specs.Memory.{contents};
 
-use crate::Space;
-use crate::maps::read_map;
-use cfs_base::{Block, BlockNo, Damage, Disk, Failed, Need, Place, Refused, Trouble};
-use cfs_fakes::MemoryDisk;
-use cyl_map::{BlockState, Map, MapEntry};
+use crate::laid::{RESERVED, ROOT_ENTRY, block_of, put};
+use cfs_base::{Block, BlockNo, Damage, Disk, Need, Place, Refused, Trouble};
+use cfs_fakes::{MemoryDisk, Untold};
+use cyl_alloc::Space;
+use cyl_alloc::maps::read_map;
+use cyl_map::{BlockState, MapEntry};
 use std::alloc::Global;
 use std::process::Abort;
 use std::test::Fail;
 
-/// A disk in memory that tells nothing.
-#[derive(Drop)]
-struct Untold {
-    memory: MemoryDisk,
-}
-
-impl Disk for Untold {
-    ghost use Rattle.std.specs.Prelude.{[], false, length};
-    ghost use Rattle.cfs_fakes.specs.Memory.{contents, moment_of, tries_of, faults_of};
-
-    ghost blocks = { λ d. length (contents d.memory) };
-
-    ghost moment = { λ d. moment_of d.memory };
-
-    ghost calls = { λ d. moment_of d.memory };
-
-    ghost tries = { λ d. tries_of d.memory };
-
-    ghost faults = { λ d. faults_of d.memory };
-
-    ghost only_honest = { λ d n h. h };
-
-    ghost sized = { λ d h. Prim.cc };
-
-    ghost of_blocks = { λ d h. Prim.cc };
-
-    ghost left_sized = { λ d t c left. absurd left };
-
-    fn blocks(&self) -> u32 {
-        self.memory.blocks()
-    }
-
-    fn moment(&self) -> u64 {
-        self.memory.moment()
-    }
-
-    fn calls(&self) -> u64 {
-        self.memory.calls()
-    }
-
-    fn read(&mut self, at: BlockNo, into: &mut Block) -> Result<(), Failed> {
-        self.memory.read(at, into)
-    }
-
-    fn write(&mut self, at: BlockNo, from: &Block) -> Result<(), Failed> {
-        self.memory.write(at, from)
-    }
-
-    fn barrier(&mut self) -> Result<(), Failed> {
-        self.memory.barrier()
-    }
-}
-
-/// A block that no object has.
-const RESERVED: MapEntry = MapEntry {
-    state: BlockState::Allocated,
-    committed: false,
-    place: None,
-    owner: 0,
-};
-
-/// The root of the root index.
-const ROOT: MapEntry = MapEntry {
-    state: BlockState::Allocated,
-    committed: false,
-    place: Some(Place::Root),
-    owner: 2,
-};
-
 const FULL: Refused = Refused::Full(Need { free: 0, need: 1 });
 
 /// The map of a cylinder of a formatted volume: its own block is reserved, and in the first cylinder the label's too.
-fn formatted_map(cylinder: u32) -> Result<Block, Fail> {
-    let mut map = Map::decode(&Block::zero())?;
-    map.set(0, RESERVED);
+fn formatted_map(cylinder: u32) -> Block {
     if cylinder == 0 {
-        map.set(1, RESERVED);
-        map.set(2, ROOT);
+        block_of(&[RESERVED, RESERVED, ROOT_ENTRY])
+    } else {
+        block_of(&[RESERVED])
     }
-    Ok(map.encode())
 }
 
 /// A formatted volume, of whose device calls those at these moments fail. Each cylinder took one call.
-fn formatted(alloc: Global, cylinders: u32, failing: Vec<u64>) -> Result<Untold, Fail>
+fn formatted(alloc: Global, cylinders: u32, failing: Vec<u64>) -> Result<Untold<MemoryDisk>, Fail>
     requires { cylinders ≤ 65536 }
-    ensures { IfOk result (λ disk. length (contents disk.memory) ≡ 64 * cylinders) }
+    ensures { IfOk result (λ disk. length (contents disk.disk) ≡ 64 * cylinders) }
 {
     let memory = MemoryDisk::failing(alloc, 64 * cylinders, failing)?;
-    let mut disk = Untold { memory };
+    let mut disk = Untold::new(memory);
     for cylinder in 0..cylinders {
-        let map = formatted_map(cylinder)?;
-        disk.write(BlockNo(64 * cylinder), &map)?;
+        disk.write(BlockNo(64 * cylinder), &formatted_map(cylinder))?;
     }
     Ok(disk)
 }
@@ -110,9 +39,9 @@ fn formatted(alloc: Global, cylinders: u32, failing: Vec<u64>) -> Result<Untold,
 /// A volume whose Free blocks are counted.
 #[derive(Drop)]
 struct Volume {
-    disk: Untold,
+    disk: Untold<MemoryDisk>,
     space: Space,
-    ghost size: { length (contents disk.memory) ≡ 64 * length space.free },
+    ghost size: { length (contents disk.disk) ≡ 64 * length space.free },
 }
 
 impl Volume {
@@ -160,13 +89,6 @@ impl Volume {
             return Ok(());
         }
         self.space.release(&mut self.disk, BlockNo(block))
-    }
-
-    fn put(&mut self, block: u32, content: &Block) -> Result<(), Failed> {
-        if block >= self.disk.blocks() {
-            return Err(Failed);
-        }
-        self.disk.write(BlockNo(block), content)
     }
 }
 
@@ -235,28 +157,19 @@ fn damaged() -> Block {
     block
 }
 
-/// A map with no Free block.
-fn full() -> Result<Block, Fail> {
-    let mut map = Map::decode(&Block::zero())?;
-    for entry in 0..64u8 {
-        map.set(entry, RESERVED);
-    }
-    Ok(map.encode())
-}
-
 #[test]
 fn a_damaged_map_is_named_by_the_call_that_reads_it(rt: HostRuntime) -> Result<(), Fail> {
     let alloc = rt.alloc();
     let mut volume = Volume::open(alloc, 2, Vec::new(alloc))?;
-    volume.put(64, &damaged())?;
+    put(&mut volume.disk, 64, &damaged())?;
     let second = Damage { block: 64, code: 2 };
     assert_eq!(rt; volume.release(70), Err(Trouble::Damaged(second)));
     assert_eq!(rt; volume.claim(), Ok(3));
-    volume.put(0, &damaged())?;
+    put(&mut volume.disk, 0, &damaged())?;
     let first = Damage { block: 0, code: 2 };
     assert_eq!(rt; volume.find(), Err(Refused::Damaged(first)));
     assert_eq!(rt; volume.claim(), Err(Refused::Damaged(first)));
-    volume.put(0, &full()?)?;
+    put(&mut volume.disk, 0, &block_of(&[RESERVED; 64]))?;
     let other_count = Damage { block: 0, code: 12 };
     assert_eq!(rt; volume.claim(), Err(Refused::Damaged(other_count)));
     assert_eq!(rt; volume.space.free(), 123);

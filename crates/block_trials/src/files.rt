@@ -1,60 +1,30 @@
-//! A file on a disk of one or two cylinders, for tests.
+//! A file on a disk of one or two cylinders, whose blocks are counted anew before each call.
 ghost use Rattle.std.specs.Prelude.{◌≡◌, ◌*◌, ◌≤◌, length, IfOk, OnOk};
 
-use crate::tests::{put, read_at};
-use crate::{resize, write};
-use block_tree::Root;
-use cfs_base::{Block, BlockNo, Disk, Kind, Place, Refused};
+use crate::laid::{RESERVED, ROOT_ENTRY, block_of, put, root_with};
+use cfs_base::{BlockNo, Disk, Kind, Refused, Trouble};
 use cfs_fakes::{MemoryDisk, Pick};
 use cyl_alloc::Space;
-use cyl_map::{BlockState, Map, MapEntry};
+use normal_files::{read, resize, write};
 use std::alloc::Global;
 use std::process::Abort;
 use std::test::Fail;
 
-pub(crate) const FILE: BlockNo = BlockNo(2);
-
-fn map_of(first: bool) -> Result<Block, Fail> {
-    let reserved = MapEntry {
-        state: BlockState::Allocated,
-        committed: false,
-        place: None,
-        owner: 0,
-    };
-    let mut map = Map::decode(&Block::zero())?;
-    map.set(0, reserved);
-    if first {
-        map.set(1, reserved);
-        let root = MapEntry {
-            place: Some(Place::Root),
-            owner: 2,
-            ..reserved
-        };
-        map.set(2, root);
-    }
-    Ok(map.encode())
-}
+pub const FILE: BlockNo = BlockNo(2);
 
 /// Puts a file of this size, without a leaf, in block 2; all blocks past it are Free but a map.
-pub(crate) fn format<D: Disk>(disk: &mut D, size: u64, fill: u8) -> Result<(), Fail> {
-    let root = Root {
-        kind: Kind::Normal,
-        fill,
-        word: 7,
-        size,
-        nodes: [0; 120],
-    };
-    put(disk, 0, &map_of(true)?)?;
-    put(disk, 2, &root.encode())?;
+pub fn format<D: Disk>(disk: &mut D, size: u64, fill: u8) -> Result<(), Fail> {
+    put(disk, 0, &block_of(&[RESERVED, RESERVED, ROOT_ENTRY]))?;
+    put(disk, 2, &root_with(Kind::Normal, fill, 7, size, &[]))?;
     if disk.blocks() > 64 {
-        put(disk, 64, &map_of(false)?)?;
+        put(disk, 64, &block_of(&[RESERVED]))?;
     }
     disk.barrier()?;
     Ok(())
 }
 
 /// Counts the Free blocks, with a read a cylinder.
-pub(crate) fn counted<D: Disk>(alloc: Global, disk: &mut D) -> Result<Space, Refused>
+pub fn counted<D: Disk>(alloc: Global, disk: &mut D) -> Result<Space, Refused>
     ensures size { IfOk result (λ space. D.blocks disk.new ≡ 64 * length space.free) }
     ensures some { OnOk result (64 ≤ D.blocks disk.new) }
 {
@@ -68,8 +38,15 @@ pub(crate) fn counted<D: Disk>(alloc: Global, disk: &mut D) -> Result<Space, Ref
     }
 }
 
+pub fn read_at<D: Disk>(disk: &mut D, offset: u64, into: &mut [u8]) -> Result<(), Trouble> {
+    if disk.blocks() < 64 || offset > 7_860_224 || into.len() > 4_096 {
+        return Err(Trouble::Disk { tried: false });
+    }
+    read(disk, FILE, offset, into)
+}
+
 /// Writes bytes into the file, and gives how many blocks are Free then.
-pub(crate) fn write_at<D: Disk>(
+pub fn write_at<D: Disk>(
     alloc: Global,
     disk: &mut D,
     offset: u64,
@@ -85,7 +62,7 @@ pub(crate) fn write_at<D: Disk>(
 }
 
 /// Sets the size of the file, and gives how many blocks are Free then.
-pub(crate) fn resize_to<D: Disk>(
+pub fn resize_to<D: Disk>(
     alloc: Global,
     disk: &mut D,
     size: u64,
@@ -101,7 +78,7 @@ pub(crate) fn resize_to<D: Disk>(
 
 /// Whether all bytes that `part` has room for, from each of these offsets on, are one of two, in images of each moment
 /// from one on, by some picks.
-pub(crate) fn each_image_has(
+pub fn each_image_has(
     rt: &impl Abort,
     alloc: Global,
     disk: &MemoryDisk,

@@ -1,28 +1,23 @@
 //! What recovery makes of small volumes.
-use crate::tests::{CHANGES, FILE, ROOT, put, put_byte, put_entry, root, volume, volume_on};
-use crate::{RecoverFault, check_volume, recover};
-use cfs_base::{Block, BlockNo, Damage, Disk, Failed, Kind};
+use crate::laid::{block_of, get, put};
+use crate::openings::{
+    CHANGES, ENTRIES, FILE, ROOT, file_root, put_byte, put_entry, volume, volume_on,
+};
+use cfs_base::{Damage, Disk, Failed, Kind};
 use cfs_fakes::MemoryDisk;
+use cfs_recover::{RecoverFault, check_volume, recover};
 use std::test::Fail;
 
 /// A volume whose file has a commit that wasn't carried out: it is read by block 20, which leads to no leaf. Block 21 was
 /// meant for a draft.
 fn committed(disk: MemoryDisk) -> Result<MemoryDisk, Fail> {
     let mut disk = volume_on(disk, 2)?;
-    put(&mut disk, 20, &root(Kind::Special, FILE.word, 0, 0))?;
-    put_entry(&mut disk, 5, [0x81, 1, 0, 0, 0, 0, 0, 5])?;
-    put_entry(&mut disk, 20, [2, 2, 0, 0, 0, 0, 0, 5])?;
-    put_entry(&mut disk, 21, [2, 4, 0, 9, 0, 0, 0, 5])?;
+    put(&mut disk, 20, &file_root(0, 0))?;
+    put_entry(&mut disk, 5, 0x8101_0000_0000_0005)?;
+    put_entry(&mut disk, 20, 0x0202_0000_0000_0005)?;
+    put_entry(&mut disk, 21, 0x0204_0009_0000_0005)?;
     disk.barrier()?;
     Ok(disk)
-}
-
-fn get(disk: &mut MemoryDisk, at: u32) -> Result<Block, Failed> {
-    let mut block = Block::zero();
-    if at < disk.blocks() {
-        disk.read(BlockNo(at), &mut block)?;
-    }
-    Ok(block)
 }
 
 /// The first of 64 blocks in which two disks differ.
@@ -48,15 +43,8 @@ fn a_committed_root_is_copied_and_what_nobody_has_is_free(rt: HostRuntime) -> Re
         assert_eq!(rt; recovered.names.kind(ROOT), Some(Kind::Index));
         assert_eq!(rt; recovered.names.kind(FILE), Some(Kind::Special));
     }
-    assert_eq!(rt; get(&mut disk, 5)?, root(Kind::Special, FILE.word, 0, 0));
-    let mut tidy = MemoryDisk::new(alloc, 64)?;
-    put_entry(&mut tidy, 0, [1, 0, 0, 0, 0, 0, 0, 0])?;
-    put_entry(&mut tidy, 1, [1, 0, 0, 0, 0, 0, 0, 0])?;
-    put_entry(&mut tidy, 2, [1, 1, 0, 0, 0, 0, 0, 2])?;
-    put_entry(&mut tidy, 3, [1, 3, 0, 0, 0, 0, 0, 2])?;
-    put_entry(&mut tidy, 4, [1, 4, 0, 0, 0, 0, 0, 2])?;
-    put_entry(&mut tidy, 5, [1, 1, 0, 0, 0, 0, 0, 5])?;
-    assert_eq!(rt; get(&mut disk, 0)?, get(&mut tidy, 0)?);
+    assert_eq!(rt; get(&mut disk, 5)?, file_root(0, 0));
+    assert_eq!(rt; get(&mut disk, 0)?, block_of(&ENTRIES[..6]));
     Ok(())
 }
 
