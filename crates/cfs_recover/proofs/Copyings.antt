@@ -1,12 +1,14 @@
 -- The list of roots that are to be copied, as one is noted.
-use Rattle.std.proofs.Common.{◌≡◌, ◌≢◌, ◌⊎◌, inl, inr, ℕ, zero, suc, ◌+◌, ◌<◌, ◌≤◌, List, [], ◌∷◌, ◌++◌, length, Option, Some, None, refl, sym, ◌∙◌, ap, subst, arith, length-append}
+use Rattle.std.proofs.Common.{◌≡◌, ◌≢◌, ◌⊎◌, inl, inr, ℕ, zero, suc, ◌+◌, ◌<◌, ◌≤◌, List, [], ◌∷◌, ◌++◌, length, Option, Some, None, refl, sym, ◌∙◌, ap, subst, arith, append-nil, length-append}
 use Rattle.std.specs.Prelude.{slice_get}
 use Rattle.std.proofs.lemmas.Bool.{cases_lt}
-use Rattle.std.proofs.lemmas.Option.{same_Some}
+use Rattle.std.proofs.lemmas.Bool.Decides.{nat_tests}
+use Rattle.std.proofs.lemmas.Grind.{flat_map-append}
+use Rattle.std.proofs.lemmas.Option.{same_Some, slice_get_within}
 use Rattle.cfs_base.specs.Disk.{Image, block_at}
 use Rattle.block_tree.specs.Root.{IsRootBlock}
 use Rattle.vol_image.specs.Sight.{source}
-use Rattle.cfs_recover.specs.Copies.{AreBelow, AreCopies, HasCopy}
+use Rattle.cfs_recover.specs.Copies.{AreCopies, AreKept, HasCopy, HasKept, Piece, all_pieces, copies_before, moved, pieces_of}
 use Rattle.cfs_recover.specs.Walk.{IsCopy}
 use Rattle.cfs_recover.specs.declared.copies.Copied.{Copied}
 use Rattle.cfs_recover.specs.declared.found.Found.{Found}
@@ -82,12 +84,117 @@ module _ (image : Image) (found : List Found) (done : ℕ) (old new : List Copie
       back : (k : ℕ) (c : Copied) → slice_get new k ≡ Some c → slice_get (old ++ noted ∷ []) k ≡ Some c
       back k c here = ap (λ (cs : List Copied). slice_get cs k) (sym is) ∙ here
 
--- one more is below too
-pub below_push : (blocks : ℕ) (old new : List Copied) (noted : Copied) → AreBelow blocks old → noted.block < blocks → new ≡ old ++ noted ∷ [] → AreBelow blocks new
-below_push blocks old new noted below inside is k c at = elim (push_from old noted c k (ap (λ (cs : List Copied). slice_get cs k) (sym is) ∙ at)) [
-  | inl was ↦ below k c was
-  | inr now ↦ subst (λ (d : Copied). d.block < blocks) now.1 inside
-]
+-- where the object of the next item is read from its own block none is added
+copies_same : (image : Image) (found : List Found) (done : ℕ) (copies : List Copied) (x : Found) → AreCopies image found done copies → slice_get found done ≡ Some x → source image x.block ≡ x.block → AreCopies image found (done + 1) copies
+copies_same image found done copies x are at own = record {
+  each = are.each;
+  listed = λ k c here. let l = are.listed k c here in (l.0, l.1, l.2, l.3, omega (arith, l.4));
+  elsewhere = are.elsewhere;
+  once = are.once;
+  all = λ j y less there. elim (cases_lt j done) [
+    | inl before ↦ are.all j y before there
+    | inr last ↦
+        let here : j ≡ done = omega arith in
+        let it : x ≡ y = same_Some _ _ (sym at ∙ ap (slice_get found) (sym here) ∙ there) in
+        inl (subst (λ (z : Found). source image z.block ≡ z.block) it own)
+  ];
+}
 
-pub few_push : (old new : List Copied) (noted : Copied) → new ≡ old ++ noted ∷ [] → length new ≤ length old + 1
-few_push old new noted is = omega (arith, ap length is, length-append old (noted ∷ []))
+-- ---- as they are kept
+
+-- how many stand before an item
+pub before_more : (image : Image) (found : List Found) (k : ℕ) (x : Found) → slice_get found k ≡ Some x → copies_before image found (k + 1) ≡ copies_before image found k + moved image (Some x)
+unfolding copies_before
+before_more image found k x at = let next : k + 1 ≡ suc k = omega arith in ap (copies_before image found) next ∙ ap (λ (o : Option Found). copies_before image found k + moved image o) at
+
+pub moved_none : (image : Image) (x : Found) → source image x.block ≡ x.block → moved image (Some x) ≡ 0
+moved_none image x own = grind (arith, nat_tests)
+
+pub moved_one : (image : Image) (x : Found) → source image x.block ≢ x.block → moved image (Some x) ≡ 1
+moved_one image x other = grind (arith, nat_tests)
+
+-- nothing is kept before the first item
+pub kept_none : (image : Image) (found : List Found) (pieces : List Piece) → pieces ≡ [] → HasKept image found 0 pieces
+unfolding copies_before
+kept_none image found pieces is = (
+  [],
+  record {
+    are = record {
+      each = λ k c at. absurd (no_copy k c at);
+      listed = λ k c at. absurd (no_copy k c at);
+      elsewhere = λ k c at. absurd (no_copy k c at);
+      once = λ j k c d at there. absurd (no_copy j c at);
+      all = λ j x less. absurd (omega (arith, less));
+    };
+    spelled = is;
+    count = refl;
+    placed = λ k x less. absurd (omega (arith, less));
+  },
+)
+  where
+    no_copy : (k : ℕ) (c : Copied) → slice_get [] k ≡ Some c → ⊥
+    no_copy k c at = let less = slice_get_within [] k c at in omega (arith, less)
+
+-- the list of what was found grows
+module _ (image : Image) (a b : List Found) (grows : (k : ℕ) (x : Found) → slice_get a k ≡ Some x → slice_get b k ≡ Some x) where
+  same_at : (k : ℕ) → k < length a → slice_get b k ≡ slice_get a k
+  same_at k less = at (slice_get a k) refl
+    where
+      at : (o : Option Found) → slice_get a k ≡ o → slice_get b k ≡ slice_get a k
+      at None none = absurd (let past = past_none a k none in omega (arith, past, less))
+      at (Some x) is = grows k x is ∙ sym is
+
+  before_on : (k : ℕ) → k ≤ length a → copies_before image b k ≡ copies_before image a k
+  unfolding copies_before
+  before_on zero less = refl
+  before_on (suc k) less = λ i. before_on k (omega (arith, less)) i + moved image (same_at k (omega (arith, less)) i)
+
+  pub kept_on : (done : ℕ) (pieces : List Piece) → done ≤ length a → HasKept image a done pieces → HasKept image b done pieces
+  kept_on done pieces within (copies, kept) = (
+    copies,
+    record {
+      are = copies_on image a b done copies within grows kept.are;
+      spelled = kept.spelled;
+      count = kept.count ∙ sym (before_on done within);
+      placed = λ k x less there other.
+          let inside : k < length a = omega (arith, less, within) in
+          let c = kept.placed k x less (sym (same_at k inside) ∙ there) other in
+          (c.0, ap (slice_get copies) (before_on k (omega (arith, inside))) ∙ c.1, c.2);
+    },
+  )
+
+module _ (image : Image) (found : List Found) (done : ℕ) (pieces : List Piece) (copies : List Copied) (kept : AreKept image found done pieces copies) (x : Found) (at : slice_get found done ≡ Some x) where
+  last_is : (k : ℕ) (y : Found) → k < done + 1 → ¬ (k < done) → slice_get found k ≡ Some y → (k ≡ done) × (x ≡ y)
+  last_is k y less not there = let here : k ≡ done = omega (arith, less, not) in (here, same_Some _ _ (sym at ∙ ap (slice_get found) (sym here) ∙ there))
+
+  pub kept_same : source image x.block ≡ x.block → AreKept image found (done + 1) pieces copies
+  kept_same own = record {
+    are = copies_same image found done copies x kept.are at own;
+    spelled = kept.spelled;
+    count = omega (arith, kept.count, before_more image found done x at, moved_none image x own);
+    placed = λ k y less there other. elim (cases_lt k done) [
+      | inl before ↦ kept.placed k y before there other
+      | inr past ↦ let it = last_is k y less (λ lower. omega (arith, lower, past)) there in absurd (other (subst (λ (z : Found). source image z.block ≡ z.block) it.1 own))
+    ];
+  }
+
+  module _ (block : ℕ) (same : x.block ≡ block) (head : Head) (copy : IsCopy image block head) (elsewhere : head.from ≢ block) (first : (j : ℕ) (y : Found) → slice_get found j ≡ Some y → y.block ≡ block → j ≡ done) where
+    abbrev new_copy : Copied
+    new_copy = record { block = block; root = head.root }
+
+    pub kept_more : (more : List Piece) → more ≡ pieces ++ pieces_of head.root → AreKept image found (done + 1) more (copies ++ new_copy ∷ [])
+    kept_more more is =
+        let other : source image x.block ≢ x.block = λ own. elsewhere (copy.from ∙ ap (source image) (sym same) ∙ own ∙ same) in
+        record {
+          are = copies_push image found done copies (copies ++ new_copy ∷ []) kept.are x at block same head copy elsewhere first refl;
+          spelled = is ∙ ap (λ (ps : List Piece). ps ++ pieces_of head.root) kept.spelled ∙ ap (λ (ps : List Piece). all_pieces copies ++ ps) (sym (append-nil (pieces_of head.root)))
+              ∙ sym (flat_map-append (λ c. pieces_of c.root) copies (new_copy ∷ []));
+          count = omega (arith, length-append copies (new_copy ∷ []), kept.count, before_more image found done x at, moved_one image x other);
+          placed = λ k y less there elsewhere. elim (cases_lt k done) [
+            | inl before ↦ let c = kept.placed k y before there elsewhere in (c.0, push_old copies new_copy c.0 (copies_before image found k) c.1, c.2)
+            | inr past ↦
+                let it = last_is k y less (λ lower. omega (arith, lower, past)) there in
+                let place : copies_before image found k ≡ length copies = ap (copies_before image found) it.0 ∙ sym kept.count in
+                (new_copy, ap (slice_get (copies ++ new_copy ∷ [])) place ∙ push_new copies new_copy, sym same ∙ ap (λ (z : Found). z.block) it.1)
+          ];
+        }

@@ -15,7 +15,9 @@ pub mod Counted
 pub mod Stood
 pub mod Grounded
 pub mod Opened
+pub mod Pieces
 pub mod Copyings
+pub mod Kept
 pub mod Begun
 pub mod Taking
 pub mod Tidyings

@@ -1,5 +1,6 @@
 -- From what a survey knows of a volume to what recovery makes of it.
-use Rattle.std.proofs.Common.{◌≡◌, ◌⊎◌, inl, inr, ℕ, ◌+◌, ◌*◌, ◌/◌, ◌%◌, ◌<◌, Bool, true, false, List, [], length, get_or, Some, refl, sym, ◌∙◌, ap, subst, arith}
+use Rattle.std.specs.Prelude.{option_map, slice_get}
+use Rattle.std.proofs.Common.{◌≤◌, ◌≡◌, ◌⊎◌, inl, inr, ℕ, ◌+◌, ◌*◌, ◌/◌, ◌%◌, ◌<◌, Bool, true, false, List, [], length, get_or, Some, refl, sym, ◌∙◌, ap, subst, arith}
 use Rattle.std.proofs.lemmas.Bool.Decides.{nat_tests}
 use Rattle.std.proofs.lemmas.Option.{slice_get_within}
 use Rattle.cfs_base.specs.Disk.{Image, block_at}
@@ -7,6 +8,7 @@ use Rattle.cfs_base.specs.Run.{IsSettled}
 use Rattle.cfs_base.specs.declared.disk.Disk.{Ghosts}
 use Rattle.cfs_base.specs.declared.identifier.Puid.{Puid}
 use Rattle.cfs_base.specs.declared.kind.Kind.{Kind}
+use Rattle.block_tree.specs.declared.root.Root.{Root}
 use Rattle.block_tree.specs.Root.{IsRootBlock}
 use Rattle.cyl_map.specs.declared.entry.MapEntry.{MapEntry}
 use Rattle.cyl_map.specs.Volume.{entry_in, map_of}
@@ -19,19 +21,23 @@ use Rattle.ufs_model.proofs.Graphs.{object_there}
 use Rattle.vol_image.specs.Fault.{shown_tree}
 use Rattle.vol_image.specs.Part.{is_fixed}
 use Rattle.vol_image.specs.Seen.{Tree, tree_in}
-use Rattle.vol_image.specs.Sight.{source}
+use Rattle.vol_image.specs.Sight.{shadows, sight, source}
 use Rattle.vol_image.specs.Sound.{Holds, IsSoundAs}
 use Rattle.vol_image.proofs.Carries.{carries_settled}
 use Rattle.vol_image.proofs.Parts.{in_image}
-use Rattle.vol_image.proofs.Unique.{one_root_index}
+use Rattle.vol_image.proofs.Unique.{one_root_block, one_root_index}
+use Rattle.puid_space.specs.Directory.{kind_in}
+use Rattle.puid_space.specs.Kinds.{kind_of, kinds_of}
+use Rattle.puid_space.proofs.Graphs.{kind_in-kinds_in}
 use Rattle.vol_owners.specs.Account.{Accounts, IsSwept, StandsIn}
-use Rattle.cfs_recover.specs.Copies.{HasCopy}
+use Rattle.cfs_recover.specs.Copies.{AreCopies, HasCopy}
 use Rattle.cfs_recover.specs.Found.{lists}
-use Rattle.cfs_recover.specs.Keeps.{AreAllCopies, Leads}
+use Rattle.cfs_recover.specs.Keeps.{AreAllCopies, AreKeptFor, IsNamedCopy, Leads}
 use Rattle.cfs_recover.specs.Recovered.{IsClean, IsRecovered}
 use Rattle.cfs_recover.specs.Stored.{AreMapsOf}
 use Rattle.cfs_recover.specs.Survey.{IsIn, IsSurvey}
 use Rattle.cfs_recover.specs.Tidy.{AreCopied, AreTidied, CopiesRoots, IsHeldIn, IsTidied, IsTidying, Tidies, tidied}
+use Rattle.cfs_recover.specs.declared.copies.Copied.{Copied}
 use Rattle.cfs_recover.specs.declared.found.Walk.{Walk}
 use Rattle.cfs_recover.specs.declared.survey.Survey.{Survey}
 use Rattle.cfs_recover.proofs.Accounted.{tidied_accounts, tidied_is_clean, tidied_is_swept}
@@ -39,6 +45,7 @@ use Rattle.cfs_recover.proofs.InMemory.{entry_is}
 use Rattle.cfs_recover.proofs.Keepings.{leads_as, leads_then}
 use Rattle.cfs_recover.proofs.Listings.{listed}
 use Rattle.cfs_recover.proofs.Noting.{listed_there, there_listed}
+use Rattle.cfs_recover.proofs.Taking.{kind_is}
 use Rattle.cfs_recover.proofs.Tidyings.{apart, copied_tree, copies_hold, tidies_sound, copies_sound}
 
 map_fixed : (j : ℕ) → is_fixed (64 * j) ≡ true
@@ -66,20 +73,57 @@ module _ (a : Image) (s : Survey) (is : IsSurvey a s) where
   lists_there : (id : Puid) → lists w id ≡ true → (o : Object) × (object_at graph id ≡ Some o)
   lists_there id listing = object_there graph id (there_listed graph id (sym (ap (λ (n : List (Puid × Kind)). listed n id) is.whole.names) ∙ listing))
 
-  pub all_copies : AreAllCopies a graph s.walked.copies.items
+  abbrev copies : List Copied
+  copies = is.walked.kept.0
+
+  abbrev are_copies : AreCopies a w.found.items (length w.found.items) copies
+  are_copies = is.walked.kept.1.are
+
+  all_copies : AreAllCopies a graph copies
   all_copies = record {
     each = λ k c at.
-        let l = is.walked.copies.listed k c at in
+        let l = are_copies.listed k c at in
         let f = is.walked.walk.found l.0 l.1 l.2 in
         let there = lists_there f.id f.listed in
         let block : c.block ≡ f.id.block = sym l.3 ∙ f.block in
-        record { id = f.id; object = there.0; there = there.1; block = block; spelled = subst (λ (n : ℕ). IsRootBlock (block_at a (source a n)) c.root) block (is.walked.copies.each k c at) };
+        record { id = f.id; object = there.0; there = there.1; block = block; spelled = subst (λ (n : ℕ). IsRootBlock (block_at a (source a n)) c.root) block (are_copies.each k c at) };
     all = λ id o at.
         let l = is.walked.walk.listed id (there_lists id o at) in
-        elim (is.walked.copies.all l.0 l.1 (slice_get_within w.found.items l.0 l.1 l.2) l.2) [
+        elim (are_copies.all l.0 l.1 (slice_get_within w.found.items l.0 l.1 l.2) l.2) [
           | inl own ↦ inl (subst (λ (n : ℕ). source a n ≡ n) l.3 own)
-          | inr has ↦ inr (subst (λ (n : ℕ). HasCopy s.walked.copies.items n) l.3 has)
+          | inr has ↦ inr (subst (λ (n : ℕ). HasCopy copies n) l.3 has)
         ];
+  }
+
+  -- the names have each with its kind and its word
+  named_copy : (k : ℕ) (c : Copied) → slice_get copies k ≡ Some c → IsNamedCopy s.walked c
+  unfolding sight
+  named_copy k c at =
+      let copy = all_copies.each k c at in
+      let reads = holds.objects copy.id copy.object copy.there in
+      let root : c.root ≡ reads.source = one_root_block (block_at a (source a copy.id.block)) c.root reads.source copy.spelled reads.tree.spelled in
+      let word : c.root.word ≡ copy.id.word = ap (λ (r : Root). r.word) root ∙ reads.same_word ∙ reads.word in
+      let kind : kind_of copy.object ≡ c.root.kind = ap kind_of (sym reads.tree.object) ∙ kind_is reads.source _ ∙ ap (λ (r : Root). r.kind) (sym root) in
+      record {
+        good = copy.spelled.good;
+        named = ap (λ (n : List (Puid × Kind)). kind_in n (record { block = c.block; word = c.root.word })) is.whole.names
+            ∙ ap (kind_in (kinds_of graph)) (λ i. record { block = copy.block i; word = word i })
+            ∙ kind_in-kinds_in graph.objects copy.id ∙ ap (option_map kind_of) copy.there ∙ ap Some kind;
+      }
+
+  one_shadow : (id : Puid) (o : Object) → object_at graph id ≡ Some o → length (shadows a id.block) ≤ 1
+  unfolding sight
+  one_shadow id o at = (holds.objects id o at).one_shadow
+
+  pub kept_for : AreKeptFor a graph s.grounds.maps.items s.walked copies
+  kept_for = record {
+    all = all_copies;
+    kept = is.walked.kept.1;
+    named = named_copy;
+    shown = λ k x at.
+        let f = is.walked.walk.found k x at in
+        let there = lists_there f.id f.listed in
+        record { maps_are = is.maps; standing = is.walked.standing; one_shadow = subst (λ (n : ℕ). length (shadows a n) ≤ 1) (sym f.block) (one_shadow f.id there.0 there.1) };
   }
 
   -- ---- the maps, once the roots are copied

@@ -1,14 +1,20 @@
 -- A run of writes, every image of which has one property.
-use Rattle.std.specs.Prelude.{◌≡◌, ◌⊎◌, ◌<◌, ℕ, slice_get, Some, List}
+use Rattle.std.specs.Prelude.{◌≡◌, ◌⊎◌, ◌<◌, ◌≤◌, ℕ, slice_get, Some, List, length}
 use Rattle.cfs_base.specs.Disk.{Image, block_at}
 use Rattle.cfs_base.specs.Run.{Leaves, Tells, left_now}
 use Rattle.cfs_base.specs.declared.disk.Disk.{Ghosts}
 use Rattle.cfs_base.specs.declared.identifier.Puid.{Puid}
-use Rattle.block_tree.specs.Root.{IsRootBlock}
+use Rattle.block_tree.specs.Root.{IsGoodRoot, IsRootBlock}
 use Rattle.ufs_model.specs.declared.object.Object.{Object}
 use Rattle.ufs_model.specs.Graph.{Graph, object_at}
-use Rattle.vol_image.specs.Sight.{source}
-use Rattle.cfs_recover.specs.Copies.{HasCopy}
+use Rattle.cyl_map.specs.declared.entry.MapEntry.{MapEntry}
+use Rattle.puid_space.specs.Directory.{kind_in}
+use Rattle.vol_image.specs.Sight.{shadows, source}
+use Rattle.cfs_recover.specs.Copies.{AreKept, HasCopy}
+use Rattle.cfs_recover.specs.Entries.{AreStanding}
+use Rattle.cfs_recover.specs.Stored.{AreMapsOf}
+use Rattle.cfs_recover.specs.declared.found.Found.{Found}
+use Rattle.cfs_recover.specs.declared.survey.Walked.{Walked}
 use Rattle.cfs_recover.specs.declared.copies.Copied.{Copied}
 
 -- A run from `start` has come to `now`, be it that its last call failed: the content has P, and so has whatever a crash
@@ -44,3 +50,23 @@ AreWritten a copies b done = (k : ℕ) (c : Copied) → k < done → slice_get c
 pub record AreAllCopies (a : Image) (g : Graph) (copies : List Copied) : Type 0 where
   pub each : AreCopiesOf a g copies
   pub all : (id : Puid) (o : Object) → object_at g id ≡ Some o → (source a id.block ≡ id.block) ⊎ HasCopy copies id.block
+
+-- ---- the copies, as a walk has kept them
+
+-- the maps and the table of what stands are those of an image in which one shadow root stands at most for this root block
+pub record AreShown (a : Image) (maps : List (List MapEntry)) (w : Walked) (r : ℕ) : Type 0 where
+  pub maps_are : AreMapsOf a maps
+  pub standing : AreStanding a (length a) w.standing
+  pub one_shadow : length (shadows a r) ≤ 1
+
+-- the names have the identifier of a copy, with its kind
+pub record IsNamedCopy (w : Walked) (c : Copied) : Type 0 where
+  pub good : IsGoodRoot c.root
+  pub named : kind_in w.walk.names.named (record { block = c.block; word = c.root.word }) ≡ Some c.root.kind
+
+-- the walk has kept these copies, which are all that the graph needs
+pub record AreKeptFor (a : Image) (g : Graph) (maps : List (List MapEntry)) (w : Walked) (copies : List Copied) : Type 0 where
+  pub all : AreAllCopies a g copies
+  pub kept : AreKept a w.walk.found.items (length w.walk.found.items) w.kept.items copies
+  pub named : (k : ℕ) (c : Copied) → slice_get copies k ≡ Some c → IsNamedCopy w c
+  pub shown : (k : ℕ) (x : Found) → slice_get w.walk.found.items k ≡ Some x → AreShown a maps w x.block

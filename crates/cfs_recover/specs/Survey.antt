@@ -9,7 +9,8 @@ use Rattle.vol_image.specs.Fault.{shown_tree}
 use Rattle.vol_image.specs.Sound.{IsSoundAs}
 use Rattle.vol_owners.specs.Account.{StandsIn}
 use Rattle.puid_space.specs.Kinds.{kinds_of}
-use Rattle.cfs_recover.specs.Copies.{AreBelow, AreCopies}
+use Rattle.cfs_recover.specs.Copies.{HasKept}
+use Rattle.cfs_recover.specs.Entries.{AreStanding}
 use Rattle.cfs_recover.specs.Found.{IsNoted, IsWalk, holds}
 use Rattle.cfs_recover.specs.Grounds.{AreGrounds}
 use Rattle.cfs_recover.specs.Stored.{AreMapsOf}
@@ -38,7 +39,8 @@ pub record IsWhole (image : Image) (w : Walk) : Type 0 where
 pub record IsWalked (image : Image) (label : Label) (w : Walked) : Type 0 where
   pub walk : IsWalk image w.walk (length w.walk.found.items)
   pub noted : IsNoted w.walk label.root
-  pub copies : AreCopies image w.walk.found.items (length w.walk.found.items) w.copies.items
+  pub standing : AreStanding image (length image) w.standing
+  pub kept : HasKept image w.walk.found.items (length w.walk.found.items) w.kept.items
 
 -- the image is sound, and this is what it holds
 pub record IsSurvey (image : Image) (s : Survey) : Type 0 where
@@ -51,8 +53,8 @@ pub record IsSurvey (image : Image) (s : Survey) : Type 0 where
 
 pub record IsOfSize (blocks : ℕ) (w : Walked) : Type 0 where
   pub held : length w.walk.held.items ≡ blocks
-  pub below : AreBelow blocks w.copies.items
-  pub few : length w.copies.items ≤ blocks
+  pub standing : length w.standing ≡ blocks
+  pub few : length w.walk.found.items ≤ blocks
 
 pub record Fits (blocks : ℕ) (s : Survey) : Type 0 where
   pub maps : blocks ≡ 64 * length s.grounds.maps.items

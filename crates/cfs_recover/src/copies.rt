@@ -1,13 +1,15 @@
-//! Roots that are to be copied.
-ghost use Rattle.std.specs.Prelude.{◌≡◌, ℕ, ◌+◌, ◌<◌, ◌≤◌, List, Some, length, slice_get, OnOk};
+//! Roots that are to be copied, in five bytes for each root and each of its nodes.
+ghost use Rattle.std.specs.Prelude.{◌≡◌, ℕ, ◌+◌, ◌<◌, ◌^◌, List, ◌∷◌, ◌++◌, None, Some, slice_get, IfSome, IsSome, OnOk};
+ghost use Rattle.block_tree.specs.Root.{IsGoodRoot};
+ghost use Rattle.block_tree.specs.declared.root.Root.{Root};
 ghost use Rattle.cfs_base.specs.Disk.{Image};
-ghost use Rattle.cfs_recover.specs.Copies.{AreBelow, AreCopies};
+ghost use Rattle.cfs_recover.specs.Copies as spec;
 ghost use Rattle.cfs_recover.specs.Walk.{IsCopy};
 ghost use Rattle.cfs_recover.specs.declared.found.Found.{Found};
 
 use crate::head::Head;
 use block_tree::Root;
-use cfs_base::NoMemory;
+use cfs_base::{Kind, NoMemory};
 
 /// A root block, and the root by which its object is read, which stands in another block.
 #[derive(Clone, Copy, Debug, PartialEq, Eq)]
@@ -16,21 +18,95 @@ pub(crate) struct Copied {
     pub root: Root,
 }
 
-/// Notes the root by which an object is read, where it stands in another block than the object's root block.
-pub(crate) fn note_copy(copies: &mut Vec<Copied>, block: u32, head: &Head) -> Result<(), NoMemory>
-    ensures told { (image : Image) (found : List Found) (done : ℕ) → AreCopies image found done copies.old.items
-        → (x : Found) → slice_get found done ≡ Some x → x.block ≡ block → IsCopy image block head.now
-        → ((j : ℕ) (y : Found) → slice_get found j ≡ Some y → y.block ≡ block → j ≡ done)
-        → OnOk result (AreCopies image found (done + 1) copies.new.items) }
-    ensures below { (blocks : ℕ) → AreBelow blocks copies.old.items → block < blocks
-        → OnOk result (AreBelow blocks copies.new.items) }
-    ensures few { OnOk result (length copies.new.items ≤ length copies.old.items + 1) }
+/// Five bytes of what is kept of a root. Of each node: its number, and its block. Before them, by the number `HEAD`: the
+/// fill byte, and the last three bytes of the size. The kind and the word are those of the object's identifier.
+#[derive(Clone, Copy, Debug)]
+pub(crate) struct Piece {
+    pub number: u8,
+    pub bytes: [u8; 4],
+}
+
+/// The number of a piece that begins a root.
+const HEAD: u8 = u8::MAX;
+
+/// The piece that begins a root.
+fn head_piece(root: &Root) -> Piece
+    ensures { result ≡ spec.head_piece root.now }
 {
-    if head.from != block {
-        copies.push(Copied {
-            block,
-            root: head.root,
+    let size = root.size.to_be_bytes();
+    Piece {
+        number: HEAD,
+        bytes: [root.fill, size[5], size[6], size[7]],
+    }
+}
+
+/// Keeps a root.
+fn keep_root(kept: &mut Vec<Piece>, root: &Root) -> Result<(), NoMemory>
+    ensures { OnOk result (kept.new.items ≡ kept.old.items ++ spec.pieces_of root.now) }
+{
+    kept.push(head_piece(root))?;
+    for number in 0..120u8 {
+        let block = root.nodes[number as usize];
+        if block == 0 {
+            continue;
+        }
+        kept.push(Piece {
+            number,
+            bytes: block.to_be_bytes(),
         })?;
     }
     Ok(())
+}
+
+/// Keeps the root by which an object is read, where it stands in another block than the object's root block.
+pub(crate) fn note_copy(kept: &mut Vec<Piece>, block: u32, head: &Head) -> Result<(), NoMemory>
+    ensures { (image : Image) (found : List Found) (done : ℕ) → spec.HasKept image found done kept.old.items
+        → (x : Found) → slice_get found done ≡ Some x → x.block ≡ block → IsCopy image block head.now
+        → ((j : ℕ) (y : Found) → slice_get found j ≡ Some y → y.block ≡ block → j ≡ done)
+        → OnOk result (spec.HasKept image found (done + 1) kept.new.items) }
+{
+    if head.from == block {
+        return Ok(());
+    }
+    keep_root(kept, &head.root)?;
+    Ok(())
+}
+
+/// The block of the node with this number, where the first piece is of it, and the pieces that follow.
+fn next_node(kept: &[Piece], number: u8) -> Option<(u32, &[Piece])>
+    ensures some { (block : ℕ) (rest : List spec.Piece) → block < 2 ^ 32 → kept.now ≡ spec.node_piece number block ∷ rest
+        → IsSome result × IfSome result (λ r. (r.0 ≡ block) × (r.1.now ≡ rest)) }
+    ensures none { spec.BeginsWithout number kept.now → result ≡ None }
+{
+    let (first, rest) = kept.split_first()?;
+    if first.number != number {
+        return None;
+    }
+    Some((u32::from_be_bytes(first.bytes), rest))
+}
+
+/// The root of this kind and word of which these are the first pieces, and the pieces that follow.
+pub(crate) fn first_root(kept: &[Piece], kind: Kind, word: u32) -> Option<(Root, &[Piece])>
+    ensures { (root : Root) (rest : List spec.Piece) → IsGoodRoot root → root.kind ≡ kind → root.word ≡ word
+        → kept.now ≡ spec.pieces_of root ++ rest → spec.BeginsAnew rest
+        → IsSome result × IfSome result (λ r. (r.0 ≡ root) × (r.1.now ≡ rest)) }
+{
+    let (head, mut rest) = kept.split_first()?;
+    let [fill, high, middle, low] = head.bytes;
+    let mut nodes = [0; 120];
+    for number in 0..120u8 {
+        let Some((block, more)) = next_node(rest, number) else {
+            continue;
+        };
+        nodes[number as usize] = block;
+        rest = more;
+    }
+    let root = Root {
+        kind,
+        fill,
+        word,
+        size: u64::from_be_bytes([0, 0, 0, 0, 0, high, middle, low]),
+        nodes,
+    };
+    Some((root, rest))
 }

@@ -1,10 +1,11 @@
 //! The root by which an object is read.
-ghost use Rattle.std.specs.Prelude.{◌≡◌, ◌*◌, ◌<◌, length, IfOk, IfErr, MatchResult};
+ghost use Rattle.std.specs.Prelude.{◌≡◌, ◌*◌, ◌<◌, ◌≤◌, length, IfOk, IfErr, MatchResult};
 ghost use Rattle.cfs_base.specs.Calls.{OnlyReads};
 ghost use Rattle.cfs_base.specs.Codes as codes;
 ghost use Rattle.cfs_base.specs.Disk.{Image, block_at};
 ghost use Rattle.block_tree.specs.Pointers.{node_pointers, pointers_of};
 ghost use Rattle.block_tree.specs.Root.{IsRootBlock};
+ghost use Rattle.vol_image.specs.Sight.{shadows, source};
 ghost use Rattle.cfs_recover.specs.Checks.{HasNoRoot, HasNoneLike, HasRootSlots, HeadFault, IsHead, IsLike};
 ghost use Rattle.cfs_recover.specs.Entries.{AreStanding, damage};
 ghost use Rattle.cfs_recover.specs.Refusals.{IsCaused, IsDamage};
@@ -79,6 +80,23 @@ pub(crate) fn read_block<D: Disk>(disk: &mut D, at: u32) -> Result<Block, Recove
     match disk.read(BlockNo(at), &mut block) {
         Ok(()) => Ok(block),
         Err(_) => Err(RecoverFault::Disk),
+    }
+}
+
+/// The block by which an object is read that has one shadow root at most.
+pub(crate) fn source_of(maps: &[Map], standing: &Standing, block: u32) -> u32
+    requires below { block < length standing.now }
+    requires maps { length standing.now ≡ 64 * length maps.now }
+    ensures { (image : Image) → AreMapsOf image maps.now → AreStanding image (length image) standing.now
+        → length (shadows image block) ≤ 1 → result ≡ source image block }
+{
+    if !is_committed(entry_at(maps, block)) {
+        return block;
+    }
+    match standing.of(block) {
+        Shadow::None => block,
+        Shadow::Several => block,
+        Shadow::One(shadow) => shadow,
     }
 }
 

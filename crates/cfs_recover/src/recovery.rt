@@ -43,7 +43,7 @@ fn tidy_volume<D: Disk>(disk: &mut D, survey: &Survey, space: &mut Space) -> Res
     ensures cause { OnErr result (HasFailed D.Disk disk.old disk.new) }
     ensures calls { MakesAtMost D.Disk (2 * D.blocks disk.old + 2) (2 * D.blocks disk.old + 2) disk.old disk.new }
 {
-    copy_roots(disk, &survey.walked.copies)?;
+    copy_roots(disk, &survey.grounds.maps, &survey.walked)?;
     tidy_maps(disk, &survey.grounds.maps, &survey.walked.walk.held, space)?;
     Ok(())
 }

@@ -13,10 +13,11 @@ ghost use Rattle.cfs_recover.specs.Refusals.{IsCaused, IsDamage};
 ghost use Rattle.cfs_recover.specs.Stored.{AreMapsOf, Stores};
 ghost use Rattle.cfs_recover.specs.Survey.{Fits, IsOfSize, IsSurvey, IsWalked, IsWhole};
 
-use crate::copies::Copied;
+use crate::copies::Piece;
 use crate::fault::RecoverFault;
 use crate::found::Walk;
 use crate::maps::{read_label, read_maps, standing_in};
+use crate::standing::Standing;
 use crate::walk::walk_all;
 use cfs_base::{Damage, Disk, Puid, code};
 use cyl_map::Map;
@@ -30,11 +31,12 @@ pub(crate) struct Grounds {
     pub maps: Vec<Map>,
 }
 
-/// What the objects of a volume hold, and the roots that are to be copied.
+/// What the objects of a volume hold, the shadow roots that stand, and what is kept of the roots that are to be copied.
 #[derive(Debug, Drop)]
 pub(crate) struct Walked {
     pub walk: Walk,
-    pub copies: Vec<Copied>,
+    pub standing: Standing,
+    pub kept: Vec<Piece>,
 }
 
 /// What is known of a sound volume.
@@ -90,9 +92,13 @@ fn walk_volume<D: Disk>(
 {
     let standing = standing_in(alloc, &grounds.maps)?;
     let mut walk = begin_walk(alloc, disk.blocks(), grounds.label.root)?;
-    let mut copies = Vec::new(alloc);
-    walk_all(disk, &grounds.maps, &standing, &mut walk, &mut copies)?;
-    Ok(Walked { walk, copies })
+    let mut kept = Vec::with_capacity(alloc, (disk.blocks() / 2) as usize)?;
+    walk_all(disk, &grounds.maps, &standing, &mut walk, &mut kept)?;
+    Ok(Walked {
+        walk,
+        standing,
+        kept,
+    })
 }
 
 /// Whether no two identifiers were found with one root block. Refused with code 6 of the block that names the second.

@@ -4,13 +4,13 @@ ghost use Rattle.cfs_base.specs.Calls.{OnlyReads};
 ghost use Rattle.cfs_base.specs.Disk.{Image};
 ghost use Rattle.vol_image.specs.Fault.{HasLabel};
 ghost use Rattle.vol_label.specs.declared.label.Label.{Label};
-ghost use Rattle.cfs_recover.specs.Copies.{AreBelow, AreCopies};
+ghost use Rattle.cfs_recover.specs.Copies.{HasKept};
 ghost use Rattle.cfs_recover.specs.Entries.{AreStanding};
 ghost use Rattle.cfs_recover.specs.Found.{Grows, IsFault};
 ghost use Rattle.cfs_recover.specs.Refusals.{IsCaused, IsDamage};
 ghost use Rattle.cfs_recover.specs.Walk.{Walks};
 
-use crate::copies::{Copied, note_copy};
+use crate::copies::{Piece, note_copy};
 use crate::fault::RecoverFault;
 use crate::found::Walk;
 use crate::standing::Standing;
@@ -18,26 +18,25 @@ use crate::walk_object::walk_object;
 use cfs_base::Disk;
 use cyl_map::Map;
 
-/// Walks all objects on the list, and those that they lead to. `copies` gets each root that stands elsewhere than in its
-/// object's root block.
+/// Walks all objects on the list, and those that they lead to. `kept` gets the pieces of each root that stands elsewhere
+/// than in its object's root block.
 pub(crate) fn walk_all<D: Disk>(
     disk: &mut D,
     maps: &[Map],
     standing: &Standing,
     walk: &mut Walk,
-    copies: &mut Vec<Copied>,
+    kept: &mut Vec<Piece>,
 ) -> Result<(), RecoverFault>
     requires room { D.blocks disk.old ≡ walk.old.names.room }
     requires maps { D.blocks disk.old ≡ 64 * length maps.now }
     requires standing { D.blocks disk.old ≡ length standing.now }
-    requires none { copies.old.items ≡ [] }
+    requires none { kept.old.items ≡ [] }
     ensures told { (image : Image) (label : Label) → Walks D.Disk disk.old image maps.now walk.old 0
         → AreStanding image (length image) standing.now → HasLabel image label
         → MatchResult result (λ _. Walks D.Disk disk.new image maps.now walk.new (length walk.new.found.items)
-        × AreCopies image walk.new.found.items (length walk.new.found.items) copies.new.items) (IsDamage (IsFault image)) }
+        × HasKept image walk.new.found.items (length walk.new.found.items) kept.new.items) (IsDamage (IsFault image)) }
     ensures grows { OnOk result (Grows walk.old walk.new) }
-    ensures below { OnOk result (AreBelow (D.blocks disk.old) copies.new.items) }
-    ensures few { OnOk result (length copies.new.items ≤ D.blocks disk.old) }
+    ensures few { OnOk result (length walk.new.found.items ≤ D.blocks disk.old) }
     ensures cause { IfErr result (IsCaused D.Disk disk.old disk.new) }
     ensures reads { OnlyReads D.Disk (15482 * D.blocks disk.old) disk.old disk.new }
 {
@@ -47,7 +46,7 @@ pub(crate) fn walk_all<D: Disk>(
         }
         let item = walk.found[next as usize];
         let head = walk_object(disk, maps, standing, walk, item)?;
-        note_copy(copies, item.block, &head)?;
+        note_copy(kept, item.block, &head)?;
     }
     // The list has each block at most once, so it never comes to this.
     Err(RecoverFault::Memory)

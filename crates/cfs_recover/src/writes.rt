@@ -1,5 +1,5 @@
 //! What recovery writes, block by block.
-ghost use Rattle.std.specs.Prelude.{◌≡◌, ◌+◌, ◌*◌, ◌<◌, ℕ, IsTrue, OnErr, OnOk, length, set};
+ghost use Rattle.std.specs.Prelude.{◌≡◌, ◌≢◌, ◌+◌, ◌*◌, ◌<◌, ◌≤◌, ◌++◌, ℕ, List, None, IfSome, IsSome, IsTrue, OnErr, OnOk, length, set};
 ghost use Rattle.cfs_base.specs.Calls.{HasFailed, MakesAtMost};
 ghost use Rattle.cfs_base.specs.Disk.{Image};
 ghost use Rattle.cfs_base.specs.Outside.{count_after};
@@ -8,12 +8,17 @@ ghost use Rattle.block_tree.specs.Root.{root_spelling};
 ghost use Rattle.cyl_map.specs.Map.{map_spelling};
 ghost use Rattle.ufs_model.specs.Graph.{Graph};
 ghost use Rattle.vol_image.specs.Sound.{Holds};
-ghost use Rattle.cfs_recover.specs.Copies.{AreBelow};
-ghost use Rattle.cfs_recover.specs.Keeps.{AreAllCopies, AreCopiesOf, AreWritten, IsCopyOf, Keeps, Leads};
+ghost use Rattle.cfs_recover.specs.Copies.{BeginsAnew, pieces_of};
+ghost use Rattle.cfs_recover.specs.Keeps.{AreKeptFor, AreShown, AreWritten, IsCopyOf, IsNamedCopy, Keeps, Leads};
 ghost use Rattle.cfs_recover.specs.Recovered.{IsUntouched};
+ghost use Rattle.cfs_recover.specs.Survey.{IsOfSize};
+ghost use Rattle.vol_image.specs.Sight.{source};
 ghost use Rattle.cfs_recover.specs.Tidy.{AreCopied, CopiesRoots, IsTidyMap, Tidies};
 
-use crate::copies::Copied;
+use crate::copies::{Copied, Piece, first_root};
+use crate::found::Found;
+use crate::head::source_of;
+use crate::survey::Walked;
 use cfs_base::{BlockNo, Disk, Failed};
 use cyl_map::Map;
 
@@ -33,19 +38,56 @@ pub(crate) fn write_root<D: Disk>(disk: &mut D, copied: &Copied) -> Result<(), F
     Ok(())
 }
 
-/// Writes each of these roots to its root block.
-pub(crate) fn write_roots<D: Disk>(disk: &mut D, copies: &[Copied]) -> Result<(), Failed>
-    requires { AreBelow (D.blocks disk.old) copies.now }
-    ensures keeps { (a : Image) (g : Graph) (start : D) → Keeps D.Disk (CopiesRoots a g) start disk.old
-        → AreCopiesOf a g copies.now → OnOk result (Keeps D.Disk (CopiesRoots a g) start disk.new
-        × AreWritten a copies.now (D.content disk.new) (length copies.now)) }
-    ensures leads { (a : Image) (g : Graph) (start : D) → Keeps D.Disk (CopiesRoots a g) start disk.old
-        → AreCopiesOf a g copies.now → Leads D.Disk (CopiesRoots a g) start disk.new }
-    ensures cause { OnErr result (HasFailed D.Disk disk.old disk.new) }
-    ensures calls { MakesAtMost D.Disk (length copies.now) (length copies.now) disk.old disk.new }
+/// The root of an item by which its object is read, where it stands elsewhere than in its root block, and the pieces that
+/// follow.
+fn next_copy<'a>(
+    maps: &[Map],
+    walked: &Walked,
+    item: Found,
+    kept: &'a [Piece],
+) -> Option<(Copied, &'a [Piece])>
+    requires below { item.block < length walked.now.standing }
+    requires maps { length walked.now.standing ≡ 64 * length maps.now }
+    ensures own { (a : Image) → AreShown a maps.now walked.now item.block → source a item.block ≡ item.block → result ≡ None }
+    ensures copied { (a : Image) (c : Copied) (rest : List Piece) → AreShown a maps.now walked.now item.block
+        → source a item.block ≢ item.block → c.block ≡ item.block → IsNamedCopy walked.now c
+        → kept.now ≡ pieces_of c.root ++ rest → BeginsAnew rest
+        → IsSome result × IfSome result (λ r. (r.0 ≡ c) × (r.1.now ≡ rest)) }
+    ensures block { IfSome result (λ r. r.0.block ≡ item.block) }
 {
-    for copied in copies {
-        write_root(disk, copied)?;
+    let block = item.block;
+    if source_of(maps, &walked.standing, block) == block {
+        return None;
+    }
+    let (id, kind) = walked.walk.names.at(block)?;
+    let (root, rest) = first_root(kept, kind, id.word)?;
+    Some((Copied { block, root }, rest))
+}
+
+/// Writes each root that was kept to its root block.
+pub(crate) fn write_roots<D: Disk>(
+    disk: &mut D,
+    maps: &[Map],
+    walked: &Walked,
+) -> Result<(), Failed>
+    requires maps { D.blocks disk.old ≡ 64 * length maps.now }
+    requires size { IsOfSize (D.blocks disk.old) walked.now }
+    ensures keeps { (a : Image) (g : Graph) (start : D) (copies : List Copied) → Keeps D.Disk (CopiesRoots a g) start disk.old
+        → AreKeptFor a g maps.now walked.now copies → OnOk result (Keeps D.Disk (CopiesRoots a g) start disk.new
+        × AreWritten a copies (D.content disk.new) (length copies)
+        × (D.tries disk.new ≤ D.tries disk.old + length copies)) }
+    ensures leads { (a : Image) (g : Graph) (start : D) (copies : List Copied) → Keeps D.Disk (CopiesRoots a g) start disk.old
+        → AreKeptFor a g maps.now walked.now copies → Leads D.Disk (CopiesRoots a g) start disk.new }
+    ensures cause { OnErr result (HasFailed D.Disk disk.old disk.new) }
+    ensures calls { MakesAtMost D.Disk (D.blocks disk.old) (D.blocks disk.old) disk.old disk.new }
+{
+    let mut kept = walked.kept.as_slice();
+    for item in &walked.walk.found {
+        let Some((copied, rest)) = next_copy(maps, walked, *item, kept) else {
+            continue;
+        };
+        write_root(disk, &copied)?;
+        kept = rest;
     }
     Ok(())
 }
@@ -63,18 +105,20 @@ pub(crate) fn flush<D: Disk>(disk: &mut D) -> Result<(), Failed>
     Ok(())
 }
 
-/// Writes each of these roots to its root block, and makes them outlast a crash.
-pub(crate) fn copy_roots<D: Disk>(disk: &mut D, copies: &[Copied]) -> Result<(), Failed>
-    requires { AreBelow (D.blocks disk.old) copies.now }
-    ensures copied { (a : Image) (g : Graph) → IsSettled D.Disk disk.old → D.content disk.old ≡ a → Holds a g
-        → AreAllCopies a g copies.now → OnOk result (IsSettled D.Disk disk.new
-        × CopiesRoots a g (D.content disk.new) × AreCopied (D.content disk.new) g) }
-    ensures leads { (a : Image) (g : Graph) → IsSettled D.Disk disk.old → D.content disk.old ≡ a
-        → AreAllCopies a g copies.now → Leads D.Disk (CopiesRoots a g) disk.old disk.new }
+/// Writes each root that was kept to its root block, and makes them outlast a crash.
+pub(crate) fn copy_roots<D: Disk>(disk: &mut D, maps: &[Map], walked: &Walked) -> Result<(), Failed>
+    requires maps { D.blocks disk.old ≡ 64 * length maps.now }
+    requires size { IsOfSize (D.blocks disk.old) walked.now }
+    ensures copied { (a : Image) (g : Graph) (copies : List Copied) → IsSettled D.Disk disk.old → D.content disk.old ≡ a
+        → Holds a g → AreKeptFor a g maps.now walked.now copies → OnOk result (IsSettled D.Disk disk.new
+        × CopiesRoots a g (D.content disk.new) × AreCopied (D.content disk.new) g
+        × (D.tries disk.new ≤ D.tries disk.old + length copies + 1)) }
+    ensures leads { (a : Image) (g : Graph) (copies : List Copied) → IsSettled D.Disk disk.old → D.content disk.old ≡ a
+        → AreKeptFor a g maps.now walked.now copies → Leads D.Disk (CopiesRoots a g) disk.old disk.new }
     ensures cause { OnErr result (HasFailed D.Disk disk.old disk.new) }
-    ensures calls { MakesAtMost D.Disk (length copies.now + 1) (length copies.now + 1) disk.old disk.new }
+    ensures calls { MakesAtMost D.Disk (D.blocks disk.old + 1) (D.blocks disk.old + 1) disk.old disk.new }
 {
-    write_roots(disk, copies)?;
+    write_roots(disk, maps, walked)?;
     flush(disk)?;
     Ok(())
 }

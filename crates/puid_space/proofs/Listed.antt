@@ -114,3 +114,15 @@ without-absent (e ∷ named) id none =
   where
     swapped : (a c : Puid) → same_puid a c ≡ same_puid c a
     swapped a c = grind (arith, nat_tests)
+
+-- where the identifier is listed its cell has its word and its kind
+pub cell-listed : (cells : List (Option Cell)) (id : Puid) (kind : Kind) → kind_in (listed 0 cells) id ≡ Some kind
+    → get_or cells id.block None ≡ Some (record { word = id.word; kind = kind })
+cell-listed cells id kind is = at (get_or cells id.block None) refl (sym (kind-listed 0 cells id.block id (omega arith)) ∙ is)
+  where
+    at : (o : Option Cell) → get_or cells id.block None ≡ o → kind_here o id.word ≡ Some kind → o ≡ Some (record { word = id.word; kind = kind })
+    at None here says = cc
+    at (Some cell) here says = elim (eqb cell.word id.word) as (λ t. eqb cell.word id.word ≡ t → cond t (Some cell.kind) None ≡ Some kind → Some cell ≡ Some (record { word = id.word; kind = kind })) [
+      | true ↦ λ same given. let word : cell.word ≡ id.word = grind (arith, nat_tests) in let sort : cell.kind ≡ kind = cc in λ i. Some (record { word = word i; kind = sort i })
+      | false ↦ λ other given. cc
+    ] refl says

@@ -1,6 +1,8 @@
 //! The identifiers of a volume's objects.
 ghost use Rattle.std.specs.Prelude.{◌≡◌, ◌+◌, ◌<◌, ◌≤◌, [], ◌++◌, ℕ, Bool, false, max, length, is_some, IsTrue, IsOk};
-ghost use Rattle.std.specs.Prelude.{OnOk, OnErr, slice_index_or, None, vec_len, vec_capacity};
+ghost use Rattle.std.specs.Prelude.{OnOk, OnErr, slice_index_or, None, Some, vec_len, vec_capacity};
+ghost use Rattle.cfs_base.specs.declared.identifier.Puid.{Puid};
+ghost use Rattle.cfs_base.specs.declared.kind.Kind.{Kind};
 ghost use Rattle.std.specs.BTreeMap.{insert_entry};
 ghost use Rattle.ufs_model.specs.Identifier.{puid_cmp};
 ghost use Rattle.puid_space.specs.Directory.{is_listing, kind_in, has_root_in, without_id, first_in};
@@ -114,6 +116,16 @@ impl Directory {
     {
         let cell = cell_of(&self.cells, id.block)?;
         (cell.word == id.word).then_some(cell.kind)
+    }
+
+    /// The identifier with this root block, and the kind of its object.
+    pub fn at(&self, block: u32) -> Option<(Puid, Kind)>
+        ensures there { is_some result ≡ has_root_in self.now.named block }
+        ensures listed { (id : Puid) (kind : Kind) → kind_in self.now.named id ≡ Some kind → id.block ≡ block
+            → result ≡ Some (id, kind) }
+    {
+        let Cell { word, kind } = cell_of(&self.cells, block)?;
+        Some((Puid { block, word }, kind))
     }
 
     /// Whether an identifier has this root block.

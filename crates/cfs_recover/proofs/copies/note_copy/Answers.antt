@@ -1,14 +1,12 @@
-use Rattle.std.proofs.Common.{arith}
-use Rattle.cfs_recover.specs.declared.copies.Copied.{Copied}
-use Rattle.cfs_recover.proofs.Copyings.{below_push, copies_push, few_push}
+use Rattle.std.proofs.Common.{◌∙◌, ap, sym}
+use Rattle.vol_image.specs.Sight.{source}
+use Rattle.cfs_recover.proofs.Copyings.{kept_more, kept_same}
 use Rattle.cfs_recover.proofs.copies.note_copy.Goals as goal
 
-pub returns-in_ok-push : goal.returns-in_ok-push
-returns-in_ok-push c =
-    let noted : Copied = record { block = c.args.block; root = c.args.head.now.root } in
-    record {
-      told = λ image found done are x at same copy first.
-          copies_push image found done c.args.copies.now.items c.push.new.self.items are x at c.args.block same c.args.head.now copy (λ own. absurd (omega (arith, own, c.if-head-block.true))) first c.in_ok-push.ensures.items;
-      below = λ blocks below inside. below_push blocks c.args.copies.now.items c.push.new.self.items noted below inside c.in_ok-push.ensures.items;
-      few = few_push c.args.copies.now.items c.push.new.self.items noted c.in_ok-push.ensures.items;
-    }
+pub returns-then-head-block : goal.returns-then-head-block
+returns-then-head-block c image found done (copies, kept) x at same copy first =
+    (copies, kept_same image found done c.args.kept.now.items copies kept x at (ap (source image) same ∙ sym copy.from ∙ c.if-head-block.true ∙ sym same))
+
+pub returns : goal.returns
+returns c image found done (copies, kept) x at same copy first =
+    (_, kept_more image found done c.args.kept.now.items copies kept x at c.args.block same c.args.head.now copy c.if-head-block.false first c.keep_root.new.kept.items c.in_ok-keep_root.ensures)

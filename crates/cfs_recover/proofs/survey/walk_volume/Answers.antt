@@ -19,5 +19,6 @@ returns-clause-told g c image stored grounds are =
     record {
       walk = walked.0.walk;
       noted = noted_on c.in_ok-walk.walk c.walk_all.new.walk c.in_ok-walk_all.ensures.grows c.args.grounds.now.label.root c.in_ok-walk.ensures.noted;
-      copies = walked.1;
+      standing = standing;
+      kept = walked.1;
     }

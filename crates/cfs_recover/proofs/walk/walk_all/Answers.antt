@@ -1,11 +1,11 @@
-use Rattle.std.proofs.Common.{◌≡◌, ◌+◌, ◌*◌, ◌<◌, ℕ, List, length, get_or, Some, refl, sym, ◌∙◌, ap, subst, arith}
+use Rattle.std.proofs.Common.{rules, ◌≡◌, ◌+◌, ◌*◌, ◌<◌, ℕ, List, length, get_or, Some, refl, sym, ◌∙◌, ap, subst, arith}
 use Rattle.std.specs.Prelude.{slice_get}
 use Rattle.std.proofs.lemmas.Option.{slice_get-get_or}
 use Rattle.cfs_base.proofs.Calls.{reads_then}
-use Rattle.cfs_recover.specs.Copies.{AreCopies}
+use Rattle.cfs_recover.specs.Copies.{HasKept}
 use Rattle.cfs_recover.specs.Walk.{Walks}
 use Rattle.cfs_recover.specs.declared.found.Found.{Found}
-use Rattle.cfs_recover.proofs.Copyings.{copies_on}
+use Rattle.cfs_recover.proofs.Copyings.{kept_none, kept_on}
 use Rattle.cfs_recover.proofs.Noting.{grows_then}
 use Rattle.cfs_recover.proofs.Refused.{told_on}
 use Rattle.cfs_recover.proofs.walk.walk_all.Goals as goal
@@ -14,12 +14,19 @@ use Rattle.cfs_recover.proofs.walk.walk_all.Goals as goal
 read_at : (xs : List Found) (k : ℕ) (x : Found) → k < length xs → x ≡ get_or xs k x → slice_get xs k ≡ Some x
 read_at xs k x inside is = slice_get-get_or xs k x inside ∙ ap Some (sym is)
 
+pub loop-next-init : goal.loop-next-init
+loop-next-init g c = record {
+  reads = search rules;
+  grows = search rules;
+  told = λ image label walks standing has. (walks, kept_none image c.args.walk.now.found.items c.args.kept.now.items c.requires.none);
+}
+
 pub returns-then-next-len-clause-told : goal.returns-then-next-len-clause-told
 returns-then-next-len-clause-told g c image label walks standing has =
     let w = c.loop-next.walk in
     let were = c.loop-next.invariant.told image label walks standing has in
     let all : c.loop-next.next ≡ length w.found.items = omega (arith, were.0.walk.within, c.len.ensures, c.if-next-len.true, w.found.ok.0) in
-    subst (λ (n : ℕ). Walks g.D.Disk c.loop-next.disk image c.args.maps.now w n × AreCopies image w.found.items n c.loop-next.copies.items) all were
+    subst (λ (n : ℕ). Walks g.D.Disk c.loop-next.disk image c.args.maps.now w n × HasKept image w.found.items n c.loop-next.kept.items) all were
 
 pub walk_object-requires-clause-on_disk : goal.walk_object-requires-clause-on_disk
 walk_object-requires-clause-on_disk g c =
@@ -45,15 +52,12 @@ loop-next-preserved g c =
     record {
       reads = reads_then g.D.Disk c.args.disk.now c.loop-next.disk c.walk_object.new.disk (15482 * n) 15482 (15482 * (n + 1)) c.loop-next.invariant.reads c.in_ok-head.ensures.reads (omega arith);
       grows = grows_then c.args.walk.now w c.walk_object.new.walk c.loop-next.invariant.grows grows;
-      below = c.in_ok-note_copy.ensures.below (g.D.Disk.blocks c.args.disk.now) c.loop-next.invariant.below
-          (omega (arith, w.sized.each n item at, c.loop-next.invariant.grows.room, c.requires.room));
-      few = omega (arith, c.loop-next.invariant.few, c.in_ok-note_copy.ensures.few);
       told = λ image label walks standing has.
           let were = c.loop-next.invariant.told image label walks standing has in
           let now = c.in_ok-head.ensures.told image label n were.0 standing has at in (
             now.0,
-            c.in_ok-note_copy.ensures.told image c.walk_object.new.walk.found.items n
-                (copies_on image w.found.items c.walk_object.new.walk.found.items n c.loop-next.copies.items were.0.walk.within grows.found were.1)
+            c.in_ok-note_copy.ensures image c.walk_object.new.walk.found.items n
+                (kept_on image w.found.items c.walk_object.new.walk.found.items grows.found n c.loop-next.kept.items were.0.walk.within were.1)
                 item (grows.found n item at) refl now.1
                 (λ j y here is. now.0.walk.once j n y item here (grows.found n item at) is),
           );

@@ -1,9 +1,9 @@
-use Rattle.std.proofs.Common.{◌*◌, ◌≤◌, length}
+use Rattle.std.proofs.Common.{◌*◌, length}
 use Rattle.cfs_base.specs.Calls.{OnlyReads}
 use Rattle.cfs_base.specs.Disk.{Image}
 use Rattle.vol_image.specs.Fault.{HasLabel}
 use Rattle.vol_label.specs.declared.label.Label.{Label}
-use Rattle.cfs_recover.specs.Copies.{AreBelow, AreCopies}
+use Rattle.cfs_recover.specs.Copies.{HasKept}
 use Rattle.cfs_recover.specs.Entries.{AreStanding}
 use Rattle.cfs_recover.specs.Found.{Grows}
 use Rattle.cfs_recover.specs.Walk.{Walks}
@@ -13,8 +13,6 @@ abbrev pub invariant-loop-next : goal.invariant-loop-next
 invariant-loop-next g l = record {
   reads : OnlyReads g.D.Disk (15482 * l.next) l.initial.disk l.disk;
   grows : Grows l.initial.walk l.walk;
-  below : AreBelow (g.D.Disk.blocks l.initial.disk) l.copies.items;
-  few : length l.copies.items ≤ l.next;
   told : (image : Image) (label : Label) → Walks g.D.Disk l.initial.disk image l.maps l.initial.walk 0 → AreStanding image (length image) l.standing → HasLabel image label
-      → Walks g.D.Disk l.disk image l.maps l.walk l.next × AreCopies image l.walk.found.items l.next l.copies.items;
+      → Walks g.D.Disk l.disk image l.maps l.walk l.next × HasKept image l.walk.found.items l.next l.kept.items;
 }

@@ -1,13 +1,18 @@
+use Rattle.std.proofs.Common.{◌≡◌, ◌+◌, ◌≤◌, List, drop, length}
 use Rattle.cfs_base.specs.Calls.{MakesAtMost}
 use Rattle.cfs_base.specs.Disk.{Image}
 use Rattle.ufs_model.specs.Graph.{Graph}
-use Rattle.cfs_recover.specs.Keeps.{AreCopiesOf, AreWritten, Keeps}
+use Rattle.cfs_recover.specs.Copies.{all_pieces, copies_before}
+use Rattle.cfs_recover.specs.Keeps.{AreKeptFor, AreWritten, Keeps}
 use Rattle.cfs_recover.specs.Tidy.{CopiesRoots}
+use Rattle.cfs_recover.specs.declared.copies.Copied.{Copied}
 use Rattle.cfs_recover.proofs.writes.write_roots.Given as goal
 
-abbrev pub invariant-loop-copied : goal.invariant-loop-copied
-invariant-loop-copied g l = record {
-  calls : MakesAtMost g.D.Disk l.copied-index l.copied-index l.initial.disk l.disk;
-  keeps : (a : Image) (graph : Graph) (start : _) → Keeps g.D.Disk (CopiesRoots a graph) start l.initial.disk → AreCopiesOf a graph l.copies
-      → Keeps g.D.Disk (CopiesRoots a graph) start l.disk × AreWritten a l.copies (g.D.Disk.content l.disk) l.copied-index;
+abbrev pub invariant-loop-item : goal.invariant-loop-item
+invariant-loop-item g l = record {
+  calls : MakesAtMost g.D.Disk l.item-index l.item-index l.initial.disk l.disk;
+  keeps : (a : Image) (graph : Graph) (start : _) (copies : List Copied) → Keeps g.D.Disk (CopiesRoots a graph) start l.initial.disk → AreKeptFor a graph l.maps l.walked copies
+      → Keeps g.D.Disk (CopiesRoots a graph) start l.disk × AreWritten a copies (g.D.Disk.content l.disk) (copies_before a l.walked.walk.found.items l.item-index)
+      × (l.kept ≡ all_pieces (drop (copies_before a l.walked.walk.found.items l.item-index) copies))
+      × (g.D.Disk.tries l.disk ≤ g.D.Disk.tries l.initial.disk + copies_before a l.walked.walk.found.items l.item-index);
 }
