@@ -1,10 +1,10 @@
 -- Runs of calls of which some may have tried a write.
-use Rattle.std.proofs.Common.{ℕ, ◌+◌, ◌≤◌, Bool, true, false, inl, refl, arith}
+use Rattle.std.proofs.Common.{◌≡◌, ℕ, ◌+◌, ◌≤◌, Bool, true, false, inl, refl, arith}
 use Rattle.cfs_base.specs.Calls.{HasTried, MakesAtMost, OnlyReads}
 use Rattle.cfs_base.specs.declared.disk.Disk.{Ghosts}
 use Rattle.cfs_base.specs.declared.refusal.Trouble.{Trouble}
 use Rattle.cfs_base.specs.declared.refusal.Trouble.TheVariants as trouble
-use Rattle.cfs_base.proofs.Calls.{makes_then, reads_within, stopped_after_reads, stopped_after_try, then_tried}
+use Rattle.cfs_base.proofs.Calls.{makes_then, reads_then, reads_within, stopped_after_reads, stopped_after_try, then_tried}
 use Rattle.normal_files.specs.Steps.{HasCome, HasStoppedBy, told_after}
 
 -- no call
@@ -50,6 +50,12 @@ module _ {D : Type 0} {n t : ℕ} (g : Ghosts D) (start mid new : D) where
   come_stopped true (trouble.Damaged damage) come is = absurd is
   come_stopped false (trouble.Disk tried) come is = stopped_after_reads g start mid new n tried (come.reads refl) is
   come_stopped false (trouble.Damaged damage) come is = absurd is
+
+-- a call that is stopped before anything is tried
+pub come_untried : {D : Type 0} {n t : ℕ} (g : Ghosts D) (start mid new : D) (m : ℕ) (tried : Bool) (e : Trouble) → HasCome g n t tried start mid → (e ≡ trouble.Disk false → OnlyReads g m mid new) → told_after tried e ≡ trouble.Disk false → OnlyReads g (n + m) start new
+come_untried g start mid new m true (trouble.Disk tried) come reads same = cc
+come_untried g start mid new m true (trouble.Damaged damage) come reads same = cc
+come_untried {n = n} g start mid new m false e come reads same = reads_then g start mid new n m (n + m) (come.reads refl) (reads same) (omega arith)
 
 -- at the beginning
 pub come_begins : {D : Type 0} (g : Ghosts D) (d : D) → HasCome g 0 0 false d d

@@ -27,6 +27,7 @@ use Rattle.vol_image.specs.Sound.{Holds}
 use Rattle.vol_image.specs.Reading.{IsTree}
 use Rattle.vol_image.proofs.Carries.{carries_on}
 use Rattle.vol_owners.specs.Account.{Accounts, Opened, drafts_of}
+use Rattle.vol_owners.specs.Change.{ChangesOnly, of_owner}
 use Rattle.normal_files.specs.Ends.{is_damaged, IsStop, NoMap, OtherCount}
 use Rattle.normal_files.specs.Cuts.{Shrinks, IsCutRoot, IsEnd, IsReadEnd, MayTrim, first_gone, last_node, trimmed}
 use Rattle.normal_files.specs.Grows.{Grows}
@@ -34,7 +35,7 @@ use Rattle.normal_files.specs.Laid.{IsRooted, leaves_of, node_of, object_of}
 use Rattle.normal_files.specs.Nodes.{IsNear}
 use Rattle.normal_files.specs.Parts.{IsPart}
 use Rattle.normal_files.specs.Refusal.{IsTrouble, is_damage}
-use Rattle.normal_files.specs.Standing.{IsFileAt, IsPartly}
+use Rattle.normal_files.specs.Standing.{BecomesFile, IsFileAt, IsPartly}
 use Rattle.normal_files.specs.Steps.{Starts, HasStoppedBy}
 use Rattle.normal_files.specs.WriteRefusal.{IsWriteRefusal, TellsNeed, is_untried}
 use Rattle.normal_files.specs.Writes.{Writes}
@@ -108,6 +109,14 @@ module _ {D : Type 0} {n : ℕ} (g : Ghosts D) (old mid : D) (reads : OnlyReads 
     pub shrinks_to : (size : ℕ) → size < root.size → Shrinks g graph ds id f root at size mid kept
     shrinks_to size less = record { store = store_on graph ds kept store; starts = starts; no_draft = no_draft; here = here; less = omega (arith, less, file_size) }
 
+  pub becomes_on : (graph : Graph) (ds : List Opened) (id : Puid) (f : File) (new : D) (kept : Kept) → BecomesFile g graph ds id f mid new kept → BecomesFile g graph ds id f old new kept
+  becomes_on graph ds id f new kept is = record { store = is.store; only = subst (λ (i : Image). ChangesOnly (λ e. of_owner id.block e) i (g.content new)) reads.content is.only }
+
+  pub resized_on : (graph : Graph) (ds : List Opened) (id : Puid) (f : File) (new : D) (kept : Kept) (result : Result (Unit {0}) Trouble) → OnOk result (BecomesFile g graph ds id f mid new kept × TakesNone (g.content mid) (g.content new))
+      → OnOk result (BecomesFile g graph ds id f old new kept × TakesNone (g.content old) (g.content new))
+  resized_on graph ds id f new kept (Ok v) is = (becomes_on graph ds id f new kept is.0, subst (λ (i : Image). TakesNone i (g.content new)) reads.content is.1)
+  resized_on graph ds id f new kept (Err e) is = tt
+
   on : Tells g old → Tells g mid
   on tells = tells_on g old mid mid n reads tells
 
@@ -157,12 +166,17 @@ parts_refused g at floor old new before after refusals.Memory is = is
 pub room_refused : {D : Type 0} (g : Ghosts D) (at floor need : ℕ) (old new : D) (before after : Kept) (e : Refused) → e ≡ refusals.Full (record { free = sum before.free; need = need }) → sum before.free < need + floor → IsWriteRefusal g at floor old new before after e
 room_refused g at floor need old new before after e is few = subst (IsWriteRefusal g at floor old new before after) (sym is) (refl, few)
 
-pub parts_untried : {D : Type 0} (g : Ghosts D) (old mid new : D) (kept before after : Kept) (e : Refused) → IsStop g mid new kept e → (e ≡ refusals.Disk false → (after ≡ before) × (g.content new ≡ g.content mid)) → is_untried e ≡ true → (after ≡ before) × (g.content new ≡ g.content mid)
-parts_untried g old mid new kept before after (refusals.Full need) is same h = absurd is
-parts_untried g old mid new kept before after (refusals.Disk true) is same h = cc
-parts_untried g old mid new kept before after (refusals.Disk false) is same h = same refl
-parts_untried g old mid new kept before after (refusals.Damaged damage) is same h = cc
-parts_untried g old mid new kept before after refusals.Memory is same h = absurd is
+pub parts_untried : {D : Type 0} {P : Type 0} (g : Ghosts D) (mid new : D) (kept : Kept) (e : Refused) → IsStop g mid new kept e → (e ≡ refusals.Disk false → P) → is_untried e ≡ true → P
+parts_untried g mid new kept (refusals.Full need) is same h = absurd is
+parts_untried g mid new kept (refusals.Disk true) is same h = cc
+parts_untried g mid new kept (refusals.Disk false) is same h = same refl
+parts_untried g mid new kept (refusals.Damaged damage) is same h = cc
+parts_untried g mid new kept refusals.Memory is same h = absurd is
+
+pub troubled_untried : {P : Type 0} (t : Trouble) → (t ≡ trouble.Disk false → P) → is_untried (refused_by t) ≡ true → P
+troubled_untried (trouble.Disk true) same h = cc
+troubled_untried (trouble.Disk false) same h = same refl
+troubled_untried (trouble.Damaged damage) same h = cc
 
 -- ---- the need that is told
 
@@ -236,10 +250,10 @@ module _ {D : Type 0} (g : Ghosts D) (graph : Graph) (ds : List Opened) (id : Pu
       pub free_sound : IfErr result (λ t. is_damage t ≡ false)
       free_sound = frees.sound (g.content start) b (with_object graph id (objects.File (resized f size))) id next (leaves_in size) now (drops g graph ds id f root at size start kept is blocks end read ended spelled next good cut_is) given begun
 
-      pub free_stores : OnOk result (StoreHas g (with_object graph id (objects.File (resized f size))) ds new k1 × TakesNone (g.content start) (g.content new))
+      pub free_stores : OnOk result (BecomesFile g graph ds id (resized f size) start new k1 × TakesNone (g.content start) (g.content new))
       free_stores = by result (frees.on (g.content start) b (with_object graph id (objects.File (resized f size))) id next (leaves_in size) now (drops g graph ds id f root at size start kept is blocks end read ended spelled next good cut_is) given begun)
         where
-          by : (x : Result (Unit {0}) Trouble) → OnOk x (IsFreeing g (g.content start) b (with_object graph id (objects.File (resized f size))) id root next (leaves_in size) 15360 120 now new k1) → OnOk x (StoreHas g (with_object graph id (objects.File (resized f size))) ds new k1 × TakesNone (g.content start) (g.content new))
+          by : (x : Result (Unit {0}) Trouble) → OnOk x (IsFreeing g (g.content start) b (with_object graph id (objects.File (resized f size))) id root next (leaves_in size) 15360 120 now new k1) → OnOk x (BecomesFile g graph ds id (resized f size) start new k1 × TakesNone (g.content start) (g.content new))
           by (Ok v) done = (shrunk_stores g graph ds id f root at size start kept is blocks end read ended spelled next good cut_is now new k1 done, shrunk_entries g graph ds id f root at size start kept is blocks end read ended spelled next good cut_is now new k1 done)
           by (Err e) done = tt
 

@@ -24,12 +24,13 @@ use Rattle.vol_image.specs.Sound.{Holds}
 use Rattle.vol_image.proofs.Carries.{carries_settled}
 use Rattle.vol_image.proofs.Steps.{frames_begin}
 use Rattle.vol_owners.specs.Account.{Accounts, HasDrafts, Opened}
+use Rattle.vol_owners.specs.Change.{ChangesOnly, of_owner}
 use Rattle.vol_owners.specs.Owner.{is_meant, is_of}
 use Rattle.vol_owners.proofs.Steps.{object_changes_on}
 use Rattle.normal_files.specs.Frees.{TakesNone}
 use Rattle.normal_files.specs.Grows.{Grows}
 use Rattle.normal_files.specs.Laid.{leaves_of}
-use Rattle.normal_files.specs.Standing.{IsPartly}
+use Rattle.normal_files.specs.Standing.{BecomesFile, IsPartly}
 use Rattle.normal_files.specs.Steps.{WritesBlock}
 use Rattle.intentions.specs.Store.{StoreHas}
 use Rattle.normal_files.proofs.Owned.{IsOwn, all_there, block_from_own, blocks_stay}
@@ -100,18 +101,21 @@ module _ {D : Type 0} (g : Ghosts D) (graph : Graph) (ds : List Opened) (id : Pu
     pub grown_entries : TakesNone a (g.content end)
     grown_entries m = inl (ap (λ (i : Image). entry_in i m) content_is ∙ contents.entries m)
 
-    pub grown_stores : StoreHas g (with_object graph id (objects.File new_file)) ds end kept
+    pub grown_stores : BecomesFile g graph ds id new_file start end kept
     grown_stores =
         let frames = frames_begin a graph is.starts.holds in
         record {
-          carries = carries_settled g (with_object graph id (objects.File new_file)) end settled (subst (λ (i : Image). Holds i (with_object graph id (objects.File new_file))) (sym content_is)
-              (shrunk_holds g graph id f root start is.starts size next a led a (way a frames) (as_a a frames)));
-          account = subst (λ (i : Image). Accounts i (with_object graph id (objects.File new_file)) ds) (sym content_is) (object_changes_on a (set a id.block v) graph ds ds id (objects.File f) (objects.File new_file) is.store.account is.starts.at
-              (shrunk_reads g graph id f root start is.starts size next a led a (way a frames) (as_a a frames))
-              (blocks_stay a (set a id.block v) id root next is.starts.rooted (shrunk_rooted g graph id f root start is.starts size next a led a (way a frames) (as_a a frames)) (λ n. refl)
-              (pointer_stays g graph id f root start is.starts size next a led a (way a frames) (as_a a frames)) contents.entries (is.store.account.objects id (objects.File f) is.starts.at))
-              (subst (HasDrafts (set a id.block v) id) (sym is.no_draft) (λ m. ap (is_of is_meant id.block) (contents.entries m) ∙ subst (HasDrafts a id) is.no_draft (is.store.account.drafts id (objects.File f) is.starts.at) m))
-              (λ x other. refl) contents.only refl (all_there graph id (objects.File new_file) ds is.store.account.on_objects));
-          counts = subst (λ (i : Image). AreCounts i kept) (sym content_is) contents.counts;
-          ordered = rises-with_object graph id (objects.File new_file) is.store.ordered;
+          store = record {
+            carries = carries_settled g (with_object graph id (objects.File new_file)) end settled (subst (λ (i : Image). Holds i (with_object graph id (objects.File new_file))) (sym content_is)
+                (shrunk_holds g graph id f root start is.starts size next a led a (way a frames) (as_a a frames)));
+            account = subst (λ (i : Image). Accounts i (with_object graph id (objects.File new_file)) ds) (sym content_is) (object_changes_on a (set a id.block v) graph ds ds id (objects.File f) (objects.File new_file) is.store.account is.starts.at
+                (shrunk_reads g graph id f root start is.starts size next a led a (way a frames) (as_a a frames))
+                (blocks_stay a (set a id.block v) id root next is.starts.rooted (shrunk_rooted g graph id f root start is.starts size next a led a (way a frames) (as_a a frames)) (λ n. refl)
+                (pointer_stays g graph id f root start is.starts size next a led a (way a frames) (as_a a frames)) contents.entries (is.store.account.objects id (objects.File f) is.starts.at))
+                (subst (HasDrafts (set a id.block v) id) (sym is.no_draft) (λ m. ap (is_of is_meant id.block) (contents.entries m) ∙ subst (HasDrafts a id) is.no_draft (is.store.account.drafts id (objects.File f) is.starts.at) m))
+                (λ x other. refl) contents.only refl (all_there graph id (objects.File new_file) ds is.store.account.on_objects));
+            counts = subst (λ (i : Image). AreCounts i kept) (sym content_is) contents.counts;
+            ordered = rises-with_object graph id (objects.File new_file) is.store.ordered;
+          };
+          only = subst (ChangesOnly (λ e. of_owner id.block e) a) (sym content_is) contents.only;
         }

@@ -44,7 +44,7 @@ use Rattle.normal_files.specs.Cuts.{IsCutRoot, IsEnd, IsReadEnd, MayTrim, Shrink
 use Rattle.normal_files.specs.Frees.{Drops, FreedLeaf, FreedNode, IsDropped, IsFreed, IsFreeing, TakesNone}
 use Rattle.normal_files.specs.Laid.{IsRooted, leaf_of, node_of}
 use Rattle.normal_files.specs.Nodes.{leaves_at}
-use Rattle.normal_files.specs.Standing.{IsPartly}
+use Rattle.normal_files.specs.Standing.{BecomesFile, IsPartly}
 use Rattle.normal_files.specs.declared.cut.End.{End}
 use Rattle.normal_files.proofs.Among.{places_differ}
 use Rattle.normal_files.proofs.Ended.{either_e, either_left, gone_stays, is_trimmed, put_none, put_some, stay_before, x_own, y_own}
@@ -293,12 +293,15 @@ module _ {D : Type 0} (g : Ghosts D) (graph : Graph) (ds : List Opened) (id : Pu
     reads_now : ReadsAs (length a) id (sight c id.block) (objects.File new_file)
     reads_now = subst (λ (n : ℕ). ReadsAs n id (sight c id.block) (objects.File new_file)) (was.within.content.size ∙ b_long) ((frames_hold b c after b_holds was.within.content).objects id (objects.File new_file) id_at)
 
-    pub shrunk_stores : StoreHas g after ds now k1
+    pub shrunk_stores : BecomesFile g graph ds id new_file start now k1
     shrunk_stores = record {
-      carries = carried g after b mid now b_holds was.within;
-      account = object_changes_on a c graph ds ds id (objects.File f) (objects.File new_file) is.store.account is.starts.at reads_now (has_now (is.store.account.objects id (objects.File f) is.starts.at))
-          (subst (HasDrafts c id) (sym is.no_draft) (none_of is_meant refl (subst (HasDrafts a id) is.no_draft (is.store.account.drafts id (objects.File f) is.starts.at)))) (λ x other. refl)
-          (changes_then _ a b c contents.only was.only) refl (all_there graph id (objects.File new_file) ds is.store.account.on_objects);
-      counts = was.counts;
-      ordered = rises-with_object graph id (objects.File new_file) is.store.ordered;
+      store = record {
+        carries = carried g after b mid now b_holds was.within;
+        account = object_changes_on a c graph ds ds id (objects.File f) (objects.File new_file) is.store.account is.starts.at reads_now (has_now (is.store.account.objects id (objects.File f) is.starts.at))
+            (subst (HasDrafts c id) (sym is.no_draft) (none_of is_meant refl (subst (HasDrafts a id) is.no_draft (is.store.account.drafts id (objects.File f) is.starts.at)))) (λ x other. refl)
+            (changes_then _ a b c contents.only was.only) refl (all_there graph id (objects.File new_file) ds is.store.account.on_objects);
+        counts = was.counts;
+        ordered = rises-with_object graph id (objects.File new_file) is.store.ordered;
+      };
+      only = changes_then _ a b c contents.only was.only;
     }

@@ -27,7 +27,7 @@ use Rattle.claims.specs.Claims.{AreClaimed}
 use Rattle.normal_files.specs.Links.{linked_image, linked_root}
 use Rattle.normal_files.specs.Order.{claims_of}
 use Rattle.normal_files.specs.Parts.{IsReadPart}
-use Rattle.normal_files.specs.Standing.{IsPartly}
+use Rattle.normal_files.specs.Standing.{BecomesFile, IsPartly}
 use Rattle.normal_files.specs.Steps.{Goes, HasCome, HasStoppedBy, IsAmid, told_after}
 use Rattle.normal_files.specs.Takes.{MayTake, TakesBoth, stop}
 use Rattle.normal_files.specs.Writes.{Writes}
@@ -133,7 +133,7 @@ module _ {D : Type 0} (g : Ghosts D) (graph : Graph) (ds : List Opened) (id : Pu
           (λ same. subst Partly (same_one ∙ sym same) (partly1 g graph id f root offset bytes low high start is.starts is.inside size low_read high_read is.low_is is.high_is first joins last apart mid d k1 entries amid low_next high_next mine))
           (λ same. subst Partly (same_two ∙ sym same) (partly2 g graph id f root offset bytes low high start is.starts is.inside size low_read high_read is.low_is is.high_is first joins last apart mid d k1 entries amid low_next high_next mine)))
 
-      pub end_stores : (new : D) → g.content new ≡ two → IsSettled g new → StoreHas g (with_object graph id (objects.File (written f offset bytes))) ds new k1
+      pub end_stores : (new : D) → g.content new ≡ two → IsSettled g new → BecomesFile g graph ds id (written f offset bytes) start new k1
       end_stores new content settled =
           stores_now g graph id f root offset bytes low high start is.starts is.inside size low_read high_read is.low_is is.high_is first joins last apart mid d k1 entries amid low_next high_next mine ds kept is.store is.no_draft new (content ∙ sym same_two) settled
 
@@ -143,6 +143,6 @@ module _ {D : Type 0} (g : Ghosts D) (graph : Graph) (ds : List Opened) (id : Pu
           (order_now g graph id f root offset bytes low high start is.starts is.inside size low_read high_read is.low_is is.high_is first joins last apart mid d k1 entries amid low_next high_next mine some))
 
 -- the held leaves couldn't be written
-pub put_untried : {D : Type 0} (g : Ghosts D) (old new : D) (t : Trouble) → HasStoppedBy g old new t → refused_by t ≡ refusals.Disk false → g.content new ≡ g.content old
-put_untried g old new (trouble.Disk tried) is same = (let no_try : tried ≡ false = cc in is.untouched no_try)
-put_untried g old new (trouble.Damaged damage) is same = absurd is
+pub put_untried : (t : Trouble) → refused_by t ≡ refusals.Disk false → t ≡ trouble.Disk false
+put_untried (trouble.Disk tried) same = cc
+put_untried (trouble.Damaged damage) same = cc

@@ -35,6 +35,7 @@ use Rattle.vol_image.proofs.Paths.{held_there}
 use Rattle.vol_image.proofs.Views.{held}
 use Rattle.vol_image.proofs.Steps.{not_map}
 use Rattle.vol_owners.specs.Account.{Accounts, HasDrafts, HasItsBlocks, Opened, drafts_of, is_meant_for}
+use Rattle.vol_owners.specs.Change.{ChangesOnly, of_owner}
 use Rattle.vol_owners.specs.Owner.{is_had, is_leaving, is_meant, is_of, is_taken}
 use Rattle.vol_owners.proofs.Entries.{taken_of}
 use Rattle.vol_owners.proofs.Steps.{object_changes_on}
@@ -45,7 +46,7 @@ use Rattle.normal_files.specs.Links.{linked_image, linked_root}
 use Rattle.normal_files.specs.Nodes.{leaves_at}
 use Rattle.normal_files.specs.Order.{TellsHeld, claims_from, claims_of, nodes_now}
 use Rattle.normal_files.specs.Parts.{IsPart, IsReadPart}
-use Rattle.normal_files.specs.Standing.{IsPartly}
+use Rattle.normal_files.specs.Standing.{BecomesFile, IsPartly}
 use Rattle.normal_files.specs.Steps.{IsAmid, IsWrittenTo, Starts}
 use Rattle.normal_files.specs.Takes.{HasTaken, IsNew, IsOneOf, IsTakenTo, IsWhole, KeepsTaken, TakesBoth}
 use Rattle.normal_files.specs.declared.next.Next.{Next}
@@ -363,17 +364,20 @@ module _ {D : Type 0} (g : Ghosts D) (graph : Graph) (id : Puid) (f : File) (roo
       let file = last_file a graph id f starts.holds starts.at root starts.rooted starts.same starts.blocks offset bytes inside c2 r2 comes2.stage.head all_end in
       subst (λ (n : ℕ). ReadsAs n id (sight c2 id.block) (objects.File (written f offset bytes))) comes2.stage.frames.size (subst (ReadsAs (length c2) id (sight c2 id.block)) file (rooted_reads c2 id r2 comes2.stage.rooted_now))
 
-  pub stores_now : (ds : List Opened) (space : Kept) → StoreHas g graph ds start space → drafts_of ds id ≡ [] → (now : D) → g.content now ≡ c2 → IsSettled g now → StoreHas g (with_object graph id (objects.File (written f offset bytes))) ds now kept
+  pub stores_now : (ds : List Opened) (space : Kept) → StoreHas g graph ds start space → drafts_of ds id ≡ [] → (now : D) → g.content now ≡ c2 → IsSettled g now → BecomesFile g graph ds id (written f offset bytes) start now kept
   stores_now ds space store no_draft now content settled =
       let none = subst (HasDrafts a id) no_draft (store.account.drafts id (objects.File f) starts.at) in
       let has = store.account.objects id (objects.File f) starts.at in
       let new = objects.File (written f offset bytes) in
       record {
-        carries = carries_settled g (with_object graph id new) now settled (subst (λ (i : Image). Holds i (with_object graph id new)) (sym content) (object_put a c2 graph id new starts.holds comes2.stage.frames reads_now));
-        account = subst (λ (i : Image). Accounts i (with_object graph id new) ds) (sym content) (object_changes_on a c2 graph ds ds id (objects.File f) new store.account starts.at reads_now (has_now has none)
-            (subst (HasDrafts c2 id) (sym no_draft) (none_meant has none)) (λ x other. refl) comes2.stage.only refl (all_there graph id new ds store.account.on_objects));
-        counts = subst (λ (i : Image). AreCounts i kept) (sym content) comes2.stage.counts;
-        ordered = rises-with_object graph id new store.ordered;
+        store = record {
+          carries = carries_settled g (with_object graph id new) now settled (subst (λ (i : Image). Holds i (with_object graph id new)) (sym content) (object_put a c2 graph id new starts.holds comes2.stage.frames reads_now));
+          account = subst (λ (i : Image). Accounts i (with_object graph id new) ds) (sym content) (object_changes_on a c2 graph ds ds id (objects.File f) new store.account starts.at reads_now (has_now has none)
+              (subst (HasDrafts c2 id) (sym no_draft) (none_meant has none)) (λ x other. refl) comes2.stage.only refl (all_there graph id new ds store.account.on_objects));
+          counts = subst (λ (i : Image). AreCounts i kept) (sym content) comes2.stage.counts;
+          ordered = rises-with_object graph id new store.ordered;
+        };
+        only = subst (ChangesOnly (λ e. of_owner id.block e) a) (sym content) comes2.stage.only;
       }
 
   -- ---- the claims in their order

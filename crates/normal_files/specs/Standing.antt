@@ -1,8 +1,11 @@
 -- A file as it stands on a disk.
-use Rattle.std.specs.Prelude.{ℕ, length}
+use Rattle.std.specs.Prelude.{ℕ, List, length}
 use Rattle.cfs_base.specs.Disk.{Image, block_at}
+use Rattle.cfs_base.specs.declared.disk.Disk.{Ghosts}
 use Rattle.cfs_base.specs.declared.identifier.Puid.{Puid}
 use Rattle.block_tree.specs.declared.root.Root as roots
+use Rattle.cyl_alloc.specs.Space.{Kept}
+use Rattle.intentions.specs.Store.{StoreHas}
 use Rattle.ufs_model.specs.declared.object.File.{File}
 use Rattle.ufs_model.specs.declared.object.Object.TheVariants as objects
 use Rattle.ufs_model.specs.Graph.{Graph, with_object}
@@ -10,12 +13,19 @@ use Rattle.vol_image.specs.Reading.{IsTree}
 use Rattle.vol_image.specs.Seen.{tree_in}
 use Rattle.vol_image.specs.Sound.{Holds}
 use Rattle.vol_image.specs.Survives.{IsBetween}
+use Rattle.vol_owners.specs.Account.{Opened}
+use Rattle.vol_owners.specs.Change.{ChangesOnly, of_owner}
 
 -- the root at a block gives this file
 pub record IsFileAt (image : Image) (at : ℕ) (f : File) : Type 0 where
   pub owner : ℕ
   pub root : roots.Root
   pub tree : IsTree (length image) owner (tree_in image (block_at image at)) root (objects.File f)
+
+-- The store has this file in the place of the old one, and nothing changed but blocks of it or such as were Free.
+pub record BecomesFile {D : Type 0} (g : Ghosts D) (graph : Graph) (ds : List Opened) (id : Puid) (f : File) (old new : D) (space : Kept) : Type 0 where
+  pub store : StoreHas g (with_object graph id (objects.File f)) ds new space
+  pub only : ChangesOnly (λ entry. of_owner id.block entry) (g.content old) (g.content new)
 
 -- the image holds all other objects, and of this file each leaf and the size are old or new
 abbrev pub IsPartly : Image → Graph → Puid → (old new : File) → Type 0

@@ -84,3 +84,4 @@ pub record Goes {D : Type 0} (g : Ghosts D) (offset : ℕ) (bytes : List ℕ) (f
 pub record Ends {D : Type 0} (g : Ghosts D) (m s : ℕ) (tried : Bool) (old new : D) (result : Result Bool Trouble) : Type 0 where
   pub come : (start : D) (n t : ℕ) → HasCome g n t tried start old → IfOk result (λ now. HasCome g (n + m) (t + s) now start new)
   pub stopped : (start : D) (n t : ℕ) → HasCome g n t tried start old → IfErr result (HasStoppedBy g start new)
+  pub untried : (start : D) (n t : ℕ) → HasCome g n t tried start old → IfErr result (λ e. e ≡ trouble.Disk false → OnlyReads g (n + m) start new)

@@ -1,12 +1,13 @@
 //! A greater size, set.
-ghost use Rattle.std.specs.Prelude.{◌≡◌, ◌<◌, ◌≤◌, List, [], length, IfErr, OnOk};
+ghost use Rattle.std.specs.Prelude.{◌≡◌, ◌<◌, ◌≤◌, true, List, [], length, IfErr, OnOk};
 ghost use Rattle.cfs_base.specs.Calls.{MakesAtMost};
 ghost use Rattle.cfs_base.specs.Run.{IsSettled, Leaves as LeavesOf};
 ghost use Rattle.cfs_base.specs.declared.identifier.Puid.{Puid};
+ghost use Rattle.cfs_base.specs.declared.refusal.Trouble.TheVariants as troubles;
 ghost use Rattle.cyl_alloc.specs.Space.{Kept};
 ghost use Rattle.normal_files.specs.Frees.{TakesNone};
 ghost use Rattle.normal_files.specs.Grows.{Grows};
-ghost use Rattle.normal_files.specs.Standing.{IsPartly};
+ghost use Rattle.normal_files.specs.Standing.{BecomesFile, IsPartly};
 ghost use Rattle.normal_files.specs.Steps.{HasStoppedBy};
 ghost use Rattle.intentions.specs.Store.{StoreHas};
 ghost use Rattle.ufs_model.specs.Graph.{Graph, with_object};
@@ -30,11 +31,12 @@ pub(crate) fn grow<D: Disk>(
     requires { at.0 < D.blocks disk.old }
     ensures grown { (graph : Graph) (ds : List Opened) (id : Puid) (f : files.File) (kept : Kept)
         → Grows D.Disk graph ds id f root.now at.0 size disk.old kept
-        → OnOk result (StoreHas D.Disk (with_object graph id (objects.File (resized f size))) ds disk.new kept
+        → OnOk result (BecomesFile D.Disk graph ds id (resized f size) disk.old disk.new kept
         × IsSettled D.Disk disk.new × TakesNone (D.content disk.old) (D.content disk.new)) }
     ensures images { (graph : Graph) (ds : List Opened) (id : Puid) (f : files.File) (kept : Kept)
         → Grows D.Disk graph ds id f root.now at.0 size disk.old kept
         → LeavesOf D.Disk disk.old disk.new (λ c. IsPartly c graph id f (resized f size)) }
+    ensures tried { IfErr result (λ t. t ≡ troubles.Disk true) }
     ensures stopped { IfErr result (HasStoppedBy D.Disk disk.old disk.new) }
     ensures calls { MakesAtMost D.Disk 2 2 disk.old disk.new }
 {

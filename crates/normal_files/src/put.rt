@@ -3,6 +3,7 @@ ghost use Rattle.std.specs.Prelude.{◌≡◌, ◌≢◌, ◌<◌, ◌≤◌, �
 ghost use Rattle.cfs_base.specs.Calls.{HasTried, MakesAtMost, OnlyReads};
 ghost use Rattle.cfs_base.specs.Disk.{block_at};
 ghost use Rattle.cfs_base.specs.Refusals.{trouble_had_tried};
+ghost use Rattle.cfs_base.specs.declared.refusal.Trouble.TheVariants as troubles;
 ghost use Rattle.cfs_base.specs.Run.{Tells};
 ghost use Rattle.leaf_changes.specs.Bytes.{patched as patched_with};
 ghost use Rattle.normal_files.specs.Parts.{IsReadPart};
@@ -18,7 +19,8 @@ use leaf_changes::patch_leaf;
 /// Writes a block.
 pub(crate) fn write_block<D: Disk>(disk: &mut D, block: u32, content: &Block) -> Result<(), Trouble>
     requires { block < D.blocks disk.old }
-    ensures { WritesBlock D.Disk 1 block content.now disk.old disk.new result }
+    ensures writes { WritesBlock D.Disk 1 block content.now disk.old disk.new result }
+    ensures failed { IfErr result (λ t. t ≡ troubles.Disk true) }
 {
     match disk.write(BlockNo(block), content) {
         Ok(()) => Ok(()),
@@ -79,6 +81,7 @@ fn put_leaf<D: Disk>(
     ensures told { OnOk result ((b : ℕ) → IsTrue (D.told disk.old b) → IsTrue (D.told disk.new b)) }
     ensures tried { OnOk result (HasTried D.Disk disk.old disk.new) }
     ensures refused { IfErr result (HasStoppedBy D.Disk disk.old disk.new) }
+    ensures untried { IfErr result (λ t. t ≡ troubles.Disk false → OnlyReads D.Disk 1 disk.old disk.new) }
     ensures few { D.calls disk.new + partly_below offset (length bytes.now) leaf
         ≤ D.calls disk.old + partly_below offset (length bytes.now) (leaf + 1) + 1 }
     ensures calls { MakesAtMost D.Disk 2 1 disk.old disk.new }

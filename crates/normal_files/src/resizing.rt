@@ -1,12 +1,12 @@
 //! The size of a file, set.
 ghost use Rattle.std.specs.Prelude.{◌≡◌, ◌+◌, ◌*◌, ◌<◌, ◌≤◌, true, false, List, [], Some, length, sum, IfErr, OnOk};
-ghost use Rattle.cfs_base.specs.Calls.{MakesAtMost};
+ghost use Rattle.cfs_base.specs.Calls.{MakesAtMost, OnlyReads};
 ghost use Rattle.cfs_base.specs.Run.{IsSettled, Leaves as LeavesOf};
 ghost use Rattle.cfs_base.specs.declared.identifier.Puid.{Puid};
 ghost use Rattle.intentions.specs.Store.{StoreHas};
 ghost use Rattle.normal_files.specs.Ends.{is_damaged};
 ghost use Rattle.normal_files.specs.Frees.{IsResizeRefusal, TakesNone};
-ghost use Rattle.normal_files.specs.Standing.{IsPartly};
+ghost use Rattle.normal_files.specs.Standing.{BecomesFile, IsPartly};
 ghost use Rattle.normal_files.specs.WriteRefusal.{TellsNeed, is_untried};
 ghost use Rattle.ufs_model.specs.Graph.{Graph, object_at, with_object};
 ghost use Rattle.ufs_model.specs.Object.{resized};
@@ -38,7 +38,7 @@ pub fn resize<D: Disk>(
     requires allowed { size ≤ 7864320 }
     ensures resized { (graph : Graph) (ds : List Opened) (id : Puid) (f : files.File) → StoreHas D.Disk graph ds disk.old space.old
         → object_at graph id ≡ Some (objects.File f) → drafts_of ds id ≡ [] → id.block ≡ at.0
-        → OnOk result (StoreHas D.Disk (with_object graph id (objects.File (resized f size))) ds disk.new space.new
+        → OnOk result (BecomesFile D.Disk graph ds id (resized f size) disk.old disk.new space.new
         × TakesNone (D.content disk.old) (D.content disk.new)) }
     // A resize to less ends in writes of maps that no barrier follows: they free what the file had.
     ensures settled { (graph : Graph) (ds : List Opened) (id : Puid) (f : files.File) → StoreHas D.Disk graph ds disk.old space.old
@@ -56,8 +56,7 @@ pub fn resize<D: Disk>(
     ensures full { IfErr result (TellsNeed 0) }
     ensures refused { IfErr result (IsResizeRefusal D.Disk at.0 floor disk.old disk.new space.old) }
     // Where nothing was tried, all is as it was.
-    ensures untried { IfErr result (λ e. is_untried e ≡ true → (space.new ≡ space.old)
-        × (D.content disk.new ≡ D.content disk.old)) }
+    ensures untried { IfErr result (λ e. is_untried e ≡ true → (space.new ≡ space.old) × OnlyReads D.Disk 3 disk.old disk.new) }
     ensures cylinders { length space.new.free ≡ length space.old.free }
     ensures calls { MakesAtMost D.Disk 31346 15614 disk.old disk.new }
 {

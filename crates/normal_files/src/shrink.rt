@@ -1,6 +1,6 @@
 //! A smaller size, set.
 ghost use Rattle.std.specs.Prelude.{◌≡◌, ◌*◌, ◌+◌, ◌<◌, ◌≤◌, List, false, length, IfErr, OnOk};
-ghost use Rattle.cfs_base.specs.Calls.{MakesAtMost};
+ghost use Rattle.cfs_base.specs.Calls.{MakesAtMost, OnlyReads};
 ghost use Rattle.cfs_base.specs.Run.{Leaves as LeavesOf};
 ghost use Rattle.cfs_base.specs.declared.identifier.Puid.{Puid};
 ghost use Rattle.cfs_base.specs.declared.refusal.Trouble.TheVariants as troubles;
@@ -8,7 +8,7 @@ ghost use Rattle.intentions.specs.Store.{StoreHas};
 ghost use Rattle.normal_files.specs.Cuts as spec;
 ghost use Rattle.normal_files.specs.Frees.{IsShrinkTrouble, TakesNone};
 ghost use Rattle.normal_files.specs.Refusal.{is_damage};
-ghost use Rattle.normal_files.specs.Standing.{IsPartly};
+ghost use Rattle.normal_files.specs.Standing.{BecomesFile, IsPartly};
 ghost use Rattle.ufs_model.specs.Graph.{Graph, with_object};
 ghost use Rattle.ufs_model.specs.Object.{resized};
 ghost use Rattle.ufs_model.specs.declared.object.File as files;
@@ -47,7 +47,7 @@ pub(crate) fn shrink<D: Disk>(
     requires allowed { size ≤ 7864320 }
     ensures shrunk { (graph : Graph) (ds : List Opened) (id : Puid) (f : files.File)
         → spec.Shrinks D.Disk graph ds id f root.now at.0 size disk.old space.old
-        → OnOk result (StoreHas D.Disk (with_object graph id (objects.File (resized f size))) ds disk.new space.new
+        → OnOk result (BecomesFile D.Disk graph ds id (resized f size) disk.old disk.new space.new
         × TakesNone (D.content disk.old) (D.content disk.new)) }
     ensures images { (graph : Graph) (ds : List Opened) (id : Puid) (f : files.File)
         → spec.Shrinks D.Disk graph ds id f root.now at.0 size disk.old space.old
@@ -57,7 +57,7 @@ pub(crate) fn shrink<D: Disk>(
         → IfErr result (λ t. is_damage t ≡ false) }
     ensures refused { IfErr result (IsShrinkTrouble D.Disk at.0 disk.old disk.new) }
     ensures untried { IfErr result (λ t. t ≡ troubles.Disk false → (space.new ≡ space.old)
-        × (D.content disk.new ≡ D.content disk.old)) }
+        × OnlyReads D.Disk 2 disk.old disk.new) }
     ensures cylinders { length space.new.free ≡ length space.old.free }
     ensures calls { MakesAtMost D.Disk 31345 15614 disk.old disk.new }
 {

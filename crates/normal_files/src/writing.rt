@@ -1,7 +1,7 @@
 //! Bytes of a file, written.
 ghost use Rattle.std.specs.Prelude.{◌≡◌, ◌≢◌, ◌⊎◌, ◌||◌, ℕ, ◌+◌, ◌-◌, ◌*◌, ◌/◌, ◌<◌, ◌≤◌, true, false, List, [], Some, IsTrue, length, sum, IfErr, IfOk, OnOk};
 ghost use Rattle.block_tree.specs.declared.root.Root as roots;
-ghost use Rattle.cfs_base.specs.Calls.{MakesAtMost};
+ghost use Rattle.cfs_base.specs.Calls.{MakesAtMost, OnlyReads};
 ghost use Rattle.cfs_base.specs.Run.{IsSettled, Leaves as LeavesOf, Tells};
 ghost use Rattle.cfs_base.specs.declared.identifier.Puid.{Puid};
 ghost use Rattle.cfs_base.specs.declared.refusal.Refused.TheVariants as refusals;
@@ -16,7 +16,7 @@ ghost use Rattle.normal_files.specs.Laid.{node_of};
 ghost use Rattle.normal_files.specs.Links.{linked_image, linked_root};
 ghost use Rattle.normal_files.specs.Order.{claims_of};
 ghost use Rattle.normal_files.specs.Parts.{IsReadPart, part_need};
-ghost use Rattle.normal_files.specs.Standing.{IsPartly};
+ghost use Rattle.normal_files.specs.Standing.{BecomesFile, IsPartly};
 ghost use Rattle.normal_files.specs.Steps.{HasCome, HasStoppedBy, IsAmid};
 ghost use Rattle.normal_files.specs.WriteRefusal.{IsWriteRefusal, TellsNeed, is_untried, needs};
 ghost use Rattle.normal_files.specs.Writes.{Writes};
@@ -74,6 +74,8 @@ fn put_both<D: Disk>(
     ensures come { IfOk result (λ tried. HasCome D.Disk (2 * (high.now.leaves.to - low.now.leaves.from))
         (high.now.leaves.to - low.now.leaves.from) tried disk.old disk.new) }
     ensures stopped { IfErr result (HasStoppedBy D.Disk disk.old disk.new) }
+    ensures untried { IfErr result (λ t. t ≡ troubles.Disk false
+        → OnlyReads D.Disk (2 * (high.now.leaves.to - low.now.leaves.from)) disk.old disk.new) }
     ensures calls { MakesAtMost D.Disk (2 * (high.now.leaves.to - low.now.leaves.from))
         (high.now.leaves.to - low.now.leaves.from) disk.old disk.new }
 {
@@ -147,8 +149,7 @@ pub(crate) fn write_parts<D: Disk>(
     requires room { part_need root.now low.now + part_need root.now high.now ≤ sum space.old.free }
     ensures written { (graph : Graph) (ds : List Opened) (id : Puid) (f : files.File)
         → Writes D.Disk graph ds id f root.now at.0 offset bytes.now low.now high.now disk.old space.old
-        → OnOk result (StoreHas D.Disk (with_object graph id (objects.File (written_file f offset bytes.now))) ds
-        disk.new space.new × IsSettled D.Disk disk.new) }
+        → OnOk result (BecomesFile D.Disk graph ds id (written_file f offset bytes.now) disk.old disk.new space.new × IsSettled D.Disk disk.new) }
     ensures order { (graph : Graph) (ds : List Opened) (id : Puid) (f : files.File)
         → Writes D.Disk graph ds id f root.now at.0 offset bytes.now low.now high.now disk.old space.old
         → low.now.leaves.from < low.now.leaves.to → OnOk result
@@ -162,7 +163,7 @@ pub(crate) fn write_parts<D: Disk>(
         → IfErr result (λ e. is_damaged e ≡ false) }
     ensures refused { IfErr result (IsStop D.Disk disk.old disk.new space.new) }
     ensures untried { IfErr result (λ e. e ≡ refusals.Disk false → (space.new ≡ space.old)
-        × (D.content disk.new ≡ D.content disk.old)) }
+        × OnlyReads D.Disk (7 * (high.now.leaves.to - low.now.leaves.from) + 7) disk.old disk.new) }
     ensures cylinders { length space.new.free ≡ length space.old.free }
     ensures calls { MakesAtMost D.Disk (7 * (high.now.leaves.to - low.now.leaves.from) + 7)
         (4 * (high.now.leaves.to - low.now.leaves.from) + 7) disk.old disk.new }
@@ -203,8 +204,7 @@ pub fn write<D: Disk>(
     ensures written { (graph : Graph) (ds : List Opened) (id : Puid) (f : files.File) → StoreHas D.Disk graph ds disk.old space.old
         → object_at graph id ≡ Some (objects.File f) → drafts_of ds id ≡ [] → id.block ≡ at.0
         → offset + length bytes.now ≤ length f.bytes
-        → OnOk result (StoreHas D.Disk (with_object graph id (objects.File (written_file f offset bytes.now))) ds
-        disk.new space.new × IsSettled D.Disk disk.new) }
+        → OnOk result (BecomesFile D.Disk graph ds id (written_file f offset bytes.now) disk.old disk.new space.new × IsSettled D.Disk disk.new) }
     // Each touched leaf that isn't held takes the least Free block, and after it its node: in increasing order.
     ensures order { (graph : Graph) (ds : List Opened) (id : Puid) (f : files.File) → StoreHas D.Disk graph ds disk.old space.old
         → object_at graph id ≡ Some (objects.File f) → drafts_of ds id ≡ [] → id.block ≡ at.0
@@ -228,8 +228,7 @@ pub fn write<D: Disk>(
         → IfErr result (TellsNeed (needs f offset (length bytes.now))) }
     ensures refused { IfErr result (IsWriteRefusal D.Disk at.0 floor disk.old disk.new space.old space.new) }
     // Where nothing was tried, all is as it was.
-    ensures untried { IfErr result (λ e. is_untried e ≡ true → (space.new ≡ space.old)
-        × (D.content disk.new ≡ D.content disk.old)) }
+    ensures untried { IfErr result (λ e. is_untried e ≡ true → (space.new ≡ space.old) × OnlyReads D.Disk 73 disk.old disk.new) }
     ensures cylinders { length space.new.free ≡ length space.old.free }
     ensures calls { MakesAtMost D.Disk 73 43 disk.old disk.new }
 {

@@ -1,8 +1,13 @@
-use Rattle.std.proofs.Common.{◌∙◌, ap, sym, subst, arith}
+use Rattle.std.proofs.Common.{◌≡◌, true, false, refl, ◌∙◌, ap, sym, subst, arith}
 use Rattle.cfs_base.specs.Disk.{Image}
+use Rattle.ufs_model.specs.Object.{resized}
+use Rattle.cfs_base.proofs.Calls.{reads_then, reads_within}
 use Rattle.normal_files.specs.Ends.{is_damaged}
+use Rattle.normal_files.specs.WriteRefusal.{is_untried}
 use Rattle.normal_files.specs.Frees.{IsResizeRefusal, TakesNone}
-use Rattle.normal_files.proofs.FileCalls.{damage_same, file_of, grows_on, images_on, shrink_refused, shrinks_to}
+use Rattle.cfs_base.specs.Refusals.{refused_by}
+use Rattle.normal_files.proofs.Come.{reads_none}
+use Rattle.normal_files.proofs.FileCalls.{becomes_on, damage_same, file_of, grows_on, images_on, shrink_refused, shrinks_to, troubled_untried}
 use Rattle.normal_files.proofs.resizing.resize.Goals as goal
 
 pub returns-in-Err-read_root-clause-sound : goal.returns-in-Err-read_root-clause-sound
@@ -13,7 +18,7 @@ returns-in-Err-read_root-clause-sound g c = λ graph ds id f store there no_draf
 pub returns-in-Ok-grow-clause-resized : goal.returns-in-Ok-grow-clause-resized
 returns-in-Ok-grow-clause-resized g c = λ graph ds id f store there no_draft here.
     let done = c.in-Ok-grow.ensures.grown graph ds id f c.args.space.now (grows_on g.D.Disk c.args.disk.now c.read_root.new.disk c.in-Ok-read_root.ensures.reads graph ds id f c.args.space.now c.args.at.0 c.in-Ok-read_root.root store there no_draft here (g.met.D.Disk.of_blocks c.args.disk.now store.carries.tells.honest) (c.in-Ok-read_root.ensures.root store.carries.tells) c.args.size c.requires.allowed c.if-root-size.true) in
-    (done.0, subst (λ (i : Image). TakesNone i (g.D.Disk.content c.grow.new.disk)) c.in-Ok-read_root.ensures.reads.content done.2)
+    (becomes_on g.D.Disk c.args.disk.now c.read_root.new.disk c.in-Ok-read_root.ensures.reads graph ds id (resized f c.args.size) c.grow.new.disk c.args.space.now done.0, subst (λ (i : Image). TakesNone i (g.D.Disk.content c.grow.new.disk)) c.in-Ok-read_root.ensures.reads.content done.2)
 
 pub returns-in-Ok-grow-clause-settled : goal.returns-in-Ok-grow-clause-settled
 returns-in-Ok-grow-clause-settled g c = λ graph ds id f store there no_draft here less. (c.in-Ok-grow.ensures.grown graph ds id f c.args.space.now (grows_on g.D.Disk c.args.disk.now c.read_root.new.disk c.in-Ok-read_root.ensures.reads graph ds id f c.args.space.now c.args.at.0 c.in-Ok-read_root.root store there no_draft here (g.met.D.Disk.of_blocks c.args.disk.now store.carries.tells.honest) (c.in-Ok-read_root.ensures.root store.carries.tells) c.args.size c.requires.allowed c.if-root-size.true)).1
@@ -27,7 +32,7 @@ returns-in-Err-grow-clause-images g c = λ graph ds id f store there no_draft he
 pub returns-in-Ok-shrink-clause-resized : goal.returns-in-Ok-shrink-clause-resized
 returns-in-Ok-shrink-clause-resized g c = λ graph ds id f store there no_draft here.
     let done = c.in-Ok-shrink.ensures.shrunk graph ds id f (shrinks_to g.D.Disk c.args.disk.now c.read_root.new.disk c.in-Ok-read_root.ensures.reads graph ds id f c.args.space.now c.args.at.0 c.in-Ok-read_root.root store there no_draft here (g.met.D.Disk.of_blocks c.args.disk.now store.carries.tells.honest) (c.in-Ok-read_root.ensures.root store.carries.tells) c.args.size (omega (arith, c.if-root-size.false))) in
-    (done.0, subst (λ (i : Image). TakesNone i (g.D.Disk.content c.shrink.new.disk)) c.in-Ok-read_root.ensures.reads.content done.1)
+    (becomes_on g.D.Disk c.args.disk.now c.read_root.new.disk c.in-Ok-read_root.ensures.reads graph ds id (resized f c.args.size) c.shrink.new.disk c.shrink.new.space done.0, subst (λ (i : Image). TakesNone i (g.D.Disk.content c.shrink.new.disk)) c.in-Ok-read_root.ensures.reads.content done.1)
 
 pub returns-in-Ok-shrink-clause-settled : goal.returns-in-Ok-shrink-clause-settled
 returns-in-Ok-shrink-clause-settled g c = λ graph ds id f store there no_draft here more. let less = (shrinks_to g.D.Disk c.args.disk.now c.read_root.new.disk c.in-Ok-read_root.ensures.reads graph ds id f c.args.space.now c.args.at.0 c.in-Ok-read_root.root store there no_draft here (g.met.D.Disk.of_blocks c.args.disk.now store.carries.tells.honest) (c.in-Ok-read_root.ensures.root store.carries.tells) c.args.size (omega (arith, c.if-root-size.false))).less in absurd (omega (arith, less, more))
@@ -44,3 +49,17 @@ returns-in-Err-shrink-clause-sound g c = λ graph ds id f store there no_draft h
 pub returns-in-Err-shrink-clause-refused : goal.returns-in-Err-shrink-clause-refused
 returns-in-Err-shrink-clause-refused g c = subst (IsResizeRefusal g.D.Disk c.args.at.0 c.args.floor c.args.disk.now c.shrink.new.disk c.args.space.now) (sym c.from-in-Err-shrink.ensures)
     (shrink_refused g.D.Disk c.args.at.0 c.args.floor c.args.disk.now c.read_root.new.disk c.shrink.new.disk c.in-Ok-read_root.ensures.reads c.args.space.now c.in-Err-shrink.trouble c.in-Err-shrink.ensures.refused)
+
+pub returns-in-Err-clause-untried : goal.returns-in-Err-clause-untried
+returns-in-Err-clause-untried g c = λ h. (refl, reads_within g.D.Disk c.args.disk.now c.args.disk.now 0 3 (omega arith) (reads_none g.D.Disk c.args.disk.now))
+
+pub returns-in-Err-read_root-clause-untried : goal.returns-in-Err-read_root-clause-untried
+returns-in-Err-read_root-clause-untried g c = λ h. (refl, reads_within g.D.Disk c.args.disk.now c.read_root.new.disk 1 3 (omega arith) c.in-Err-read_root.ensures.reads)
+
+pub returns-in-Err-grow-clause-untried : goal.returns-in-Err-grow-clause-untried
+returns-in-Err-grow-clause-untried g c = λ h. (let tried : true ≡ false = sym h ∙ ap is_untried (c.from-in-Err-grow.ensures ∙ ap refused_by c.in-Err-grow.ensures.tried) in cc)
+
+pub returns-in-Err-shrink-clause-untried : goal.returns-in-Err-shrink-clause-untried
+returns-in-Err-shrink-clause-untried g c = λ h.
+    let two = troubled_untried c.in-Err-shrink.trouble c.in-Err-shrink.ensures.untried (sym (ap is_untried c.from-in-Err-shrink.ensures) ∙ h) in
+    (two.0, reads_then g.D.Disk c.args.disk.now c.read_root.new.disk c.shrink.new.disk 1 2 3 c.in-Ok-read_root.ensures.reads two.1 (omega arith))

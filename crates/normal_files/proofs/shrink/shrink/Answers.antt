@@ -1,4 +1,5 @@
-use Rattle.std.proofs.Common.{◌≡◌, ℕ, List, set, sym, ◌∙◌, ap, subst, arith}
+use Rattle.std.proofs.Common.{◌≡◌, ℕ, true, false, List, set, sym, ◌∙◌, ap, subst, arith}
+use Rattle.cfs_base.specs.declared.refusal.Trouble.TheVariants as trouble
 use Rattle.cfs_base.specs.Disk.{Image}
 use Rattle.cfs_base.specs.Run.{Leaves}
 use Rattle.cfs_base.proofs.Calls.{makes_then, reads_make, then_tried}
@@ -10,7 +11,8 @@ use Rattle.ufs_model.specs.Object.{resized}
 use Rattle.normal_files.specs.Cuts.{IsCutRoot, IsEnd}
 use Rattle.normal_files.specs.Frees.{TakesNone}
 use Rattle.normal_files.proofs.Refusals.{stopped_later, tells_after}
-use Rattle.normal_files.proofs.FileCalls.{drop_troubled, free_images, free_sound, free_stores, images_on, images_read, next_root, read_troubled, root_images, shrinks_near, shrinks_on, stop_troubled, trim_images}
+use Rattle.normal_files.proofs.FileCalls.{drop_troubled, free_images, free_sound, free_stores, images_on, images_read, next_root, read_troubled, resized_on, root_images, shrinks_near, shrinks_on, stop_troubled, trim_images}
+use Rattle.normal_files.proofs.WriteParts.{after_is}
 use Rattle.normal_files.proofs.shrink.shrink.Goals as goal
 
 pub returns-in-Err-clause-images : goal.returns-in-Err-clause-images
@@ -40,7 +42,7 @@ returns-clause-sound g c = λ graph ds id f is.
 
 pub returns-clause-shrunk : goal.returns-clause-shrunk
 returns-clause-shrunk g c = λ graph ds id f is.
-    subst (λ (i : Image). OnOk c.free_past.result (StoreHas g.D.Disk (with_object graph id (objects.File (resized f c.args.size))) ds c.free_past.new.disk c.free_past.new.space × TakesNone i (g.D.Disk.content c.free_past.new.disk))) c.in-Ok.ensures.reads.content
+    resized_on g.D.Disk c.args.disk.now c.read_end.new.disk c.in-Ok.ensures.reads graph ds id (resized f c.args.size) c.free_past.new.disk c.free_past.new.space c.free_past.result
     (free_stores g.D.Disk graph ds id f c.args.root.now c.args.at.0 c.args.size c.read_end.new.disk c.args.space.now (shrinks_on g.D.Disk c.args.disk.now c.read_end.new.disk c.in-Ok.ensures.reads graph ds id f c.args.root.now c.args.at.0 c.args.size c.args.space.now is) _ c.in-Ok.end c.in-Ok.ensures.read (subst (λ (i : Image). IsEnd i c.args.root.now c.args.size c.in-Ok.end) (sym c.in-Ok.ensures.reads.content) (c.in-Ok.ensures.end is.store.carries.tells)) c.trim.ensures.node c.cut_root-next.result (c.encode-content.ensures.accepted (next_root g.D.Disk graph ds id f c.args.root.now c.args.at.0 c.args.size c.args.disk.now c.args.space.now is c.requires.allowed _ c.cut_root-next.result c.cut_root-next.ensures)).good (subst (λ (from : ℕ). IsCutRoot c.args.root.now c.args.size from c.cut_root-next.result) c.first_gone.ensures c.cut_root-next.ensures) c.trim.new.disk c.in-Ok-trim.ensures.images c.in-Ok-trim.ensures.done c.write_through.new.disk (subst (λ (v : List ℕ). Leaves g.D.Disk c.trim.new.disk c.write_through.new.disk (λ e. e ≡ set (g.D.Disk.content c.trim.new.disk) c.args.at.0 v)) c.encode-content.ensures.spelled (c.in-Ok-write_through.ensures.images (c.in-Ok-trim.ensures.settled (tells_after g.D.Disk c.args.disk.now c.read_end.new.disk c.in-Ok.ensures.reads is.store.carries.tells)))) ((c.in-Ok-write_through.ensures.done (c.in-Ok-trim.ensures.settled (tells_after g.D.Disk c.args.disk.now c.read_end.new.disk c.in-Ok.ensures.reads is.store.carries.tells))).0 ∙ ap (λ (v : List ℕ). set (g.D.Disk.content c.trim.new.disk) c.args.at.0 v) c.encode-content.ensures.spelled) (c.in-Ok-write_through.ensures.done (c.in-Ok-trim.ensures.settled (tells_after g.D.Disk c.args.disk.now c.read_end.new.disk c.in-Ok.ensures.reads is.store.carries.tells))).1 c.free_past.new.disk c.free_past.new.space c.free_past.result c.free_past.ensures.frees)
 
 pub returns-clause-refused : goal.returns-clause-refused
@@ -55,3 +57,7 @@ returns-clause-refused g c = drop_troubled g.D.Disk c.args.at.0 c.args.disk.now 
 pub returns-in-Err-clause-sound : goal.returns-in-Err-clause-sound
 returns-in-Err-clause-sound g c = λ graph ds id f is.
     c.in-Err.ensures.sound is.store.carries.tells (shrinks_near g.D.Disk graph ds id f c.args.root.now c.args.at.0 c.args.size c.args.disk.now c.args.space.now is (g.met.D.Disk.sized c.args.disk.now is.store.carries.tells.honest) _)
+
+pub returns-in-Err-write_through-clause-untried : goal.returns-in-Err-write_through-clause-untried
+returns-in-Err-write_through-clause-untried g c = λ same.
+    (let no : trouble.Disk true ≡ trouble.Disk false = sym (after_is g.D.Disk c.trim.new.disk c.write_through.new.disk c.in-Err-write_through.trouble c.in-Err-write_through.ensures.stopped) ∙ sym c.after.ensures ∙ same in cc)

@@ -45,23 +45,23 @@ returns-in-Err-take_node-clause-ends g c =
 pub returns-in-Ok-write_block-clause-takes : goal.returns-in-Ok-write_block-clause-takes
 returns-in-Ok-write_block-clause-takes g c = λ graph id f root offset bytes last start may.
     call_taken g.D.Disk graph id f root offset bytes last start c.args.at.0 c.args.leaf c.args.held c.args.block c.args.disk.now c.claim.new.disk c.take_node.new.disk c.write_block.new.disk c.args.space.now c.claim.new.self c.take_node.new.space
-    may c.requires.below c.requires.some (omega arith) c.in-Ok.block c.in-Ok.ensures.enters c.in-Ok-take_node.node c.in-Ok-take_node.ensures c.args.content.now c.in-Ok-write_block.ensures
+    may c.requires.below c.requires.some (omega arith) c.in-Ok.block c.in-Ok.ensures.enters c.in-Ok-take_node.node c.in-Ok-take_node.ensures c.args.content.now c.in-Ok-write_block.ensures.writes
 
 pub returns-in-Ok-write_block-clause-leaves : goal.returns-in-Ok-write_block-clause-leaves
 returns-in-Ok-write_block-clause-leaves g c = λ offset bytes. record {
   leaves = λ graph id f root last start may.
       call_write_leaves g.D.Disk graph id f root offset bytes last start c.args.at.0 c.args.leaf c.args.held c.args.block c.args.disk.now c.claim.new.disk c.take_node.new.disk c.write_block.new.disk c.args.space.now c.claim.new.self c.take_node.new.space
-      may c.requires.below c.requires.some (omega arith) c.in-Ok.block c.in-Ok.ensures.enters c.in-Ok-take_node.node c.in-Ok-take_node.ensures c.args.content.now _ c.in-Ok-write_block.ensures;
+      may c.requires.below c.requires.some (omega arith) c.in-Ok.block c.in-Ok.ensures.enters c.in-Ok-take_node.node c.in-Ok-take_node.ensures c.args.content.now _ c.in-Ok-write_block.ensures.writes;
 }
 
 pub returns-in-Ok-write_block-clause-ends : goal.returns-in-Ok-write_block-clause-ends
 returns-in-Ok-write_block-clause-ends g c =
     leaf_done g.D.Disk c.args.at.0 (c.args.leaf / 128) c.args.held c.args.block _ c.args.disk.now c.claim.new.disk c.take_node.new.disk c.write_block.new.disk c.args.space.now c.claim.new.self c.take_node.new.space c.in-Ok.block c.in-Ok.ensures.enters
-    c.in-Ok-take_node.node c.in-Ok-take_node.ensures c.in-Ok.block.0 c.args.content.now _ c.in-Ok-write_block.ensures
+    c.in-Ok-take_node.node c.in-Ok-take_node.ensures c.in-Ok.block.0 c.args.content.now _ c.in-Ok-write_block.ensures.writes
 
 pub returns-in-Err-write_block-clause-leaves : goal.returns-in-Err-write_block-clause-leaves
 returns-in-Err-write_block-clause-leaves g c = λ offset bytes. record {
   leaves = λ graph id f root last start may.
       call_write_leaves g.D.Disk graph id f root offset bytes last start c.args.at.0 c.args.leaf c.args.held c.args.block c.args.disk.now c.claim.new.disk c.take_node.new.disk c.write_block.new.disk c.args.space.now c.claim.new.self c.take_node.new.space
-      may c.requires.below c.requires.some (omega arith) c.in-Ok.block c.in-Ok.ensures.enters c.in-Ok-take_node.node c.in-Ok-take_node.ensures c.args.content.now _ c.in-Err-write_block.ensures;
+      may c.requires.below c.requires.some (omega arith) c.in-Ok.block c.in-Ok.ensures.enters c.in-Ok-take_node.node c.in-Ok-take_node.ensures c.args.content.now _ c.in-Err-write_block.ensures.writes;
 }

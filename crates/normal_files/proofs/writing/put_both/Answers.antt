@@ -1,5 +1,5 @@
 use Rattle.std.proofs.Common.{arith}
-use Rattle.cfs_base.proofs.Calls.{makes_then}
+use Rattle.cfs_base.proofs.Calls.{makes_then, reads_within}
 use Rattle.normal_files.proofs.Come.{come_begins, come_on, makes_none}
 use Rattle.normal_files.proofs.WriteParts.{both_put, high_leaves, low_leaves}
 use Rattle.normal_files.proofs.writing.put_both.Goals as goal
@@ -30,6 +30,15 @@ returns-in-Ok-put-clause-come g c =
 
 pub returns-in-Err-put-clause-stopped : goal.returns-in-Err-put-clause-stopped
 returns-in-Err-put-clause-stopped g c = c.in-Err-put.ensures.ends.stopped c.args.disk.now _ _ (c.in-Ok.ensures.ends.come c.args.disk.now 0 0 (come_begins g.D.Disk c.args.disk.now))
+
+pub returns-in-Err-clause-untried : goal.returns-in-Err-clause-untried
+returns-in-Err-clause-untried g c = λ same.
+    reads_within g.D.Disk c.args.disk.now c.put.new.disk _ _ (omega (arith, c.requires.next, c.requires.low.some, c.requires.high.some)) (c.in-Err.ensures.ends.untried c.args.disk.now 0 0 (come_begins g.D.Disk c.args.disk.now) same)
+
+pub returns-in-Err-put-clause-untried : goal.returns-in-Err-put-clause-untried
+returns-in-Err-put-clause-untried g c = λ same.
+    reads_within g.D.Disk c.args.disk.now c.put-in-Ok.new.disk _ _ (omega (arith, c.requires.next, c.requires.low.some, c.requires.high.some))
+    (c.in-Err-put.ensures.ends.untried c.args.disk.now _ _ (c.in-Ok.ensures.ends.come c.args.disk.now 0 0 (come_begins g.D.Disk c.args.disk.now)) same)
 
 pub returns-in-Err-clause-calls : goal.returns-in-Err-clause-calls
 returns-in-Err-clause-calls g c = makes_then g.D.Disk c.args.disk.now c.args.disk.now c.put.new.disk 0 _ _ 0 _ _ (makes_none g.D.Disk c.args.disk.now 0 0) c.in-Err.ensures.makes (omega (arith, c.requires.next, c.requires.low.some, c.requires.high.some)) (omega (arith, c.requires.next, c.requires.low.some, c.requires.high.some))

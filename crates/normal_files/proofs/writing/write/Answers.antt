@@ -1,12 +1,13 @@
 use Rattle.std.proofs.Common.{◌∙◌, length, refl, ap, sym, subst, arith}
 use Rattle.cfs_base.specs.Disk.{Image}
-use Rattle.cfs_base.proofs.Calls.{makes_then, reads_make}
+use Rattle.cfs_base.proofs.Calls.{makes_then, reads_make, reads_then, reads_within}
+use Rattle.ufs_model.specs.Object.{written}
 use Rattle.claims.specs.Claims.{AreClaimed}
 use Rattle.normal_files.specs.Ends.{is_damaged}
 use Rattle.normal_files.specs.Order.{claims_of}
 use Rattle.normal_files.specs.WriteRefusal.{IsWriteRefusal, TellsNeed, needs}
 use Rattle.normal_files.proofs.Come.{makes_within}
-use Rattle.normal_files.proofs.FileCalls.{damage_same, file_of, images_on, images_read, parts_refused, parts_tell, parts_untried, read_refused, room_refused, room_tells, stop_on, trouble_tells, writes_on}
+use Rattle.normal_files.proofs.FileCalls.{becomes_on, damage_same, file_of, images_on, images_read, parts_refused, parts_tell, parts_untried, read_refused, room_refused, room_tells, stop_on, trouble_tells, writes_on}
 use Rattle.normal_files.proofs.NeedOf.{parts_need}
 use Rattle.normal_files.proofs.writing.write.Goals as goal
 
@@ -20,7 +21,7 @@ pub returns-in-Err-clause-refused : goal.returns-in-Err-clause-refused
 returns-in-Err-clause-refused g c = subst (IsWriteRefusal g.D.Disk c.args.at.0 c.args.floor c.args.disk.now c.read.new.disk c.args.space.now c.args.space.now) (sym c.from.ensures) (read_refused g.D.Disk c.args.at.0 c.args.floor c.args.disk.now c.read.new.disk c.args.space.now c.args.space.now c.in-Err.trouble c.in-Err.ensures.refused)
 
 pub returns-in-Err-clause-untried : goal.returns-in-Err-clause-untried
-returns-in-Err-clause-untried g c = λ h. (refl, c.in-Err.ensures.reads.content)
+returns-in-Err-clause-untried g c = λ h. (refl, reads_within g.D.Disk c.args.disk.now c.read.new.disk 3 73 (omega arith) c.in-Err.ensures.reads)
 
 pub returns-in-Err-clause-calls : goal.returns-in-Err-clause-calls
 returns-in-Err-clause-calls g c = makes_within g.D.Disk c.args.disk.now c.read.new.disk 3 0 _ _ (omega arith) (omega arith) (reads_make g.D.Disk c.args.disk.now c.read.new.disk _ c.in-Err.ensures.reads)
@@ -35,13 +36,15 @@ pub returns-in-Err-has_room-clause-refused : goal.returns-in-Err-has_room-clause
 returns-in-Err-has_room-clause-refused g c = room_refused g.D.Disk c.args.at.0 c.args.floor _ c.args.disk.now c.read.new.disk c.args.space.now c.args.space.now c.in-Err-has_room.error c.in-Err-has_room.ensures.full.0 c.in-Err-has_room.ensures.full.1
 
 pub returns-in-Err-has_room-clause-untried : goal.returns-in-Err-has_room-clause-untried
-returns-in-Err-has_room-clause-untried g c = λ h. (refl, c.in-Ok.ensures.reads.content)
+returns-in-Err-has_room-clause-untried g c = λ h. (refl, reads_within g.D.Disk c.args.disk.now c.read.new.disk 3 73 (omega arith) c.in-Ok.ensures.reads)
 
 pub returns-in-Err-has_room-clause-calls : goal.returns-in-Err-has_room-clause-calls
 returns-in-Err-has_room-clause-calls g c = makes_within g.D.Disk c.args.disk.now c.read.new.disk 3 0 _ _ (omega arith) (omega arith) (reads_make g.D.Disk c.args.disk.now c.read.new.disk _ c.in-Ok.ensures.reads)
 
 pub returns-in-Ok-write_parts-clause-written : goal.returns-in-Ok-write_parts-clause-written
-returns-in-Ok-write_parts-clause-written g c = λ graph ds id f store there no_draft here inside. c.in-Ok-write_parts.ensures.written graph ds id f (writes_on g.D.Disk c.args.disk.now c.read.new.disk c.in-Ok.ensures.reads graph ds id f c.args.space.now c.args.at.0 c.in-Ok.file.root store there no_draft here (g.met.D.Disk.of_blocks c.args.disk.now store.carries.tells.honest) (c.in-Ok.ensures.root store.carries.tells) c.args.offset c.args.bytes.now c.in-Ok.file.low c.in-Ok.file.high inside (c.in-Ok.ensures.low_is store.carries.tells) (c.in-Ok.ensures.high_is store.carries.tells))
+returns-in-Ok-write_parts-clause-written g c = λ graph ds id f store there no_draft here inside.
+    let done = c.in-Ok-write_parts.ensures.written graph ds id f (writes_on g.D.Disk c.args.disk.now c.read.new.disk c.in-Ok.ensures.reads graph ds id f c.args.space.now c.args.at.0 c.in-Ok.file.root store there no_draft here (g.met.D.Disk.of_blocks c.args.disk.now store.carries.tells.honest) (c.in-Ok.ensures.root store.carries.tells) c.args.offset c.args.bytes.now c.in-Ok.file.low c.in-Ok.file.high inside (c.in-Ok.ensures.low_is store.carries.tells) (c.in-Ok.ensures.high_is store.carries.tells)) in
+    (becomes_on g.D.Disk c.args.disk.now c.read.new.disk c.in-Ok.ensures.reads graph ds id (written f c.args.offset c.args.bytes.now) c.write_parts.new.disk c.write_parts.new.space done.0, done.1)
 
 pub returns-in-Ok-write_parts-clause-order : goal.returns-in-Ok-write_parts-clause-order
 returns-in-Ok-write_parts-clause-order g c = λ graph ds id f store there no_draft here inside.
@@ -64,7 +67,9 @@ pub returns-in-Err-write_parts-clause-refused : goal.returns-in-Err-write_parts-
 returns-in-Err-write_parts-clause-refused g c = parts_refused g.D.Disk c.args.at.0 c.args.floor c.args.disk.now c.write_parts.new.disk c.args.space.now c.write_parts.new.space c.in-Err-write_parts.error (stop_on g.D.Disk c.args.disk.now c.read.new.disk c.in-Ok.ensures.reads c.write_parts.new.disk c.write_parts.new.space c.in-Err-write_parts.error c.in-Err-write_parts.ensures.refused)
 
 pub returns-in-Err-write_parts-clause-untried : goal.returns-in-Err-write_parts-clause-untried
-returns-in-Err-write_parts-clause-untried g c = λ h. let two = parts_untried g.D.Disk c.args.disk.now c.read.new.disk c.write_parts.new.disk _ c.args.space.now c.write_parts.new.space c.in-Err-write_parts.error c.in-Err-write_parts.ensures.refused c.in-Err-write_parts.ensures.untried h in (two.0, two.1 ∙ c.in-Ok.ensures.reads.content)
+returns-in-Err-write_parts-clause-untried g c = λ h.
+    let two = parts_untried g.D.Disk c.read.new.disk c.write_parts.new.disk _ c.in-Err-write_parts.error c.in-Err-write_parts.ensures.refused c.in-Err-write_parts.ensures.untried h in
+    (two.0, reads_then g.D.Disk c.args.disk.now c.read.new.disk c.write_parts.new.disk 3 _ 73 c.in-Ok.ensures.reads two.1 (omega (arith, c.in-Ok.ensures.few)))
 
 pub returns-in-Err-write_parts-clause-calls : goal.returns-in-Err-write_parts-clause-calls
 returns-in-Err-write_parts-clause-calls g c = makes_then g.D.Disk c.args.disk.now c.read.new.disk c.write_parts.new.disk 3 _ _ 0 _ _ (reads_make g.D.Disk c.args.disk.now c.read.new.disk _ c.in-Ok.ensures.reads) c.in-Err-write_parts.ensures.calls (omega (arith, c.in-Ok.ensures.few)) (omega (arith, c.in-Ok.ensures.few))

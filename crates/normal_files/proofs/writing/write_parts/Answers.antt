@@ -1,6 +1,6 @@
 use Rattle.std.proofs.Common.{◌∙◌, refl, ap, sym, subst, arith}
 use Rattle.normal_files.specs.Ends.{IsStop, is_damaged}
-use Rattle.cfs_base.proofs.Calls.{makes_then}
+use Rattle.cfs_base.proofs.Calls.{makes_then, reads_within}
 use Rattle.normal_files.proofs.Come.{makes_none}
 use Rattle.normal_files.proofs.Ending.{stop_by, stopped_sound}
 use Rattle.normal_files.proofs.WriteParts.{end_err, end_images, end_order, end_stores, gone_puts, may, partly, put_untried}
@@ -19,7 +19,7 @@ pub returns-in-Err-clause-sound : goal.returns-in-Err-clause-sound
 returns-in-Err-clause-sound g c = λ graph ds id f is. ap is_damaged c.from.ensures ∙ stopped_sound g.D.Disk c.args.disk.now c.put_both.new.disk c.in-Err.trouble c.in-Err.ensures.stopped
 
 pub returns-in-Err-clause-untried : goal.returns-in-Err-clause-untried
-returns-in-Err-clause-untried g c = λ same. (refl, put_untried g.D.Disk c.args.disk.now c.put_both.new.disk c.in-Err.trouble c.in-Err.ensures.stopped (sym c.from.ensures ∙ same))
+returns-in-Err-clause-untried g c = λ same. (refl, reads_within g.D.Disk c.args.disk.now c.put_both.new.disk _ _ (omega arith) (c.in-Err.ensures.untried (put_untried c.in-Err.trouble (sym c.from.ensures ∙ same))))
 
 pub returns-in-Err-clause-calls : goal.returns-in-Err-clause-calls
 returns-in-Err-clause-calls g c = makes_then g.D.Disk c.args.disk.now c.args.disk.now c.put_both.new.disk 0 _ _ 0 _ _ (makes_none g.D.Disk c.args.disk.now 0 0) c.in-Err.ensures.calls (omega (arith, c.requires.next, c.requires.low.some, c.requires.high.some)) (omega (arith, c.requires.next, c.requires.low.some, c.requires.high.some))
@@ -35,7 +35,7 @@ pub returns-in-Err-take_both-clause-refused : goal.returns-in-Err-take_both-clau
 returns-in-Err-take_both-clause-refused g c = (c.in-Err-take_both.ensures.stopped c.args.disk.now _ _ 0 c.args.space.now (gone_puts g.D.Disk c.args.disk.now c.put_both.new.disk c.args.space.now _ _ c.in-Ok.tried c.in-Ok.ensures.come c.in-Ok.ensures.told)).refused (omega (arith, c.requires.room))
 
 pub returns-in-Err-take_both-clause-untried : goal.returns-in-Err-take_both-clause-untried
-returns-in-Err-take_both-clause-untried g c = λ same. let two = (c.in-Err-take_both.ensures.stopped c.args.disk.now _ _ 0 c.args.space.now (gone_puts g.D.Disk c.args.disk.now c.put_both.new.disk c.args.space.now _ _ c.in-Ok.tried c.in-Ok.ensures.come c.in-Ok.ensures.told)).untried same in (two.0, two.1.content)
+returns-in-Err-take_both-clause-untried g c = λ same. let two = (c.in-Err-take_both.ensures.stopped c.args.disk.now _ _ 0 c.args.space.now (gone_puts g.D.Disk c.args.disk.now c.put_both.new.disk c.args.space.now _ _ c.in-Ok.tried c.in-Ok.ensures.come c.in-Ok.ensures.told)).untried same in (two.0, reads_within g.D.Disk c.args.disk.now c.take_both.new.disk _ _ (omega (arith, c.requires.next, c.requires.low.some, c.requires.high.some)) two.1)
 
 pub returns-in-Err-take_both-clause-calls : goal.returns-in-Err-take_both-clause-calls
 returns-in-Err-take_both-clause-calls g c =

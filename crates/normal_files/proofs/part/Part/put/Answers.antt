@@ -1,6 +1,6 @@
 use Rattle.std.proofs.Common.{◌≡◌, ℕ, ◌+◌, ◌*◌, ◌-◌, ◌≤◌, length, refl, ◌∙◌, subst, arith}
 use Rattle.cfs_base.specs.Calls.{MakesAtMost}
-use Rattle.cfs_base.proofs.Calls.{makes_then}
+use Rattle.cfs_base.proofs.Calls.{makes_then, reads_within}
 use Rattle.normal_files.specs.Steps.{IsAmid}
 use Rattle.normal_files.specs.Touched.{partly_below}
 use Rattle.normal_files.proofs.PartlyBelow.{partly_up}
@@ -18,6 +18,8 @@ pub returns-in-Err-clause-ends : goal.returns-in-Err-clause-ends
 returns-in-Err-clause-ends g c = record {
   come = λ start n t come. tt;
   stopped = λ start n t come. c.in-Err.ensures.ends.stopped start _ _ (c.loop-leaf.invariant.run start n t come);
+  untried = λ start n t come same.
+      reads_within g.D.Disk start c.put_one.new.disk _ (n + 2 * (c.args.self.now.leaves.to - c.args.self.now.leaves.from)) (omega (arith, c.loop-leaf-test.true, c.loop-leaf.auto.leaf)) (c.in-Err.ensures.ends.untried start _ _ (c.loop-leaf.invariant.run start n t come) same);
 }
 
 pub loop-leaf-preserved : goal.loop-leaf-preserved
@@ -54,6 +56,7 @@ returns-clause-ends g c =
     record {
       come = λ start n t come. come_on g.D.Disk start c.loop-leaf.disk c.loop-leaf.disk (n + 2 * (c.args.self.now.leaves.to - c.args.self.now.leaves.from)) (t + (c.args.self.now.leaves.to - c.args.self.now.leaves.from)) c.loop-leaf.by_now (omega (arith, last)) (omega (arith, last)) (c.loop-leaf.invariant.run start n t come);
       stopped = λ start n t come. tt;
+      untried = λ start n t come. tt;
     }
 
 pub returns-clause-few : goal.returns-clause-few

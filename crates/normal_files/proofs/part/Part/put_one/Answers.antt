@@ -1,5 +1,7 @@
-use Rattle.std.proofs.Common.{Ok, Err, length, refl, arith}
-use Rattle.normal_files.proofs.Come.{come_wrote}
+use Rattle.std.proofs.Common.{Ok, Err, length, refl, sym, ◌∙◌, subst, arith}
+use Rattle.cfs_base.proofs.Calls.{reads_within}
+use Rattle.normal_files.specs.Steps.{HasStoppedBy}
+use Rattle.normal_files.proofs.Come.{come_stopped, come_untried, come_wrote}
 use Rattle.normal_files.proofs.PartlyBelow.{partly_more}
 use Rattle.normal_files.proofs.PutParts.{one_absent, one_done, one_entries, one_leaves, one_long}
 use Rattle.normal_files.proofs.part.Part.put_one.Goals as goal
@@ -29,6 +31,15 @@ pub returns-in-Ok-clause-ends : goal.returns-in-Ok-clause-ends
 returns-in-Ok-clause-ends g c = record {
   come = λ start n t come. come_wrote g.D.Disk start c.args.disk.now c.put_leaf.new.disk 2 1 c.args.tried come c.in-Ok.ensures.calls c.in-Ok.ensures.tried;
   stopped = λ start n t come. tt;
+  untried = λ start n t come. tt;
+}
+
+pub returns-in-Err-clause-ends : goal.returns-in-Err-clause-ends
+returns-in-Err-clause-ends g c = record {
+  come = λ start n t come. tt;
+  stopped = λ start n t come. subst (HasStoppedBy g.D.Disk start c.put_leaf.new.disk) (sym c.after.ensures) (come_stopped g.D.Disk start c.args.disk.now c.put_leaf.new.disk c.args.tried c.in-Err.trouble come c.in-Err.ensures.refused);
+  untried = λ start n t come same.
+      come_untried g.D.Disk start c.args.disk.now c.put_leaf.new.disk 2 c.args.tried c.in-Err.trouble come (λ e. reads_within g.D.Disk c.args.disk.now c.put_leaf.new.disk 1 2 (omega arith) (c.in-Err.ensures.untried e)) (sym c.after.ensures ∙ same);
 }
 
 pub returns-in-Err-clause-goes : goal.returns-in-Err-clause-goes
