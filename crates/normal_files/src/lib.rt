@@ -23,6 +23,7 @@ mod touched;
 mod writing;
 
 pub use laws::files_are_read_by_their_roots;
+pub use nodes::read_root;
 pub use reading::read;
 pub use resizing::resize;
 pub use writing::write;

@@ -15,8 +15,8 @@ ghost use Rattle.normal_files.specs.Refusal.{IsTrouble, is_damage};
 use block_tree::{Node, Root};
 use cfs_base::{Block, BlockNo, Damage, Disk, Trouble, code};
 
-/// Reads the root of a file.
-pub(crate) fn read_root<D: Disk>(disk: &mut D, at: BlockNo) -> Result<Root, Trouble>
+/// Reads the root of a file. `Damaged` names the block, with code 3, which is none.
+pub fn read_root<D: Disk>(disk: &mut D, at: BlockNo) -> Result<Root, Trouble>
     requires { at.0 < D.blocks disk.old }
     ensures root { Tells D.Disk disk.old → IfOk result (IsRootBlock (block_at (D.content disk.old) at.0)) }
     ensures refused { IfErr result (IsTrouble D.Disk at.0 disk.old disk.new) }
