@@ -83,6 +83,7 @@ impl<D: Disk> Core<D> {
         ensures objects { result.objects ≡ length self.now.names.named }
         ensures counted { (s : State) → Serves D.Disk self.now s
             → result.free ≡ free_from (D.content self.now.disk) 0 (length (D.content self.now.disk)) }
+        ensures free { result.free ≡ sum self.now.space.free }
         // No block is lost.
         ensures room { (s : State) → Serves D.Disk self.now s → is_sweeping s.collection ≡ false
             → result.free + blocks_taken s.graph (drafts_of_seats self.now.seats s.grants) + 1
