@@ -14,6 +14,8 @@ mod draft_table;
 #[cfg(test)]
 mod draft_volume;
 #[cfg(test)]
+mod file_calls;
+#[cfg(test)]
 mod images;
 #[cfg(test)]
 mod plain;

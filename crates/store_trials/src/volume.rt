@@ -3,9 +3,10 @@ ghost use Rattle.std.specs.Prelude.{◌≡◌, ◌*◌, ◌<◌, ◌≤◌, true
 ghost use Rattle.cfs_fakes.specs.Memory.{contents};
 ghost use Rattle.index_ops.specs.Creates.{MayBeMade};
 
-use cfs_base::{BlockNo, Disk, Kind, Puid, Refused, Trouble};
+use cfs_base::{BlockNo, Bytes, Disk, FileKind, Kind, Puid, Refused, Trouble};
 use cfs_fakes::MemoryDisk;
 use cyl_alloc::Space;
+use file_ops::{read, resize, size, write};
 use index_ops::{create, delete, retain};
 use special_files::Draft;
 use std::alloc::Global;
@@ -88,6 +89,53 @@ impl Volume {
             return delete(alloc, &mut self.disk, &mut self.space, at, slot);
         }
         retain(alloc, &mut self.disk, &mut self.space, at, slot, id)
+    }
+
+    /// Bytes of the file, and its size.
+    pub fn read(&mut self, alloc: Global, offset: u64, count: usize) -> Result<Bytes, Refused> {
+        if !self.is_ready() || offset > 7_864_320 || count as u64 > 7_864_320 - offset {
+            return Err(Refused::Memory);
+        }
+        read(alloc, &mut self.disk, BlockNo(3), offset, count)
+    }
+
+    pub fn size(&mut self) -> Result<u64, Trouble> {
+        if !self.is_ready() {
+            return Err(Trouble::Disk { tried: false });
+        }
+        size(&mut self.disk, BlockNo(3))
+    }
+
+    /// Writes bytes into the file, which is of this kind.
+    pub fn write_file(
+        &mut self,
+        alloc: Global,
+        kind: FileKind,
+        offset: u64,
+        bytes: &[u8],
+        floor: u32,
+    ) -> Result<(), Refused> {
+        let few = !bytes.is_empty() && bytes.len() <= 4096;
+        if !self.is_ready() || !few || offset > 7_860_224 + 4_096 - bytes.len() as u64 {
+            return Err(Refused::Memory);
+        }
+        let (disk, space) = (&mut self.disk, &mut self.space);
+        write(alloc, disk, space, BlockNo(3), kind, offset, bytes, floor)
+    }
+
+    /// Sets its size.
+    pub fn resize_file(
+        &mut self,
+        alloc: Global,
+        kind: FileKind,
+        size: u64,
+        floor: u32,
+    ) -> Result<(), Refused> {
+        if !self.is_ready() || size > 7_864_320 {
+            return Err(Refused::Memory);
+        }
+        let (disk, space) = (&mut self.disk, &mut self.space);
+        resize(alloc, disk, space, BlockNo(3), kind, size, floor)
     }
 
     /// A draft of the file, of this size, with these bytes written at their offsets, and then of another size.

@@ -1,0 +1,314 @@
+-- A special file changed by a draft that is begun, changed and committed.
+use Rattle.std.proofs.Common.{◌≡◌, inl, inr, ℕ, ◌+◌, ◌<◌, ◌≤◌, Bool, true, false, List, [], ◌∷◌, length, get_or, Option, Some, None, Ok, Err, refl, sym, ◌∙◌, ap, subst, arith}
+use Rattle.std.specs.Prelude.{IfErr, OnOk, Result, option_to_list, sum}
+use Rattle.cfs_base.specs.Calls.{HasStopped, MakesAtMost, OnlyReads}
+use Rattle.cfs_base.specs.Disk.{Image, Nothing, block_at}
+use Rattle.cfs_base.specs.Run.{Leaves, Tells}
+use Rattle.cfs_base.specs.declared.disk.Disk.{Ghosts}
+use Rattle.cfs_base.specs.declared.identifier.Puid.{Puid}
+use Rattle.cfs_base.specs.declared.kind.FileKind.TheVariants as kinds
+use Rattle.cfs_base.specs.declared.refusal.Refused.{Refused}
+use Rattle.cfs_base.specs.declared.refusal.Refused.TheVariants as refused
+use Rattle.cfs_base.proofs.Calls.{makes_then, reads_make, reads_then, reads_within, tells_on}
+use Rattle.cfs_base.proofs.Runs.{still_tells, then, wider}
+use Rattle.block_tree.specs.Root.{IsRootBlock}
+use Rattle.block_tree.specs.declared.root.Root.{Root}
+use Rattle.cyl_alloc.specs.Space.{Kept}
+use Rattle.file_ops.specs.Changes.{Changed, ChangesFile, ClaimsBeside, IsCommitRefusal, IsFileRefusal, MayChange, NoneLeft, OfBlock, Short, claims_beside, end_of, need_for}
+use Rattle.intentions.specs.Store.{StoreHas}
+use Rattle.normal_files.specs.WriteRefusal.{is_untried}
+use Rattle.leaf_changes.proofs.Given.{file_to_leaves}
+use Rattle.normal_files.proofs.Come.{makes_within, reads_none}
+use Rattle.normal_files.proofs.FileCalls.{file_of}
+use Rattle.ufs_model.specs.declared.change.Change.TheVariants.{Overwrite}
+use Rattle.special_files.specs.Becomes.{Becomes}
+use Rattle.special_files.specs.Committing.{Committed, IsOldOrNew}
+use Rattle.special_files.specs.Drafting.{Drafting, IsOpen, begun_at, fresh_of, need_beside, opened_as, shadow_need}
+use Rattle.special_files.specs.Ends.{Ends}
+use Rattle.special_files.specs.Order.{ClaimsAndDrops}
+use Rattle.special_files.specs.Refusal.{IsRefusal, IsRefusalOrMemory, is_damaged, is_full}
+use Rattle.special_files.specs.Store.{replaced}
+use Rattle.special_files.proofs.Begun.{begun_fresh}
+use Rattle.special_files.proofs.Levels.{length-none}
+use Rattle.special_files.proofs.Lists.{first_here}
+use Rattle.special_files.proofs.Refusals.{damage_since, refusal_after_reads}
+use Rattle.ufs_model.specs.Graph.{Graph, object_at, with_object}
+use Rattle.ufs_model.specs.Numbers.{missing}
+use Rattle.ufs_model.specs.Object.{changed_object, new_file, written_anew}
+use Rattle.ufs_model.specs.State.{changed_draft}
+use Rattle.ufs_model.specs.declared.change.Change.{Change}
+use Rattle.ufs_model.specs.declared.object.Draft.{Draft}
+use Rattle.ufs_model.specs.declared.object.File.{File}
+use Rattle.ufs_model.specs.declared.object.Object.{Object}
+use Rattle.ufs_model.specs.declared.object.Object.TheVariants as objects
+use Rattle.vol_image.specs.Sound.{Holds}
+use Rattle.vol_image.proofs.Unique.{one_root_block}
+use Rattle.vol_owners.specs.Account.{Opened, drafts_of}
+use Rattle.vol_owners.specs.Change.{ChangesOnly, of_draft}
+use Rattle.vol_owners.specs.Room.{draft_blocks}
+use Rattle.vol_owners.proofs.Changes.{changes_then}
+use Rattle.file_ops.proofs.Begun.{draft_changes, few_fresh, one_left, without_begun}
+
+-- a file's draft that was just begun, as the model has it
+abbrev pub begun : File → Draft
+begun f = record { object = objects.File f; fresh = [] }
+
+-- what a call says that made the change in it
+pub record Drafts {D : Type 0} (g : Ghosts D) (floor : ℕ) (change : Change) (graph : Graph) (ds : List Opened) (id : Puid) (f : File) (d1 d2 : D) (k1 k2 : Kept) (was now : Drafting) (r : Result (Unit {0}) Refused) : Type 0 where
+  pub becomes : OnOk r (Becomes g graph (opened_as id was (begun f) ∷ ds) id (changed_draft change (begun f)) d1 d2 k2 now)
+  pub order : OnOk r (ClaimsAndDrops id.block (claims_beside was.at change f) (g.content d1) (g.content d2))
+  pub leaves : Leaves g d1 d2 (λ c. Holds c graph)
+  pub room : OnOk r (need_beside change (begun f) was + floor ≤ sum k1.free)
+  pub full : IfErr r (λ e. is_full e ≡ true → (e ≡ refused.Full (record { free = sum k1.free; need = need_beside change (begun f) was })) × (sum k1.free < need_beside change (begun f) was + floor))
+  pub sound : IfErr r (λ e. is_damaged e ≡ false)
+
+-- and one that committed it
+pub record Commits {D : Type 0} (g : Ghosts D) (d2 d3 : D) (k2 k3 : Kept) (now : Drafting) (r : Result (Unit {0}) Refused) : Type 0 where
+  pub done : (graph : Graph) (ds : List Opened) (id : Puid) (o : Object) (d : Draft) → StoreHas g graph ds d2 k2 → object_at graph id ≡ Some o → IsOpen ds id now d → now.created ≡ None → OnOk r (Committed g graph ds id d.object None d2 d3 k3)
+  pub leaves : (graph : Graph) (ds : List Opened) (id : Puid) (o : Object) (d : Draft) → StoreHas g graph ds d2 k2 → object_at graph id ≡ Some o → IsOpen ds id now d → now.created ≡ None → Leaves g d2 d3 (IsOldOrNew graph graph id d.object)
+  pub sound : (graph : Graph) (ds : List Opened) (id : Puid) (o : Object) (d : Draft) → StoreHas g graph ds d2 k2 → object_at graph id ≡ Some o → IsOpen ds id now d → now.created ≡ None → 1 ≤ sum k2.free → IfErr r (λ e. is_damaged e ≡ false)
+  pub refusal : IfErr r (IsCommitRefusal g now.at d2 d3 k3)
+  pub cylinders : length k3.free ≡ length k2.free
+  pub calls : MakesAtMost g 93139 46453 d2 d3
+
+-- with more calls
+pub ends_more : {D : Type 0} (g : Ghosts D) (at floor n t k m s : ℕ) (old new : D) (before after : Kept) (r : Result (Unit {0}) Refused) → Ends g at floor n t k old new before after r → n ≤ m → t ≤ s → Ends g at floor m s k old new before after r
+ends_more g at floor n t k m s old new before after r is le lt = record {
+  told = is.told;
+  refused = is.refused;
+  untried = by r is.untried;
+  cylinders = is.cylinders;
+  takes = is.takes;
+  calls = makes_within g old new n t m s le lt is.calls;
+}
+  where
+    by : (x : Result (Unit {0}) Refused) → IfErr x (λ e. e ≡ refused.Disk false → (after ≡ before) × OnlyReads g n old new) → IfErr x (λ e. e ≡ refused.Disk false → (after ≡ before) × OnlyReads g m old new)
+    by (Ok u) told = tt
+    by (Err e) told = λ same. let two = told same in (two.0, reads_within g old new n m le two.1)
+
+-- ---- refusals
+
+module _ {D : Type 0} (g : Ghosts D) (at floor : ℕ) (change : Change) (d0 : D) (k0 : Kept) where
+  pub from_begin : (d1 : D) (kept : Kept) (e : Refused) → IsRefusalOrMemory g at 0 d0 d1 kept e → is_full e ≡ false → IsFileRefusal g at kinds.Special floor change d0 d1 kept e
+  from_begin d1 kept (refused.Full need) is spare = cc
+  from_begin d1 kept (refused.Disk tried) is spare = is
+  from_begin d1 kept (refused.Damaged damage) is spare = OfBlock is
+  from_begin d1 kept refused.Memory is spare = refl
+
+  from_refusal : (d1 : D) (kept : Kept) (e : Refused) → IsRefusal g at floor d0 d1 kept e → IsFileRefusal g at kinds.Special floor change d0 d1 kept e
+  from_refusal d1 kept (refused.Full need) is = is
+  from_refusal d1 kept (refused.Disk tried) is = is
+  from_refusal d1 kept (refused.Damaged damage) is = OfBlock is
+  from_refusal d1 kept refused.Memory is = absurd is
+
+  from_commit : (d2 d3 : D) (kept : Kept) (n t : ℕ) (e : Refused) → MakesAtMost g n t d0 d2 → (Tells g d0 → Tells g d2) → IsCommitRefusal g at d2 d3 kept e → IsFileRefusal g at kinds.Special floor change d0 d3 kept e
+  from_commit d2 d3 kept n t (refused.Full need) first on is = absurd is
+  from_commit d2 d3 kept n t (refused.Disk tried) first on is = subst (λ (b : Bool). HasStopped g b d0 d3) (sym is.0) (record {
+    failed = record { cause = omega (arith, first.faults, is.1.failed.cause); clock = omega (arith, first.later, is.1.failed.clock) };
+    tries = λ yes. omega (arith, first.no_fewer, is.1.tries refl);
+    no_try = λ no. cc;
+    untouched = λ no. cc;
+  })
+  from_commit d2 d3 kept n t (refused.Damaged damage) first on (inl is) = OfBlock (damage_since g at d0 d2 d3 kept damage on is)
+  from_commit d2 d3 kept n t (refused.Damaged damage) first on (inr none) = NoneLeft none
+  from_commit d2 d3 kept n t refused.Memory first on is = absurd is
+
+  -- the root is one of fewer bytes
+  pub short_why : (d1 : D) (kept : Kept) (own : Root) → (Tells g d0 → IsRootBlock (block_at (g.content d0) at) own) → own.size < end_of change → IsFileRefusal g at kinds.Special floor change d0 d1 kept (refused.Damaged (record { block = at; code = 3 }))
+  short_why d1 kept own is short =
+      Short refl refl (λ tells root there. subst (λ (r : Root). r.size < end_of change) (one_root_block (block_at (g.content d0) at) own root (is tells) there) short)
+
+  pub short_not : (offset : ℕ) (bytes : List ℕ) (own : Root) → (Tells g d0 → IsRootBlock (block_at (g.content d0) at) own) → own.size < offset + length bytes
+      → (graph : Graph) (ds : List Opened) (id : Puid) (f : File) → ¬ MayChange g at kinds.Special (Overwrite offset bytes) graph ds id f d0 k0
+  short_not offset bytes own is short graph ds id f may =
+      let file = file_of (g.content d0) graph ds id f at may.has.store.account may.has.there may.has.root in
+      let same = ap (λ (r : Root). r.size) (one_root_block (block_at (g.content d0) at) own file.root (is may.has.store.carries.tells) file.tree.spelled) in
+      omega (arith, short, may.inside, same, (file_to_leaves file.root _ f file.tree.object).size)
+
+  -- refused when only reads were made
+  pub err_read : (d1 : D) (k1 : Kept) (n : ℕ) (e : Refused) → n ≤ 31093 → OnlyReads g n d0 d1 → k1 ≡ k0 → IsFileRefusal g at kinds.Special floor change d0 d1 k1 e → is_full e ≡ false
+      → ((graph : Graph) (ds : List Opened) (id : Puid) (f : File) → MayChange g at kinds.Special change graph ds id f d0 k0 → is_damaged e ≡ false) → ChangesFile g at kinds.Special floor change d0 d1 k0 k1 (Err e)
+  err_read d1 k1 n e few reads kept why spare sound = record {
+    done = λ graph ds id f may. tt;
+    order = λ graph ds id f may. tt;
+    leaves = λ graph ds id f may. wider g d0 d1 Nothing _ reads.images (λ c none. absurd none);
+    room = λ graph ds id f may. tt;
+    full = λ graph ds id f may is. (let no : true ≡ false = sym is ∙ spare in cc);
+    sound = sound;
+    refused = why;
+    untried = λ is. (kept, reads_within g d0 d1 n 31093 few reads);
+    cylinders = ap (λ (k : Kept). length k.free) kept;
+    calls = makes_then g d0 d1 d1 n 0 124232 0 0 61939 (reads_make g d0 d1 n reads) (reads_make g d1 d1 0 (reads_none g d1)) (omega (arith, few)) (omega arith);
+  }
+
+-- ---- a draft begun
+
+module _ {D : Type 0} (g : Ghosts D) (at floor : ℕ) (change : Change) (d0 d1 : D) (k0 k1 : Kept) (was : Drafting) (is_begun : was ≡ begun_at at None was.own) (reads : OnlyReads g 1 d0 d1) (kept : k1 ≡ k0)
+    (starts : (graph : Graph) (ds : List Opened) (id : Puid) (f : File) → MayChange g at kinds.Special change graph ds id f d0 k0 → StoreHas g graph (opened_as id was (begun f) ∷ ds) d1 k1) where
+  pub is_at : was.at ≡ at
+  is_at = ap (λ (x : Drafting). x.at) is_begun
+
+  needs_shadow : shadow_need was ≡ 1
+  needs_shadow = ap (λ (x : Drafting). shadow_need x) is_begun
+
+  free_same : sum k1.free ≡ sum k0.free
+  free_same = ap (λ (k : Kept). sum k.free) kept
+
+  need_is : (f : File) → need_beside change (begun f) was ≡ need_for kinds.Special change f
+  need_is f = ap (λ (n : ℕ). missing (written_anew change (objects.File f) []) [] + n) needs_shadow
+
+  pub opens : (ds : List Opened) (id : Puid) (f : File) → id.block ≡ at → drafts_of ds id ≡ [] → IsOpen (opened_as id was (begun f) ∷ ds) id was (begun f)
+  opens ds id f root shut = record {
+    at = root ∙ sym is_at;
+    alone = first_here (opened_as id was (begun f)) ds shut;
+    leaf_flags = ap (λ (x : Drafting). length x.leaves) is_begun ∙ length-none 15360;
+    node_flags = ap (λ (x : Drafting). length x.nodes) is_begun ∙ length-none 120;
+    fresh = λ k. begun_fresh at None was.own k ∙ ap (λ (x : Drafting). get_or (fresh_of x) k []) (sym is_begun);
+  }
+
+  -- on any disk there is a draft of the model that it is
+  abbrev pub any_id : Puid
+  any_id = record { block = at; word = 0 }
+
+  abbrev pub any_draft : Draft
+  any_draft = begun (new_file kinds.Special 0)
+
+  pub any_open : IsOpen (opened_as any_id was any_draft ∷ []) any_id was any_draft
+  any_open = opens [] any_id (new_file kinds.Special 0) refl refl
+
+  -- ---- the change is refused
+
+  module _ (d2 : D) (k2 : Kept) (now : Drafting) where
+    images : (P : Image → Type 0) (graph : Graph) → Leaves g d1 d2 (λ c. Holds c graph) → ((c : Image) → Holds c graph → P c) → Leaves g d0 d2 P
+    images P graph left has = then g d0 d1 d2 P (λ c. Holds c graph) (wider g d0 d1 Nothing P reads.images (λ c none. absurd none)) left has
+
+    pub err_change : (e : Refused) → ((graph : Graph) (ds : List Opened) (id : Puid) (f : File) → MayChange g at kinds.Special change graph ds id f d0 k0 → Drafts g floor change graph ds id f d1 d2 k1 k2 was now (Err e))
+        → Ends {A = Unit {0}} g was.at floor 31092 15486 (sum k1.free) d1 d2 k1 k2 (Err e) → (is_full e ≡ true → OnlyReads g 1 d1 d2 × (k2 ≡ k1)) → ChangesFile g at kinds.Special floor change d0 d2 k0 k2 (Err e)
+    err_change e drafts ends spared = record {
+      done = λ graph ds id f may. tt;
+      order = λ graph ds id f may. tt;
+      leaves = λ graph ds id f may. images _ graph (drafts graph ds id f may).leaves (λ c h. inl h);
+      room = λ graph ds id f may. tt;
+      full = λ graph ds id f may is. let two = (drafts graph ds id f may).full is in (
+        two.0 ∙ ap (λ (n : ℕ). refused.Full (record { free = n; need = need_beside change (begun f) was })) free_same ∙ ap (λ (n : ℕ). refused.Full (record { free = sum k0.free; need = n })) (need_is f),
+        omega (arith, two.1, free_same, need_is f),
+      );
+      sound = λ graph ds id f may. (drafts graph ds id f may).sound;
+      refused = from_refusal g at floor change d0 k0 d2 k2 e why;
+      untried = by e ends.untried why spared;
+      cylinders = ends.cylinders ∙ ap (λ (k : Kept). length k.free) kept;
+      calls = makes_then g d0 d1 d2 1 31092 124232 0 15486 61939 (reads_make g d0 d1 1 reads) ends.calls (omega arith) (omega arith);
+    }
+      where
+        why : IsRefusal g at floor d0 d2 k2 e
+        why = refusal_after_reads g at d0 d1 d2 k2 floor 1 e reads (subst (λ (n : ℕ). IsRefusal g n floor d1 d2 k2 e) is_at ends.refused)
+
+        by : (x : Refused) → (x ≡ refused.Disk false → (k2 ≡ k1) × OnlyReads g 31092 d1 d2) → IsRefusal g at floor d0 d2 k2 x → (is_full x ≡ true → OnlyReads g 1 d1 d2 × (k2 ≡ k1)) → is_untried x ≡ true → (k2 ≡ k0) × OnlyReads g 31093 d0 d2
+        by (refused.Full need) stopped is full un = let two = full refl in (two.1 ∙ kept, reads_then g d0 d1 d2 1 1 31093 reads two.0 (omega arith))
+        by (refused.Disk true) stopped is full un = cc
+        by (refused.Disk false) stopped is full un = let two = stopped refl in (two.0 ∙ kept, reads_then g d0 d1 d2 1 31092 31093 reads two.1 (omega arith))
+        by (refused.Damaged damage) stopped is full un = cc
+        by refused.Memory stopped is full un = absurd is
+
+    -- ---- it is made, and committed or not
+
+    module _ (drafts : (graph : Graph) (ds : List Opened) (id : Puid) (f : File) → MayChange g at kinds.Special change graph ds id f d0 k0 → Drafts g floor change graph ds id f d1 d2 k1 k2 was now (Ok tt))
+        (ends : Ends {A = Unit {0}} g was.at floor 31092 15486 (sum k1.free) d1 d2 k1 k2 (Ok tt)) (same_at : now.at ≡ was.at) (same_shadow : now.shadow ≡ was.shadow) (same_created : now.created ≡ was.created) where
+      none_created : now.created ≡ None
+      none_created = same_created ∙ ap (λ (x : Drafting). x.created) is_begun
+
+      none_shadow : now.shadow ≡ None
+      none_shadow = same_shadow ∙ ap (λ (x : Drafting). x.shadow) is_begun
+
+      first : MakesAtMost g 31093 15486 d0 d2
+      first = makes_then g d0 d1 d2 1 31092 31093 0 15486 15486 (reads_make g d0 d1 1 reads) ends.calls (omega arith) (omega arith)
+
+      on : Tells g d0 → Tells g d2
+      on tells = still_tells g (tells_on g d0 d1 d1 1 reads tells) ends.told ends.calls.same
+
+      module _ (graph : Graph) (ds : List Opened) (id : Puid) (f : File) (may : MayChange g at kinds.Special change graph ds id f d0 k0) where
+        abbrev o : Object
+        o = changed_object change (objects.File f)
+
+        abbrev e : Opened
+        e = opened_as id now (changed_draft change (begun f))
+
+        abbrev made : Drafts g floor change graph ds id f d1 d2 k1 k2 was now (Ok tt)
+        made = drafts graph ds id f may
+
+        begun_blocks : draft_blocks (opened_as id was (begun f)) ≡ 0
+        begun_blocks = ap (λ (x : Drafting). draft_blocks (opened_as id x (begun f))) is_begun
+
+        now_blocks : draft_blocks e ≤ missing (written_anew change (objects.File f) []) []
+        now_blocks = omega (arith, few_fresh change (objects.File f), ap (λ (x : Option ℕ). length (option_to_list x)) none_shadow, ap (λ (x : Option ℕ). length (option_to_list x)) none_created)
+
+        left_one : 1 ≤ sum k2.free
+        left_one = one_left g graph ds id (objects.File f) change (opened_as id was (begun f)) e d1 d2 k1 k2 (starts graph ds id f may) made.becomes.steps.store made.becomes.steps.only may.has.there refl may.has.shut begun_blocks now_blocks
+            (omega (arith, made.room, need_is f))
+
+        done_is : (d3 : D) (k3 : Kept) → Committed g graph (replaced e (opened_as id was (begun f) ∷ ds)) id o None d2 d3 k3 → Changed g kinds.Special change graph ds id f d0 d3 k3
+        done_is d3 k3 ch = record {
+          store = subst (λ (fs : List Opened). StoreHas g (with_object graph id o) fs d3 k3) (without_begun e (opened_as id was (begun f)) ds refl may.has.shut) ch.store;
+          only = changes_then _ (g.content d0) (g.content d2) (g.content d3)
+              (draft_changes id.block (g.content d0) (g.content d2) (subst (λ (a : Image). ChangesOnly (λ entry. of_draft id.block entry) a (g.content d2)) reads.content made.becomes.steps.only)) ch.only;
+          settled = λ durable. ch.settled;
+        }
+
+        order_is : (d3 : D) (k3 : Kept) → Committed g graph (replaced e (opened_as id was (begun f) ∷ ds)) id o None d2 d3 k3 → ClaimsBeside at (claims_beside at change f) (g.content d0) (g.content d3)
+        order_is d3 k3 ch = subst (λ (n : ℕ). ClaimsBeside n (claims_beside at change f) (g.content d0) (g.content d3)) may.has.root (record {
+          mid = g.content d2;
+          in_order = subst (λ (a : Image). ClaimsAndDrops id.block (claims_beside at change f) a (g.content d2)) reads.content (subst (λ (n : ℕ). ClaimsAndDrops id.block (claims_beside n change f) (g.content d1) (g.content d2)) is_at made.order);
+          shadow = let least = ch.order e made.becomes.is_open.alone none_shadow in (least.0, least.1);
+          only = ch.only;
+        })
+
+      pub ended : (d3 : D) (k3 : Kept) (r : Result (Unit {0}) Refused) → Commits g d2 d3 k2 k3 now r → ChangesFile g at kinds.Special floor change d0 d3 k0 k3 r
+      ended d3 k3 r commits = by r commits
+        where
+          left : (s : Result (Unit {0}) Refused) → Commits g d2 d3 k2 k3 now s → (graph : Graph) (ds : List Opened) (id : Puid) (f : File) → MayChange g at kinds.Special change graph ds id f d0 k0 → Leaves g d0 d3 (IsOldOrNew graph graph id (changed_object change (objects.File f)))
+          left s cs graph ds id f may =
+              let P = IsOldOrNew graph graph id (changed_object change (objects.File f)) in
+              let m = drafts graph ds id f may in
+              then g d0 d2 d3 P P (images P graph m.leaves (λ c h. inl h)) (cs.leaves graph _ id (objects.File f) (changed_draft change (begun f)) m.becomes.steps.store may.has.there m.becomes.is_open none_created) (λ c h. h)
+
+          all : MakesAtMost g 93139 46453 d2 d3 → MakesAtMost g 124232 61939 d0 d3
+          all calls = makes_then g d0 d2 d3 31093 93139 124232 15486 46453 61939 first calls (omega arith) (omega arith)
+
+          by : (s : Result (Unit {0}) Refused) → Commits g d2 d3 k2 k3 now s → ChangesFile g at kinds.Special floor change d0 d3 k0 k3 s
+          by (Ok tt) cs = record {
+            done = λ graph ds id f may. let m = drafts graph ds id f may in done_is graph ds id f may d3 k3 (cs.done graph _ id (objects.File f) (changed_draft change (begun f)) m.becomes.steps.store may.has.there m.becomes.is_open none_created);
+            order = λ graph ds id f may. let m = drafts graph ds id f may in order_is graph ds id f may d3 k3 (cs.done graph _ id (objects.File f) (changed_draft change (begun f)) m.becomes.steps.store may.has.there m.becomes.is_open none_created);
+            leaves = left (Ok tt) cs;
+            room = λ graph ds id f may. omega (arith, (drafts graph ds id f may).room, free_same, need_is f);
+            full = λ graph ds id f may. tt;
+            sound = λ graph ds id f may. tt;
+            refused = tt;
+            untried = tt;
+            cylinders = cs.cylinders ∙ ends.cylinders ∙ ap (λ (k : Kept). length k.free) kept;
+            calls = all cs.calls;
+          }
+          by (Err x) cs = record {
+            done = λ graph ds id f may. tt;
+            order = λ graph ds id f may. tt;
+            leaves = left (Err x) cs;
+            room = λ graph ds id f may. tt;
+            full = λ graph ds id f may is. absurd (not_full x cs.refusal is);
+            sound = λ graph ds id f may. let m = drafts graph ds id f may in cs.sound graph _ id (objects.File f) (changed_draft change (begun f)) m.becomes.steps.store may.has.there m.becomes.is_open none_created (left_one graph ds id f may);
+            refused = from_commit g at floor change d0 k0 d2 d3 k3 31093 15486 x first on (subst (λ (n : ℕ). IsCommitRefusal g n d2 d3 k3 x) (same_at ∙ is_at) cs.refusal);
+            untried = λ un. absurd (not_untried x cs.refusal un);
+            cylinders = cs.cylinders ∙ ends.cylinders ∙ ap (λ (k : Kept). length k.free) kept;
+            calls = all cs.calls;
+          }
+            where
+              not_full : (y : Refused) → IsCommitRefusal g now.at d2 d3 k3 y → is_full y ≡ true → ⊥
+              not_full (refused.Full need) is full = is
+              not_full (refused.Disk tried) is full = cc
+              not_full (refused.Damaged damage) is full = cc
+              not_full refused.Memory is full = is
+
+              not_untried : (y : Refused) → IsCommitRefusal g now.at d2 d3 k3 y → is_untried y ≡ true → ⊥
+              not_untried (refused.Full need) is un = is
+              not_untried (refused.Disk true) is un = cc
+              not_untried (refused.Disk false) is un = (let no : false ≡ true = is.0 in cc)
+              not_untried (refused.Damaged damage) is un = cc
+              not_untried refused.Memory is un = is

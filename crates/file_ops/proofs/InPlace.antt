@@ -1,0 +1,44 @@
+-- A normal file changed in place, and refusals of its calls.
+use Rattle.std.proofs.Common.{◌≡◌, ℕ, ◌+◌, ◌<◌, true, false, refl, ◌∙◌, ap, arith}
+use Rattle.std.specs.Prelude.{sum}
+use Rattle.cfs_base.specs.Refusals.{refused_by}
+use Rattle.cfs_base.specs.declared.disk.Disk.{Ghosts}
+use Rattle.cfs_base.specs.declared.kind.FileKind.TheVariants as kinds
+use Rattle.cfs_base.specs.declared.refusal.Damage.{Damage}
+use Rattle.cfs_base.specs.declared.refusal.Refused.{Refused}
+use Rattle.cfs_base.specs.declared.refusal.Refused.TheVariants as refused
+use Rattle.cfs_base.specs.declared.refusal.Trouble.{Trouble}
+use Rattle.cfs_base.specs.declared.refusal.Trouble.TheVariants as trouble
+use Rattle.cyl_alloc.specs.Space.{Kept}
+use Rattle.file_ops.specs.Changes.{IsFileRefusal, IsPlaceDamage}
+use Rattle.normal_files.specs.Ends as ends
+use Rattle.normal_files.specs.Refusal.{IsRefusal, is_damage}
+use Rattle.normal_files.specs.WriteRefusal.{TellsNeed}
+use Rattle.special_files.specs.Refusal.{is_damaged, is_full}
+use Rattle.ufs_model.specs.declared.change.Change.{Change}
+
+pub sound_by : (t : Trouble) → is_damage t ≡ false → is_damaged (refused_by t) ≡ false
+sound_by (trouble.Disk tried) is = refl
+sound_by (trouble.Damaged damage) is = is
+
+pub same_damaged : (e : Refused) → is_damaged e ≡ ends.is_damaged e
+same_damaged (refused.Full need) = refl
+same_damaged (refused.Disk tried) = refl
+same_damaged (refused.Damaged damage) = refl
+same_damaged refused.Memory = refl
+
+module _ {D : Type 0} (g : Ghosts D) (IsSo : Damage → Type 0) (at floor : ℕ) (change : Change) (old new : D) (before after : Kept) where
+  pub place_refusal : ((damage : Damage) → IsSo damage → IsPlaceDamage g at old new after damage) → (e : Refused) → IsRefusal g IsSo floor old new before e → IsFileRefusal g at kinds.Normal floor change old new after e
+  place_refusal so (refused.Full need) is = omega (arith, is.0, is.1)
+  place_refusal so (refused.Disk tried) is = is
+  place_refusal so (refused.Damaged damage) is = so damage is
+  place_refusal so refused.Memory is = absurd is
+
+  pub place_full : (n : ℕ) (e : Refused) → IsRefusal g IsSo floor old new before e → TellsNeed n e → is_full e ≡ true → (e ≡ refused.Full (record { free = sum before.free; need = n })) × (sum before.free < n + floor)
+  place_full n (refused.Full need) is told full = (
+    ap (λ (m : ℕ). refused.Full (record { free = m; need = need.need })) is.0 ∙ ap (λ (m : ℕ). refused.Full (record { free = sum before.free; need = m })) told,
+    omega (arith, is.1, told),
+  )
+  place_full n (refused.Disk tried) is told full = cc
+  place_full n (refused.Damaged damage) is told full = cc
+  place_full n refused.Memory is told full = cc

@@ -1,0 +1,4 @@
+mod Begun
+mod Beside
+mod InPlace
+mod Settled

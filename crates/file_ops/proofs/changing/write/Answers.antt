@@ -1,0 +1,42 @@
+use Rattle.std.proofs.Common.{inl, inr, Ok, Err, length, sym, ◌∙◌, subst, arith}
+use Rattle.cfs_base.proofs.Calls.{reads_within}
+use Rattle.cfs_base.specs.declared.kind.FileKind.{FileKind}
+use Rattle.file_ops.specs.Changes.{ChangesFile, OfClaims, OfFile}
+use Rattle.file_ops.proofs.InPlace.{place_full, place_refusal, same_damaged}
+use Rattle.normal_files.proofs.Come.{makes_within}
+use Rattle.normal_files.specs.WriteRefusal.{needs}
+use Rattle.ufs_model.specs.declared.change.Change.TheVariants.{Overwrite}
+use Rattle.file_ops.proofs.changing.write.Goals as goal
+
+pub returns-in-Ok : goal.returns-in-Ok
+returns-in-Ok g c =
+    let e = c.in-Ok.ensures in
+    subst (λ (kind : FileKind). ChangesFile g.D.Disk c.args.at.0 kind c.args.floor (Overwrite c.args.offset c.args.bytes.now) c.args.disk.now c.write.new.disk c.args.space.now c.write.new.space (Ok tt)) (sym c.in-Normal.is) (record {
+      done = λ graph ds id f may. let all = e.written graph ds id f may.has.store may.has.there may.has.shut may.has.root may.inside in record { store = all.0.store; only = all.0.only; settled = λ durable. all.1 };
+      order = λ graph ds id f may. e.order graph ds id f may.has.store may.has.there may.has.shut may.has.root may.inside;
+      leaves = λ graph ds id f may. e.images graph ds id f may.has.store may.has.there may.has.shut may.has.root may.inside;
+      room = λ graph ds id f may. e.room graph ds id f may.has.store may.has.there may.has.shut may.has.root may.inside;
+      full = λ graph ds id f may. tt;
+      sound = λ graph ds id f may. tt;
+      refused = tt;
+      untried = tt;
+      cylinders = e.cylinders;
+      calls = makes_within g.D.Disk c.args.disk.now c.write.new.disk 73 43 124232 61939 (omega arith) (omega arith) e.calls;
+    })
+
+pub returns-in-Err : goal.returns-in-Err
+returns-in-Err g c =
+    let e = c.in-Err.ensures in
+    subst (λ (kind : FileKind). ChangesFile g.D.Disk c.args.at.0 kind c.args.floor (Overwrite c.args.offset c.args.bytes.now) c.args.disk.now c.write.new.disk c.args.space.now c.write.new.space (Err c.in-Err.error)) (sym c.in-Normal.is) (record {
+      done = λ graph ds id f may. tt;
+      order = λ graph ds id f may. tt;
+      leaves = λ graph ds id f may. e.images graph ds id f may.has.store may.has.there may.has.shut may.has.root may.inside;
+      room = λ graph ds id f may. tt;
+      full = λ graph ds id f may. place_full g.D.Disk _ c.args.at.0 c.args.floor (Overwrite c.args.offset c.args.bytes.now) c.args.disk.now c.write.new.disk c.args.space.now c.write.new.space (needs f c.args.offset (length c.args.bytes.now)) c.in-Err.error e.refused
+          (e.full graph ds id f may.has.store may.has.there may.has.shut may.has.root may.inside);
+      sound = λ graph ds id f may. same_damaged c.in-Err.error ∙ e.sound graph ds id f may.has.store may.has.there may.has.shut may.has.root may.inside;
+      refused = place_refusal g.D.Disk _ c.args.at.0 c.args.floor (Overwrite c.args.offset c.args.bytes.now) c.args.disk.now c.write.new.disk c.args.space.now c.write.new.space (λ damage is. elim is [ inl file ↦ OfFile file | inr claims ↦ OfClaims claims ]) c.in-Err.error e.refused;
+      untried = λ un. let two = e.untried un in (two.0, reads_within g.D.Disk c.args.disk.now c.write.new.disk 73 31093 (omega arith) two.1);
+      cylinders = e.cylinders;
+      calls = makes_within g.D.Disk c.args.disk.now c.write.new.disk 73 43 124232 61939 (omega arith) (omega arith) e.calls;
+    })

@@ -1,0 +1,16 @@
+use Rattle.std.proofs.Common.{sym, ◌∙◌, ap}
+use Rattle.block_tree.specs.declared.root.Root.{Root}
+use Rattle.leaf_changes.proofs.Given.{file_to_leaves}
+use Rattle.normal_files.proofs.FileCalls.{file_of}
+use Rattle.vol_image.proofs.Unique.{one_root_block}
+use Rattle.file_ops.proofs.reading.size.Goals as goal
+
+pub returns-in-Ok-clause-size : goal.returns-in-Ok-clause-size
+returns-in-Ok-clause-size g c = λ graph ds space id f has.
+    let file = file_of (g.D.Disk.content c.args.disk.now) graph ds id f c.args.at.0 has.store.account has.there has.root in
+    ap (λ (r : Root). r.size) (one_root_block _ c.in-Ok.root file.root (c.in-Ok.ensures.root has.store.carries.tells) file.tree.spelled) ∙ sym (file_to_leaves file.root _ f file.tree.object).size
+
+pub returns-in-Err-clause-sound : goal.returns-in-Err-clause-sound
+returns-in-Err-clause-sound g c = λ graph ds space id f has.
+    let file = file_of (g.D.Disk.content c.args.disk.now) graph ds id f c.args.at.0 has.store.account has.there has.root in
+    c.in-Err.ensures.sound file.root has.store.carries.tells file.tree.spelled

@@ -1,0 +1,47 @@
+use Rattle.std.proofs.Common.{List, refl}
+use Rattle.cfs_base.specs.declared.identifier.Puid.{Puid}
+use Rattle.cfs_base.specs.declared.kind.FileKind.TheVariants as kinds
+use Rattle.file_ops.specs.Changes.{MayChange}
+use Rattle.file_ops.proofs.Beside.{begun, ended, err_change, opens}
+use Rattle.ufs_model.specs.Graph.{Graph}
+use Rattle.ufs_model.specs.declared.change.Change.TheVariants.{SetSize}
+use Rattle.ufs_model.specs.declared.object.File.{File}
+use Rattle.ufs_model.specs.declared.object.Object.TheVariants as objects
+use Rattle.vol_owners.specs.Account.{Opened}
+use Rattle.file_ops.proofs.special.resize_beside.Goals as goal
+
+pub returns-in-Err-resize : goal.returns-in-Err-resize
+returns-in-Err-resize g c =
+    let e = c.in-Ok.ensures in
+    let starts = λ (graph : Graph) (ds : List Opened) (id : Puid) (f : File) (may : MayChange g.D.Disk c.args.at.0 kinds.Special (SetSize c.args.size) graph ds id f c.args.disk.now c.args.space.now). e.store graph ds id (objects.File f) may.has.store may.has.root may.has.there may.has.shut in
+    err_change g.D.Disk c.args.at.0 c.args.floor (SetSize c.args.size) c.args.disk.now c.begin_direct.new.disk c.args.space.now c.begin_direct.new.space c.in-Ok.draft e.begun e.reads e.space starts c.resize.new.disk c.resize.new.space c.resize.new.self c.in-Err-resize.error
+    (λ graph ds id f may.
+    let open_now = opens g.D.Disk c.args.at.0 c.args.floor (SetSize c.args.size) c.args.disk.now c.begin_direct.new.disk c.args.space.now c.begin_direct.new.space c.in-Ok.draft e.begun e.reads e.space starts ds id f may.has.root may.has.shut in
+    record {
+      becomes = tt;
+      order = tt;
+      leaves = c.resize.ensures.leaves graph _ id (objects.File f) (begun f) (starts graph ds id f may) may.has.there open_now;
+      room = tt;
+      full = c.in-Err-resize.ensures.full graph _ id (objects.File f) (begun f) f (starts graph ds id f may) may.has.there open_now refl;
+      sound = c.in-Err-resize.ensures.sound graph _ id (objects.File f) (begun f) (starts graph ds id f may) may.has.there open_now;
+    })
+    c.in-Err-resize.ensures.ends (λ full. let all = c.in-Err-resize.ensures.spared full in (all.0, all.1))
+
+pub returns-in-Ok-resize : goal.returns-in-Ok-resize
+returns-in-Ok-resize g c =
+    let e = c.in-Ok.ensures in
+    let r = c.in-Ok-resize.ensures in
+    let starts = λ (graph : Graph) (ds : List Opened) (id : Puid) (f : File) (may : MayChange g.D.Disk c.args.at.0 kinds.Special (SetSize c.args.size) graph ds id f c.args.disk.now c.args.space.now). e.store graph ds id (objects.File f) may.has.store may.has.root may.has.there may.has.shut in
+    ended g.D.Disk c.args.at.0 c.args.floor (SetSize c.args.size) c.args.disk.now c.begin_direct.new.disk c.args.space.now c.begin_direct.new.space c.in-Ok.draft e.begun e.reads e.space starts c.resize.new.disk c.resize.new.space c.resize.new.self
+    (λ graph ds id f may.
+    let open_now = opens g.D.Disk c.args.at.0 c.args.floor (SetSize c.args.size) c.args.disk.now c.begin_direct.new.disk c.args.space.now c.begin_direct.new.space c.in-Ok.draft e.begun e.reads e.space starts ds id f may.has.root may.has.shut in
+    record {
+      becomes = r.resized graph _ id (objects.File f) (begun f) f (starts graph ds id f may) may.has.there open_now refl;
+      order = r.order graph _ id (objects.File f) (begun f) f (starts graph ds id f may) may.has.there open_now refl;
+      leaves = c.resize.ensures.leaves graph _ id (objects.File f) (begun f) (starts graph ds id f may) may.has.there open_now;
+      room = r.room graph _ id (objects.File f) (begun f) f (starts graph ds id f may) may.has.there open_now refl;
+      full = tt;
+      sound = tt;
+    })
+    r.ends r.stays.at r.stays.shadow r.stays.created c.commit.new.disk c.commit.new.space c.commit.result
+    (record { done = c.commit.ensures.done; leaves = c.commit.ensures.leaves; sound = c.commit.ensures.sound; refusal = c.commit.ensures.refused; cylinders = c.commit.ensures.cylinders; calls = c.commit.ensures.calls })

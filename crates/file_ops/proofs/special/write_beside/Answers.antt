@@ -1,0 +1,78 @@
+use Rattle.std.proofs.Common.{inl, ◌+◌, ◌-◌, ◌/◌, ◌<◌, List, length, Ok, Err, refl, sym, ap, subst, arith}
+use Rattle.std.specs.Prelude.{sum}
+use Rattle.cfs_base.specs.Calls.{OnlyReads}
+use Rattle.cfs_base.specs.declared.identifier.Puid.{Puid}
+use Rattle.cfs_base.specs.declared.kind.FileKind.TheVariants as kinds
+use Rattle.cfs_base.proofs.Calls.{reads_within}
+use Rattle.claims.specs.Claims.{AreClaimed}
+use Rattle.file_ops.specs.Changes.{MayChange}
+use Rattle.file_ops.proofs.Beside.{any_id, any_open, begun, ended, ends_more, err_change, err_read, opens, short_not, short_why}
+use Rattle.normal_files.proofs.Come.{reads_none}
+use Rattle.special_files.specs.Drafting.{Drafting}
+use Rattle.special_files.specs.Order.{claims_from}
+use Rattle.ufs_model.specs.Graph.{Graph}
+use Rattle.ufs_model.specs.Object.{leaves_in}
+use Rattle.ufs_model.specs.declared.change.Change.TheVariants.{Overwrite}
+use Rattle.ufs_model.specs.declared.object.File.{File}
+use Rattle.ufs_model.specs.declared.object.Object.TheVariants as objects
+use Rattle.vol_owners.specs.Account.{Opened}
+use Rattle.file_ops.proofs.special.write_beside.Goals as goal
+
+pub returns-then-size-offset : goal.returns-then-size-offset
+returns-then-size-offset g c =
+    let e = c.in-Ok.ensures in
+    let change = Overwrite c.args.offset c.args.bytes.now in
+    let short : c.in-Ok.draft.own.size < c.args.offset + length c.args.bytes.now = omega (arith, c.if-size-offset.true, c.size.ensures, ap (λ (x : Drafting). x.root.size) e.begun) in
+    err_read g.D.Disk c.args.at.0 c.args.floor change c.args.disk.now c.args.space.now c.begin_direct.new.disk c.begin_direct.new.space 1 _ (omega arith) e.reads e.space
+    (short_why g.D.Disk c.args.at.0 c.args.floor change c.args.disk.now c.args.space.now c.begin_direct.new.disk c.begin_direct.new.space c.in-Ok.draft.own e.root short) refl
+    (λ graph ds id f may. absurd (short_not g.D.Disk c.args.at.0 c.args.floor change c.args.disk.now c.args.space.now c.args.offset c.args.bytes.now c.in-Ok.draft.own e.root short graph ds id f may))
+
+pub returns-in-Err-write : goal.returns-in-Err-write
+returns-in-Err-write g c =
+    let e = c.in-Ok.ensures in
+    let change = Overwrite c.args.offset c.args.bytes.now in
+    let starts = λ (graph : Graph) (ds : List Opened) (id : Puid) (f : File) (may : MayChange g.D.Disk c.args.at.0 kinds.Special (Overwrite c.args.offset c.args.bytes.now) graph ds id f c.args.disk.now c.args.space.now). e.store graph ds id (objects.File f) may.has.store may.has.root may.has.there may.has.shut in
+    let d1 = c.begin_direct.new.disk in
+    err_change g.D.Disk c.args.at.0 c.args.floor change c.args.disk.now d1 c.args.space.now c.begin_direct.new.space c.in-Ok.draft e.begun e.reads e.space starts c.write.new.disk c.write.new.space c.write.new.self c.in-Err-write.error
+    (λ graph ds id f may.
+    let open_now = opens g.D.Disk c.args.at.0 c.args.floor change c.args.disk.now d1 c.args.space.now c.begin_direct.new.space c.in-Ok.draft e.begun e.reads e.space starts ds id f may.has.root may.has.shut in
+    record {
+      becomes = tt;
+      order = tt;
+      leaves = c.write.ensures.leaves graph _ id (objects.File f) (begun f) (starts graph ds id f may) may.has.there open_now;
+      room = tt;
+      full = λ full. let all = c.in-Err-write.ensures.full _ id (begun f) open_now full in (all.0, all.1);
+      sound = c.in-Err-write.ensures.sound graph _ id (objects.File f) (begun f) (starts graph ds id f may) may.has.there open_now;
+    })
+    (ends_more g.D.Disk c.in-Ok.draft.at c.args.floor _ _ (sum c.begin_direct.new.space.free) 31092 15486 d1 c.write.new.disk c.begin_direct.new.space c.write.new.space (Err c.in-Err-write.error) c.in-Err-write.ensures.ends (omega (arith, c.requires.most)) (omega (arith, c.requires.most)))
+    (λ full. let all = c.in-Err-write.ensures.full _ (any_id g.D.Disk c.args.at.0 c.args.floor change c.args.disk.now d1 c.args.space.now c.begin_direct.new.space c.in-Ok.draft e.begun e.reads e.space starts) _ (any_open g.D.Disk c.args.at.0 c.args.floor change c.args.disk.now d1 c.args.space.now c.begin_direct.new.space c.in-Ok.draft e.begun e.reads e.space starts) full in
+    (subst (λ d. OnlyReads g.D.Disk 1 d1 d) (sym all.2) (reads_within g.D.Disk d1 d1 0 1 (omega arith) (reads_none g.D.Disk d1)), all.3))
+
+pub returns-in-Ok-write : goal.returns-in-Ok-write
+returns-in-Ok-write g c =
+    let e = c.in-Ok.ensures in
+    let r = c.in-Ok-write.ensures in
+    let change = Overwrite c.args.offset c.args.bytes.now in
+    let starts = λ (graph : Graph) (ds : List Opened) (id : Puid) (f : File) (may : MayChange g.D.Disk c.args.at.0 kinds.Special (Overwrite c.args.offset c.args.bytes.now) graph ds id f c.args.disk.now c.args.space.now). e.store graph ds id (objects.File f) may.has.store may.has.root may.has.there may.has.shut in
+    let d1 = c.begin_direct.new.disk in
+    let was = c.in-Ok.draft in
+    ended g.D.Disk c.args.at.0 c.args.floor change c.args.disk.now d1 c.args.space.now c.begin_direct.new.space was e.begun e.reads e.space starts c.write.new.disk c.write.new.space c.write.new.self
+    (λ graph ds id f may.
+    let open_now = opens g.D.Disk c.args.at.0 c.args.floor change c.args.disk.now d1 c.args.space.now c.begin_direct.new.space was e.begun e.reads e.space starts ds id f may.has.root may.has.shut in
+    let from = c.args.offset / 512 in
+    record {
+      becomes = r.written graph _ id (objects.File f) (begun f) f (starts graph ds id f may) may.has.there open_now refl;
+      order = record {
+        mid = g.D.Disk.content c.write.new.disk;
+        claimed = subst (λ (x : Drafting). AreClaimed (claims_from was.at x.leaves x.nodes from (leaves_in (c.args.offset + length c.args.bytes.now) - from)) (g.D.Disk.content d1) (g.D.Disk.content c.write.new.disk)) e.begun
+            (r.order graph _ id (objects.File f) (begun f) (starts graph ds id f may) may.has.there open_now);
+        left = λ n. inl refl;
+      };
+      leaves = c.write.ensures.leaves graph _ id (objects.File f) (begun f) (starts graph ds id f may) may.has.there open_now;
+      room = r.room _ id (begun f) open_now;
+      full = tt;
+      sound = tt;
+    })
+    (ends_more g.D.Disk was.at c.args.floor _ _ (sum c.begin_direct.new.space.free) 31092 15486 d1 c.write.new.disk c.begin_direct.new.space c.write.new.space (Ok (tt {0})) r.ends (omega (arith, c.requires.most)) (omega (arith, c.requires.most)))
+    r.stays.at r.stays.shadow r.stays.created c.commit.new.disk c.commit.new.space c.commit.result
+    (record { done = c.commit.ensures.done; leaves = c.commit.ensures.leaves; sound = c.commit.ensures.sound; refusal = c.commit.ensures.refused; cylinders = c.commit.ensures.cylinders; calls = c.commit.ensures.calls })

@@ -1,0 +1,162 @@
+-- A file changed: a normal one in place, a special one beside itself as one commit.
+use Rattle.std.specs.Prelude.{◌≡◌, ◌⊎◌, ℕ, ◌+◌, ◌-◌, ◌/◌, ◌<◌, ◌≤◌, true, false, List, [], length, sum, Result, IfErr, OnOk}
+use Rattle.cfs_base.specs.Calls.{HasStopped, MakesAtMost, OnlyReads}
+use Rattle.cfs_base.specs.Codes.{no_root, too_full}
+use Rattle.cfs_base.specs.Disk.{Image, block_at}
+use Rattle.cfs_base.specs.Run.{IsSettled, Leaves, Tells}
+use Rattle.cfs_base.specs.declared.disk.Disk.{Ghosts}
+use Rattle.cfs_base.specs.declared.identifier.Puid.{Puid}
+use Rattle.cfs_base.specs.declared.kind.FileKind.{FileKind}
+use Rattle.cfs_base.specs.declared.kind.FileKind.TheVariants as kinds
+use Rattle.cfs_base.specs.declared.refusal.Damage.{Damage}
+use Rattle.cfs_base.specs.declared.refusal.Refused.{Refused}
+use Rattle.cfs_base.specs.declared.refusal.Refused.TheVariants as refusals
+use Rattle.block_tree.specs.Root.{IsRootBlock}
+use Rattle.block_tree.specs.declared.root.Root.{Root}
+use Rattle.claims.specs.Claims.{AreClaimed}
+use Rattle.cyl_alloc.specs.Space.{IsLeastFree, Kept}
+use Rattle.cyl_map.specs.declared.entry.MapEntry.{MapEntry}
+use Rattle.file_ops.specs.Files.{HasFile}
+use Rattle.intentions.specs.Store.{StoreHas}
+use Rattle.normal_files.specs.Ends.{IsNoSpace}
+use Rattle.normal_files.specs.Frees.{IsDropDamage, TakesNone}
+use Rattle.normal_files.specs.Order.{claims_of}
+use Rattle.normal_files.specs.Refusal as normal
+use Rattle.normal_files.specs.Standing.{IsPartly}
+use Rattle.normal_files.specs.WriteRefusal.{is_untried, needs}
+use Rattle.special_files.specs.Committing.{IsOldOrNew}
+use Rattle.special_files.specs.Drafting.{none_of}
+use Rattle.special_files.specs.Order.{ClaimsAndDrops, claims_anew, claims_from}
+use Rattle.special_files.specs.Refusal as special
+use Rattle.special_files.specs.Refusal.{is_damaged, is_full}
+use Rattle.ufs_model.specs.Graph.{Graph, with_object}
+use Rattle.ufs_model.specs.Numbers.{missing}
+use Rattle.ufs_model.specs.Object.{IsInside, changed_object, leaves_in, resized, written, written_anew}
+use Rattle.ufs_model.specs.declared.change.Change.{Change}
+use Rattle.ufs_model.specs.declared.change.Change.TheVariants.{Fill, Overwrite, SetSize}
+use Rattle.ufs_model.specs.declared.object.File.{File}
+use Rattle.ufs_model.specs.declared.object.Object.TheVariants as objects
+use Rattle.vol_image.specs.Sound.{Holds}
+use Rattle.vol_owners.specs.Account.{Opened}
+use Rattle.vol_owners.specs.Change.{ChangesOnly, of_owner}
+
+-- the store has this file, it is of the kind, and the place of the change lies within it
+pub record MayChange {D : Type 0} (g : Ghosts D) (at : ℕ) (kind : FileKind) (change : Change) (graph : Graph) (ds : List Opened) (id : Puid) (f : File) (d : D) (space : Kept) : Type 0 where
+  pub has : HasFile g graph ds d space at id f
+  pub kind_is : f.kind ≡ kind
+  pub inside : IsInside change (objects.File f)
+
+-- How many blocks it takes. A normal file takes the leaves and nodes that it doesn't hold yet, where bytes are written. A
+-- special file takes all that is written anew, and a shadow root.
+abbrev pub need_for : FileKind → Change → File → ℕ
+need_for kinds.Normal (Overwrite offset bytes) f = needs f offset (length bytes)
+need_for kinds.Normal (SetSize size) f = 0
+need_for kinds.Normal (Fill slot what) f = 0
+need_for kinds.Special change f = missing (written_anew change (objects.File f) []) [] + 1
+
+-- ---- done
+
+-- once it is done a crash takes nothing of it back; only a normal file's resize to less ends in writes that may be lost
+abbrev pub IsDurable : FileKind → Change → File → Type 0
+IsDurable kinds.Normal (Overwrite offset bytes) f = Unit {0}
+IsDurable kinds.Normal (SetSize size) f = length f.bytes ≤ size
+IsDurable kinds.Normal (Fill slot what) f = Unit {0}
+IsDurable kinds.Special change f = Unit {0}
+
+-- The object is the changed file now, and nothing changed but blocks of the object or such as were Free.
+pub record Changed {D : Type 0} (g : Ghosts D) (kind : FileKind) (change : Change) (graph : Graph) (ds : List Opened) (id : Puid) (f : File) (old new : D) (space : Kept) : Type 0 where
+  pub store : StoreHas g (with_object graph id (changed_object change (objects.File f))) ds new space
+  pub only : ChangesOnly (λ entry. of_owner id.block entry) (g.content old) (g.content new)
+  pub settled : IsDurable kind change f → IsSettled g new
+
+-- done or not, a crash leaves a special file old or new, and of a normal one the size and each leaf
+abbrev pub MayLeave : FileKind → Change → Graph → Puid → File → Image → Type 0
+MayLeave kinds.Normal (Overwrite offset bytes) graph id f c = IsPartly c graph id f (written f offset bytes)
+MayLeave kinds.Normal (SetSize size) graph id f c = IsPartly c graph id f (resized f size)
+MayLeave kinds.Normal (Fill slot what) graph id f c = Holds c graph
+MayLeave kinds.Special change graph id f c = IsOldOrNew graph graph id (changed_object change (objects.File f)) c
+
+-- ---- which blocks it takes, each the least-numbered Free one
+
+-- what is written anew of the special file with this root block
+abbrev pub claims_beside : ℕ → Change → File → List MapEntry
+claims_beside at (Overwrite offset bytes) f = claims_from at (none_of 15360) (none_of 120) (offset / 512) (leaves_in (offset + length bytes) - offset / 512)
+claims_beside at (SetSize size) f = claims_anew at (written_anew (SetSize size) (objects.File f) []) []
+claims_beside at (Fill slot what) f = []
+
+-- Blocks were claimed for these entries from image a on, and then one for a shadow root. After that nothing changed but blocks
+-- of this owner or such as were Free.
+pub record ClaimsBeside (owner : ℕ) (claims : List MapEntry) (a b : Image) : Type 0 where
+  pub mid : Image
+  pub in_order : ClaimsAndDrops owner claims a mid
+  pub shadow : (s : ℕ) × IsLeastFree mid s
+  pub only : ChangesOnly (λ entry. of_owner owner entry) mid b
+
+abbrev pub ClaimsFor : FileKind → Change → (at : ℕ) → File → Image → Image → Type 0
+ClaimsFor kinds.Normal (Overwrite offset bytes) at f a b = AreClaimed (claims_of at f offset (length bytes)) a b
+ClaimsFor kinds.Normal (SetSize size) at f a b = TakesNone a b
+ClaimsFor kinds.Normal (Fill slot what) at f a b = Unit {0}
+ClaimsFor kinds.Special change at f a b = ClaimsBeside at (claims_beside at change f) a b
+
+-- ---- why it is refused
+
+-- so many bytes a file has to have
+abbrev pub end_of : Change → ℕ
+end_of (Overwrite offset bytes) = offset + length bytes
+end_of (SetSize size) = 0
+end_of (Fill slot what) = 0
+
+-- no block is left for a shadow root, of those that were counted
+pub record IsNoneLeft (after : Kept) (damage : Damage) : Type 0 where
+  pub code : damage.code ≡ too_full
+  pub block : damage.block ≡ 0
+  pub none : sum after.free ≡ 0
+
+-- what is wrong where a special file is changed: with a block that was read; its root is one of fewer bytes; or none is left
+pub data IsBesideDamage {D : Type 0} (g : Ghosts D) (at : ℕ) (change : Change) (old new : D) (after : Kept) (damage : Damage) : Type 0 where
+  OfBlock : special.IsDamage g at old new after damage → IsBesideDamage g at change old new after damage
+  Short : damage.code ≡ no_root → damage.block ≡ at → (Tells g old → (root : Root) → IsRootBlock (block_at (g.content old) at) root → root.size < end_of change) → IsBesideDamage g at change old new after damage
+  NoneLeft : IsNoneLeft after damage → IsBesideDamage g at change old new after damage
+
+-- what is wrong where a normal file is: with a block of it, with a map, or with the counts
+pub data IsPlaceDamage {D : Type 0} (g : Ghosts D) (at : ℕ) (old new : D) (after : Kept) (damage : Damage) : Type 0 where
+  OfFile : normal.IsDamage g at old damage → IsPlaceDamage g at old new after damage
+  OfClaims : IsNoSpace g old new after damage → IsPlaceDamage g at old new after damage
+  OfDrops : IsDropDamage g at old new damage → IsPlaceDamage g at old new after damage
+
+abbrev pub IsFileDamage : {D : Type 0} → Ghosts D → (at : ℕ) → FileKind → Change → D → D → Kept → Damage → Type 0
+IsFileDamage g at kinds.Normal change old new after damage = IsPlaceDamage g at old new after damage
+IsFileDamage g at kinds.Special change old new after damage = IsBesideDamage g at change old new after damage
+
+-- too few blocks are Free, a device call failed, a block that was read is damaged, or memory is wanted, for a special file alone
+abbrev pub IsFileRefusal : {D : Type 0} → Ghosts D → (at : ℕ) → FileKind → (floor : ℕ) → Change → D → D → Kept → Refused → Type 0
+IsFileRefusal g at kind floor change old new after (refusals.Full need) = need.free < need.need + floor
+IsFileRefusal g at kind floor change old new after (refusals.Disk tried) = HasStopped g tried old new
+IsFileRefusal g at kind floor change old new after (refusals.Damaged damage) = IsFileDamage g at kind change old new after damage
+IsFileRefusal g at kind floor change old new after refusals.Memory = kind ≡ kinds.Special
+
+-- the same of a draft that is committed, which has tried a write where a device call failed
+abbrev pub IsCommitRefusal : {D : Type 0} → Ghosts D → (at : ℕ) → D → D → Kept → Refused → Type 0
+IsCommitRefusal g at old new after (refusals.Full need) = ⊥
+IsCommitRefusal g at old new after (refusals.Disk tried) = (tried ≡ true) × HasStopped g true old new
+IsCommitRefusal g at old new after (refusals.Damaged damage) = special.IsDamage g at old new after damage ⊎ IsNoneLeft after damage
+IsCommitRefusal g at old new after refusals.Memory = ⊥
+
+-- ---- the call
+
+-- The file of this kind with its root at a block is changed.
+pub record ChangesFile {D : Type 0} (g : Ghosts D) (at : ℕ) (kind : FileKind) (floor : ℕ) (change : Change) (old new : D) (before after : Kept) (result : Result (Unit {0}) Refused) : Type 0 where
+  pub done : (graph : Graph) (ds : List Opened) (id : Puid) (f : File) → MayChange g at kind change graph ds id f old before → OnOk result (Changed g kind change graph ds id f old new after)
+  pub order : (graph : Graph) (ds : List Opened) (id : Puid) (f : File) → MayChange g at kind change graph ds id f old before → OnOk result (ClaimsFor kind change at f (g.content old) (g.content new))
+  pub leaves : (graph : Graph) (ds : List Opened) (id : Puid) (f : File) → MayChange g at kind change graph ds id f old before → Leaves g old new (MayLeave kind change graph id f)
+  -- Full exactly where the need and the floor aren't Free
+  pub room : (graph : Graph) (ds : List Opened) (id : Puid) (f : File) → MayChange g at kind change graph ds id f old before → OnOk result (need_for kind change f + floor ≤ sum before.free)
+  pub full : (graph : Graph) (ds : List Opened) (id : Puid) (f : File) → MayChange g at kind change graph ds id f old before → IfErr result (λ e. is_full e ≡ true →
+      (e ≡ refusals.Full (record { free = sum before.free; need = need_for kind change f })) × (sum before.free < need_for kind change f + floor))
+  -- no damage where the disk holds the file
+  pub sound : (graph : Graph) (ds : List Opened) (id : Puid) (f : File) → MayChange g at kind change graph ds id f old before → IfErr result (λ e. is_damaged e ≡ false)
+  pub refused : IfErr result (IsFileRefusal g at kind floor change old new after)
+  -- where nothing was tried all is as it was, after Full and want of memory too
+  pub untried : IfErr result (λ e. is_untried e ≡ true → (after ≡ before) × OnlyReads g 31093 old new)
+  pub cylinders : length after.free ≡ length before.free
+  pub calls : MakesAtMost g 124232 61939 old new

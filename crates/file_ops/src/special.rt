@@ -1,0 +1,114 @@
+//! A special file, changed beside itself as one commit.
+ghost use Rattle.std.specs.Prelude.{◌≡◌, ◌≢◌, ◌+◌, ◌*◌, ◌<◌, ◌≤◌, false, List, length, sum, None, Some, IfErr, OnOk};
+ghost use Rattle.cfs_base.specs.Calls.{MakesAtMost};
+ghost use Rattle.cfs_base.specs.Run.{Leaves};
+ghost use Rattle.cfs_base.specs.declared.identifier.Puid.{Puid};
+ghost use Rattle.cfs_base.specs.declared.kind.FileKind.TheVariants as kinds;
+ghost use Rattle.file_ops.specs.Changes as spec;
+ghost use Rattle.intentions.specs.Store.{StoreHas};
+ghost use Rattle.special_files.specs.Committing.{Committed, IsOldOrNew};
+ghost use Rattle.special_files.specs.Drafting.{IsOpen};
+ghost use Rattle.special_files.specs.Refusal.{is_damaged};
+ghost use Rattle.ufs_model.specs.Graph.{Graph, object_at};
+ghost use Rattle.ufs_model.specs.declared.change.Change.TheVariants.{Overwrite, SetSize};
+ghost use Rattle.ufs_model.specs.declared.object.Draft as drafts;
+ghost use Rattle.ufs_model.specs.declared.object.Object.{Object};
+ghost use Rattle.vol_owners.specs.Account.{Opened};
+
+use cfs_base::{BlockNo, Damage, Disk, Refused, code};
+use cyl_alloc::Space;
+use intentions::barrier;
+use special_files::Draft;
+use std::alloc::Global;
+
+/// Makes a draft its object, once what it put outlasts a crash. From that barrier on each failure is one after a try: no call
+/// of the draft tells whether it tried a write, and no device call may follow one that failed.
+fn commit<D: Disk>(draft: Draft, disk: &mut D, space: &mut Space) -> Result<(), Refused>
+    requires on_disk { draft.at < D.blocks disk.old }
+    requires size { D.blocks disk.old ≡ 64 * length space.old.free }
+    ensures done { (graph : Graph) (ds : List Opened) (id : Puid) (o : Object) (d : drafts.Draft)
+        → StoreHas D.Disk graph ds disk.old space.old → object_at graph id ≡ Some o → IsOpen ds id draft d
+        → draft.created ≡ None → OnOk result (Committed D.Disk graph ds id d.object None disk.old disk.new space.new) }
+    ensures leaves { (graph : Graph) (ds : List Opened) (id : Puid) (o : Object) (d : drafts.Draft)
+        → StoreHas D.Disk graph ds disk.old space.old → object_at graph id ≡ Some o → IsOpen ds id draft d
+        → draft.created ≡ None → Leaves D.Disk disk.old disk.new (IsOldOrNew graph graph id d.object) }
+    ensures sound { (graph : Graph) (ds : List Opened) (id : Puid) (o : Object) (d : drafts.Draft)
+        → StoreHas D.Disk graph ds disk.old space.old → object_at graph id ≡ Some o → IsOpen ds id draft d
+        → draft.created ≡ None → 1 ≤ sum space.old.free → IfErr result (λ e. is_damaged e ≡ false) }
+    ensures refused { IfErr result (spec.IsCommitRefusal D.Disk draft.at disk.old disk.new space.new) }
+    ensures cylinders { length space.new.free ≡ length space.old.free }
+    ensures calls { MakesAtMost D.Disk 93139 46453 disk.old disk.new }
+{
+    if space.free() == 0 {
+        return Err(Refused::Damaged(Damage {
+            block: 0,
+            code: code::TOO_FULL,
+        }));
+    }
+    match barrier(disk) {
+        Ok(()) => {}
+        Err(trouble) => return Err(Refused::from(trouble)),
+    }
+    match draft.commit(disk, space) {
+        Ok(()) => Ok(()),
+        Err(trouble) => Err(Refused::from(trouble.after_try())),
+    }
+}
+
+/// Writes bytes into a special file, as `write` does.
+pub(crate) fn write_beside<D: Disk>(
+    alloc: Global,
+    disk: &mut D,
+    space: &mut Space,
+    at: BlockNo,
+    offset: u64,
+    bytes: &[u8],
+    floor: u32,
+) -> Result<(), Refused>
+    requires some { at.0 ≢ 0 }
+    requires on_disk { at.0 < D.blocks disk.old }
+    requires size { D.blocks disk.old ≡ 64 * length space.old.free }
+    requires most { length bytes.now ≤ 4096 }
+    requires inside { offset + length bytes.now ≤ 7864320 }
+    ensures { spec.ChangesFile D.Disk at.0 kinds.Special floor (Overwrite offset bytes.now) disk.old disk.new space.old space.new result }
+{
+    let mut draft = match Draft::begin_direct(alloc, disk, space, at) {
+        Ok(draft) => draft,
+        Err(error) => return Err(error),
+    };
+    if draft.size() < offset + bytes.len() as u64 {
+        return Err(Refused::Damaged(Damage {
+            block: at.0,
+            code: code::NO_ROOT,
+        }));
+    }
+    match draft.write(disk, space, offset, bytes, floor) {
+        Ok(()) => commit(draft, disk, space),
+        Err(error) => Err(error),
+    }
+}
+
+/// Sets the size of a special file, as `resize` does.
+pub(crate) fn resize_beside<D: Disk>(
+    alloc: Global,
+    disk: &mut D,
+    space: &mut Space,
+    at: BlockNo,
+    size: u64,
+    floor: u32,
+) -> Result<(), Refused>
+    requires some { at.0 ≢ 0 }
+    requires on_disk { at.0 < D.blocks disk.old }
+    requires size { D.blocks disk.old ≡ 64 * length space.old.free }
+    requires limit { size ≤ 7864320 }
+    ensures { spec.ChangesFile D.Disk at.0 kinds.Special floor (SetSize size) disk.old disk.new space.old space.new result }
+{
+    let mut draft = match Draft::begin_direct(alloc, disk, space, at) {
+        Ok(draft) => draft,
+        Err(error) => return Err(error),
+    };
+    match draft.resize(disk, space, size, floor) {
+        Ok(()) => commit(draft, disk, space),
+        Err(error) => Err(error),
+    }
+}
