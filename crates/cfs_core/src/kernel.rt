@@ -1,7 +1,8 @@
 //! A core, and what it tells of itself.
 ghost use Rattle.std.specs.Prelude.{◌≡◌, ◌≢◌, ◌+◌, ◌*◌, ◌<◌, length, false, IsOk, IsSome, option_map, option_and_then, sum};
 ghost use Rattle.cfs_core.specs.Asked.{Happens, halted};
-ghost use Rattle.cfs_core.specs.Room.{IsRoom};
+ghost use Rattle.cfs_core.specs.Room.{IsRoom, draft_blocks};
+ghost use Rattle.std.specs.List.{sum_by};
 ghost use Rattle.cfs_core.specs.StandsFor.{Serves, StandsFor, drafts_of_seats, is_sweeping};
 ghost use Rattle.cyl_map.specs.Volume.{free_from};
 ghost use Rattle.puid_space.specs.Directory.{kind_in};
@@ -107,10 +108,11 @@ impl<D: Disk> Core<D> {
         }
     }
 
-    /// The Free blocks that the core counts are the room, as long as nothing sweeps; and no collection runs. This does
-    /// nothing: it is a law.
+    /// The Free blocks that the core counts are the room, as long as nothing sweeps; and no draft is open yet, and no
+    /// collection runs. This does nothing: it is a law.
     pub fn has_room(&self)
         ensures size { D.blocks self.now.disk ≡ 64 * length self.now.space.free }
+        ensures undrafted { (s : State) → Serves D.Disk self.now s → sum_by draft_blocks s.grants ≡ 0 }
         ensures idle { (s : State) → Serves D.Disk self.now s → s.collection ≡ collections.None }
         ensures room { (s : State) → Serves D.Disk self.now s → is_sweeping s.collection ≡ false
             → IsRoom (length self.now.space.free) s (sum self.now.space.free) }

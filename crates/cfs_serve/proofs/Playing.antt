@@ -2,6 +2,7 @@
 use Rattle.std.proofs.Common.{◌≡◌, ℕ, zero, suc, ◌+◌, Bool, false, List, [], ◌∷◌, ◌++◌, length, map, Some, None, Option, slice_get, refl, ap, ◌∙◌, subst, arith, length-append}
 use Rattle.std.specs.Prelude.{is_some}
 use Rattle.std.specs.List.{list_any, sum_by}
+use Rattle.std.proofs.lemmas.Option.{slice_get_past}
 use Rattle.cfs_base.specs.declared.disk.Disk.{Ghosts}
 use Rattle.cfs_base.specs.declared.identifier.Puid.{Puid}
 use Rattle.cfs_core.specs.declared.kernel.Stop.{Stop}
@@ -32,6 +33,14 @@ one_room root p new = rw new.stays (omega arith)
 pub only_one : {A : Type 0} (xs ys : List A) (x : A) → length xs ≡ 1 → xs ≡ ys ++ x ∷ [] → xs ≡ x ∷ []
 only_one xs [] x one is = is
 only_one xs (y ∷ ys) x one is = absurd (omega (arith, one, ap length is, length-append (y ∷ ys) (x ∷ [])))
+
+-- the only one of a list
+pub at_only : {A : Type 0} (x y : A) (xs : List A) (k : ℕ) → xs ≡ x ∷ [] → slice_get xs k ≡ Some y → x ≡ y
+at_only x y xs k is there = at k (subst (λ l. slice_get l k ≡ Some y) is there)
+  where
+    at : (k : ℕ) → slice_get (x ∷ []) k ≡ Some y → x ≡ y
+    at zero here = let same : Some x ≡ Some y = here in cc
+    at (suc k) here = let none : slice_get (x ∷ []) (suc k) ≡ None = slice_get_past (x ∷ []) (suc k) (omega arith) in cc
 
 pub no_drafts : (seats : List Seat) → drafts_of_seats seats [] ≡ []
 no_drafts [] = refl

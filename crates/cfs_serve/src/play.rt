@@ -162,7 +162,7 @@ fn play_script<K: Sink>(
         return (nothing(alloc, Cause::Memory), sink);
     };
     let mut trail = Trail::new(alloc);
-    if trail.reserve(lines + 1).is_err() {
+    if let Err(_) = trail.reserve(lines + 1) {
         return (nothing(alloc, Cause::Memory), sink);
     }
     let Ok(ports) = Vec::with_capacity(alloc, 1) else {

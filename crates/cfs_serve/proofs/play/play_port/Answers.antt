@@ -1,8 +1,13 @@
 use Rattle.std.proofs.Common.{◌≡◌, ◌++◌, ◌∷◌, [], ◌∙◌, ap, subst, map}
+use Rattle.cfs_ports.specs.Port.{IsNew}
 use Rattle.cfs_serve.specs.Hall.{AreOver, seat_of}
-use Rattle.cfs_serve.proofs.Playing.{only_one, played}
+use Rattle.cfs_serve.proofs.Playing.{at_only, only_one, played}
 use Rattle.cfs_serve.proofs.Volumes.{never_rose}
 use Rattle.cfs_serve.proofs.play.play_port.Goals as goal
+
+pub serve-server-requires-clause-new : goal.serve-server-requires-clause-new
+serve-server-requires-clause-new g c = λ k p there.
+    subst (IsNew c.args.root) (at_only c.args.port p c.push_reserved.new.self.items k (c.push_reserved.ensures.items ∙ ap (λ ps. ps ++ c.args.port ∷ []) c.requires.none) there) c.requires.new
 
 pub returns : goal.returns
 returns g c = λ cylinders seed new root_is.

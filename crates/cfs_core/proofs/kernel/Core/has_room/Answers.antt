@@ -17,3 +17,8 @@ returns-clause-room g c = λ s serves calm.
     let none = none_drafted _ c.self.inside.grants.grants s.grants (subst (λ ss. AreDraftsOf (drafts_of_seats k.seats s.grants) ss s.grants) seats serves.drafts) in
     let left = ap (λ ds. sum_by owners.draft_blocks ds) (ap (λ ss. drafts_of_seats ss s.grants) seats ∙ none.0) in
     omega (arith, room_is g.D.Disk k s serves (sum k.space.free) calm refl, left, none.1)
+
+pub returns-clause-undrafted : goal.returns-clause-undrafted
+returns-clause-undrafted g c = λ s serves.
+    let seats = ap (λ k. k.seats) (sym c.self.view_is) in
+    (none_drafted _ c.self.inside.grants.grants s.grants (subst (λ ss. AreDraftsOf (drafts_of_seats c.args.self.now.seats s.grants) ss s.grants) seats serves.drafts)).1
