@@ -73,6 +73,18 @@ pub fn is_left(
     old: &Vec<Word>,
     new: &Vec<Word>,
 ) -> Result<bool, Fail> {
+    are_left(alloc, volume, (from, done), &[old, new], new)
+}
+
+/// The same of images that may be any of these.
+pub fn are_left(
+    alloc: Global,
+    volume: &Volume,
+    moments: (u64, u64),
+    ways: &[&Vec<Word>],
+    new: &Vec<Word>,
+) -> Result<bool, Fail> {
+    let (from, done) = moments;
     let mut content = Vec::new(alloc);
     for at in from..done.saturating_add(1) {
         let now = image(alloc, &volume.disk, at, &LAST)?;
@@ -88,7 +100,8 @@ pub fn is_left(
                 break;
             }
             let words = reopened(alloc, image(alloc, &volume.disk, at, &choices)?)?;
-            if words != *new && (at == done || words != *old) {
+            let right = words == *new || at < done && ways.iter().any(|way| **way == words);
+            if !right {
                 return Ok(false);
             }
         }

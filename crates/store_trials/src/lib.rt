@@ -16,6 +16,8 @@ mod draft_volume;
 #[cfg(test)]
 mod file_calls;
 #[cfg(test)]
+mod file_images;
+#[cfg(test)]
 mod images;
 #[cfg(test)]
 mod plain;
