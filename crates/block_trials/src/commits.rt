@@ -5,6 +5,7 @@ use crate::laid::{
 use block_tree::{Root, read_leaf};
 use cfs_base::{Block, BlockNo, Disk, Failed, Kind, Place};
 use cfs_fakes::{MemoryDisk, Pick};
+use cyl_alloc::KnownMaps;
 use intentions::{clear_bit, commit, copy_root, finish, intend_claim, intend_release, undo};
 use std::alloc::Global;
 use std::process::Abort;
@@ -71,7 +72,7 @@ fn decide<D: Disk>(disk: &mut D) -> Result<(), Fail> {
     }
     intend_release(disk, LEAF)?;
     intend_release(disk, NODE)?;
-    commit(disk, ROOT)?;
+    commit(disk, &mut KnownMaps::new(), ROOT)?;
     Ok(())
 }
 
@@ -90,7 +91,7 @@ fn carry_out<D: Disk>(disk: &mut D) -> Result<(), Fail> {
         undo(disk, SHADOW)?;
     }
     if ROOT.0 < disk.blocks() {
-        clear_bit(disk, ROOT)?;
+        clear_bit(disk, &mut KnownMaps::new(), ROOT)?;
     }
     Ok(())
 }

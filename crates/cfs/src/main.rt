@@ -1,6 +1,6 @@
 //! The Cambridge File Server. `cfs play CYLINDERS SEED 0 IN OUT` serves the requests of the file IN on a new volume in
 //! memory, writes a reply for each to OUT, and a report to standard output. `-` is a standard stream. `cfs format VOLUME
-//! CYLINDERS SEED` makes a volume in a file. `cfs --help` and `cfs --version` print a page.
+//! CYLINDERS SEED` makes a volume in a file, and `cfs serve VOLUME SEED 0 IN OUT` serves it. `cfs --help` and `cfs --version` print a page.
 #![tactic(auto)]
 
 mod opening;

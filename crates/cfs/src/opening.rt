@@ -1,7 +1,7 @@
 //! The files that a command names, opened.
 ghost use Rattle.std.specs.Prelude.{◌≡◌, ◌*◌, length, map, option_map, string_bytes, IfOk, IfSome};
 ghost use Rattle.cfs_serve.specs.Words.{asked_in};
-ghost use Rattle.cfs_serve.specs.Whole.{HasCylinders, HasDisk, HasPlaces, volume_blocks};
+ghost use Rattle.cfs_serve.specs.Whole.{FitsVolume, HasCylinders, HasDisk, HasPlaces};
 
 use cfs_base::Disk;
 use cfs_host::{FileDisk, FileSink, FileSource, Stream};
@@ -34,13 +34,17 @@ fn tell_path(rt: &HostRuntime, path: &Path) -> u8 {
     10
 }
 
-/// Makes the file of the volume, where one is named.
-fn make_volume(rt: &HostRuntime, volume: &Option<Volume>) -> Result<Option<FileDisk>, u8>
+/// Opens or makes the file of the volume, where one is named.
+fn open_volume(rt: &HostRuntime, volume: &Option<Volume>) -> Result<Option<FileDisk>, u8>
     requires { IfSome volume.now HasCylinders }
-    ensures { IfOk result (λ d. option_map ⟦<FileDisk as Disk>⟧.blocks d ≡ option_map volume_blocks volume.now) }
+    ensures { IfOk result (λ d. FitsVolume volume.now (option_map ⟦<FileDisk as Disk>⟧.blocks d)) }
 {
     match volume {
         None => Ok(None),
+        Some(Volume::Existing { path }) => match FileDisk::existing(rt, path.as_str()) {
+            Ok(disk) => Ok(Some(disk)),
+            Err(_) => Err(tell_path(rt, path)),
+        },
         Some(Volume::Fresh { path, cylinders }) => {
             match FileDisk::fresh(rt, path.as_str(), 64 * cylinders) {
                 Ok(disk) => Ok(Some(disk)),
@@ -99,7 +103,7 @@ pub(crate) fn open(rt: &HostRuntime, alloc: Global, words: &[String]) -> Result<
         }
         Err(WordsFault::Memory) => return Err(tell_starved(rt)),
     };
-    let disk = make_volume(rt, &names.volume)?;
+    let disk = open_volume(rt, &names.volume)?;
     let sources = open_sources(rt, alloc, names.sources.as_slice())?;
     let sinks = make_sinks(rt, alloc, names.sinks.as_slice())?;
     Ok(Opened {

@@ -20,10 +20,10 @@ use Rattle.ufs_model.specs.Refusal.{refusal_of}
 use Rattle.ufs_model.specs.State.{State}
 use Rattle.cfs_core.specs.Calls.{Answers, EndsSo, IsCause, Owes, Tries, TriesOn}
 use Rattle.cfs_core.specs.Kernel.{Kernel}
+use Rattle.cfs_core.specs.Looks.{ReachesAll}
 use Rattle.cfs_core.specs.Makes.{IsMaking, TriesToMake}
 use Rattle.cfs_core.specs.StandsFor.{Serves}
 use Rattle.cfs_core.specs.Ways.{Reaches}
-use Rattle.cfs_core.proofs.Answering.{ReachesAll}
 use Rattle.cfs_core.proofs.Serving.{serves_on}
 
 module _ {D : Type 0} (g : Ghosts D) (n : ℕ) (old : Kernel D) (d : D) (new : Kernel D) (reads : OnlyReads g n old.disk d) (request : Request) where
@@ -56,7 +56,7 @@ module _ {D : Type 0} (g : Ghosts D) (n : ℕ) (old : Kernel D) (d : D) (new : K
   cause (Err (refusals.Damaged damage)) is = tt
   cause (Err refusals.Memory) is = tt
 
-  pub tries_then : (index : Puid) (slot : ℕ) (who : ℕ) (result : Result Reply Refused) → ReachesAll g old who request index → TriesOn g mid new index slot request result
+  pub tries_then : (index : Puid) (slot : ℕ) (who : ℕ) (result : Result Reply Refused) → ReachesAll g objects.Index old who request index → TriesOn g mid new index slot request result
       → ((s : State) (i : Index) → Serves g old s → Reaches s who request index (objects.Index i) → (slot < length i.slots) × (refusal_of s who request ≡ None)) → Tries g old new who request result
   tries_then index slot who result reaches tries goes = record {
     ends = λ s serves none.
@@ -66,6 +66,7 @@ module _ {D : Type 0} (g : Ghosts D) (n : ℕ) (old : Kernel D) (d : D) (new : K
     plain = tries.plain;
     cause = cause result tries.cause;
     size = tries.size ∙ reads.same.size;
+    faults = omega (arith, reads.faults, tries.faults);
     stop = tries.stop;
     seed = tries.seed;
     kept = tries.kept;
@@ -73,13 +74,14 @@ module _ {D : Type 0} (g : Ghosts D) (n : ℕ) (old : Kernel D) (d : D) (new : K
   }
 
   -- the same of a request that makes an object
-  pub makes_then : (index : Puid) (slot : ℕ) (o : Object) → IsMaking request slot o → (who : ℕ) (result : Result Reply Refused) → ReachesAll g old who request index → TriesToMake g mid new index slot o result
+  pub makes_then : (index : Puid) (slot : ℕ) (o : Object) → IsMaking request slot o → (who : ℕ) (result : Result Reply Refused) → ReachesAll g objects.Index old who request index → TriesToMake g mid new index slot o result
       → ((s : State) (i : Index) → Serves g old s → Reaches s who request index (objects.Index i) → (slot < length i.slots) × (refusal_of s who request ≡ None)) → Tries g old new who request result
   makes_then index slot o making who result reaches tries goes = tries_then index slot who result reaches (record {
     ends = tries.ends request making;
     plain = tries.plain;
     cause = tries.cause;
     size = tries.size;
+    faults = tries.faults;
     stop = tries.stop;
     seed = tries.seed;
     kept = tries.kept;

@@ -1,25 +1,24 @@
 -- How a call ends that only reads: a refusal, what was asked for, or the failure of a device call.
-use Rattle.std.proofs.Common.{◌≡◌, inl, inr, ℕ, length, Bool, true, false, Option, Some, None, Result, Ok, Err, IsTrue, refl, sym, ◌∙◌, ap, subst, arith}
+use Rattle.std.proofs.Common.{◌≡◌, inl, inr, ℕ, [], length, Bool, true, false, Option, Some, None, Result, Ok, Err, IsTrue, refl, sym, ◌∙◌, ap, subst, arith}
 use Rattle.std.specs.Prelude.{IfErr, IfOk, sum}
 use Rattle.cfs_base.specs.Calls.{OnlyReads}
 use Rattle.cfs_base.specs.Disk.{Image}
-use Rattle.cfs_base.specs.Refusals.{refused_by}
 use Rattle.cfs_base.specs.declared.disk.Disk.{Ghosts}
 use Rattle.cfs_base.specs.declared.identifier.Puid.{Puid}
 use Rattle.cfs_base.specs.declared.kind.Kind.{Kind}
 use Rattle.cfs_base.specs.declared.kind.Kind.TheVariants as kinds
 use Rattle.cfs_base.specs.declared.refusal.Refused.{Refused}
 use Rattle.cfs_base.specs.declared.refusal.Refused.TheVariants as refusals
-use Rattle.cfs_base.specs.declared.refusal.Trouble.{Trouble}
-use Rattle.cfs_base.specs.declared.refusal.Trouble.TheVariants as trouble
-use Rattle.special_files.specs.Committing.{as_refused}
-use Rattle.special_files.specs.Refusal.{is_damage}
+use Rattle.special_files.specs.Refusal.{is_damaged}
 use Rattle.ufs_model.specs.declared.asked.Event.{Event}
 use Rattle.ufs_model.specs.declared.asked.Event.TheVariants as events
 use Rattle.ufs_model.specs.declared.asked.Reply.{Reply}
 use Rattle.ufs_model.specs.declared.asked.Reply.TheVariants as replies
 use Rattle.ufs_model.specs.declared.asked.Request.{Request}
+use Rattle.ufs_model.specs.declared.asked.Wanted.{Wanted}
+use Rattle.ufs_model.specs.declared.asked.Wanted.TheVariants.{AFile, AnIndex, Either}
 use Rattle.ufs_model.specs.declared.object.Index.{Index}
+use Rattle.ufs_model.specs.declared.object.Object.{Object}
 use Rattle.ufs_model.specs.declared.object.Object.TheVariants as objects
 use Rattle.ufs_model.specs.Graph.{object_at}
 use Rattle.ufs_model.specs.Need.{need_of}
@@ -30,13 +29,14 @@ use Rattle.ufs_model.specs.Refusal.{refusal_of}
 use Rattle.ufs_model.specs.State.{State}
 use Rattle.ufs_model.proofs.Legal.{answer_legal, outcome_legal, refused_answer, refused_plain}
 use Rattle.ufs_model.proofs.Outcomes.{outcome_plain}
+use Rattle.vol_owners.specs.Account.{drafts_of}
 use Rattle.cfs_core.specs.Calls.{Answers, ByOutcome, ByRefusal, EndsSo, IsCause, IsOwed, Makes, Owes, Tries}
 use Rattle.cfs_core.specs.Kernel.{Kernel}
-use Rattle.cfs_core.specs.Looks.{IsCalm, IsCalmCause, Knows, unfit_of}
+use Rattle.cfs_core.specs.Looks.{IsCalm, IsCalmCause, Knows, ReachesAll}
 use Rattle.cfs_core.specs.StandsFor.{Serves, drafts_of_seats}
-use Rattle.cfs_core.specs.Ways.{Reaches}
+use Rattle.cfs_core.specs.Ways.{Reaches, unfit_of}
 use Rattle.cfs_core.proofs.Refusing.{IsSeen}
-use Rattle.cfs_core.proofs.Serving.{running, stays}
+use Rattle.cfs_core.proofs.Serving.{running, shut, stays}
 
 -- what is owed is so of a reply in which no device call failed
 pub owes : (seed : ℕ) (s : State) (who : ℕ) (request : Request) (image : Image) (free : ℕ) (reply : Reply) → IsPlainReply reply → IsOwed seed s who request image free reply → Owes seed s who request image free reply
@@ -104,30 +104,40 @@ module _ {D : Type 0} (g : Ghosts D) (left_sized : (d : D) (t : ℕ) (c : Image)
     plain = plain;
     cause = cause;
     size = reads.same.size;
+    faults = reads.faults;
     stop = ap (λ (k : Kernel D). k.stop) same;
     seed = ap (λ (k : Kernel D). k.words.seed) same;
     kept = omega (arith, ap (λ (k : Kernel D). k.words.drawn) same);
     drawn = omega (arith, ap (λ (k : Kernel D). k.words.drawn) same);
   }
 
-  -- a read of an index that failed
-  pub failed : (at : ℕ) (t : Trouble) → ((i : Index) → Knows g old.disk at i → is_damage t ≡ false) → IsCalmCause g old.disk new.disk t → (who : ℕ) (request : Request)
-      → ((s : State) → Serves g old s → (i : Index) × Knows g old.disk at i) → Tries g old new who request (Err (refused_by t))
-  failed at (trouble.Disk tried) sound cause who request knows = subst (λ (b : Bool). Tries g old new who request (Err (refusals.Disk b))) (sym cause.0)
+  -- a read that failed, where such an object is
+  failed : {A : Type 0} (sort : A → Object) (at : ℕ) (e : Refused) → ((a : A) → Knows g old.disk at (sort a) → is_damaged e ≡ false) → IsCalmCause g old.disk new.disk e → (who : ℕ) (request : Request)
+      → ((s : State) → Serves g old s → (a : A) × Knows g old.disk at (sort a)) → Tries g old new who request (Err e)
+  failed sort at (refusals.Full need) sound cause who request knows = absurd cause
+  failed sort at (refusals.Disk tried) sound cause who request knows = subst (λ (b : Bool). Tries g old new who request (Err (refusals.Disk b))) (sym cause.0)
       (tries_so who request (Err (refusals.Disk false)) (λ s serves none. disk_failed s who serves none request) tt cause.1)
-  failed at (trouble.Damaged damage) sound cause who request knows = tries_so who request (Err (refusals.Damaged damage))
+  failed sort at (refusals.Damaged damage) sound cause who request knows = tries_so who request (Err (refusals.Damaged damage))
       (λ s serves none. let k = knows s serves in let no = sound k.0 k.1 in cc) tt tt
+  failed sort at refusals.Memory sound cause who request knows = tries_so who request (Err refusals.Memory) (λ s serves none. memory s who serves none request) tt tt
 
--- the store has the index that is reached
-pub known : {D : Type 0} (g : Ghosts D) (k : Kernel D) (s : State) → Serves g k s → (index : Puid) (i : Index) → object_at s.graph index ≡ Some (objects.Index i) → Knows g k.disk index.block i
-known g k s serves index i there = record { graph = s.graph; drafts = drafts_of_seats k.seats s.grants; space = k.space; id = index; store = serves.store; root = refl; there = there }
+-- the store has the object that is reached, of which there is no draft
+pub knows_that : {D : Type 0} (g : Ghosts D) (k : Kernel D) (s : State) → Serves g k s → (id : Puid) (o : Object) → object_at s.graph id ≡ Some o → drafts_of (drafts_of_seats k.seats s.grants) id ≡ [] → Knows g k.disk id.block o
+knows_that g k s serves id o there shut = record { graph = s.graph; drafts = drafts_of_seats k.seats s.grants; space = k.space; id = id; store = serves.store; root = refl; there = there; shut = shut }
 
--- an identifier that names no index
-pub unfit_plain : (k : Option Kind) (reply : Reply) → unfit_of k ≡ Some reply → IsPlainReply reply
-unfit_plain None reply is = let same : replies.NoObject ≡ reply = cc in subst IsPlainReply same tt
-unfit_plain (Some kinds.Index) reply is = cc
-unfit_plain (Some kinds.Normal) reply is = let same : replies.NotIndex ≡ reply = cc in subst IsPlainReply same tt
-unfit_plain (Some kinds.Special) reply is = let same : replies.NotIndex ≡ reply = cc in subst IsPlainReply same tt
+pub known : {D : Type 0} (g : Ghosts D) (k : Kernel D) (s : State) → Serves g k s → (index : Puid) (i : Index) → object_at s.graph index ≡ Some (objects.Index i) → Knows g k.disk index.block (objects.Index i)
+known g k s serves index i there = knows_that g k s serves index (objects.Index i) there (shut g k s serves index i there)
+
+-- a request for something else than an object of this kind
+pub unfit_plain : (wants : Wanted) (k : Option Kind) (reply : Reply) → unfit_of wants k ≡ Some reply → IsPlainReply reply
+unfit_plain wants None reply is = let same : replies.NoObject ≡ reply = cc in subst IsPlainReply same tt
+unfit_plain AnIndex (Some kinds.Index) reply is = cc
+unfit_plain AnIndex (Some kinds.Normal) reply is = let same : replies.NotIndex ≡ reply = cc in subst IsPlainReply same tt
+unfit_plain AnIndex (Some kinds.Special) reply is = let same : replies.NotIndex ≡ reply = cc in subst IsPlainReply same tt
+unfit_plain AFile (Some kinds.Index) reply is = let same : replies.NotFile ≡ reply = cc in subst IsPlainReply same tt
+unfit_plain AFile (Some kinds.Normal) reply is = cc
+unfit_plain AFile (Some kinds.Special) reply is = cc
+unfit_plain Either (Some k) reply is = cc
 
 -- a request that is refused as the core stands
 pub tries_refusal : {D : Type 0} (g : Ghosts D) (left_sized : (d : D) (t : ℕ) (c : Image) → g.left_since d t c → length c ≡ g.blocks d) (sized : (d : D) → IsTrue (g.honest d) → length (g.content d) ≡ g.blocks d)
@@ -135,35 +145,32 @@ pub tries_refusal : {D : Type 0} (g : Ghosts D) (left_sized : (d : D) (t : ℕ) 
 tries_refusal g left_sized sized k who request reply plain is = tries_so g left_sized sized 0 k k (reads_none g 0 k.disk) refl who request (Ok reply)
     (λ s serves none. refused g left_sized sized 0 k k (reads_none g 0 k.disk) refl s who serves none request reply (is s serves)) plain tt
 
--- ---- a request that reads an index
+-- ---- a request that reads an object
 
--- whatever the core stands for, the request reaches an index
-abbrev pub ReachesAll : {D : Type 0} → Ghosts D → Kernel D → ℕ → Request → Puid → Type 0
-ReachesAll g k who request index = (s : State) → Serves g k s → (i : Index) × Reaches s who request index (objects.Index i)
+module _ {D A : Type 0} (g : Ghosts D) (left_sized : (d : D) (t : ℕ) (c : Image) → g.left_since d t c → length c ≡ g.blocks d) (sized : (d : D) → IsTrue (g.honest d) → length (g.content d) ≡ g.blocks d)
+    (sort : A → Object) (k : Kernel D) (id : Puid) (who : ℕ) (request : Request) (reaches : ReachesAll g sort k who request id) (n : ℕ) (d : D) where
+  abbrev IsReplied : (A → Reply) → Type 0
+  IsReplied says = (s : State) (a : A) → Serves g k s → Reaches s who request id (sort a) → (need_of s who request ≡ 0) × IsSeen k.words.seed s who request (says a)
 
-module _ {D : Type 0} (g : Ghosts D) (left_sized : (d : D) (t : ℕ) (c : Image) → g.left_since d t c → length c ≡ g.blocks d) (sized : (d : D) → IsTrue (g.honest d) → length (g.content d) ≡ g.blocks d)
-    (k : Kernel D) (index : Puid) (who : ℕ) (request : Request) (reaches : ReachesAll g k who request index) (n : ℕ) (d : D) where
-  abbrev IsReplied : (Index → Reply) → Type 0
-  IsReplied says = (s : State) (i : Index) → Serves g k s → Reaches s who request index (objects.Index i) → (need_of s who request ≡ 0) × IsSeen k.words.seed s who request (says i)
+  abbrev knows : (s : State) → Serves g k s → (a : A) × Knows g k.disk id.block (sort a)
+  knows s serves = let r = reaches s serves in (r.0, knows_that g k s serves id (sort r.0) r.1.there r.2)
 
-  abbrev knows : (s : State) → Serves g k s → (i : Index) × Knows g k.disk index.block i
-  knows s serves = let two = reaches s serves in (two.0, known g k s serves index two.0 two.1.there)
+  -- the disk couldn't be read
+  pub tries_failed : (e : Refused) → OnlyReads g n k.disk d → ((a : A) → Knows g k.disk id.block (sort a) → is_damaged e ≡ false) → IsCalmCause g k.disk d e → Tries g k (record k { disk = d }) who request (Err e)
+  tries_failed e reads sound cause = failed g left_sized sized n k (record k { disk = d }) reads refl sort id.block e sound cause who request knows
 
-  pub tries_seen : (says : Index → Reply) (result : Result Reply Trouble) → creates request ≡ false → IsReplied says → IfOk result IsPlainReply
-      → ((i : Index) → Knows g k.disk index.block i → IfOk result (λ reply. reply ≡ says i)) → IsCalm g n index.block k.disk d result → Tries g k (record k { disk = d }) who request (as_refused result)
+  pub tries_seen : (says : A → Reply) (result : Result Reply Refused) → creates request ≡ false → IsReplied says → IfOk result IsPlainReply
+      → ((a : A) → Knows g k.disk id.block (sort a) → IfOk result (λ reply. reply ≡ says a)) → IsCalm g sort n id.block k.disk d result → Tries g k (record k { disk = d }) who request result
   tries_seen says (Ok reply) makes replied plain exact calm = tries_so g left_sized sized n k (record k { disk = d }) calm.reads refl who request (Ok reply)
       (λ s serves none.
-      let i = reaches s serves in
-      let two = replied s i.0 serves i.1 in
-      subst (Answers g k (record k { disk = d }) s who request) (sym (exact i.0 (knows s serves).1)) (seen g left_sized sized n k (record k { disk = d }) calm.reads refl s who serves none request (says i.0) two.0 makes two.1))
+      let r = reaches s serves in
+      let two = replied s r.0 serves r.1 in
+      subst (Answers g k (record k { disk = d }) s who request) (sym (exact r.0 (knows s serves).1)) (seen g left_sized sized n k (record k { disk = d }) calm.reads refl s who serves none request (says r.0) two.0 makes two.1))
       plain tt
-  tries_seen says (Err t) makes replied plain exact calm = failed g left_sized sized n k (record k { disk = d }) calm.reads refl index.block t calm.sound calm.cause who request knows
+  tries_seen says (Err e) makes replied plain exact calm = tries_failed e calm.reads calm.sound calm.cause
 
-  -- it is refused, or the disk couldn't be read
+  -- it is refused
   pub tries_refused : (reply : Reply) → IsPlainReply reply → OnlyReads g n k.disk d
-      → ((s : State) (i : Index) → Serves g k s → Reaches s who request index (objects.Index i) → Knows g k.disk index.block i → refusal_of s who request ≡ Some reply) → Tries g k (record k { disk = d }) who request (Ok reply)
+      → ((s : State) (a : A) → Serves g k s → Reaches s who request id (sort a) → Knows g k.disk id.block (sort a) → refusal_of s who request ≡ Some reply) → Tries g k (record k { disk = d }) who request (Ok reply)
   tries_refused reply plain reads is = tries_so g left_sized sized n k (record k { disk = d }) reads refl who request (Ok reply)
-      (λ s serves none. let i = reaches s serves in refused g left_sized sized n k (record k { disk = d }) reads refl s who serves none request reply (is s i.0 serves i.1 (knows s serves).1)) plain tt
-
-  pub tries_failed : (t : Trouble) → OnlyReads g n k.disk d → ((i : Index) → Knows g k.disk index.block i → is_damage t ≡ false) → IsCalmCause g k.disk d t → Tries g k (record k { disk = d }) who request (Err (refused_by t))
-  tries_failed t reads sound cause = failed g left_sized sized n k (record k { disk = d }) reads refl index.block t sound cause who request knows
+      (λ s serves none. let r = reaches s serves in refused g left_sized sized n k (record k { disk = d }) reads refl s who serves none request reply (is s r.0 serves r.1 (knows s serves).1)) plain tt

@@ -28,6 +28,7 @@ plain_goes_on reply plain before = refl
 
 plain_cause : {D : Type 0} (g : Ghosts D) (old new : D) (reply : Reply) → IsPlainReply reply → IsToldCause g old new reply
 plain_cause g old new (replies.Disk doubt) plain = absurd plain
+plain_cause g old new (replies.Stopped moment) plain = absurd plain
 plain_cause g old new reply plain = tt
 
 plain_short : (reply : Reply) → IsPlainReply reply → IsShortContent reply
@@ -52,8 +53,9 @@ asks_stopped g k who request stop is = record {
   still = λ none. cc;
   stopped = λ other same. let one : stop ≡ other = cc in (refl, ap (λ (x : Stop). replies.Stopped x.moment) one);
   stops = λ none. cc;
-  cause = λ none. tt;
+  cause = λ none. absurd (cc (is, none));
   size = refl;
+  faults = omega arith;
   short = tt;
   seed = refl;
   kept = omega arith;
@@ -73,6 +75,7 @@ asks_answered g old new who request reply none tries = record {
   stops = λ _. tries.stop ∙ none ∙ sym (plain_goes_on reply tries.plain None);
   cause = λ _. plain_cause g old.disk new.disk reply tries.plain;
   size = tries.size;
+  faults = tries.faults;
   short = plain_short reply tries.plain;
   seed = tries.seed;
   kept = tries.kept;
@@ -136,6 +139,7 @@ module _ {D : Type 0} (g : Ghosts D) (left_sized : (d : D) (t : ℕ) (c : Image)
     stops = λ _. ap (λ (o : Option Stop). stopped_by (told refused (g.moment mid.disk)) o) (tries.stop ∙ none);
     cause = λ _. told_cause refused tries.cause;
     size = size;
+    faults = tries.faults;
     short = told_short refused (g.moment mid.disk);
     seed = tries.seed;
     kept = tries.kept;

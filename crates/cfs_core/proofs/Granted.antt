@@ -41,7 +41,7 @@ use Rattle.cfs_core.specs.Calls.{Answers, ByOutcome, Makes, Tries}
 use Rattle.cfs_core.specs.Kernel.{Kernel, bare_seats}
 use Rattle.cfs_core.specs.StandsFor.{Serves}
 use Rattle.cfs_core.proofs.Answering.{owes}
-use Rattle.cfs_core.proofs.Regranted.{IsRegranted, all_filter, are_bare, drawn_more, makes_after}
+use Rattle.cfs_core.proofs.Regranted.{IsRegranted, all_filter, are_bare, drawn_more, found_bare, makes_after}
 use Rattle.cfs_core.proofs.Serving.{running}
 
 -- ---- an outcome that changes the grants alone
@@ -81,6 +81,7 @@ module _ {D : Type 0} (g : Ghosts D) (left_sized : (d : D) (t : ℕ) (c : Image)
       plain = plain;
       cause = tt;
       size = refl;
+      faults = omega arith;
       stop = refl;
       seed = seed;
       kept = kept;
@@ -159,24 +160,11 @@ module _ (seed : ℕ) (s : State) (who : ℕ) (t : Tuid) (commit : Bool) where
     pub close_goes : refusal_of s who closing ≡ None
     close_goes = rw found refl
 
-    found_bare : (grants : List Grant) → find (is_grant who t) grants ≡ Some x → are_bare grants ≡ true → x.draft ≡ None
-    found_bare [] is bare = cc
-    found_bare (y ∷ grants) is bare =
-        let two = and_parts (is_none y.draft) (are_bare grants) bare in
-        elim (is_grant who t y) as (λ b. cond b (Some y) (find (is_grant who t) grants) ≡ Some x → x.draft ≡ None) [
-          | true ↦ λ h. (let same : y ≡ x = cc in none_of x.draft (subst (λ (z : Grant). is_none z.draft ≡ true) same two.0))
-          | false ↦ λ h. found_bare grants h two.1
-        ] is
-      where
-        none_of : (d : Option Draft) → is_none d ≡ true → d ≡ None
-        none_of None is = refl
-        none_of (Some d) is = cc
-
     closed_graph : are_bare s.grants ≡ true → (closed s who t commit).graph ≡ s.graph
     closed_graph bare = at commit
       where
         kept : committed (grant_of s who t) s.graph ≡ s.graph
-        kept = rw (found, found_bare s.grants found bare) refl
+        kept = rw (found, found_bare who t x s.grants found bare) refl
 
         at : (b : Bool) → (closed s who t b).graph ≡ s.graph
         at true = kept

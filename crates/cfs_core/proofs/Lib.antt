@@ -1,7 +1,8 @@
-mod Serving
+pub mod Serving
 mod Ways
 mod Refusing
 mod Answering
+mod Calm
 mod Grown
 mod Committed
 mod Changed

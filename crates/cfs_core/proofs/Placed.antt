@@ -161,6 +161,7 @@ module _ {D : Type 0} (g : Ghosts D) (left_sized : (d : D) (t : ℕ) (c : Image)
     plain = names.plain;
     cause = if_astray g k.disk new.disk result names.astray;
     size = ap g.blocks names.disk ∙ size;
+    faults = omega (arith, ap g.faults names.disk, puts.calls.faults);
     stop = names.stop;
     seed = names.seed;
     kept = names.kept;
@@ -177,6 +178,7 @@ module _ {D : Type 0} (g : Ghosts D) (left_sized : (d : D) (t : ℕ) (c : Image)
     plain = tt;
     cause = refusal_cause g index.block slot k.disk d k.space space e (rw is at puts.refused);
     size = size;
+    faults = puts.calls.faults;
     stop = refl;
     seed = refl;
     kept = omega arith;
@@ -202,6 +204,7 @@ module _ {D : Type 0} (g : Ghosts D) (left_sized : (d : D) (t : ℕ) (c : Image)
     plain = tt;
     cause = tt;
     size = ap g.blocks same_disk;
+    faults = reads.faults;
     stop = refl;
     seed = refl;
     kept = omega arith;

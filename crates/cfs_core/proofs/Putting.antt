@@ -84,6 +84,7 @@ module _ {D : Type 0} (g : Ghosts D) (left_sized : (d : D) (t : ℕ) (c : Image)
     plain = plain result;
     cause = done_cause g index.block slot k.disk d space result puts.refused;
     size = puts.calls.same.size;
+    faults = puts.calls.faults;
     stop = refl;
     seed = refl;
     kept = omega arith;
@@ -122,6 +123,7 @@ module _ {D : Type 0} (g : Ghosts D) (left_sized : (d : D) (t : ℕ) (c : Image)
     plain = tt;
     cause = tt;
     size = ap g.blocks same_disk;
+    faults = reads.faults;
     stop = refl;
     seed = refl;
     kept = omega arith;

@@ -1,6 +1,6 @@
 -- Requests on an index that they reach: when they are refused, and what they do.
 use Rattle.std.proofs.Common.{◌≡◌, ◌⊎◌, inl, inr, ℕ, ◌<◌, length, Bool, true, false, Option, Some, None, refl, sym, ◌∙◌, ap, subst, arith}
-use Rattle.std.specs.Prelude.{nat_le, nat_lt, option_map}
+use Rattle.std.specs.Prelude.{nat_le, nat_lt}
 use Rattle.std.proofs.lemmas.Bool.Decides.{nat_tests}
 use Rattle.cfs_base.specs.declared.identifier.Puid.{Puid}
 use Rattle.cfs_base.specs.declared.kind.FileKind.{FileKind}
@@ -11,8 +11,10 @@ use Rattle.ufs_model.specs.declared.asked.Reply.{Reply}
 use Rattle.ufs_model.specs.declared.asked.Reply.TheVariants as replies
 use Rattle.ufs_model.specs.declared.asked.Request.{Request}
 use Rattle.ufs_model.specs.declared.asked.Request.TheVariants as asks
+use Rattle.ufs_model.specs.declared.asked.Wanted.TheVariants.{AFile, AnIndex}
 use Rattle.ufs_model.specs.declared.change.Change.TheVariants.{Fill}
 use Rattle.ufs_model.specs.declared.object.Draft.{Draft}
+use Rattle.ufs_model.specs.declared.object.File.{File}
 use Rattle.ufs_model.specs.declared.object.Index.{Index}
 use Rattle.ufs_model.specs.declared.object.Object.{Object}
 use Rattle.ufs_model.specs.declared.object.Object.TheVariants as objects
@@ -23,15 +25,16 @@ use Rattle.ufs_model.specs.Need.{need_of}
 use Rattle.ufs_model.specs.Object.{slot_of}
 use Rattle.ufs_model.specs.Outcome.{changed, outcome_of, with_edge}
 use Rattle.ufs_model.specs.Plain.{is_id}
-use Rattle.ufs_model.specs.Refusal.{has_no_slot, refusal_of, slot_named}
+use Rattle.ufs_model.specs.Refusal.{has_no_slot, is_range, refusal_of, slot_named}
 use Rattle.ufs_model.specs.State.{State, changed_draft, draft_of, is_running, named, seen}
 use Rattle.ufs_model.specs.Next.{next}
 use Rattle.ufs_model.specs.declared.asked.Event.TheVariants as events
 use Rattle.index_ops.specs.Changes.{index_with}
 use Rattle.cfs_core.specs.Calls.{looked}
 use Rattle.ufs_model.proofs.WellStates.{put_object-at, seen_object}
-use Rattle.cfs_core.specs.Looks.{counted, unfit_of}
-use Rattle.cfs_core.specs.Ways.{Reaches}
+use Rattle.cfs_core.specs.Looks.{content_of, counted, measured}
+use Rattle.cfs_core.specs.Makes.{file_kind}
+use Rattle.cfs_core.specs.Ways.{Reaches, unfit_of}
 
 -- ---- the state with another object in the place of one
 
@@ -42,14 +45,26 @@ pub record Puts (s after : State) (id : Puid) (o : Object) : Type 0 where
   pub stopped : after.stopped ≡ s.stopped
   pub collection : after.collection ≡ s.collection
 
-pub index_there : (o : Option Object) → unfit_of (option_map kind_of o) ≡ None → (i : Index) × (o ≡ Some (objects.Index i))
-index_there None is = cc
-index_there (Some (objects.Index i)) is = (i, refl)
-index_there (Some (objects.File f)) is = absurd (at f.kind is)
+pub index_there : (o : Object) → unfit_of AnIndex (Some (kind_of o)) ≡ None → (i : Index) × (o ≡ objects.Index i)
+index_there (objects.Index i) is = (i, refl)
+index_there (objects.File f) is = absurd (at f.kind is)
   where
-    at : (k : FileKind) → unfit_of (Some (kind_of (objects.File (record f { kind = k })))) ≡ None → ⊥
+    at : (k : FileKind) → unfit_of AnIndex (Some (kind_of (objects.File (record f { kind = k })))) ≡ None → ⊥
     at file_kinds.Normal is = cc
     at file_kinds.Special is = cc
+
+pub file_there : (o : Object) → unfit_of AFile (Some (kind_of o)) ≡ None → (f : File) × (o ≡ objects.File f)
+file_there (objects.File f) is = (f, refl)
+file_there (objects.Index i) is = cc
+
+pub file_kind_is : (f : File) (kind : FileKind) → kind_of (objects.File f) ≡ file_kind kind → f.kind ≡ kind
+file_kind_is f kind is = at f.kind kind is
+  where
+    at : (a b : FileKind) → kind_of (objects.File (record f { kind = a })) ≡ file_kind b → a ≡ b
+    at file_kinds.Normal file_kinds.Normal is = refl
+    at file_kinds.Normal file_kinds.Special is = cc
+    at file_kinds.Special file_kinds.Normal is = cc
+    at file_kinds.Special file_kinds.Special is = refl
 
 -- ---- an index that is read
 
@@ -132,3 +147,16 @@ module _ (seed : ℕ) (s : State) (who : ℕ) (to : Ref) (index : Puid) (i : Ind
   pub retain_full : (slot free : ℕ) (id : Puid) → Reached (asks.Retain to slot id) → is_running s ≡ true → refusal_of s who (asks.Retain to slot id) ≡ None → free < 7
       → next seed s (events.Ask who (asks.Retain to slot id) (replies.Full (record { free = free; need = 3 }))) ≡ Some s
   retain_full slot free id r run goes few = let less : nat_lt free 7 ≡ true = grind (arith, nat_tests) in rw (run, goes, retain_need slot id r, less) refl
+
+-- ---- a file that is read
+
+module _ (seed : ℕ) (s : State) (who : ℕ) (to : Ref) (id : Puid) (f : File) where
+  pub size_seen : Reaches s who (asks.Size to) id (objects.File f) → IsSeen seed s who (asks.Size to) (measured f)
+  size_seen r = inr (r.rest, λ b. rw (r.bare, r.name, r.there) refl)
+
+  pub read_seen : (offset count : ℕ) → Reaches s who (asks.Read to offset count) id (objects.File f) → IsSeen seed s who (asks.Read to offset count) (content_of f offset count)
+  read_seen offset count r = at (is_range (length f.bytes) offset count) refl
+    where
+      at : (t : Bool) → is_range (length f.bytes) offset count ≡ t → IsSeen seed s who (asks.Read to offset count) (content_of f offset count)
+      at true is = inr (r.rest ∙ rw (r.bare, r.name, r.there, is) refl, λ b. rw (r.bare, r.name, r.there, is) refl)
+      at false is = inl (r.rest ∙ rw (r.bare, r.name, r.there, is) refl)

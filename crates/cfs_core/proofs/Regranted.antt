@@ -1,11 +1,12 @@
 -- Calls that change the grants alone, none of which has a draft.
 use Rattle.std.proofs.Common.{◌≡◌, ℕ, List, [], ◌∷◌, length, Bool, true, false, cond, ◌&&◌, Option, Some, None, is_none, refl, sym, ◌∙◌, ap, subst, inr, arith, ◌+◌}
-use Rattle.std.specs.Prelude.{filter, nat_le, not, ◌==◌}
+use Rattle.std.specs.Prelude.{filter, find, nat_le, not, ◌==◌}
 use Rattle.std.proofs.lemmas.Bool.Decides.{nat_tests}
 use Rattle.std.specs.List.{list_all}
 use Rattle.std.proofs.lemmas.Bool.{and_parts}
 use Rattle.cfs_base.specs.Disk.{Image}
 use Rattle.cfs_base.specs.declared.disk.Disk.{Ghosts}
+use Rattle.cfs_base.specs.declared.identifier.Tuid.{Tuid}
 use Rattle.intentions.specs.Store.{StoreHas}
 use Rattle.open_table.specs.declared.grant.Grant as seats
 use Rattle.open_table.specs.Model.{table_of}
@@ -20,7 +21,7 @@ use Rattle.ufs_model.specs.declared.object.Draft.{Draft}
 use Rattle.ufs_model.specs.declared.object.Grant.{Grant}
 use Rattle.ufs_model.specs.Graph.{Graph}
 use Rattle.ufs_model.specs.Next.{next}
-use Rattle.ufs_model.specs.State.{State, after_leave}
+use Rattle.ufs_model.specs.State.{State, after_leave, is_grant}
 use Rattle.ufs_model.specs.WellFormed.{IsState}
 use Rattle.ufs_model.proofs.WellStates.{leave_keeps}
 use Rattle.vol_owners.specs.Account.{IsSwept, Opened}
@@ -67,6 +68,20 @@ bare_there ds (g ∷ gs) (grant ∷ grants) are = at (bare_there ds gs grants ar
     at : are_bare grants ≡ true → (d : Option Draft) → HasDraftOf ds (record { grant = g; drafting = None }) None d → (is_none d && are_bare grants) ≡ true
     at rest None has = rest
     at rest (Some d) has = absurd has
+
+-- one that is found has none
+pub found_bare : (who : ℕ) (t : Tuid) (x : Grant) (grants : List Grant) → find (is_grant who t) grants ≡ Some x → are_bare grants ≡ true → x.draft ≡ None
+found_bare who t x [] is bare = cc
+found_bare who t x (y ∷ grants) is bare =
+    let two = and_parts (is_none y.draft) (are_bare grants) bare in
+    elim (is_grant who t y) as (λ b. cond b (Some y) (find (is_grant who t) grants) ≡ Some x → x.draft ≡ None) [
+      | true ↦ λ h. (let same : y ≡ x = cc in none_of x.draft (subst (λ (z : Grant). is_none z.draft ≡ true) same two.0))
+      | false ↦ λ h. found_bare who t x grants h two.1
+    ] is
+  where
+    none_of : (d : Option Draft) → is_none d ≡ true → d ≡ None
+    none_of None is = refl
+    none_of (Some d) is = cc
 
 -- and those that it has for grants without drafts are theirs
 pub bare_drafts : (ds : List Opened) (grants : List Grant) → are_bare grants ≡ true → AreDraftsOf ds (bare_seats (table_of grants)) grants

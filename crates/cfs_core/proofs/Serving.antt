@@ -81,6 +81,17 @@ module _ {D : Type 0} (g : Ghosts D) (k : Kernel D) (s : State) (serves : Serves
   pub kind_there : (id : Puid) → kind_in k.names.named id ≡ option_map kind_of (object_at s.graph id)
   kind_there id = ap (λ named. kind_in named id) serves.front.names ∙ kind_in-kinds_in s.graph.objects id
 
+  pub object_listed : (id : Puid) (kind : Kind) → kind_in k.names.named id ≡ Some kind → (o : Object) × (object_at s.graph id ≡ Some o)
+  object_listed id kind listed = at (object_at s.graph id) (sym (kind_there id) ∙ listed)
+    where
+      at : (found : Option Object) → option_map kind_of found ≡ Some kind → (o : Object) × (found ≡ Some o)
+      at None is = cc
+      at (Some o) is = (o, refl)
+
+  -- an object that is there is of the kind that is listed
+  pub kind_is : (id : Puid) (o : Object) (kind : Kind) → kind_in k.names.named id ≡ Some kind → object_at s.graph id ≡ Some o → kind_of o ≡ kind
+  kind_is id o kind listed there = let same : Some (kind_of o) ≡ Some kind = sym (ap (option_map kind_of) there) ∙ sym (kind_there id) ∙ listed in cc
+
   pub there_is : (id : Puid) → is_there s.graph id ≡ is_some (kind_in k.names.named id)
   there_is id = sym (ap is_some (kind_there id) ∙ at (object_at s.graph id))
     where

@@ -15,7 +15,8 @@ use Rattle.ufs_model.specs.declared.asked.Ref.TheVariants.{Direct, Through}
 use Rattle.ufs_model.specs.declared.asked.Reply.{Reply}
 use Rattle.ufs_model.specs.declared.asked.Reply.TheVariants as replies
 use Rattle.ufs_model.specs.declared.asked.Request.{Request}
-use Rattle.ufs_model.specs.declared.asked.Wanted.TheVariants.{AnIndex}
+use Rattle.ufs_model.specs.declared.asked.Wanted.{Wanted}
+use Rattle.ufs_model.specs.declared.asked.Wanted.TheVariants.{AFile, AnIndex, Either}
 use Rattle.ufs_model.specs.declared.object.Draft.{Draft}
 use Rattle.ufs_model.specs.declared.object.Grant.{Grant}
 use Rattle.ufs_model.specs.declared.object.Index.{Index}
@@ -23,18 +24,17 @@ use Rattle.ufs_model.specs.declared.object.Object.{Object}
 use Rattle.ufs_model.specs.declared.object.Object.TheVariants as objects
 use Rattle.ufs_model.specs.Graph.{Graph, object_at}
 use Rattle.ufs_model.specs.Identifier.{same_puid}
-use Rattle.ufs_model.specs.Refusal.{first_of, goes_nowhere, goes_through_reading, has_no_such_grant, is_for_reading, meets_a_grant, refusal_of}
+use Rattle.ufs_model.specs.Refusal.{first_of, goes_nowhere, goes_through_reading, has_no_such_grant, is_for_reading, is_unwanted_file, is_unwanted_index, meets_a_grant, refusal_of, target}
 use Rattle.ufs_model.specs.State.{State, draft_of, grant_of, named, object_of}
 use Rattle.ufs_model.specs.WellFormed.{IsState, is_grant_in, is_open_so}
-use Rattle.ufs_model.proofs.WellStates.{Goes, ToDraft, ToObject, goes, grant_found, open_there}
+use Rattle.ufs_model.proofs.WellStates.{grant_found, open_there}
 use Rattle.vol_image.proofs.Reached.{same_puid_is}
 use Rattle.vol_owners.specs.Account.{Opened, drafts_of}
 use Rattle.cfs_core.specs.declared.way.Way.{Way}
 use Rattle.cfs_core.specs.Kernel.{Seat, bare_seats}
-use Rattle.cfs_core.specs.Looks.{unfit_of}
 use Rattle.cfs_core.specs.Room.{draft_blocks}
 use Rattle.cfs_core.specs.StandsFor.{AreDraftsOf, HasDraftOf, bare, drafts_of_seats}
-use Rattle.cfs_core.specs.Ways.{GoesBy, Reaches, is_gone, on_the_way, once_there, reads_by}
+use Rattle.cfs_core.specs.Ways.{Arrives, GoesBy, Reaches, is_gone, on_the_way, once_there, reads_by, unfit_of}
 
 -- ---- the first that holds of more conditions
 
@@ -112,16 +112,31 @@ reads_of found (Some g) is = ap reads_by is
 
 -- ---- a request on its way
 
-module _ (s : State) (who : ℕ) (request : Request) (way : Way) (goes_by : GoesBy request AnIndex way) where
-  pub refused_way : (reply : Reply) → first_of (on_the_way s who AnIndex way) ≡ Some reply → refusal_of s who request ≡ Some reply
-  refused_way reply is = ap first_of (goes_by.each s who) ∙ first_held (on_the_way s who AnIndex way) (once_there s who request) reply is
+module _ (s : State) (who : ℕ) (request : Request) (wants : Wanted) (way : Way) (goes_by : GoesBy request wants way) where
+  pub refused_way : (reply : Reply) → first_of (on_the_way s who wants way) ≡ Some reply → refusal_of s who request ≡ Some reply
+  refused_way reply is = ap first_of (goes_by.each s who) ∙ first_held (on_the_way s who wants way) (once_there s who request) reply is
 
-  pub open_way : first_of (on_the_way s who AnIndex way) ≡ None → refusal_of s who request ≡ first_of (once_there s who request)
-  open_way is = ap first_of (goes_by.each s who) ∙ first_later (on_the_way s who AnIndex way) (once_there s who request) is
+  open_way : first_of (on_the_way s who wants way) ≡ None → refusal_of s who request ≡ first_of (once_there s who request)
+  open_way is = ap first_of (goes_by.each s who) ∙ first_later (on_the_way s who wants way) (once_there s who request) is
 
-module _ (s : State) (who : ℕ) (way : Way) where
+-- the kind of what is there tells whether it is wanted
+kind_tells : (wants : Wanted) (o : Object) → first_of ((is_unwanted_file wants (Some o), replies.NotIndex) ∷ (is_unwanted_index wants (Some o), replies.NotFile) ∷ []) ≡ unfit_of wants (Some (kind_of o))
+kind_tells AnIndex (objects.Index i) = refl
+kind_tells AFile (objects.Index i) = refl
+kind_tells Either (objects.Index i) = refl
+kind_tells wants (objects.File f) = at wants f.kind
+  where
+    at : (w : Wanted) (k : FileKind) → first_of ((is_unwanted_file w (Some (objects.File f)), replies.NotIndex) ∷ (is_unwanted_index w (Some (objects.File f)), replies.NotFile) ∷ []) ≡ unfit_of w (Some (kind_of (objects.File (record f { kind = k }))))
+    at AnIndex file_kinds.Normal = refl
+    at AnIndex file_kinds.Special = refl
+    at AFile file_kinds.Normal = refl
+    at AFile file_kinds.Special = refl
+    at Either file_kinds.Normal = refl
+    at Either file_kinds.Special = refl
+
+module _ (s : State) (who : ℕ) (wants : Wanted) (way : Way) where
   abbrev refusal : Option Reply
-  refusal = first_of (on_the_way s who AnIndex way)
+  refusal = first_of (on_the_way s who wants way)
 
   pub no_name : named s who way.to ≡ None → refusal ≡ Some replies.NoGrant
   no_name is = rw (at way.to is) refl
@@ -169,44 +184,53 @@ module _ (s : State) (who : ℕ) (way : Way) where
     somewhere o (Direct x) is there = let same : id ≡ x = cc in ap (λ y. not (is_some (object_at s.graph y))) (sym same) ∙ ap (λ o. not (is_some o)) there
     somewhere o (Through t) is there = refl
 
-    pub unfit_on_way : is_gone s way.also ≡ false → (reply : Reply) → unfit_of (option_map kind_of (object_at s.graph id)) ≡ Some reply → refusal ≡ Some reply
-    unfit_on_way also reply is = at (object_at s.graph id) refl is
-      where
-        at : (o : Option Object) → object_at s.graph id ≡ o → unfit_of (option_map kind_of o) ≡ Some reply → refusal ≡ Some reply
-        at None there h = rw (granted way.to name, nowhere way.to name there) h
-        at (Some (objects.Index i)) there h = cc
-        at (Some (objects.File f)) there h = file f.kind refl
-          where
-            told : unfit_of (Some (kind_of (objects.File f))) ≡ Some reply → Some replies.NotIndex ≡ Some reply → refusal ≡ Some reply
-            told k same = rw (granted way.to name, somewhere (objects.File f) way.to name there, also, named_object, there) same
+    module _ (also : is_gone s way.also ≡ false) where
+      pub unfit_on_way : (reply : Reply) → unfit_of wants (option_map kind_of (object_at s.graph id)) ≡ Some reply → refusal ≡ Some reply
+      unfit_on_way reply is = at (object_at s.graph id) refl is
+        where
+          at : (o : Option Object) → object_at s.graph id ≡ o → unfit_of wants (option_map kind_of o) ≡ Some reply → refusal ≡ Some reply
+          at None there h = rw (granted way.to name, nowhere way.to name there) h
+          at (Some o) there h = rw (granted way.to name, somewhere o way.to name there, also, named_object, there)
+              (first_held ((is_unwanted_file wants (Some o), replies.NotIndex) ∷ (is_unwanted_index wants (Some o), replies.NotFile) ∷ [])
+              ((way.changes && goes_through_reading s who way.to, replies.ReadOnly) ∷ (meets_a_grant s way.changes way.to, replies.Locked) ∷ []) reply (kind_tells wants o ∙ h))
 
-            file : (k : FileKind) → f.kind ≡ k → refusal ≡ Some reply
-            file file_kinds.Normal kind = told h (let same : Some replies.NotIndex ≡ Some reply = subst (λ x. unfit_of (Some (kind_of (objects.File (record f { kind = x })))) ≡ Some reply) kind h in same)
-            file file_kinds.Special kind = told h (let same : Some replies.NotIndex ≡ Some reply = subst (λ x. unfit_of (Some (kind_of (objects.File (record f { kind = x })))) ≡ Some reply) kind h in same)
+      module _ (o : Object) (there : object_at s.graph id ≡ Some o) (fit : unfit_of wants (Some (kind_of o)) ≡ None) where
+        -- then the last two conditions are left
+        left : refusal ≡ first_of ((way.changes && goes_through_reading s who way.to, replies.ReadOnly) ∷ (meets_a_grant s way.changes way.to, replies.Locked) ∷ [])
+        left = rw (granted way.to name, somewhere o way.to name there, also, named_object, there)
+            (first_later ((is_unwanted_file wants (Some o), replies.NotIndex) ∷ (is_unwanted_index wants (Some o), replies.NotFile) ∷ [])
+            ((way.changes && goes_through_reading s who way.to, replies.ReadOnly) ∷ (meets_a_grant s way.changes way.to, replies.Locked) ∷ []) (kind_tells wants o ∙ fit))
 
-    module _ (also : is_gone s way.also ≡ false) (i : Index) (there : object_at s.graph id ≡ Some (objects.Index i)) where
-      pub read_only : (way.changes && goes_through_reading s who way.to) ≡ true → refusal ≡ Some replies.ReadOnly
-      read_only both = rw (granted way.to name, somewhere (objects.Index i) way.to name there, also, named_object, there, both) refl
+        pub read_only : (way.changes && goes_through_reading s who way.to) ≡ true → refusal ≡ Some replies.ReadOnly
+        read_only both = left ∙ rw both refl
 
-      module _ (writes : (way.changes && goes_through_reading s who way.to) ≡ false) where
-        pub locked : meets_a_grant s way.changes way.to ≡ true → refusal ≡ Some replies.Locked
-        locked met = rw (granted way.to name, somewhere (objects.Index i) way.to name there, also, named_object, there, writes, met) refl
+        module _ (writes : (way.changes && goes_through_reading s who way.to) ≡ false) where
+          pub locked : meets_a_grant s way.changes way.to ≡ true → refusal ≡ Some replies.Locked
+          locked met = left ∙ rw (writes, met) refl
 
-        pub free_way : meets_a_grant s way.changes way.to ≡ false → refusal ≡ None
-        free_way met = rw (granted way.to name, somewhere (objects.Index i) way.to name there, also, named_object, there, writes, met) refl
+          pub arrives : meets_a_grant s way.changes way.to ≡ false → (request : Request) → GoesBy request wants way → Arrives s who request id o
+          arrives met request by = record {
+            there = there;
+            name = ap (named s who) by.to ∙ sym name;
+            rest = open_way s who request wants way by (left ∙ rw (writes, met) refl);
+          }
 
-      no_draft : (ref : Ref) → Some id ≡ named s who ref → Goes s who ref → draft_of s who ref ≡ None
-      no_draft ref is (ToObject x o n none at) = none
-      no_draft ref is (ToDraft t g d found has) =
-          let same : id ≡ g.id = (let both : Some id ≡ Some g.id = is ∙ ap (option_and_then (λ (x : Grant). Some x.id)) found in cc) in
-          let here : object_at s.graph g.id ≡ Some (objects.Index i) = ap (object_at s.graph) (sym same) ∙ there in
-          let so : is_open_so (object_at s.graph g.id) (Some d) ≡ true = subst (λ o. is_open_so (object_at s.graph g.id) o ≡ true) has (grant_found s who t g state found).1 in
-          let no : false ≡ true = subst (λ o. is_open_so o (Some d) ≡ true) here so in cc
+-- ---- an object that is reached, without a draft
 
-      pub reaches : (request : Request) → GoesBy request AnIndex way → refusal ≡ None → Reaches s who request id (objects.Index i)
-      reaches request by clear = record {
-        there = there;
-        name = ap (named s who) by.to ∙ sym name;
-        bare = ap (draft_of s who) by.to ∙ no_draft way.to name (goes s who way.to state (granted way.to name) (somewhere (objects.Index i) way.to name there));
-        rest = open_way s who request way by clear;
-      }
+-- through no reference an index has a draft
+pub no_draft : (s : State) (who : ℕ) (ref : Ref) (id : Puid) (i : Index) → IsState s → named s who ref ≡ Some id → object_at s.graph id ≡ Some (objects.Index i) → draft_of s who ref ≡ None
+no_draft s who (Direct x) id i state name there = refl
+no_draft s who (Through t) id i state name there = at (grant_of s who t) refl name
+  where
+    none : (d : Option Draft) → is_open_so (Some (objects.Index i)) d ≡ true → d ≡ None
+    none None so = refl
+    none (Some d) so = cc
+
+    at : (o : Option Grant) → grant_of s who t ≡ o → option_and_then (λ (g : Grant). Some g.id) o ≡ Some id → option_and_then (λ (g : Grant). g.draft) o ≡ None
+    at None found is = refl
+    at (Some g) found is =
+        let same : g.id ≡ id = cc in
+        none g.draft (subst (λ o. is_open_so o g.draft ≡ true) (ap (object_at s.graph) same ∙ there) (grant_found s who t g state found).1)
+
+pub reaches : (s : State) (who : ℕ) (request : Request) (id : Puid) (o : Object) → Arrives s who request id o → draft_of s who (target request) ≡ None → Reaches s who request id o
+reaches s who request id o arrives bare = record { there = arrives.there; name = arrives.name; bare = bare; rest = arrives.rest }

@@ -55,10 +55,11 @@ pub record Happens {D : Type 0} (g : Ghosts D) (old new : Kernel D) (s : State) 
   pub survives : Survived g old.words.seed s e old.disk new.disk
 
 -- A device call failed in this call. With a doubt something had been tried, and the moment is the one before that which the
--- disk has now.
+-- disk has now. A core that runs tells no stop.
 abbrev pub IsToldCause : {D : Type 0} → Ghosts D → D → D → Reply → Type 0
 IsToldCause g old new (replies.Disk None) = HasStopped g false old new
 IsToldCause g old new (replies.Disk (Some moment)) = HasStopped g true old new × (moment ≡ g.moment new - 1)
+IsToldCause g old new (replies.Stopped moment) = ⊥
 IsToldCause g old new reply = Unit {0}
 
 pub record Asks {D : Type 0} (g : Ghosts D) (old new : Kernel D) (who : ℕ) (request : Request) (reply : Reply) : Type 0 where
@@ -75,6 +76,7 @@ pub record Asks {D : Type 0} (g : Ghosts D) (old new : Kernel D) (who : ℕ) (re
   pub cause : old.stop ≡ None → IsToldCause g old.disk new.disk reply
   -- on any disk
   pub size : g.blocks new.disk ≡ g.blocks old.disk
+  pub faults : g.faults old.disk ≤ g.faults new.disk
   pub short : IsShortContent reply
   pub seed : new.words.seed ≡ old.words.seed
   pub kept : old.words.drawn ≤ new.words.drawn

@@ -45,9 +45,9 @@ serves (asks.Slots index) = true
 serves (asks.OpenFor id modes.Reading) = true
 serves (asks.OpenFor id modes.Writing) = false
 serves (asks.Close grant commit) = true
-serves (asks.Read file offset count) = false
+serves (asks.Read file offset count) = true
 serves (asks.Write file offset bytes) = false
-serves (asks.Size file) = false
+serves (asks.Size file) = true
 serves (asks.Resize file size) = false
 
 -- ---- replies
@@ -138,6 +138,7 @@ pub record Tries {D : Type 0} (g : Ghosts D) (old new : Kernel D) (who : ℕ) (r
   pub plain : IfOk result IsPlainReply
   pub cause : IfErr result (IsCause g old.disk new.disk)
   pub size : g.blocks new.disk ≡ g.blocks old.disk
+  pub faults : g.faults old.disk ≤ g.faults new.disk
   pub stop : new.stop ≡ old.stop
   pub seed : new.words.seed ≡ old.words.seed
   pub kept : old.words.drawn ≤ new.words.drawn
@@ -150,6 +151,7 @@ pub record TriesOn {D : Type 0} (g : Ghosts D) (old new : Kernel D) (index : Pui
   pub plain : IfOk result IsPlainReply
   pub cause : IfErr result (IsCause g old.disk new.disk)
   pub size : g.blocks new.disk ≡ g.blocks old.disk
+  pub faults : g.faults old.disk ≤ g.faults new.disk
   pub stop : new.stop ≡ old.stop
   pub seed : new.words.seed ≡ old.words.seed
   pub kept : old.words.drawn ≤ new.words.drawn

@@ -1,50 +1,68 @@
--- Reads of an index.
-use Rattle.std.specs.Prelude.{◌≡◌, ℕ, false, List, length, IfErr, Result, Option, Some, None}
+-- Reads of an object.
+use Rattle.std.specs.Prelude.{◌≡◌, ℕ, ◌+◌, false, List, [], length, slice_range, if◌then◌else◌, IfErr, Result, Some}
 use Rattle.cfs_base.specs.Calls.{HasStopped, OnlyReads}
 use Rattle.cfs_base.specs.declared.disk.Disk.{Ghosts}
 use Rattle.cfs_base.specs.declared.identifier.Puid.{Puid}
-use Rattle.cfs_base.specs.declared.kind.Kind.{Kind}
-use Rattle.cfs_base.specs.declared.kind.Kind.TheVariants as kinds
-use Rattle.cfs_base.specs.declared.refusal.Trouble.{Trouble}
-use Rattle.cfs_base.specs.declared.refusal.Trouble.TheVariants as trouble
+use Rattle.cfs_base.specs.declared.refusal.Refused.{Refused}
+use Rattle.cfs_base.specs.declared.refusal.Refused.TheVariants as refusals
 use Rattle.cyl_alloc.specs.Space.{Kept}
 use Rattle.intentions.specs.Store.{StoreHas}
-use Rattle.special_files.specs.Refusal.{is_damage}
+use Rattle.special_files.specs.Refusal.{is_damaged}
 use Rattle.ufs_model.specs.declared.asked.Reply.{Reply}
 use Rattle.ufs_model.specs.declared.asked.Reply.TheVariants as replies
+use Rattle.ufs_model.specs.declared.asked.Request.{Request}
+use Rattle.ufs_model.specs.declared.object.File.{File}
 use Rattle.ufs_model.specs.declared.object.Index.{Index}
-use Rattle.ufs_model.specs.declared.object.Object.TheVariants as objects
+use Rattle.ufs_model.specs.declared.object.Object.{Object}
 use Rattle.ufs_model.specs.Graph.{Graph, object_at}
-use Rattle.vol_owners.specs.Account.{Opened}
+use Rattle.ufs_model.specs.Refusal.{is_range}
+use Rattle.ufs_model.specs.State.{State}
+use Rattle.vol_owners.specs.Account.{Opened, drafts_of}
+use Rattle.cfs_core.specs.Kernel.{Kernel}
+use Rattle.cfs_core.specs.StandsFor.{Serves, drafts_of_seats}
+use Rattle.cfs_core.specs.Ways.{Reaches}
 
--- the store has this index at the block
-pub record Knows {D : Type 0} (g : Ghosts D) (d : D) (at : ℕ) (i : Index) : Type 0 where
+-- ---- an object that is reached
+
+-- Whatever the core stands for, the request reaches such an object, of which there is no draft.
+abbrev pub ReachesAll : {D A : Type 0} → Ghosts D → (A → Object) → Kernel D → ℕ → Request → Puid → Type 0
+ReachesAll {A = A} g sort k who request id = (s : State) → Serves g k s → (a : A) × Reaches s who request id (sort a) × (drafts_of (drafts_of_seats k.seats s.grants) id ≡ [])
+
+-- the store has this object, its root is at the block, and it has no draft
+pub record Knows {D : Type 0} (g : Ghosts D) (d : D) (at : ℕ) (o : Object) : Type 0 where
   pub graph : Graph
   pub drafts : List Opened
   pub space : Kept
   pub id : Puid
   pub store : StoreHas g graph drafts d space
   pub root : id.block ≡ at
-  pub there : object_at graph id ≡ Some (objects.Index i)
+  pub there : object_at graph id ≡ Some o
+  pub shut : drafts_of drafts id ≡ []
 
--- a device call failed, and nothing had been tried
-abbrev pub IsCalmCause : {D : Type 0} → Ghosts D → D → D → Trouble → Type 0
-IsCalmCause g old new (trouble.Disk tried) = (tried ≡ false) × HasStopped g false old new
-IsCalmCause g old new (trouble.Damaged damage) = Unit {0}
+-- ---- calls that only read
 
--- a call that only reads, and meets no damage where the index is
-pub record IsCalm {D A : Type 0} (g : Ghosts D) (n at : ℕ) (old new : D) (result : Result A Trouble) : Type 0 where
+-- a device call failed, and nothing had been tried; or memory is wanted
+abbrev pub IsCalmCause : {D : Type 0} → Ghosts D → D → D → Refused → Type 0
+IsCalmCause g old new (refusals.Full need) = ⊥
+IsCalmCause g old new (refusals.Disk tried) = (tried ≡ false) × HasStopped g false old new
+IsCalmCause g old new (refusals.Damaged damage) = Unit {0}
+IsCalmCause g old new refusals.Memory = Unit {0}
+
+-- a call that only reads, and meets no damage where such an object is
+pub record IsCalm {D A B : Type 0} (g : Ghosts D) (sort : A → Object) (n at : ℕ) (old new : D) (result : Result B Refused) : Type 0 where
   pub reads : OnlyReads g n old new
-  pub sound : (i : Index) → Knows g old at i → IfErr result (λ t. is_damage t ≡ false)
+  pub sound : (a : A) → Knows g old at (sort a) → IfErr result (λ e. is_damaged e ≡ false)
   pub cause : IfErr result (IsCalmCause g old new)
 
--- the number of slots, as a reply
+-- ---- what is read, as a reply
+
+-- the number of slots, and the size
 abbrev pub counted : Index → Reply
 counted i = replies.Number (length i.slots)
 
--- the refusal of a request on an index that names an object of this kind, or none
-abbrev pub unfit_of : Option Kind → Option Reply
-unfit_of None = Some replies.NoObject
-unfit_of (Some kinds.Index) = None
-unfit_of (Some kinds.Normal) = Some replies.NotIndex
-unfit_of (Some kinds.Special) = Some replies.NotIndex
+abbrev pub measured : File → Reply
+measured f = replies.Number (length f.bytes)
+
+-- 1 to 4,096 bytes from an offset on, within the size
+abbrev pub content_of : File → ℕ → ℕ → Reply
+content_of f offset count = if is_range (length f.bytes) offset count then replies.Content (slice_range f.bytes offset (offset + count)) else replies.Range

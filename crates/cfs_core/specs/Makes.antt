@@ -54,6 +54,7 @@ pub record TriesToMake {D : Type 0} (g : Ghosts D) (old new : Kernel D) (index :
   pub plain : IfOk result IsPlainReply
   pub cause : IfErr result (IsCause g old.disk new.disk)
   pub size : g.blocks new.disk ≡ g.blocks old.disk
+  pub faults : g.faults old.disk ≤ g.faults new.disk
   pub stop : new.stop ≡ old.stop
   pub seed : new.words.seed ≡ old.words.seed
   pub kept : old.words.drawn ≤ new.words.drawn

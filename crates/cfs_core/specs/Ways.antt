@@ -1,11 +1,14 @@
 -- How a request goes to what it names, and when it is refused on the way.
 use Rattle.std.specs.Prelude.{◌≡◌, ℕ, Bool, false, not, ◌&&◌, ◌||◌, List, [], ◌∷◌, ◌++◌, Option, Some, None}
 use Rattle.cfs_base.specs.declared.identifier.Puid.{Puid}
+use Rattle.cfs_base.specs.declared.kind.Kind.{Kind}
+use Rattle.cfs_base.specs.declared.kind.Kind.TheVariants as kinds
 use Rattle.open_table.specs.declared.grant.Grant.{Grant}
 use Rattle.ufs_model.specs.declared.asked.Reply.{Reply}
 use Rattle.ufs_model.specs.declared.asked.Reply.TheVariants as replies
 use Rattle.ufs_model.specs.declared.asked.Request.{Request}
 use Rattle.ufs_model.specs.declared.asked.Wanted.{Wanted}
+use Rattle.ufs_model.specs.declared.asked.Wanted.TheVariants.{AnIndex, AFile, Either}
 use Rattle.ufs_model.specs.declared.object.Object.{Object}
 use Rattle.ufs_model.specs.Graph.{is_there, object_at}
 use Rattle.ufs_model.specs.Refusal.{conditions, finds_empty, first_of, goes_nowhere, goes_through_reading, has_all_grants, has_no_slot, has_no_such_grant, is_out_of_range, is_reading, is_unwanted_file, is_unwanted_index, meets_a_grant, refusal_of, target}
@@ -47,7 +50,24 @@ pub record GoesBy (request : Request) (wants : Wanted) (way : Way) : Type 0 wher
   pub to : target request ≡ way.to
   pub each : (s : State) (who : ℕ) → conditions s who request ≡ on_the_way s who wants way ++ once_there s who request
 
--- It reaches this object, which has no draft through its reference: it is refused for nothing but what is there.
+-- the refusal of a request that wants something else than an object of this kind, or none, if it is one
+abbrev pub unfit_of : Wanted → Option Kind → Option Reply
+unfit_of wants None = Some replies.NoObject
+unfit_of AnIndex (Some kinds.Index) = None
+unfit_of AnIndex (Some kinds.Normal) = Some replies.NotIndex
+unfit_of AnIndex (Some kinds.Special) = Some replies.NotIndex
+unfit_of AFile (Some kinds.Index) = Some replies.NotFile
+unfit_of AFile (Some kinds.Normal) = None
+unfit_of AFile (Some kinds.Special) = None
+unfit_of Either (Some kind) = None
+
+-- It comes to this object: it is refused for nothing but what is there.
+pub record Arrives (s : State) (who : ℕ) (request : Request) (id : Puid) (o : Object) : Type 0 where
+  pub there : object_at s.graph id ≡ Some o
+  pub name : named s who (target request) ≡ Some id
+  pub rest : refusal_of s who request ≡ first_of (once_there s who request)
+
+-- It reaches this object, which has no draft through its reference.
 pub record Reaches (s : State) (who : ℕ) (request : Request) (id : Puid) (o : Object) : Type 0 where
   pub there : object_at s.graph id ≡ Some o
   pub name : named s who (target request) ≡ Some id

@@ -53,6 +53,12 @@ impl<D: Disk> Core<D> {
                 Mode::Writing => Ok(Reply::NoGrant),
             },
             Request::Close { grant, commit } => Ok(self.close(who, *grant, *commit)),
+            Request::Read {
+                file,
+                offset,
+                count,
+            } => self.read(alloc, who, *file, *offset, *count),
+            Request::Size { file } => self.size(who, *file),
             _ => Ok(Reply::NoGrant),
         }
     }

@@ -47,7 +47,7 @@ impl<D: Disk> Core<D> {
         match has_slot(&mut self.disk, BlockNo(index.block), slot) {
             Ok(true) => self.put(alloc, index, slot, id),
             Ok(false) => Ok(Reply::Slot),
-            Err(trouble) => Err(Refused::from(trouble)),
+            Err(refused) => Err(refused),
         }
     }
 
@@ -78,7 +78,7 @@ impl<D: Disk> Core<D> {
                     Ok(reply)
                 }
             }
-            Err(trouble) => Err(Refused::from(trouble)),
+            Err(refused) => Err(refused),
         }
     }
 

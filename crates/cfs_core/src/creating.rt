@@ -50,7 +50,7 @@ impl<D: Disk> Core<D> {
         match has_slot(&mut self.disk, BlockNo(index.block), slot) {
             Ok(true) => self.make(alloc, index, slot, kind_of(kind), fill, 0),
             Ok(false) => Ok(Reply::Slot),
-            Err(trouble) => Err(Refused::from(trouble)),
+            Err(unread) => Err(unread),
         }
     }
 
@@ -83,7 +83,7 @@ impl<D: Disk> Core<D> {
                 self.make(alloc, index, slot, Kind::Index, 0, 8 * slots)
             }
             Ok(false) => Ok(Reply::Slot),
-            Err(trouble) => Err(Refused::from(trouble)),
+            Err(unread) => Err(unread),
         }
     }
 

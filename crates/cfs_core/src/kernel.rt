@@ -149,6 +149,13 @@ impl<D: Disk> Core<D> {
         self.words.drawn()
     }
 
+    /// The identifier of the root index.
+    pub fn root(&self) -> Puid
+        ensures { result ≡ self.now.root }
+    {
+        self.root
+    }
+
     /// The disk.
     pub fn into_disk(self) -> D
         ensures { result ≡ self.disk }

@@ -9,6 +9,7 @@ mod granting;
 mod kernel;
 mod looking;
 mod opening;
+mod reading;
 mod way;
 
 pub use kernel::{Core, Halt, Status, Stop};

@@ -1,29 +1,29 @@
 //! Requests that read an index.
-ghost use Rattle.std.specs.Prelude.{◌≡◌, ◌≢◌, ◌<◌, nat_lt, length, true, IfOk, None};
+ghost use Rattle.std.specs.Prelude.{◌≡◌, ◌<◌, nat_lt, length, true, IfOk};
 ghost use Rattle.cfs_core.specs.Calls.{Tries, looked};
-ghost use Rattle.cfs_core.specs.Looks.{IsCalm, Knows, counted, unfit_of};
-ghost use Rattle.puid_space.specs.Directory.{kind_in};
+ghost use Rattle.cfs_core.specs.Looks.{IsCalm, Knows, counted};
 ghost use Rattle.ufs_model.specs.declared.asked.Request.TheVariants as asks;
 ghost use Rattle.ufs_model.specs.Plain.{IsPlainReply, is_id};
 ghost use Rattle.ufs_model.specs.declared.object.Index.{Index};
+ghost use Rattle.ufs_model.specs.declared.object.Object.TheVariants as objects;
 
 use crate::kernel::Core;
 use crate::way::Way;
-use cfs_base::{BlockNo, Disk, Kind, Puid, Refused, Session, Trouble};
+use cfs_base::{BlockNo, Disk, Refused, Session};
 use index_ops::{retrieve, slots};
 use ufs_model::{Ref, Reply};
 
 /// What a slot of the index at a block holds, as a reply: `Slot` where it has no such slot, `Empty` where it holds nothing.
-pub(crate) fn look<D: Disk>(disk: &mut D, index: BlockNo, slot: u64) -> Result<Reply, Trouble>
+pub(crate) fn look<D: Disk>(disk: &mut D, index: BlockNo, slot: u64) -> Result<Reply, Refused>
     requires { index.0 < D.blocks disk.old }
-    ensures exact { (i : Index) → Knows D.Disk disk.old index.0 i → IfOk result (λ reply. reply ≡ looked i slot) }
+    ensures exact { (i : Index) → Knows D.Disk disk.old index.0 (objects.Index i) → IfOk result (λ reply. reply ≡ looked i slot) }
     ensures few { IfOk result (λ reply. is_id reply ≡ true → slot < 983040) }
     ensures plain { IfOk result IsPlainReply }
-    ensures calm { IsCalm D.Disk 4 index.0 disk.old disk.new result }
+    ensures calm { IsCalm D.Disk objects.Index 4 index.0 disk.old disk.new result }
 {
     let count = match slots(disk, index) {
         Ok(count) => count,
-        Err(trouble) => return Err(trouble),
+        Err(trouble) => return Err(Refused::from(trouble)),
     };
     if slot >= count {
         return Ok(Reply::Slot);
@@ -31,50 +31,37 @@ pub(crate) fn look<D: Disk>(disk: &mut D, index: BlockNo, slot: u64) -> Result<R
     match retrieve(disk, index, slot) {
         Ok(Some(id)) => Ok(Reply::Id(id)),
         Ok(None) => Ok(Reply::Empty),
-        Err(trouble) => Err(trouble),
+        Err(trouble) => Err(Refused::from(trouble)),
     }
 }
 
 /// Whether the index at a block has such a slot.
-pub(crate) fn has_slot<D: Disk>(disk: &mut D, index: BlockNo, slot: u64) -> Result<bool, Trouble>
+pub(crate) fn has_slot<D: Disk>(disk: &mut D, index: BlockNo, slot: u64) -> Result<bool, Refused>
     requires { index.0 < D.blocks disk.old }
-    ensures exact { (i : Index) → Knows D.Disk disk.old index.0 i → IfOk result (λ has. has ≡ nat_lt slot (length i.slots)) }
+    ensures exact { (i : Index) → Knows D.Disk disk.old index.0 (objects.Index i) → IfOk result (λ has. has ≡ nat_lt slot (length i.slots)) }
     ensures few { IfOk result (λ has. has ≡ true → slot < 983040) }
-    ensures calm { IsCalm D.Disk 1 index.0 disk.old disk.new result }
+    ensures calm { IsCalm D.Disk objects.Index 1 index.0 disk.old disk.new result }
 {
     match slots(disk, index) {
         Ok(count) => Ok(slot < count),
-        Err(trouble) => Err(trouble),
+        Err(trouble) => Err(Refused::from(trouble)),
     }
 }
 
 /// How many slots the index at a block has, as a reply.
-fn count<D: Disk>(disk: &mut D, index: BlockNo) -> Result<Reply, Trouble>
+fn count<D: Disk>(disk: &mut D, index: BlockNo) -> Result<Reply, Refused>
     requires { index.0 < D.blocks disk.old }
-    ensures exact { (i : Index) → Knows D.Disk disk.old index.0 i → IfOk result (λ reply. reply ≡ counted i) }
+    ensures exact { (i : Index) → Knows D.Disk disk.old index.0 (objects.Index i) → IfOk result (λ reply. reply ≡ counted i) }
     ensures plain { IfOk result IsPlainReply }
-    ensures calm { IsCalm D.Disk 1 index.0 disk.old disk.new result }
+    ensures calm { IsCalm D.Disk objects.Index 1 index.0 disk.old disk.new result }
 {
     match slots(disk, index) {
         Ok(count) => Ok(Reply::Number(count)),
-        Err(trouble) => Err(trouble),
+        Err(trouble) => Err(Refused::from(trouble)),
     }
 }
 
 impl<D: Disk> Core<D> {
-    /// The refusal of a request on an index that names what is no index, if it is one.
-    pub(crate) fn unfit(&self, index: Puid) -> Option<Reply>
-        ensures unfit { result ≡ unfit_of (kind_in self.now.names.named index) }
-        ensures on_disk { result ≡ None → index.block < D.blocks self.now.disk }
-        ensures some { result ≡ None → index.block ≢ 0 }
-    {
-        match self.kind(index) {
-            None => Some(Reply::NoObject),
-            Some(Kind::Index) => None,
-            Some(_) => Some(Reply::NotIndex),
-        }
-    }
-
     /// The identifier in a slot.
     pub(crate) fn retrieve(&mut self, who: Session, to: Ref, slot: u64) -> Result<Reply, Refused>
         ensures { Tries D.Disk self.old self.new who (asks.Retrieve to slot) result }
@@ -88,10 +75,7 @@ impl<D: Disk> Core<D> {
             Ok(index) => index,
             Err(reply) => return Ok(reply),
         };
-        match look(&mut self.disk, BlockNo(index.block), slot) {
-            Ok(reply) => Ok(reply),
-            Err(trouble) => Err(Refused::from(trouble)),
-        }
+        look(&mut self.disk, BlockNo(index.block), slot)
     }
 
     /// The number of slots.
@@ -107,9 +91,6 @@ impl<D: Disk> Core<D> {
             Ok(index) => index,
             Err(reply) => return Ok(reply),
         };
-        match count(&mut self.disk, BlockNo(index.block)) {
-            Ok(reply) => Ok(reply),
-            Err(trouble) => Err(Refused::from(trouble)),
-        }
+        count(&mut self.disk, BlockNo(index.block))
     }
 }

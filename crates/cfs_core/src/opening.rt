@@ -1,5 +1,5 @@
 //! A volume opened.
-ghost use Rattle.std.specs.Prelude.{◌≡◌, ◌≢◌, ◌⊎◌, ◌+◌, ◌*◌, ◌/◌, ◌%◌, ◌≤◌, false, IfErr, IfOk, IsErr, IsTrue, OnOk, length};
+ghost use Rattle.std.specs.Prelude.{◌≡◌, ◌≢◌, ◌⊎◌, ◌+◌, ◌*◌, ◌/◌, ◌%◌, ◌≤◌, false, IfErr, IfOk, IsErr, IsTrue, None, OnOk, length};
 ghost use Rattle.cfs_base.specs.Calls.{HasFailed, MakesAtMost};
 ghost use Rattle.cfs_base.specs.Run.{Leaves};
 ghost use Rattle.cfs_recover.specs.Grounds.{IsOpenFault};
@@ -56,6 +56,8 @@ impl<D: Disk> Core<D> {
     pub fn open(alloc: Global, disk: D, seed: u64) -> Result<Core<D>, OpenFault<D>>
         ensures opened { IsTrue (D.honest disk) → (graph : Graph) → IsSoundAs (D.content disk) graph
             → IfOk result (IsOpened D.Disk graph seed) }
+        // Whatever disk it is, no word is drawn, and the core hasn't stopped.
+        ensures begins { IfOk result (λ core. (core.words ≡ record { seed = seed; drawn = 0 }) × (core.stop ≡ None)) }
         // A volume that isn't sound is refused for what is wrong with it, and a sound one for nothing of the kind.
         ensures sound { IsTrue (D.honest disk) → IfOk result (λ core. IsSound (D.content disk)) }
         ensures refused { IsTrue (D.honest disk) → IfErr result (λ e. IsOpenFault (D.content disk) e.why) }

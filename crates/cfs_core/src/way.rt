@@ -1,21 +1,27 @@
 //! How a request goes to what it names.
-ghost use Rattle.std.specs.Prelude.{◌≡◌, ◌≢◌, ◌<◌, ◌&&◌, false, IfErr, IfOk, if◌then◌else◌, is_some};
+ghost use Rattle.std.specs.Prelude.{◌≡◌, ◌≢◌, ◌<◌, ◌&&◌, ℕ, [], false, IfErr, IfOk, None, Some, if◌then◌else◌, is_some};
 ghost use Rattle.cfs_base.specs.declared.identifier.Puid.{Puid};
 ghost use Rattle.cfs_core.specs.Calls.{Tries};
-ghost use Rattle.cfs_core.specs.StandsFor.{Serves};
-ghost use Rattle.cfs_core.specs.Ways.{GoesBy, Reaches, is_gone, reads_by};
+ghost use Rattle.cfs_core.specs.Looks.{ReachesAll};
+ghost use Rattle.cfs_core.specs.StandsFor.{Serves, drafts_of_seats};
+ghost use Rattle.cfs_core.specs.Ways.{Arrives, GoesBy, is_gone, reads_by, unfit_of};
 ghost use Rattle.open_table.specs.Model.{is_writing};
+ghost use Rattle.puid_space.specs.Directory.{kind_in};
+ghost use Rattle.ufs_model.specs.Graph.{object_at};
 ghost use Rattle.ufs_model.specs.Refusal.{goes_through_reading, meets_a_grant};
-ghost use Rattle.ufs_model.specs.State.{State, named};
+ghost use Rattle.ufs_model.specs.State.{State, draft_of, named};
+ghost use Rattle.ufs_model.specs.declared.asked.Ref as refs;
 ghost use Rattle.ufs_model.specs.declared.asked.Request.{Request};
-ghost use Rattle.ufs_model.specs.declared.asked.Wanted.TheVariants.{AnIndex};
-ghost use Rattle.ufs_model.specs.declared.object.Index.{Index};
+ghost use Rattle.ufs_model.specs.declared.asked.Wanted.TheVariants.{AFile, AnIndex};
+ghost use Rattle.ufs_model.specs.declared.object.File.{File};
+ghost use Rattle.ufs_model.specs.declared.object.Object.{Object};
 ghost use Rattle.ufs_model.specs.declared.object.Object.TheVariants as objects;
+ghost use Rattle.vol_owners.specs.Account.{drafts_of};
 
 use crate::kernel::Core;
-use cfs_base::{Disk, Mode, Puid, Session};
+use cfs_base::{Disk, FileKind, Kind, Mode, Puid, Session};
 use open_table::{Grant, table_follows_the_model};
-use ufs_model::{Ref, Reply};
+use ufs_model::{Ref, Reply, Wanted};
 
 /// What a request goes to, an object that it names besides, and whether it changes what is there.
 #[derive(Clone, Copy, Debug, PartialEq, Eq)]
@@ -32,10 +38,58 @@ impl<D: Disk> Core<D> {
         ensures refused { IfErr result (λ reply. (request : Request) → GoesBy request AnIndex way
             → Tries D.Disk self.now self.now who request (Ok reply)) }
         ensures reached { IfOk result (λ id. (request : Request) → GoesBy request AnIndex way
-            → (s : State) → Serves D.Disk self.now s → (i : Index) × Reaches s who request id (objects.Index i)) }
+            → ReachesAll D.Disk objects.Index self.now who request id) }
         ensures on_disk { IfOk result (λ id. id.block < D.blocks self.now.disk) }
         ensures some { IfOk result (λ id. id.block ≢ 0) }
         ensures also { IfOk result (λ id. (also : Puid) → way.also ≡ Some also → also.block ≢ 0) }
+    {
+        match self.object_at(who, way, Wanted::AnIndex) {
+            Ok((id, _)) => Ok(id),
+            Err(reply) => Err(reply),
+        }
+    }
+
+    /// The file that a request of a session goes to, and its kind, or its refusal on the way there. It has no draft. Its root
+    /// block is one of the disk's, and not block 0.
+    pub(crate) fn file_at(&self, who: Session, way: Way) -> Result<(Puid, FileKind), Reply>
+        ensures refused { IfErr result (λ reply. (request : Request) → GoesBy request AFile way
+            → Tries D.Disk self.now self.now who request (Ok reply)) }
+        ensures reached { IfOk result (λ two. (request : Request) → GoesBy request AFile way
+            → ReachesAll D.Disk objects.File self.now who request two.0) }
+        ensures kind { IfOk result (λ two. (s : State) (f : File) → Serves D.Disk self.now s
+            → object_at s.graph two.0 ≡ Some (objects.File f) → f.kind ≡ two.1) }
+        ensures on_disk { IfOk result (λ two. two.0.block < D.blocks self.now.disk) }
+        ensures some { IfOk result (λ two. two.0.block ≢ 0) }
+    {
+        self.has_no_draft();
+        match self.object_at(who, way, Wanted::AFile) {
+            Ok((id, Kind::Normal)) => Ok((id, FileKind::Normal)),
+            Ok((id, Kind::Special)) => Ok((id, FileKind::Special)),
+            Ok((_, Kind::Index)) => Err(Reply::NotFile),
+            Err(reply) => Err(reply),
+        }
+    }
+
+    /// No grant has a draft yet. This does nothing: it is a law.
+    fn has_no_draft(&self)
+        ensures bare { (s : State) (who : ℕ) (to : refs.Ref) → Serves D.Disk self.now s → draft_of s who to ≡ None }
+        ensures shut { (s : State) (id : Puid) → Serves D.Disk self.now s
+            → drafts_of (drafts_of_seats self.now.seats s.grants) id ≡ [] }
+    {
+        let _grants = &self.grants;
+    }
+
+    /// The object that a request of a session goes to, and its kind, which is wanted there, or its refusal on the way there.
+    fn object_at(&self, who: Session, way: Way, wants: Wanted) -> Result<(Puid, Kind), Reply>
+        ensures refused { IfErr result (λ reply. (request : Request) → GoesBy request wants way
+            → Tries D.Disk self.now self.now who request (Ok reply)) }
+        ensures arrived { IfOk result (λ two. (request : Request) → GoesBy request wants way
+            → (s : State) → Serves D.Disk self.now s → (o : Object) × Arrives s who request two.0 o) }
+        ensures kind { IfOk result (λ two. kind_in self.now.names.named two.0 ≡ Some two.1) }
+        ensures wanted { IfOk result (λ two. unfit_of wants (Some two.1) ≡ None) }
+        ensures on_disk { IfOk result (λ two. two.0.block < D.blocks self.now.disk) }
+        ensures some { IfOk result (λ two. two.0.block ≢ 0) }
+        ensures also { IfOk result (λ two. (also : Puid) → way.also ≡ Some also → also.block ≢ 0) }
     {
         let id = match self.goes_to(who, way.to) {
             Some(id) => id,
@@ -44,16 +98,17 @@ impl<D: Disk> Core<D> {
         if self.lacks(way.also) {
             return Err(Reply::NoObject);
         }
-        if let Some(reply) = self.unfit(id) {
-            return Err(reply);
-        }
+        let kind = match wanted_kind(wants, self.kind(id)) {
+            Ok(kind) => kind,
+            Err(reply) => return Err(reply),
+        };
         if self.may_only_read(who, way) {
             return Err(Reply::ReadOnly);
         }
         if self.is_met(way.changes, way.to) {
             return Err(Reply::Locked);
         }
-        Ok(id)
+        Ok((id, kind))
     }
 
     /// What a reference of a session goes to, if it goes anywhere.
@@ -114,6 +169,19 @@ impl<D: Disk> Core<D> {
             Ref::Direct(id) => bars(alone, self.grants.mode_on(id)),
             Ref::Through(_) => false,
         }
+    }
+}
+
+/// The kind of what is there, or the refusal of a request that wants something else.
+fn wanted_kind(wants: Wanted, kind: Option<Kind>) -> Result<Kind, Reply>
+    ensures fit { IfOk result (λ there. (kind ≡ Some there) × (unfit_of wants kind ≡ None)) }
+    ensures unfit { IfErr result (λ reply. unfit_of wants kind ≡ Some reply) }
+{
+    match (wants, kind) {
+        (_, None) => Err(Reply::NoObject),
+        (Wanted::AnIndex, Some(Kind::Normal | Kind::Special)) => Err(Reply::NotIndex),
+        (Wanted::AFile, Some(Kind::Index)) => Err(Reply::NotFile),
+        (_, Some(kind)) => Ok(kind),
     }
 }
 

@@ -1,6 +1,6 @@
 -- What each cause that is told shows, and what each status says by it.
 use Rattle.std.proofs.Common.{◌≡◌, ◌⊎◌, inl, inr, ℕ, Bool, true, false, List, length, Option, Some, None, IsSome, IsNone, refl, arith}
-use Rattle.std.specs.List.{list_any}
+use Rattle.std.specs.List.{list_all, list_any}
 use Rattle.cfs_streams.specs.Writing.{Wrote}
 use Rattle.ufs_model.specs.declared.asked.Event.{Event}
 use Rattle.ufs_model.specs.Script.{request_lines}
@@ -12,25 +12,33 @@ use Rattle.cfs_serve.specs.declared.report.Cause.TheVariants as causes
 use Rattle.cfs_serve.specs.declared.report.Report.{Report}
 use Rattle.cfs_serve.specs.Report.{report_text}
 use Rattle.cfs_ports.specs.Port.{Replied}
-use Rattle.cfs_serve.specs.Events.{wants_memory}
+use Rattle.ufs_model.specs.Graph.{Graph}
+use Rattle.cfs_serve.specs.Events.{is_calm, wants_memory}
+use Rattle.cfs_serve.specs.Ground.{Ground}
+use Rattle.cfs_serve.specs.Played.{HasNone}
 use Rattle.cfs_serve.specs.declared.page.Page.{Page}
 use Rattle.cfs_serve.specs.Words.{Asked, Format, Shows, Formats, Nothing, is_service}
 use Rattle.cfs_serve.specs.Whole.{RoseIn, TellsMade, ended}
-use Rattle.cfs_serve.specs.Top.{Outside, EachSource, EachSink, HadLeft, AreWithin, SomeRose, source_faults, sink_faults, NoCountRose, WritesReport, IsStatus, EndedWell, Showed, Made, DiskFailed, SinkFailed, SourceFailed, MemoryWanting, IsOver, LimitPassed}
+use Rattle.cfs_serve.specs.Top.{Outside, EachSource, EachSink, HadLeft, AreWithin, SomeRose, source_faults, sink_faults, NoCountRose, WritesReport, IsStatus, EndedWell, Showed, Made, VolumeRefused, DiskFailed, SinkFailed, SourceFailed, MemoryWanting, IsOver, LimitPassed}
 
 -- a service whose sinks took all
-pub record Served (trail : List Event) (old new : Outside) (counts : Option Counts) : Type 0 where
+pub record Served (ground : Ground) (trail : List Event) (old new : Outside) (counts : Option Counts) : Type 0 where
   pub served : IsSome counts
+  pub sound : ¬ ground.unsound
   pub within : (scripts : List (List ℕ)) → HadLeft old scripts → AreWithin scripts
   pub answered : EachSource (λ session source _. (left : List ℕ) → source.left ≡ Some left → length (turns_in session trail) ≡ length (request_lines left)) old new
   pub replied : EachSink (λ session sink after. Wrote sink after (printed_replies session trail)) old new
   pub memory : list_any wants_memory trail ≡ false
+  pub calm : list_all is_calm trail ≡ true
+
+no_service : false ≡ true → ⊥
+no_service e = cc
 
 pub none_is : {X : Type 0} (o : Option X) → IsNone o → o ≡ None
 none_is None none = refl
 none_is (Some x) none = cc none
 
-module _ (asked : Asked) (old new : Outside) (counts : Option Counts) (trail : List Event) where
+module _ (asked : Asked) (ground : Ground) (old new : Outside) (counts : Option Counts) (trail : List Event) where
   abbrev pub told : Cause → Report
   told cause = record { counts = counts; cause = cause }
 
@@ -44,10 +52,11 @@ module _ (asked : Asked) (old new : Outside) (counts : Option Counts) (trail : L
 
   -- what a cause shows
   abbrev pub Because : Cause → Type 0
-  Because causes.Nothing = Served trail old new counts ⊎ Volumed
+  Because causes.Nothing = Served ground trail old new counts ⊎ Volumed
   Because (causes.Page page) = IsNone counts × (asked ≡ Shows page) × ((scripts : List (List ℕ)) → HadLeft old scripts → AreWithin scripts)
   Because causes.Words = IsNone counts × (asked ≡ Nothing) × ((scripts : List (List ℕ)) → HadLeft old scripts → AreWithin scripts)
-  Because causes.Disk = Volumed × RoseIn old.disk new.disk
+  Because (causes.Volume fault) = HasNone ground × ((scripts : List (List ℕ)) → HadLeft old scripts → AreWithin scripts)
+  Because (causes.Disk moment) = RoseIn old.disk new.disk × ((scripts : List (List ℕ)) → HadLeft old scripts → AreWithin scripts)
   Because causes.Sink = IsSome counts × ((scripts : List (List ℕ)) → HadLeft old scripts → AreWithin scripts) × SomeRose (sink_faults old) (sink_faults new)
   Because (causes.Source n) = SourceFailed (told (causes.Source n)) old new × SomeRose (source_faults old) (source_faults new)
   Because causes.Memory = Unit {0}
@@ -68,7 +77,8 @@ module _ (asked : Asked) (old new : Outside) (counts : Option Counts) (trail : L
   status (causes.Page page) false wrote = inr (refl, (refl, wrote.failed))
   status causes.Memory false wrote = inr (refl, (refl, wrote.failed))
   status causes.Words false wrote = inl refl
-  status causes.Disk false wrote = inl refl
+  status (causes.Volume fault) false wrote = inl refl
+  status (causes.Disk moment) false wrote = inl refl
   status causes.Sink false wrote = inl refl
   status (causes.Source n) false wrote = inl refl
   status (causes.Long n) false wrote = inl refl
@@ -82,6 +92,7 @@ module _ (asked : Asked) (old new : Outside) (counts : Option Counts) (trail : L
     answered = because.answered;
     replied = because.replied;
     memory = because.memory;
+    calm = because.calm;
     reported = wrote;
   })
   status_0 causes.Nothing true (inr because) wrote is = inr (inr (record {
@@ -101,8 +112,13 @@ module _ (asked : Asked) (old new : Outside) (counts : Option Counts) (trail : L
   status_2 cause true because is = absurd (omega (arith, is))
   status_2 cause false because is = absurd (omega (arith, is))
 
-  pub status_4 : (cause : Cause) (written : Bool) → Because cause → ended written cause ≡ 4 → DiskFailed asked (told cause) old new
-  status_4 causes.Disk written because is = (rw because.0.1.1 refl, rw (none_is counts because.0.0) refl, because.1)
+  pub status_3 : (cause : Cause) (written : Bool) → Because cause → ended written cause ≡ 3 → VolumeRefused ground (told cause)
+  status_3 (causes.Volume fault) written because is = ((fault, refl), because.0)
+  status_3 cause true because is = absurd (omega (arith, is))
+  status_3 cause false because is = absurd (omega (arith, is))
+
+  pub status_4 : (cause : Cause) (written : Bool) → Because cause → ended written cause ≡ 4 → DiskFailed (told cause) old new
+  status_4 (causes.Disk moment) written because is = ((moment, refl), because.0)
   status_4 cause true because is = absurd (omega (arith, is))
   status_4 cause false because is = absurd (omega (arith, is))
 
@@ -136,7 +152,8 @@ module _ (asked : Asked) (old new : Outside) (counts : Option Counts) (trail : L
       → (ended written cause ≡ 9) ⊎ (cause ≡ causes.Memory) ⊎ (ended written cause ≡ 6)
   over causes.Nothing written (inl because) scripts had past = absurd (past (because.within scripts had))
   over causes.Nothing written (inr because) scripts had past = absurd (past (because.2 scripts had))
-  over causes.Disk written because scripts had past = absurd (past (because.0.2 scripts had))
+  over (causes.Volume fault) written because scripts had past = absurd (past (because.1 scripts had))
+  over (causes.Disk moment) written because scripts had past = absurd (past (because.1 scripts had))
   over (causes.Page page) written because scripts had past = absurd (past (because.2 scripts had))
   over causes.Words written because scripts had past = absurd (past (because.2 scripts had))
   over causes.Sink written because scripts had past = absurd (past (because.1 scripts had))
@@ -149,27 +166,36 @@ module _ (asked : Asked) (old new : Outside) (counts : Option Counts) (trail : L
   over causes.LongTotal false because scripts had past = inl refl
 
   pub complete : (cause : Cause) (written : Bool) → Because cause → Told cause written → is_service asked ≡ true → (scripts : List (List ℕ)) → HadLeft old scripts → AreWithin scripts
-      → NoCountRose old new → (ended written cause ≡ 0) ⊎ (ended written cause ≡ 7)
-  complete causes.Nothing true because wrote is scripts had within quiet = inl refl
-  complete causes.Memory true because wrote is scripts had within quiet = inr refl
-  complete causes.Nothing false because wrote is scripts had within quiet = absurd (quiet.report wrote.failed)
-  complete causes.Memory false because wrote is scripts had within quiet = absurd (quiet.report wrote.failed)
-  complete causes.Disk written because wrote is scripts had within quiet = absurd (not_so (rw because.0.1.1 at is))
-    where
-      not_so : false ≡ true → ⊥
-      not_so e = cc
-  complete causes.Words written because wrote is scripts had within quiet = absurd (not_so (rw because.1 at is))
-    where
-      not_so : false ≡ true → ⊥
-      not_so e = cc
-  complete (causes.Page page) written because wrote is scripts had within quiet = absurd (not_so (rw because.1 at is))
-    where
-      not_so : false ≡ true → ⊥
-      not_so e = cc
-  complete causes.Sink written because wrote is scripts had within quiet = absurd (quiet.sinks because.2)
-  complete (causes.Source n) written because wrote is scripts had within quiet = absurd (quiet.sources because.1)
-  complete (causes.Long n) written because wrote is scripts had within quiet = absurd (because.2 scripts had within)
-  complete causes.LongTotal written because wrote is scripts had within quiet = absurd (because.2 scripts had within)
+      → NoCountRose old new → (graph : Graph) → ground.reads graph → (ended written cause ≡ 0) ⊎ (ended written cause ≡ 7)
+  complete causes.Nothing true because wrote is scripts had within quiet graph reads = inl refl
+  complete causes.Memory true because wrote is scripts had within quiet graph reads = inr refl
+  complete causes.Nothing false because wrote is scripts had within quiet graph reads = absurd (quiet.report wrote.failed)
+  complete causes.Memory false because wrote is scripts had within quiet graph reads = absurd (quiet.report wrote.failed)
+  complete (causes.Volume fault) written because wrote is scripts had within quiet graph reads = absurd (because.0 graph reads)
+  complete (causes.Disk moment) written because wrote is scripts had within quiet graph reads = absurd (quiet.disk because.0)
+  complete causes.Words written because wrote is scripts had within quiet graph reads = absurd (no_service (rw because.1 at is))
+  complete (causes.Page page) written because wrote is scripts had within quiet graph reads = absurd (no_service (rw because.1 at is))
+  complete causes.Sink written because wrote is scripts had within quiet graph reads = absurd (quiet.sinks because.2)
+  complete (causes.Source n) written because wrote is scripts had within quiet graph reads = absurd (quiet.sources because.1)
+  complete (causes.Long n) written because wrote is scripts had within quiet graph reads = absurd (because.2 scripts had within)
+  complete causes.LongTotal written because wrote is scripts had within quiet graph reads = absurd (because.2 scripts had within)
+
+  -- of a volume that is known to be no sound one
+  pub refused : (cause : Cause) (written : Bool) → Because cause → Told cause written → is_service asked ≡ true → (scripts : List (List ℕ)) → HadLeft old scripts → AreWithin scripts
+      → NoCountRose old new → ground.unsound → (ended written cause ≡ 3) ⊎ (ended written cause ≡ 7)
+  refused causes.Nothing written (inl because) wrote is scripts had within quiet unsound = absurd (because.sound unsound)
+  refused causes.Nothing written (inr because) wrote is scripts had within quiet unsound = absurd (no_service (rw because.1.1 at is))
+  refused (causes.Page page) written because wrote is scripts had within quiet unsound = absurd (no_service (rw because.1 at is))
+  refused causes.Words written because wrote is scripts had within quiet unsound = absurd (no_service (rw because.1 at is))
+  refused (causes.Volume fault) true because wrote is scripts had within quiet unsound = inl refl
+  refused (causes.Volume fault) false because wrote is scripts had within quiet unsound = inl refl
+  refused (causes.Disk moment) written because wrote is scripts had within quiet unsound = absurd (quiet.disk because.0)
+  refused causes.Sink written because wrote is scripts had within quiet unsound = absurd (quiet.sinks because.2)
+  refused (causes.Source n) written because wrote is scripts had within quiet unsound = absurd (quiet.sources because.1)
+  refused causes.Memory true because wrote is scripts had within quiet unsound = inr refl
+  refused causes.Memory false because wrote is scripts had within quiet unsound = absurd (quiet.report wrote.failed)
+  refused (causes.Long n) written because wrote is scripts had within quiet unsound = absurd (because.2 scripts had within)
+  refused causes.LongTotal written because wrote is scripts had within quiet unsound = absurd (because.2 scripts had within)
 
 pub shown : (page : Page) (old new : Outside) (text : List ℕ) (written : Bool) → Replied old.report new.report text written → NoCountRose old new → ended written (causes.Page page) ≡ 0
 shown page old new text true wrote quiet = refl

@@ -1,6 +1,6 @@
 -- A reply that is owed is exact.
-use Rattle.std.proofs.Common.{◌≡◌, inl, inr, ℕ, ◌+◌, ◌<◌, ◌≤◌, Bool, true, false, ◌&&◌, Option, Some, None, refl, sym, ap, subst, arith, length}
-use Rattle.std.specs.Prelude.{is_none, sum}
+use Rattle.std.proofs.Common.{◌≡◌, ◌⊎◌, inl, inr, ℕ, ◌+◌, ◌<◌, ◌≤◌, Bool, true, false, ◌&&◌, Option, Some, None, refl, sym, ap, subst, arith, length}
+use Rattle.std.specs.Prelude.{is_none, is_some, option_and_then, sum}
 use Rattle.std.proofs.lemmas.Bool.{cases_lt}
 use Rattle.cfs_base.specs.Disk.{Image}
 use Rattle.cfs_base.specs.Outside.{Rose}
@@ -12,6 +12,7 @@ use Rattle.cfs_core.specs.Calls.{ByOutcome, ByRefusal, ByWant, IsOwed, Owes, is_
 use Rattle.cfs_core.specs.Kernel.{Kernel}
 use Rattle.cfs_core.specs.Room.{IsRoom}
 use Rattle.cfs_core.specs.StandsFor.{Serves, Stands, StandsFor}
+use Rattle.ufs_model.specs.declared.asked.Event.TheVariants as events
 use Rattle.ufs_model.specs.declared.asked.Reply.{Reply}
 use Rattle.ufs_model.specs.declared.asked.Reply.TheVariants as replies
 use Rattle.ufs_model.specs.declared.asked.Request.{Request}
@@ -25,8 +26,8 @@ use Rattle.ufs_model.specs.Refusal.{refusal_of}
 use Rattle.ufs_model.specs.State.{State, is_running}
 use Rattle.ufs_model.proofs.Outcomes.{outcome_plain}
 use Rattle.cfs_script.specs.Room.{FitsLine}
-use Rattle.cfs_serve.specs.Calls.{IsExact, tells_outcome}
-use Rattle.cfs_serve.specs.Events.{is_calm_reply}
+use Rattle.cfs_serve.specs.Calls.{IsExact, Tells, tells_outcome}
+use Rattle.cfs_serve.specs.Events.{is_calm, tells_disk}
 
 -- ---- what is answered by its outcome, or is Full, wasn't refused
 
@@ -135,24 +136,70 @@ module _ {D : Type 0} (g : Ghosts D) (old new : Kernel D) (who : ℕ) (request :
           reply (asks.event s stands).after (asks.event s stands).step (asks.owed is s stands)
       by_stop (Some stop) is = rw (asks.stopped stop is).1 (record { full = λ n same. absurd (cc same); done = λ told. absurd (cc told) })
 
--- ---- no trouble without a failed call
+  -- ---- what is told of the disk
 
-pub calm_or_rose : {D : Type 0} (g : Ghosts D) (old new : Kernel D) (who : ℕ) (request : Request) (reply : Reply) → Asks g old new who request reply → (s : State) → StandsFor g old s
-    → old.stop ≡ None → is_calm_reply reply ≡ false → Rose (g.faults old.disk) (g.faults new.disk)
-calm_or_rose g old new who request reply asks s stands none troubled = by reply refl
-  where
-    by : (r : Reply) → reply ≡ r → Rose (g.faults old.disk) (g.faults new.disk)
-    by (replies.Disk None) is = (rw is at asks.cause none).failed.cause
-    by (replies.Disk (Some moment)) is = (rw is at asks.cause none).0.failed.cause
-    by (replies.Stopped moment) is = absurd (rw is at asks.owed none s stands)
-    by (replies.Damaged damage moment) is = absurd (rw is at asks.owed none s stands)
-    by r is = absurd (cc (is, troubled))
+  -- a core that stopped stays as it is
+  stood : (stop : Stop) → old.stop ≡ Some stop → new ≡ old
+  stood stop is = (asks.stopped stop is).0
 
-pub runs_on : (before : Option Stop) (reply : Reply) → before ≡ None → is_calm_reply reply ≡ true → stopped_by reply None ≡ None
-runs_on before (replies.Stopped moment) none calm = refl
-runs_on before (replies.Disk doubt) none calm = absurd (cc calm)
-runs_on before (replies.Damaged damage moment) none calm = absurd (cc calm)
-runs_on before reply none calm = refl
+  pub tells : Tells (λ (k : Kernel D). g.faults k.disk) (λ (k : Kernel D). is_some k.stop) (λ (k : Kernel D). is_some (option_and_then (λ (x : Stop). x.damage) k.stop)) old new (events.Ask who request reply)
+  tells = record {
+    later = asks.faults;
+    told = λ is. told_at reply refl is;
+    stays = λ is. by_old old.stop refl is;
+    calm = λ runs none. calm_at reply refl runs none;
+    halts = λ stopped sound. halts_at old.stop refl stopped sound;
+  }
+    where
+      by_old : (o : Option Stop) → old.stop ≡ o → is_some o ≡ true → is_some new.stop ≡ true
+      by_old (Some stop) is some = rw (stood stop is, is) refl
+      by_old None is some = absurd (cc some)
+
+      told_in : (o : Option Stop) → old.stop ≡ o → (doubt : Option ℕ) → reply ≡ replies.Disk doubt → Rose (g.faults old.disk) (g.faults new.disk)
+      told_in (Some stop) is doubt same = absurd (cc (same, (asks.stopped stop is).1))
+      told_in None is None same = (rw same at asks.cause is).failed.cause
+      told_in None is (Some moment) same = (rw same at asks.cause is).0.failed.cause
+
+      told_at : (r : Reply) → reply ≡ r → tells_disk (events.Ask who request r) ≡ true → Rose (g.faults old.disk) (g.faults new.disk)
+      told_at (replies.Disk doubt) same is = told_in old.stop refl doubt same
+      told_at r same is = absurd (cc is)
+
+      calm_in : (o : Option Stop) → old.stop ≡ o → (r : Reply) → reply ≡ r → is_some new.stop ≡ false → tells_disk (events.Ask who request r) ≡ false → is_calm (events.Ask who request r) ≡ true
+      calm_in (Some stop) is r same runs none = absurd (cc (runs, by_old (Some stop) is refl))
+      calm_in None is (replies.Disk doubt) same runs none = absurd (cc none)
+      calm_in None is (replies.Damaged damage moment) same runs none = absurd (cc (runs, asks.stops is, same))
+      calm_in None is (replies.Stopped moment) same runs none = absurd (rw same at asks.cause is)
+      calm_in None is r same runs none = refl
+
+      calm_at : (r : Reply) → reply ≡ r → is_some new.stop ≡ false → tells_disk (events.Ask who request reply) ≡ false → is_calm (events.Ask who request reply) ≡ true
+      calm_at r same runs none = rw same (calm_in old.stop refl r same runs (rw same at none))
+
+      damaged : Option Stop → Bool
+      damaged o = is_some (option_and_then (λ (x : Stop). x.damage) o)
+
+      halts_in : (r : Reply) → reply ≡ r → old.stop ≡ None → new.stop ≡ stopped_by r None → is_some new.stop ≡ true → damaged new.stop ≡ false → Rose (g.faults old.disk) (g.faults new.disk)
+      halts_in (replies.Disk (Some moment)) same is so stopped sound = told_in None is (Some moment) same
+      halts_in (replies.Damaged damage moment) same is so stopped sound = absurd (cc (rw so at sound))
+      halts_in r same is so stopped sound = absurd (cc (rw so at stopped))
+
+      halts_at : (o : Option Stop) → old.stop ≡ o → is_some new.stop ≡ true → damaged new.stop ≡ false
+          → ((is_some old.stop ≡ true) × (damaged old.stop ≡ false)) ⊎ Rose (g.faults old.disk) (g.faults new.disk)
+      halts_at (Some stop) is stopped sound = inl (rw (← stood stop is) (stopped, sound))
+      halts_at None is stopped sound = inr (halts_in reply refl is (asks.stops is) stopped sound)
+
+  -- no block of a disk that holds the store is found damaged
+  pub undamaged : (s : State) → StandsFor g old s → is_some (option_and_then (λ (x : Stop). x.damage) old.stop) ≡ false → is_some (option_and_then (λ (x : Stop). x.damage) new.stop) ≡ false
+  undamaged s stands before = at old.stop refl
+    where
+      by_reply : old.stop ≡ None → (r : Reply) → reply ≡ r → is_some (option_and_then (λ (x : Stop). x.damage) (stopped_by r None)) ≡ false
+      by_reply is (replies.Damaged damage moment) same = absurd (rw same at asks.owed is s stands)
+      by_reply is (replies.Disk None) same = refl
+      by_reply is (replies.Disk (Some moment)) same = refl
+      by_reply is r same = refl
+
+      at : (o : Option Stop) → old.stop ≡ o → is_some (option_and_then (λ (x : Stop). x.damage) new.stop) ≡ false
+      at None is = rw (asks.stops is) (by_reply is reply refl)
+      at (Some stop) is = rw (stood stop is) before
 
 pub short_fits : (reply : Reply) → IsShortContent reply → FitsLine reply
 short_fits (replies.Content bytes) short = short

@@ -1,13 +1,21 @@
 -- What a run does to the disk of its volume.
-use Rattle.std.specs.Prelude.{◌≡◌, ◌+◌, IsTrue, Option, Some, None}
+use Rattle.std.specs.Prelude.{◌≡◌, ◌⊎◌, ℕ, ◌+◌, IsTrue, List, ◌∷◌, Option, Some, None, IsSome}
 use Rattle.cfs_base.specs.Calls.{MakesAtMost}
 use Rattle.cfs_base.specs.Run.{Leaves}
 use Rattle.cfs_base.specs.declared.disk.Disk.{Ghosts}
+use Rattle.cfs_recover.specs.Recovered.{LeavesSinceBarrier}
+use Rattle.survival.specs.Trail.{RunSurvives}
+use Rattle.ufs_model.specs.declared.asked.Event.{Event}
+use Rattle.ufs_model.specs.Graph.{Graph}
+use Rattle.ufs_model.specs.Run.{replay}
+use Rattle.ufs_model.specs.State.{State}
 use Rattle.ufs_model.specs.Word.{word}
 use Rattle.vol_format.specs.Fresh.{IsFormatted, MayBeFresh}
+use Rattle.vol_image.specs.Sound.{IsSoundAs, rooted_part}
 use Rattle.cfs_serve.specs.declared.report.Cause.{Cause}
 use Rattle.cfs_serve.specs.declared.report.Cause.TheVariants as causes
-use Rattle.cfs_serve.specs.Words.{Asked, Format, Formats, Shows, Serves, Nothing}
+use Rattle.cfs_serve.specs.declared.report.Report.{Report}
+use Rattle.cfs_serve.specs.Words.{Asked, Format, Formats, InFile, InMemory, Nothing, Place, Serves, Shows}
 
 -- A volume was made on a disk, or the disk failed.
 pub record MakesVolume {D : Type 0} (g : Ghosts D) (format : Format) (cause : Cause) (old new : D) : Type 0 where
@@ -19,14 +27,35 @@ pub record MakesVolume {D : Type 0} (g : Ghosts D) (format : Format) (cause : Ca
   -- a call for each cylinder, and six more
   pub calls : MakesAtMost g (format.cylinders + 6) (format.cylinders + 6) old new
 
+-- A volume was served: of an honest disk that held a sound one, which read as some graph.
+pub record ServesVolume {D : Type 0} (g : Ghosts D) (seed : ℕ) (told : Report) (trail : List Event) (moments : List ℕ) (old new : D) : Type 0 where
+  -- the disk as the opening ended, or as it was where it came to none
+  pub opened : D
+  -- what a crash leaves since the first barrier of the opening reads as before
+  pub opening : IsTrue (g.honest old) → (graph : Graph) → IsSoundAs (g.content old) graph
+      → (opened ≡ old) ⊎ LeavesSinceBarrier g old opened (λ c. IsSoundAs c graph)
+  pub unserved : told.counts ≡ None → new ≡ opened
+  -- what one leaves since an event was recorded survives so many events of the run or more, and since the opening any number
+  pub crashes : IsSome told.counts → IsTrue (g.honest old) → (graph : Graph) → IsSoundAs (g.content old) graph
+      → RunSurvives g seed graph trail (g.moment opened ∷ moments) new
+  -- where all went well the disk that is handed back is sound, and reads as what is rooted after the last event
+  pub sound : told.cause ≡ causes.Nothing → IsTrue (g.honest old) → (graph : Graph) → IsSoundAs (g.content old) graph
+      → (last : State) → replay seed graph trail ≡ Some last → IsSoundAs (g.content new) (rooted_part last.graph)
+
 abbrev MakesOn : {D : Type 0} → Ghosts D → Format → Cause → Option D → Option D → Type 0
 MakesOn g format cause (Some old) (Some new) = MakesVolume g format cause old new
 MakesOn g format cause (Some old) None = ⊥
 MakesOn g format cause None new = ⊥
 
--- a volume is made on the disk that is asked for; else there is none, before and after
-abbrev pub OnDisk : {D : Type 0} → Ghosts D → Asked → Cause → Option D → Option D → Type 0
-OnDisk g (Formats format) cause old new = MakesOn g format cause old new
-OnDisk g (Shows page) cause old new = new ≡ old
-OnDisk g (Serves play) cause old new = new ≡ old
-OnDisk g Nothing cause old new = new ≡ old
+abbrev ServesOn : {D : Type 0} → Ghosts D → Place → (seed : ℕ) → Report → List Event → List ℕ → Option D → Option D → Type 0
+ServesOn g (InMemory cylinders) seed told trail moments old new = new ≡ old
+ServesOn g (InFile path) seed told trail moments (Some old) (Some new) = ServesVolume g seed told trail moments old new
+ServesOn g (InFile path) seed told trail moments (Some old) None = ⊥
+ServesOn g (InFile path) seed told trail moments None new = ⊥
+
+-- a volume is made or served on the disk that is asked for; else there is none, before and after
+abbrev pub OnDisk : {D : Type 0} → Ghosts D → Asked → Report → List Event → List ℕ → Option D → Option D → Type 0
+OnDisk g (Formats format) told trail moments old new = MakesOn g format told.cause old new
+OnDisk g (Serves service) told trail moments old new = ServesOn g service.volume service.seed told trail moments old new
+OnDisk g (Shows page) told trail moments old new = new ≡ old
+OnDisk g Nothing told trail moments old new = new ≡ old

@@ -15,6 +15,11 @@ wants_memory (events.Unread who unread.Memory) = true
 wants_memory (events.Ask who request replies.Memory) = true
 wants_memory event = false
 
+-- a failed call of the disk was told
+abbrev pub tells_disk : Event → Bool
+tells_disk (events.Ask who request (replies.Disk doubt)) = true
+tells_disk event = false
+
 abbrev pub is_calm_reply : Reply → Bool
 is_calm_reply (replies.Stopped moment) = false
 is_calm_reply (replies.Disk doubt) = false

@@ -9,7 +9,9 @@ pub mod Charter
 pub mod Journal
 pub mod Hall
 pub mod SureDisk
+pub mod Ground
 pub mod Played
+pub mod Opening
 pub mod Volume
 pub mod Whole
 pub mod Disks

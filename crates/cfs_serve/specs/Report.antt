@@ -1,17 +1,22 @@
 -- The report of a run: what was served, what ended it, and the status; or a page alone.
 use Rattle.std.specs.Prelude.{ℕ, List, [], ◌++◌, codes, Option, Some, None}
+use Rattle.std.specs.Fmt.{decimal}
+use Rattle.cfs_base.specs.declared.refusal.Damage.{Damage}
 use Rattle.cfs_serve.specs.Told.{told}
 use Rattle.cfs_serve.specs.declared.report.Counts.{Counts}
 use Rattle.cfs_serve.specs.declared.report.Cause.{Cause}
 use Rattle.cfs_serve.specs.declared.report.Cause.TheVariants as causes
 use Rattle.cfs_serve.specs.declared.report.Report.{Report}
+use Rattle.cfs_serve.specs.declared.report.VolumeFault.{VolumeFault}
+use Rattle.cfs_serve.specs.declared.report.VolumeFault.TheVariants as faults
 use Rattle.cfs_serve.specs.Pages.{page_text}
 
 abbrev pub status_of : Cause → ℕ
 status_of causes.Nothing = 0
 status_of (causes.Page page) = 0
 status_of causes.Words = 2
-status_of causes.Disk = 4
+status_of (causes.Volume fault) = 3
+status_of (causes.Disk moment) = 4
 status_of causes.Sink = 5
 status_of (causes.Source i) = 6
 status_of causes.Memory = 7
@@ -27,11 +32,22 @@ abbrev pub counts_text : Option Counts → List ℕ
 counts_text None = []
 counts_text (Some c) = served_text c ++ told (codes "free") c.free
 
+-- what is wrong with a volume; of a damage the block and its code
+abbrev pub damage_text : Damage → List ℕ
+damage_text d = (codes "volume damaged " ++ decimal d.block) ++ told (codes "") d.code
+
+abbrev pub fault_text : VolumeFault → List ℕ
+fault_text faults.NotVolume = codes "volume not-volume\n"
+fault_text (faults.Version found) = told (codes "volume version") found
+fault_text (faults.Damaged d) = damage_text d
+
 abbrev pub cause_text : Cause → List ℕ
 cause_text causes.Nothing = []
 cause_text (causes.Page page) = []
 cause_text causes.Words = codes "words\n"
-cause_text causes.Disk = codes "disk\n"
+cause_text (causes.Volume fault) = fault_text fault
+cause_text (causes.Disk None) = codes "disk\n"
+cause_text (causes.Disk (Some moment)) = told (codes "disk") moment
 cause_text causes.Sink = codes "sink\n"
 cause_text (causes.Source i) = told (codes "source") i
 cause_text causes.Memory = codes "memory\n"

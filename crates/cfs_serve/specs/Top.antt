@@ -1,5 +1,5 @@
 -- What a whole run comes to, for whoever started it: the trail, the sinks, what is told, and what the status says.
-use Rattle.std.specs.Prelude.{◌≡◌, ◌↔◌, ℕ, ◌+◌, ◌-◌, ◌*◌, ◌<◌, ◌≤◌, ◌⊎◌, Bool, true, false, List, [], ◌∷◌, ◌++◌, map, length, get_or, All, filter, sum_by, slice_index_or, Option, Some, None, IfSome, IsSome, IsNone, option_map}
+use Rattle.std.specs.Prelude.{◌≡◌, ◌↔◌, ℕ, ◌+◌, ◌<◌, ◌≤◌, ◌⊎◌, Bool, true, false, List, [], ◌∷◌, ◌++◌, map, length, get_or, All, sum_by, slice_index_or, Option, Some, None, IfSome, IsSome, IsNone, option_map}
 use Rattle.std.specs.List.{list_any, list_all}
 use Rattle.cfs_base.specs.Outside.{Intake, Supply, Rose}
 use Rattle.cfs_ports.specs.Port.{Replied}
@@ -9,26 +9,27 @@ use Rattle.ufs_model.specs.declared.asked.Event.{Event}
 use Rattle.ufs_model.specs.declared.asked.Event.TheVariants as events
 use Rattle.ufs_model.specs.Graph.{Graph}
 use Rattle.ufs_model.specs.State.{State, opening}
-use Rattle.ufs_model.specs.Run.{IsLegalRun, replay}
+use Rattle.ufs_model.specs.Run.{replay}
 use Rattle.ufs_model.specs.Script.{request_lines}
 use Rattle.ufs_model.specs.Turns.{AreTurns, turns_in}
 use Rattle.ufs_model.specs.Printed.{printed_replies}
-use Rattle.vol_image.specs.Sound.{graph_blocks}
 use Rattle.cfs_serve.specs.Limits.{most_script, most_lines}
 use Rattle.cfs_serve.specs.declared.run.Bay.{Bay}
 use Rattle.cfs_serve.specs.declared.run.Ended.{Ended}
-use Rattle.cfs_serve.specs.declared.report.Counts.{Counts}
 use Rattle.cfs_serve.specs.declared.report.Cause.{Cause}
 use Rattle.cfs_serve.specs.declared.report.Cause.TheVariants as causes
 use Rattle.cfs_serve.specs.declared.report.Report.{Report}
+use Rattle.cfs_serve.specs.declared.report.VolumeFault.{VolumeFault}
+use Rattle.cfs_base.specs.declared.identifier.Puid.{Puid}
 use Rattle.cfs_serve.specs.declared.page.Page.{Page}
 use Rattle.cfs_serve.specs.Pages.{page_text}
 use Rattle.cfs_serve.specs.Report.{report_text, status_of}
 use Rattle.cfs_serve.specs.Calls.{AreExact}
-use Rattle.cfs_serve.specs.Events.{BreaksOff, events_of, is_calm, is_finish, is_reply, is_sessions, wants_memory}
-use Rattle.cfs_serve.specs.Played.{opened}
+use Rattle.cfs_serve.specs.Events.{BreaksOff, events_of, is_calm, is_sessions, wants_memory}
+use Rattle.cfs_serve.specs.Ground.{Ground}
+use Rattle.cfs_serve.specs.Played.{HasNone, IsStop, counts_of, free_of}
 use Rattle.cfs_serve.specs.Whole.{HasPlaces, RoseIn, TellsMade}
-use Rattle.cfs_serve.specs.Words.{Asked, Format, Formats, Shows, Nothing, IfServes, is_format, is_service, root_of}
+use Rattle.cfs_serve.specs.Words.{Asked, Format, Service, Formats, Shows, Nothing, IfServes, is_format, is_service}
 
 -- ---- what is outside
 
@@ -97,27 +98,14 @@ AreWithin scripts = AreShort scripts × (lines_in scripts ≤ most_lines)
 -- ---- the trail
 
 -- A session was served from a script: all that its source had left, where it tells that.
-pub record IsServedFrom (seed : ℕ) (trail : List Event) (all : Bool) (session : ℕ) (source : Supply) : Type 0 where
+pub record IsServedFrom (root : Puid) (trail : List Event) (all : Bool) (session : ℕ) (source : Supply) : Type 0 where
   pub script : List ℕ
   pub whole : (left : List ℕ) → source.left ≡ Some left → script ≡ left
   pub short : length script ≤ most_script
   pub few : length (request_lines script) ≤ most_lines
   -- its events are the turns of the script: one for each request line, if the sinks took all
-  pub turns : AreTurns built_forms session (root_of seed) script trail
+  pub turns : AreTurns built_forms session root script trail
   pub answered : all ≡ true → length (turns_in session trail) ≡ length (request_lines script)
-
--- ---- what is counted
-
--- the counts of a service of so many sessions, by its trail and its last graph: what is Free is all but the map of each
--- cylinder, the label, and the blocks of the objects
-abbrev pub counts_of : (cylinders sessions : ℕ) → List Event → Graph → Counts
-counts_of cylinders sessions trail graph = record {
-  sessions = sessions;
-  replies = length (filter is_reply trail);
-  collections = length (filter is_finish trail);
-  objects = length graph.objects;
-  free = 63 * cylinders - 1 - graph_blocks graph;
-}
 
 -- ---- what is told
 
@@ -125,24 +113,20 @@ counts_of cylinders sessions trail graph = record {
 abbrev pub WasServed : Report → Type 0
 WasServed told = IsSome told.counts
 
--- the sessions' sinks took all replies, by what is told
-abbrev pub took_all : Cause → Bool
-took_all causes.Nothing = true
-took_all (causes.Page page) = true
-took_all causes.Words = true
-took_all causes.Disk = true
-took_all causes.Sink = false
-took_all (causes.Source n) = true
-took_all causes.Memory = true
-took_all (causes.Long n) = true
-took_all causes.LongTotal = true
+-- whether each session's sink took all replies, as far as that is told
+abbrev pub TookAll : Cause → Outside → (took : ℕ → Bool) → Type 0
+TookAll causes.Sink o took = (k : ℕ) × (k < length o.sinks) × (took k ≡ false)
+TookAll (causes.Disk moment) o took = Unit {0}
+TookAll (causes.Volume fault) o took = Unit {0}
+TookAll cause o took = (k : ℕ) → took k ≡ true
 
 -- nothing is told that is worse than want of memory
 abbrev pub is_mild : Cause → Bool
 is_mild causes.Nothing = true
 is_mild (causes.Page page) = true
 is_mild causes.Words = false
-is_mild causes.Disk = false
+is_mild (causes.Volume fault) = false
+is_mild (causes.Disk moment) = false
 is_mild causes.Sink = false
 is_mild (causes.Source n) = false
 is_mild causes.Memory = true
@@ -172,6 +156,8 @@ pub record EndedWell (told : Report) (trail : List Event) (old new : Outside) : 
   -- each sink holds all replies of its session, and none of them tells want of memory
   pub replied : EachSink (λ session sink after. Wrote sink after (printed_replies session trail)) old new
   pub memory : list_any wants_memory trail ≡ false
+  -- no failed call of the disk, no damage and no stop is behind an event
+  pub calm : list_all is_calm trail ≡ true
   pub reported : Wrote old.report new.report (report_text told)
 
 -- or a page was asked for, and its text is written whole
@@ -187,9 +173,13 @@ pub record Made (asked : Asked) (told : Report) (old new : Outside) : Type 0 whe
   pub is : told ≡ record { counts = None; cause = causes.Nothing }
   pub written : Wrote old.report new.report (report_text told)
 
--- 4: the disk of a volume that was to be made failed
-abbrev pub DiskFailed : Asked → Report → Outside → Outside → Type 0
-DiskFailed asked told old new = (is_format asked ≡ true) × (told ≡ record { counts = None; cause = causes.Disk }) × RoseIn old.disk new.disk
+-- 3: the volume was refused as it was opened, or a block of it was damaged, and so it is told; it isn't known to be sound
+abbrev pub VolumeRefused : Ground → Report → Type 0
+VolumeRefused ground told = ((fault : VolumeFault) × (told.cause ≡ causes.Volume fault)) × HasNone ground
+
+-- 4: the disk failed, and so it is told
+abbrev pub DiskFailed : Report → Outside → Outside → Type 0
+DiskFailed told old new = ((moment : Option ℕ) × (told.cause ≡ causes.Disk moment)) × RoseIn old.disk new.disk
 
 -- 5: a session's sink failed, and so it is told; or that of the report
 abbrev pub SinkFailed : Report → Outside → Outside → Type 0
@@ -212,7 +202,8 @@ IsOver causes.LongTotal o = (scripts : List (List ℕ)) → HadLeft o scripts �
 IsOver causes.Nothing o = ⊥
 IsOver (causes.Page page) o = ⊥
 IsOver causes.Words o = ⊥
-IsOver causes.Disk o = ⊥
+IsOver (causes.Volume fault) o = ⊥
+IsOver (causes.Disk moment) o = ⊥
 IsOver causes.Sink o = ⊥
 IsOver (causes.Source n) o = ⊥
 IsOver causes.Memory o = ⊥
@@ -223,52 +214,66 @@ LimitPassed told old = IsNone told.counts × IsOver told.cause old
 
 -- ---- all that is said
 
--- What a run does and tells: by what its words ask for, what is outside before and after, what is told, and the trail.
-pub record Did (asked : Asked) (old new : Outside) (told : Report) (trail : List Event) : Type 0 where
+-- Of a service on a volume that reads as this graph: the trail is a legal run on it, and each answer exact; and what is told.
+pub record DidOn (service : Service) (ground : Ground) (graph : Graph) (old new : Outside) (told : Report) (trail : List Event) : Type 0 where
+  pub last : State
+  pub legal : replay service.seed graph trail ≡ Some last
+  -- each Full names the room of the state before it, and each request that was done left four blocks of it beside its need
+  pub exact : 0 < ground.cylinders → AreExact ground.cylinders service.seed (opening graph) trail
+  -- where no call of the disk failed, none is behind an event, and no stop
+  pub calm : ¬ (RoseIn old.disk new.disk) → list_all is_calm trail ≡ true
+  -- the moment that is told of a disk is that of the stop; with another cause there was none, and no block was damaged
+  pub stop : WasServed told → IsStop told.cause last.stopped
+  -- the counts are those of the trail and of the last graph; of what is Free, where there was no stop
+  pub counted : IfSome told.counts (λ counts. (counts ≡ counts_of (length old.sources) trail last.graph counts.free)
+      × (last.stopped ≡ None → counts.free ≡ free_of ground.cylinders last.graph))
+
+-- What a run does and tells: by what its words ask for, what its volume is, what is outside before and after, what is told,
+-- and the trail.
+pub record Did (asked : Asked) (ground : Ground) (old new : Outside) (told : Report) (trail : List Event) : Type 0 where
   -- as many sources and sinks are handed back as there were
   pub places : HasPlaces asked (length new.sources) (length new.sinks)
   -- nothing was served, and then there is no event and no sink took a byte; or one session was, and left
   pub unserved : IsNone told.counts → (trail ≡ []) × (new.sinks ≡ old.sinks)
   pub unasked : is_service asked ≡ false → IsNone told.counts
-  pub leaves : WasServed told → EachSource (λ session _ _. events_of session trail ≡ turns_in session trail ++ events.Leave session None ∷ []) old new
-  -- the events are one legal run on the opened graph, all of them the sessions', with no failed call of the disk and no stop
-  -- behind any of them
-  pub legal : IfServes asked (λ play. IsLegalRun play.seed (opened play.seed) trail)
-  pub calm : list_all is_calm trail ≡ true
+  pub leaves : WasServed told → EachSource (λ session _ _. (stopped : Option ℕ)
+      × (events_of session trail ≡ turns_in session trail ++ events.Leave session stopped ∷ [])) old new
   pub sessions : list_all is_sessions trail ≡ true
   pub others : (k : ℕ) → length old.sources ≤ k → events_of k trail ≡ []
-  -- each Full names the room of the state before it, and each request that was done left four blocks of it beside its need
-  pub exact : IfServes asked (λ play. AreExact play.cylinders play.seed (opening (opened play.seed)) trail)
-  -- they are the turns of the script that the source had
-  pub turns : IfServes asked (λ play. WasServed told → EachSource (λ session source _.
-      IsServedFrom play.seed trail (took_all told.cause) session source) old new)
+  -- from each graph that the volume may read as, the events are a legal run
+  pub on : IfServes asked (λ service. (graph : Graph) → ground.reads graph → DidOn service ground graph old new told trail)
+  -- a volume that is known to be no sound one is never served
+  pub sound : WasServed told → ¬ ground.unsound
+  -- whether each session's sink took all replies
+  pub took : ℕ → Bool
+  pub takes : TookAll told.cause old took
+  -- the events are the turns of the script that the source had; their names are bound from the root index on
+  pub turns : IfServes asked (λ service. WasServed told → (root : Puid) × ((graph : Graph) → ground.reads graph → graph.root ≡ root)
+      × EachSource (λ session source _. IsServedFrom root trail (took session) session source) old new)
   -- the sink has taken the replies, all or some of their beginning
-  pub replied : EachSink (λ session sink after. Replied sink after (printed_replies session trail) (took_all told.cause)) old new
-  -- a service whose sink failed ends with the reply in which it failed: no line after it was served
-  pub broken : WasServed told → took_all told.cause ≡ false
-      → EachSink (λ session sink after. BreaksOff session sink after (turns_in session trail)) old new
+  pub replied : EachSink (λ session sink after. Replied sink after (printed_replies session trail) (took session)) old new
+  -- a session whose sink failed ends with the reply in which it failed: no line after it was served
+  pub broken : WasServed told → EachSink (λ session sink after. took session ≡ false → BreaksOff session sink after (turns_in session trail)) old new
   -- it is told exactly that the words are of no form, or that this page was asked for
   pub words : (told.cause ≡ causes.Words) ↔ (asked ≡ Nothing)
   pub page : (page : Page) → (told.cause ≡ causes.Page page) ↔ (asked ≡ Shows page)
-  -- the counts are those of the trail and of the last graph
-  pub counted : IfServes asked (λ play. IfSome told.counts (λ counts. (last : State)
-      → replay play.seed (opened play.seed) trail ≡ Some last → counts ≡ counts_of play.cylinders (length old.sources) trail last.graph))
   -- where nothing was served it is told why, unless a volume was to be made: of that only a failed disk is told
   pub cause : IsNone told.counts → is_format asked ≡ false → ¬ (told.cause ≡ causes.Nothing)
   pub made : is_format asked ≡ true → TellsMade told.cause old.disk new.disk
-  -- a service whose sinks took all tells want of memory exactly where a reply told it
-  pub memory : WasServed told → took_all told.cause ≡ true → ((told.cause ≡ causes.Memory) ↔ (list_any wants_memory trail ≡ true))
+  -- a service that tells nothing worse tells want of memory exactly where a reply told it
+  pub memory : WasServed told → is_mild told.cause ≡ true → ((told.cause ≡ causes.Memory) ↔ (list_any wants_memory trail ≡ true))
 
 -- What `top` says: all this, and what the status says.
-pub record Said (asked : Asked) (old new : Outside) (told : Report) (status : ℕ) (trail : List Event) : Type 0 where
-  pub did : Did asked old new told trail
+pub record Said (asked : Asked) (ground : Ground) (old new : Outside) (told : Report) (status : ℕ) (trail : List Event) : Type 0 where
+  pub did : Did asked ground old new told trail
   -- the report's sink has taken the report, all or some of its beginning
   pub reported : WritesReport told old new
   -- the status is that of the cause, or 5 for a report that failed; and what each status says
   pub is_status : IsStatus status told.cause old new
   pub status_0 : status ≡ 0 → EndedWell told trail old new ⊎ Showed told old new ⊎ Made asked told old new
   pub status_2 : (status ≡ 2) ↔ (asked ≡ Nothing)
-  pub status_4 : status ≡ 4 → DiskFailed asked told old new
+  pub status_3 : status ≡ 3 → VolumeRefused ground told
+  pub status_4 : status ≡ 4 → DiskFailed told old new
   pub status_5 : status ≡ 5 → SinkFailed told old new
   pub status_6 : status ≡ 6 → SourceFailed told old new
   pub status_7 : status ≡ 7 → MemoryWanting told old new
@@ -276,8 +281,11 @@ pub record Said (asked : Asked) (old new : Outside) (told : Report) (status : �
   -- a limit that was passed gives 9, unless a source failed or memory was wanting
   pub over : (scripts : List (List ℕ)) → HadLeft old scripts → ¬ (AreWithin scripts)
       → (status ≡ 9) ⊎ (told.cause ≡ causes.Memory) ⊎ (status ≡ 6)
-  -- where no limit was passed and no count rose, a service gives 0 or 7; and a page, or a volume to be made, gives 0
+  -- Where no limit was passed and no count rose: a service on a sound volume gives 0 or 7, and on one that is known to be no
+  -- sound one 3 or 7; and a page, or a volume to be made, gives 0.
   pub complete : is_service asked ≡ true → (scripts : List (List ℕ)) → HadLeft old scripts → AreWithin scripts
-      → NoCountRose old new → (status ≡ 0) ⊎ (status ≡ 7)
+      → NoCountRose old new → (graph : Graph) → ground.reads graph → (status ≡ 0) ⊎ (status ≡ 7)
+  pub refused : is_service asked ≡ true → (scripts : List (List ℕ)) → HadLeft old scripts → AreWithin scripts
+      → NoCountRose old new → ground.unsound → (status ≡ 3) ⊎ (status ≡ 7)
   pub shown : (page : Page) → asked ≡ Shows page → NoCountRose old new → status ≡ 0
   pub formatted : is_format asked ≡ true → NoCountRose old new → status ≡ 0

@@ -1,5 +1,5 @@
 -- A whole run, step by step: the words, the sources and the sinks, the report and the status. What `top` says follows from it.
-use Rattle.std.specs.Prelude.{◌≡◌, ℕ, ◌*◌, ◌≤◌, ◌⊎◌, Bool, true, false, List, [], ◌∷◌, Option, Some, None}
+use Rattle.std.specs.Prelude.{◌≡◌, ℕ, ◌*◌, ◌≤◌, ◌⊎◌, Bool, true, false, List, [], ◌∷◌, Option, Some, None, IsSome}
 use Rattle.cfs_base.specs.Outside.{Intake, Supply, Rose}
 use Rattle.cfs_ports.specs.Port.{Replied}
 use Rattle.ufs_model.specs.declared.asked.Event.{Event}
@@ -9,7 +9,8 @@ use Rattle.cfs_serve.specs.declared.report.Report.{Report}
 use Rattle.cfs_serve.specs.declared.paths.Volume.{Volume}
 use Rattle.cfs_serve.specs.declared.paths.Volume.TheVariants as volumes
 use Rattle.cfs_serve.specs.Limits.{most_file_cylinders}
-use Rattle.cfs_serve.specs.Words.{Asked, Play, Shows, Formats, Serves, Nothing}
+use Rattle.cfs_serve.specs.Words.{Asked, Place, InFile, InMemory, Shows, Formats, Serves, Nothing}
+use Rattle.cfs_serve.specs.Ground.{Ground}
 use Rattle.cfs_serve.specs.Report.{status_of, report_text}
 use Rattle.cfs_serve.specs.Played.{IsRunOf}
 
@@ -19,31 +20,43 @@ pub record Places : Type 0 where
   pub sources : List Supply
   pub sinks : List Intake
 
+-- a volume in a file is named, and none in memory
+abbrev NamesPlace : Place → Option Volume → Type 0
+NamesPlace (InMemory cylinders) volume = volume ≡ None
+NamesPlace (InFile path) volume = volume ≡ Some (volumes.Existing path)
+
 -- it is named and sized as the words have it, or none is named
 abbrev pub NamesVolume : Asked → Option Volume → Type 0
 NamesVolume (Formats format) volume = volume ≡ Some (volumes.Fresh format.volume format.cylinders)
-NamesVolume (Serves play) volume = volume ≡ None
+NamesVolume (Serves service) volume = NamesPlace service.volume volume
 NamesVolume (Shows page) volume = volume ≡ None
 NamesVolume Nothing volume = volume ≡ None
 
 -- as many cylinders as a volume may have
 abbrev pub HasCylinders : Volume → Type 0
 HasCylinders (volumes.Fresh path cylinders) = (1 ≤ cylinders) × (cylinders ≤ most_file_cylinders)
+HasCylinders (volumes.Existing path) = Unit {0}
 
--- the blocks of a volume of this size
-abbrev pub volume_blocks : Volume → ℕ
-volume_blocks (volumes.Fresh path cylinders) = 64 * cylinders
+-- a disk of so many blocks for a volume that is made, one of any size for one that is there, or none
+abbrev pub FitsVolume : Option Volume → (blocks : Option ℕ) → Type 0
+FitsVolume (Some (volumes.Fresh path cylinders)) blocks = blocks ≡ Some (64 * cylinders)
+FitsVolume (Some (volumes.Existing path)) blocks = IsSome blocks
+FitsVolume None blocks = blocks ≡ None
 
--- a disk of so many blocks for a volume that is made, or none
+abbrev HasPlaceDisk : Place → (blocks : Option ℕ) → Type 0
+HasPlaceDisk (InMemory cylinders) blocks = blocks ≡ None
+HasPlaceDisk (InFile path) blocks = IsSome blocks
+
+-- and so it is with what the words ask for
 abbrev pub HasDisk : Asked → (blocks : Option ℕ) → Type 0
 HasDisk (Formats format) blocks = blocks ≡ Some (64 * format.cylinders)
-HasDisk (Serves play) blocks = blocks ≡ None
+HasDisk (Serves service) blocks = HasPlaceDisk service.volume blocks
 HasDisk (Shows page) blocks = blocks ≡ None
 HasDisk Nothing blocks = blocks ≡ None
 
 -- a source and a sink for one session, or none
 abbrev pub HasPlaces : Asked → (sources sinks : ℕ) → Type 0
-HasPlaces (Serves play) sources sinks = (sources ≡ 1) × (sinks ≡ 1)
+HasPlaces (Serves service) sources sinks = (sources ≡ 1) × (sinks ≡ 1)
 HasPlaces (Formats format) sources sinks = (sources ≡ 0) × (sinks ≡ 0)
 HasPlaces (Shows page) sources sinks = (sources ≡ 0) × (sinks ≡ 0)
 HasPlaces Nothing sources sinks = (sources ≡ 0) × (sinks ≡ 0)
@@ -63,23 +76,23 @@ RoseIn None new = ⊥
 
 -- of a volume that was made nothing is told; else its disk failed, and that is told
 abbrev pub TellsMade : Cause → (old new : Option ℕ) → Type 0
-TellsMade cause old new = (cause ≡ causes.Nothing) ⊎ ((cause ≡ causes.Disk) × RoseIn old new)
+TellsMade cause old new = (cause ≡ causes.Nothing) ⊎ ((cause ≡ causes.Disk None) × RoseIn old new)
 
 -- one session was asked for, and so it went
-pub record AsksOne (play : Play) (old new : Places) (report : Report) (trail : List Event) : Type 0 where
+pub record AsksOne (ground : Ground) (seed : ℕ) (old new : Places) (report : Report) (trail : List Event) : Type 0 where
   pub source : Supply
   pub source_after : Supply
   pub sink : Intake
   pub sink_after : Intake
   pub sources : (old.sources ≡ source ∷ []) × (new.sources ≡ source_after ∷ [])
   pub sinks : (old.sinks ≡ sink ∷ []) × (new.sinks ≡ sink_after ∷ [])
-  pub run : IsRunOf play.cylinders play.seed source source_after sink sink_after report trail
+  pub run : IsRunOf ground seed (RoseIn old.disk new.disk) source source_after sink sink_after report trail
 
-abbrev pub Asks : Asked → (old new : Places) → Report → List Event → Type 0
-Asks (Serves play) old new report trail = AsksOne play old new report trail
-Asks (Formats format) old new report trail = AsksNone report.cause old new report trail × TellsMade report.cause old.disk new.disk
-Asks (Shows page) old new report trail = AsksNone (causes.Page page) old new report trail
-Asks Nothing old new report trail = AsksNone causes.Words old new report trail
+abbrev pub Asks : Asked → Ground → (old new : Places) → Report → List Event → Type 0
+Asks (Serves service) ground old new report trail = AsksOne ground service.seed old new report trail
+Asks (Formats format) ground old new report trail = AsksNone report.cause old new report trail × TellsMade report.cause old.disk new.disk
+Asks (Shows page) ground old new report trail = AsksNone (causes.Page page) old new report trail
+Asks Nothing ground old new report trail = AsksNone causes.Words old new report trail
 
 -- the status: that of the cause, but for a report that could not be written where nothing worse is told
 abbrev pub ended : (written : Bool) → Cause → ℕ
@@ -88,15 +101,16 @@ ended false causes.Nothing = 5
 ended false (causes.Page page) = 5
 ended false causes.Memory = 5
 ended false causes.Words = 2
-ended false causes.Disk = 4
+ended false (causes.Volume fault) = 3
+ended false (causes.Disk moment) = 4
 ended false causes.Sink = 5
 ended false (causes.Source i) = 6
 ended false (causes.Long i) = 9
 ended false causes.LongTotal = 9
 
 -- the report of the run is this one, and so it was written
-pub record IsWhole (asked : Asked) (old new : Places) (report report_after : Intake) (told : Report) (status : ℕ) (trail : List Event) : Type 0 where
-  pub run : Asks asked old new told trail
+pub record IsWhole (asked : Asked) (ground : Ground) (old new : Places) (report report_after : Intake) (told : Report) (status : ℕ) (trail : List Event) : Type 0 where
+  pub run : Asks asked ground old new told trail
   -- the sink of the report has taken all of it, or some of its beginning
   pub written : Bool
   pub reported : Replied report report_after (report_text told) written

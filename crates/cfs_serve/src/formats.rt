@@ -23,7 +23,7 @@ fn expect_volume(rt: &impl Abort, alloc: Global, words: &[String])
                     assert_eq!(rt; path.as_str(), "volume");
                     assert_eq!(rt; *cylinders, 1);
                 }
-                None => panic!(rt; "a volume"),
+                _ => panic!(rt; "a volume"),
             }
             assert_eq!(rt; named.sources.as_slice().len(), 0);
             assert_eq!(rt; named.sinks.as_slice().len(), 0);

@@ -1,8 +1,8 @@
 //! The hall of one service.
-ghost use Rattle.std.specs.Prelude.{◌≡◌, ◌<◌, ◌≤◌, ◌+◌, ◌==◌, [], true, false, ℕ, map, length, slice_get};
+ghost use Rattle.std.specs.Prelude.{◌≡◌, ◌<◌, ◌≤◌, ◌+◌, ◌==◌, [], ◌∷◌, true, false, ℕ, map, length, slice_get};
 ghost use Rattle.std.specs.List.{list_any, sum_by};
-ghost use Rattle.cfs_serve.specs.Events.{wants_memory};
-ghost use Rattle.cfs_serve.specs.Journal.{IsRun, IsRunOn, IsStamped};
+ghost use Rattle.cfs_serve.specs.Events.{tells_disk, wants_memory};
+ghost use Rattle.cfs_serve.specs.Journal.{IsRun, IsRunOn, IsStamped, IsTold, Lasts, Told};
 ghost use Rattle.cfs_serve.specs.Hall.{AllLeft, AreFresh, AreHeard, AreNew, AreOver, Moves, Turns, has_left_at, seat_of, turns_left};
 ghost use Rattle.ufs_model.specs.Graph.{Graph};
 ghost use Rattle.ufs_model.specs.State.{opening};
@@ -72,7 +72,9 @@ impl<A: Server, J: Charter<A>, K: Sink> Hall<A, J, K> {
     /// A hall in which nothing happened.
     pub fn new(server: A, trail: Trail, ports: Vec<Port<K>>) -> Hall<A, J, K>
         requires no_event { trail.events ≡ [] }
-        requires opens { IsRun A.stands A.faults A.has_stopped J.charter server [] }
+        requires opens { IsRun A.stands A.is_damaged J.charter server [] }
+        requires lasts { Lasts A.stands A.clock A.lasts J.charter server [] [] }
+        requires told { IsTold A.faults A.has_stopped A.is_damaged J.charter server [] }
         requires runs { A.has_stopped server ≡ false }
         requires seed { A.seed server ≡ J.charter.seed }
         requires size { A.cylinders server ≡ J.charter.cylinders }
@@ -133,29 +135,34 @@ impl<A: Server, J: Charter<A>, K: Sink> Hall<A, J, K> {
     /// The server, the trail and the ports.
     pub fn into_parts(self) -> Parts<A, K>
         ensures size { A.cylinders result.server ≡ J.charter.cylinders }
-        ensures run { IsRun A.stands A.faults A.has_stopped J.charter result.server result.trail.events }
+        ensures run { IsRun A.stands A.is_damaged J.charter result.server result.trail.events }
+        ensures lasts { Lasts A.stands A.clock A.lasts J.charter result.server result.trail.events result.trail.moments }
+        ensures told { IsTold A.faults A.has_stopped A.is_damaged J.charter result.server result.trail.events }
         ensures heard { AreHeard J.charter result.trail.events result.ports.items }
         ensures ports { result.ports.items ≡ self.ports }
         ensures starved { result.starved ≡ list_any wants_memory result.trail.events }
+        ensures failed { result.failed ≡ list_any tells_disk result.trail.events }
     {
         let Hall { journal, ports } = self;
-        let (server, trail, starved) = journal.into_parts();
+        let (server, trail, starved, failed) = journal.into_parts();
         Parts {
             server,
             trail,
             ports,
             starved,
+            failed,
         }
     }
 }
 
-/// What a service leaves: the server, the trail, the ports, and whether want of memory was told.
+/// What a service leaves: the server, the trail, the ports, and whether want of memory and a failed call of the disk were told.
 #[derive(Drop)]
 pub struct Parts<A, K: Sink> {
     pub server: A,
     pub trail: Trail,
     pub ports: Vec<Port<K>>,
     pub starved: bool,
+    pub failed: bool,
 }
 
 /// Makes a hall of this charter, and all its turns.
@@ -167,7 +174,9 @@ fn serve_so<A: Server, J: Charter<A>, K: Sink>(
     ports: Vec<Port<K>>,
 ) -> Parts<A, K>
     requires no_event { trail.events ≡ [] }
-    requires opens { IsRun A.stands A.faults A.has_stopped J.charter server [] }
+    requires opens { IsRun A.stands A.is_damaged J.charter server [] }
+    requires lasts { Lasts A.stands A.clock A.lasts J.charter server [] [] }
+    requires told { IsTold A.faults A.has_stopped A.is_damaged J.charter server [] }
     requires runs { A.has_stopped server ≡ false }
     requires seed { A.seed server ≡ J.charter.seed }
     requires size { A.cylinders server ≡ J.charter.cylinders }
@@ -177,10 +186,13 @@ fn serve_so<A: Server, J: Charter<A>, K: Sink>(
     requires few { sum_by turns_left ports.items < 4294967295 }
     requires sessions { length ports.items ≤ 64 }
     ensures size { A.cylinders result.server ≡ J.charter.cylinders }
-    ensures run { IsRun A.stands A.faults A.has_stopped J.charter result.server result.trail.events }
+    ensures run { IsRun A.stands A.is_damaged J.charter result.server result.trail.events }
+    ensures lasts { Lasts A.stands A.clock A.lasts J.charter result.server result.trail.events result.trail.moments }
+    ensures told { IsTold A.faults A.has_stopped A.is_damaged J.charter result.server result.trail.events }
     ensures heard { AreHeard J.charter result.trail.events result.ports.items }
     ensures left { AllLeft result.ports.items }
     ensures starved { result.starved ≡ list_any wants_memory result.trail.events }
+    ensures failed { result.failed ≡ list_any tells_disk result.trail.events }
 {
     let mut hall: Hall<A, J, K> = Hall::new(server, trail, ports);
     hall.finish(alloc);
@@ -205,10 +217,16 @@ pub fn serve<A: Server, K: Sink>(
     requires sessions { length ports.items ≤ 64 }
     // on each graph that the server stood for, a legal run, of which it stands for the last state
     ensures run { (graph : Graph) → A.stands server (opening graph)
-        → IsRunOn A.stands A.faults A.has_stopped (A.seed server) (A.cylinders server) graph result.server result.trail.events }
+        → IsRunOn A.stands A.is_damaged (A.seed server) (A.cylinders server) graph server result.server result.trail.events }
+    // what it tells of the disk, whatever disk it is
+    ensures told { Told A.faults A.has_stopped A.is_damaged server result.server result.trail.events }
+    // and what was known of crashes as it began is known of the whole trail, from the moments of its events on
+    ensures lasts { (graph : Graph) → A.stands server (opening graph) → A.lasts server (A.seed server) graph [] (A.clock server ∷ [])
+        → A.lasts result.server (A.seed server) graph result.trail.events (A.clock server ∷ result.trail.moments) }
     ensures size { A.cylinders result.server ≡ A.cylinders server }
     ensures over { AreOver root (map seat_of ports.items) result.trail.events result.ports.items }
     ensures starved { result.starved ≡ list_any wants_memory result.trail.events }
+    ensures failed { result.failed ≡ list_any tells_disk result.trail.events }
 {
     serve_so::<A, Brand, K>(alloc, server, trail, root, ports)
 }

@@ -5,8 +5,8 @@ ghost use Rattle.ufs_model.specs.declared.asked.Event.TheVariants as events;
 ghost use Rattle.ufs_model.specs.declared.asked.Request as requests;
 ghost use Rattle.cfs_ports.specs.Heard.{HasRoom, is_built};
 ghost use Rattle.cfs_serve.specs.Charter.{Terms};
-ghost use Rattle.cfs_serve.specs.Events.{wants_memory};
-ghost use Rattle.cfs_serve.specs.Journal.{IsRun, IsStamped, Serves};
+ghost use Rattle.cfs_serve.specs.Events.{tells_disk, wants_memory};
+ghost use Rattle.cfs_serve.specs.Journal.{IsRun, IsStamped, IsTold, Lasts, Serves};
 
 use crate::server::Server;
 use cfs_base::{Session, Sink};
@@ -38,29 +38,34 @@ pub struct Journal<A: Server, J: Charter<A>> {
     server: A,
     trail: Trail,
     starved: bool,
+    failed: bool,
     of: PhantomData<J>,
 }
 
 impl<A: Server, J: Charter<A>> Model for Journal<A, J> {
     ghost use Rattle.std.specs.Prelude.{◌≡◌, ◌≤◌, length};
     ghost use Rattle.std.specs.List.{list_any};
-    ghost use Rattle.cfs_serve.specs.Events.{wants_memory};
-    ghost use Rattle.cfs_serve.specs.Journal.{Kept, IsRun};
+    ghost use Rattle.cfs_serve.specs.Events.{tells_disk, wants_memory};
+    ghost use Rattle.cfs_serve.specs.Journal.{Kept, IsRun, IsTold, Lasts};
 
     ghost Value = { Kept A };
 
-    ghost view = { λ j. record { server = j.server; events = j.trail.events; moments = j.trail.moments; room = j.trail.room; starved = j.starved } };
+    ghost view = { λ j. record { server = j.server; events = j.trail.events; moments = j.trail.moments; room = j.trail.room; starved = j.starved; failed = j.failed } };
 
-    ghost invariant = { λ j. IsRun A.stands A.faults A.has_stopped J.charter j.server j.trail.events
+    ghost invariant = { λ j. IsRun A.stands A.is_damaged J.charter j.server j.trail.events
         × (A.seed j.server ≡ J.charter.seed) × (A.cylinders j.server ≡ J.charter.cylinders)
-        × (A.words j.server ≤ length j.trail.events) × (j.starved ≡ list_any wants_memory j.trail.events) };
+        × (A.words j.server ≤ length j.trail.events) × (j.starved ≡ list_any wants_memory j.trail.events)
+        × Lasts A.stands A.clock A.lasts J.charter j.server j.trail.events j.trail.moments
+        × IsTold A.faults A.has_stopped A.is_damaged J.charter j.server j.trail.events × (j.failed ≡ list_any tells_disk j.trail.events) };
 }
 
 impl<A: Server, J: Charter<A>> Journal<A, J> {
     /// Nothing happened yet.
     pub fn new(server: A, trail: Trail) -> Journal<A, J>
         requires no_event { trail.events ≡ [] }
-        requires opens { IsRun A.stands A.faults A.has_stopped J.charter server [] }
+        requires opens { IsRun A.stands A.is_damaged J.charter server [] }
+        requires lasts { Lasts A.stands A.clock A.lasts J.charter server [] [] }
+        requires told { IsTold A.faults A.has_stopped A.is_damaged J.charter server [] }
         requires runs { A.has_stopped server ≡ false }
         requires seed { A.seed server ≡ J.charter.seed }
         requires size { A.cylinders server ≡ J.charter.cylinders }
@@ -68,10 +73,12 @@ impl<A: Server, J: Charter<A>> Journal<A, J> {
         ensures events { result.events ≡ [] }
         ensures room { result.room ≡ trail.room }
     {
+        trail.len();
         Journal {
             server,
             trail,
             starved: false,
+            failed: false,
             of: PhantomData,
         }
     }
@@ -106,6 +113,7 @@ impl<A: Server, J: Charter<A>> Journal<A, J> {
     {
         let reply = self.server.answer(alloc, session, &request);
         self.starved = starved_by(&reply, self.starved);
+        self.failed = failed_by(&reply, self.failed);
         port.answer(name, &reply);
         let moment = self.server.moment();
         self.trail.push(
@@ -130,21 +138,25 @@ impl<A: Server, J: Charter<A>> Journal<A, J> {
         self.trail.push(Event::Leave { session, stopped }, moment);
     }
 
-    /// The server, the trail, and whether want of memory was told.
-    pub fn into_parts(self) -> (A, Trail, bool)
+    /// The server, the trail, whether want of memory was told, and whether a failed call of the disk was.
+    pub fn into_parts(self) -> (A, Trail, bool, bool)
         ensures server { result.0 ≡ self.server }
         ensures events { result.1.events ≡ self.events }
         ensures starved { result.2 ≡ list_any wants_memory self.events }
+        ensures failed { result.3 ≡ list_any tells_disk self.events }
         ensures size { A.cylinders self.server ≡ J.charter.cylinders }
-        ensures run { IsRun A.stands A.faults A.has_stopped J.charter self.server self.events }
+        ensures run { IsRun A.stands A.is_damaged J.charter self.server self.events }
+        ensures lasts { Lasts A.stands A.clock A.lasts J.charter self.server self.events result.1.moments }
+        ensures told { IsTold A.faults A.has_stopped A.is_damaged J.charter self.server self.events }
     {
         let Journal {
             server,
             trail,
             starved,
+            failed,
             of: _,
         } = self;
-        (server, trail, starved)
+        (server, trail, starved, failed)
     }
 }
 
@@ -154,6 +166,16 @@ fn starved_by(reply: &Reply, before: bool) -> bool
 {
     match reply {
         Reply::Memory => true,
+        _ => before,
+    }
+}
+
+/// Whether this reply tells a failed call of the disk, or one was told before.
+fn failed_by(reply: &Reply, before: bool) -> bool
+    ensures { (who : ℕ) (request : requests.Request) → result ≡ (tells_disk (events.Ask who request reply.now) || before) }
+{
+    match reply {
+        Reply::Disk { .. } => true,
         _ => before,
     }
 }

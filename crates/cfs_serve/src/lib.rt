@@ -1,4 +1,5 @@
-//! A whole run: words are read; a volume is made on a disk, or a source is read whole and a session is served; and a report is written. The program above
+//! A whole run: words are read; a volume is made on a disk, or a source is read whole and a session is served, on a volume in
+//! memory or on a disk; and a report is written. The program above
 //! uses one contract, that of `top`. Below it, `serve` serves any number of sessions on whatever server.
 #![tactic(auto)]
 
@@ -19,7 +20,7 @@ pub use hall::{Parts, serve};
 pub use limits::{MOST_CYLINDERS, MOST_FILE_CYLINDERS, MOST_LINES, MOST_SCRIPT};
 pub use page::Page;
 pub use paths::{Names, Path, Paths, Volume, WordsFault};
-pub use report::{Cause, Counts, Report};
+pub use report::{Cause, Counts, Report, VolumeFault};
 pub use run::{Bay, Ended, top};
 pub use server::Server;
 pub use words::names;
@@ -28,5 +29,7 @@ pub use words::names;
 mod beside;
 #[cfg(test)]
 mod formats;
+#[cfg(test)]
+mod serves;
 #[cfg(test)]
 mod tests;

@@ -22,12 +22,14 @@ impl Page {
     IN and OUT are files, or - for the standard streams
 cfs format VOLUME CYLINDERS SEED
     make a volume in the file VOLUME, which must not be there yet
+cfs serve VOLUME SEED 0 IN OUT
+    serve the request lines of IN on the volume in the file VOLUME
 cfs --help
     print this page
 cfs --version
     print the version
-status: 0 all is well, 2 the words are of no form, 4 a disk failed, 5 a sink failed, 6 a source failed,
-    7 memory was wanting, 9 a limit was passed, 10 a file cannot be opened or made
+status: 0 all is well, 2 the words are of no form, 3 the volume is none or damaged, 4 a disk failed, 5 a sink failed,
+    6 a source failed, 7 memory was wanting, 9 a limit was passed, 10 a file cannot be opened or made
 manual: docs/cfs.1, docs/PROGRAM.md
 "
             }

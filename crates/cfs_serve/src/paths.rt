@@ -51,6 +51,8 @@ impl Paths {
 /// A volume in a file.
 #[derive(Debug, Drop)]
 pub enum Volume {
+    /// It is there, and is served.
+    Existing { path: Path },
     /// It is to be made, of so many cylinders.
     Fresh { path: Path, cylinders: u32 },
 }

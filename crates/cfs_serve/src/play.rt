@@ -1,28 +1,30 @@
-//! The service of one session on a new volume in memory.
-ghost use Rattle.std.specs.Prelude.{◌≡◌, ◌+◌, ◌≤◌, ℕ, [], None, filter, length, vec_capacity};
+//! The service of one session.
+ghost use Rattle.std.specs.Prelude.{◌≡◌, ◌+◌, ◌≤◌, ℕ, [], None, Some, IfErr, IfOk, filter, length, option_map, option_and_then, sum, vec_capacity};
+ghost use Rattle.cfs_base.specs.Outside.{Rose};
+ghost use Rattle.cfs_core.specs.StandsFor.{Serves};
 ghost use Rattle.ufs_model.specs.Script.{request_lines};
 ghost use Rattle.ufs_model.specs.State.{State};
-ghost use Rattle.cfs_core.specs.StandsFor.{Serves};
 ghost use Rattle.cfs_ports.specs.Port.{IsNew};
+ghost use Rattle.cfs_serve.specs.Disks.{ServesVolume};
 ghost use Rattle.cfs_serve.specs.Events as spec;
+ghost use Rattle.cfs_serve.specs.Ground.{ground_on, new_ground};
 ghost use Rattle.cfs_serve.specs.Played as played;
-ghost use Rattle.cfs_serve.specs.Played.{IsRunOf, ServesScript, ServesSession};
-ghost use Rattle.cfs_serve.specs.Volume.{IsNewCore};
-ghost use Rattle.cfs_serve.specs.Words.{root_of};
+ghost use Rattle.cfs_serve.specs.Played.{HasScript, IsRunOf, IsSourceCause, free_of};
+ghost use Rattle.cfs_serve.specs.Volume.{ServesScript, ServesSession};
 
 use crate::hall::{Parts, serve};
 use crate::limits::{MOST_LINES, MOST_SCRIPT};
-use crate::report::{Cause, Counts, Report};
-use crate::sure_disk::SureDisk;
-use crate::volume::new_volume;
-use cfs_base::{Disk, Puid, Sink, Source};
+use crate::report::{Cause, Counts, Report, VolumeFault};
+use crate::volume::{Refused, new_volume, open_volume};
+use cfs_base::{Damage, Disk, Sink, Source};
 use cfs_core::Core;
 use cfs_ports::Port;
 use cfs_script::next_line;
 use cfs_streams::{ReadFault, read_whole};
 use cfs_trail::Trail;
 use std::alloc::Global;
-use ufs_model::{Event, word_of};
+use survival::runs_survive;
+use ufs_model::Event;
 
 /// What a service comes to.
 #[derive(Drop)]
@@ -78,11 +80,26 @@ pub(crate) fn nothing(alloc: Global, cause: Cause) -> Played
     }
 }
 
-/// What spoiled a service: a sink that failed before memory that was wanting.
-fn spoiled_by(starved: bool, failed: bool) -> Cause
-    ensures { result ≡ played.spoiled_by starved failed }
+/// What spoiled a service, the worst first.
+fn spoiled_by(
+    failed: bool,
+    stopped: Option<u64>,
+    damage: Option<Damage>,
+    broken: bool,
+    starved: bool,
+) -> Cause
+    ensures { result ≡ played.spoiled_by failed stopped damage broken starved }
 {
     if failed {
+        return Cause::Disk(stopped);
+    }
+    if let Some(damage) = damage {
+        return Cause::Volume(VolumeFault::Damaged(damage));
+    }
+    if stopped.is_some() {
+        return Cause::Disk(stopped);
+    }
+    if broken {
         Cause::Sink
     } else if starved {
         Cause::Memory
@@ -92,9 +109,25 @@ fn spoiled_by(starved: bool, failed: bool) -> Cause
 }
 
 /// The report on a session that was served.
-fn report_on<D: Disk>(core: &Core<D>, trail: &Trail, starved: bool, failed: bool) -> Report
-    ensures { (s : State) → Serves D.Disk core.now s
-        → result ≡ played.report_on (length core.now.space.free) s trail.now.events starved failed }
+fn report_on<D: Disk>(
+    core: &Core<D>,
+    trail: &Trail,
+    failed: bool,
+    broken: bool,
+    starved: bool,
+) -> Report
+    ensures told { result ≡ record {
+      counts = Some (record {
+        sessions = 1;
+        replies = length (filter spec.is_reply trail.now.events);
+        collections = 0;
+        objects = length core.now.names.named;
+        free = sum core.now.space.free;
+      });
+      cause = played.spoiled_by failed (option_map (λ stop. stop.moment) core.now.stop)
+          (option_and_then (λ stop. stop.damage) core.now.stop) broken starved;
+    } }
+    ensures free { (s : State) → Serves D.Disk core.now s → sum core.now.space.free ≡ free_of (length core.now.space.free) s.graph }
 {
     let status = core.status();
     core.has_room();
@@ -106,82 +139,105 @@ fn report_on<D: Disk>(core: &Core<D>, trail: &Trail, starved: bool, failed: bool
             objects: u64::from(status.objects),
             free: u64::from(status.free),
         }),
-        cause: spoiled_by(starved, failed),
+        cause: spoiled_by(failed, status.stopped, status.damage, broken, starved),
     }
 }
 
-/// Serves the session of this port on a new volume. Its sink comes back.
-fn play_port<K: Sink>(
+/// Serves the session of this port. Its sink comes back, and the disk.
+fn serve_port<D: Disk, K: Sink>(
     alloc: Global,
-    core: Core<SureDisk>,
+    core: Core<D>,
     trail: Trail,
-    root: Puid,
     port: Port<K>,
     mut ports: Vec<Port<K>>,
-) -> (Played, K)
+) -> (Played, K, D)
     requires none { ports.items ≡ [] }
     requires one { 1 ≤ vec_capacity ports }
     requires no_event { trail.events ≡ [] }
     requires room { length port.lines + 1 ≤ trail.room }
     requires few { length port.lines ≤ 500000 }
-    requires new { IsNew root port }
+    requires new { IsNew core.root port }
     requires runs { core.stop ≡ None }
     requires words { core.words.drawn ≡ 0 }
-    ensures { (cylinders seed : ℕ) → IsNewCore ⟦<SureDisk as Disk>⟧ cylinders seed core → root ≡ root_of seed
-        → ServesSession cylinders seed port.lines port.sink (K.intake result.1) result.0.report result.0.trail.events }
+    ensures { ServesSession D.Disk core port.lines port.sink (K.intake result.1) result.0.report result.0.trail.events result.0.trail.moments result.2 }
 {
+    let root = core.root();
+    runs_survive::<D>();
     ports.push_reserved(port);
     let Parts {
         server,
         trail,
         mut ports,
         starved,
+        failed,
     } = serve(alloc, core, trail, root, ports);
     let port = ports.take_last();
     ports.destroy_empty();
-    let report = report_on(&server, &trail, starved, port.has_failed());
-    (Played { report, trail }, port.into_sink())
+    let report = report_on(&server, &trail, failed, port.has_failed(), starved);
+    (
+        Played { report, trail },
+        port.into_sink(),
+        server.into_disk(),
+    )
 }
 
-/// Serves a script of so many request lines on a new volume. The sink comes back.
-fn play_script<K: Sink>(
+/// Serves a script of so many request lines. The sink comes back, and the disk.
+fn serve_script<D: Disk, K: Sink>(
     alloc: Global,
-    cylinders: u32,
-    seed: u64,
+    core: Core<D>,
     script: Vec<u8>,
     lines: u64,
     sink: K,
-) -> (Played, K)
-    requires some { 1 ≤ cylinders }
-    requires most { cylinders ≤ 1024 }
+) -> (Played, K, D)
     requires count { lines ≡ length (request_lines script.items) }
     requires fits { lines ≤ 500000 }
-    ensures { ServesScript cylinders seed script.items (K.intake sink) (K.intake result.1) result.0.report result.0.trail.events }
+    requires runs { core.stop ≡ None }
+    requires words { core.words.drawn ≡ 0 }
+    ensures { ServesScript D.Disk core script.items (K.intake sink) (K.intake result.1) result.0.report result.0.trail.events result.0.trail.moments result.2 }
 {
-    let Some(core) = new_volume(alloc, cylinders, seed) else {
-        return (nothing(alloc, Cause::Memory), sink);
-    };
     let mut trail = Trail::new(alloc);
     if let Err(_) = trail.reserve(lines + 1) {
-        return (nothing(alloc, Cause::Memory), sink);
+        return (nothing(alloc, Cause::Memory), sink, core.into_disk());
     }
     let Ok(ports) = Vec::with_capacity(alloc, 1) else {
-        return (nothing(alloc, Cause::Memory), sink);
+        return (nothing(alloc, Cause::Memory), sink, core.into_disk());
     };
-    let root = Puid {
-        block: 2,
-        word: word_of(seed, 0),
-    };
-    match Port::new(alloc, root, script, lines, sink) {
-        Ok(port) => play_port(alloc, core, trail, root, port, ports),
+    match Port::new(alloc, core.root(), script, lines, sink) {
+        Ok(port) => serve_port(alloc, core, trail, port, ports),
         Err(fault) => {
             ports.destroy_empty();
-            (nothing(alloc, Cause::Memory), fault.sink)
+            (nothing(alloc, Cause::Memory), fault.sink, core.into_disk())
         }
     }
 }
 
-/// Reads the source whole, and serves it as the script of one session on a new volume. The sink comes back.
+/// A script, and how many request lines it has.
+#[derive(Drop)]
+struct Script {
+    bytes: Vec<u8>,
+    lines: u64,
+}
+
+/// Reads the source whole. What is to be told where its script is not served.
+fn read_script<S: Source>(alloc: Global, source: &mut S) -> Result<Script, Cause>
+    ensures script { IfOk result (λ s. HasScript (S.supply source.old) s.bytes.items) }
+    ensures cause { IfErr result (IsSourceCause (S.supply source.old) (S.supply source.new)) }
+    ensures lines { IfOk result (λ s. s.lines ≡ length (request_lines s.bytes.items)) }
+{
+    let bytes = match read_whole(alloc, source, MOST_SCRIPT) {
+        Ok(bytes) => bytes,
+        Err(ReadFault::Failed) => return Err(Cause::Source(0)),
+        Err(ReadFault::Long) => return Err(Cause::Long(0)),
+        Err(ReadFault::Memory) => return Err(Cause::Memory),
+    };
+    let lines = count_lines(bytes.as_slice());
+    if lines > MOST_LINES {
+        return Err(Cause::LongTotal);
+    }
+    Ok(Script { bytes, lines })
+}
+
+/// Reads the source whole, and serves it as the script of one session on a new volume in memory. The sink comes back.
 pub(crate) fn play<S: Source, K: Sink>(
     alloc: Global,
     cylinders: u32,
@@ -191,18 +247,39 @@ pub(crate) fn play<S: Source, K: Sink>(
 ) -> (Played, K)
     requires some { 1 ≤ cylinders }
     requires most { cylinders ≤ 1024 }
-    ensures { IsRunOf cylinders seed (S.supply source.old) (S.supply source.new) (K.intake sink) (K.intake result.1)
+    ensures { IsRunOf (new_ground cylinders seed) seed ⊥ (S.supply source.old) (S.supply source.new) (K.intake sink) (K.intake result.1)
         result.0.report result.0.trail.events }
 {
-    let script = match read_whole(alloc, source, MOST_SCRIPT) {
+    let script = match read_script(alloc, source) {
         Ok(script) => script,
-        Err(ReadFault::Failed) => return (nothing(alloc, Cause::Source(0)), sink),
-        Err(ReadFault::Long) => return (nothing(alloc, Cause::Long(0)), sink),
-        Err(ReadFault::Memory) => return (nothing(alloc, Cause::Memory), sink),
+        Err(cause) => return (nothing(alloc, cause), sink),
     };
-    let lines = count_lines(script.as_slice());
-    if lines > MOST_LINES {
-        return (nothing(alloc, Cause::LongTotal), sink);
+    let Some(core) = new_volume(alloc, cylinders, seed) else {
+        return (nothing(alloc, Cause::Memory), sink);
+    };
+    let (played, sink, _) = serve_script(alloc, core, script.bytes, script.lines, sink);
+    (played, sink)
+}
+
+/// Reads the source whole, and serves it as the script of one session on the volume of this disk. The sink comes back, and the
+/// disk.
+pub(crate) fn serve_volume<D: Disk, S: Source, K: Sink>(
+    alloc: Global,
+    seed: u64,
+    disk: D,
+    source: &mut S,
+    sink: K,
+) -> (Played, K, D)
+    ensures run { IsRunOf (ground_on D.Disk disk) seed (Rose (D.faults disk) (D.faults result.2)) (S.supply source.old) (S.supply source.new)
+        (K.intake sink) (K.intake result.1) result.0.report result.0.trail.events }
+    ensures volume { ServesVolume D.Disk seed result.0.report result.0.trail.events result.0.trail.moments disk result.2 }
+{
+    let script = match read_script(alloc, source) {
+        Ok(script) => script,
+        Err(cause) => return (nothing(alloc, cause), sink, disk),
+    };
+    match open_volume(alloc, disk, seed) {
+        Ok(core) => serve_script(alloc, core, script.bytes, script.lines, sink),
+        Err(Refused { cause, disk }) => (nothing(alloc, cause), sink, disk),
     }
-    play_script(alloc, cylinders, seed, script, lines, sink)
 }

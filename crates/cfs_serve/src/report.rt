@@ -1,10 +1,12 @@
 //! The report of a run, and its status.
 ghost use Rattle.std.specs.Prelude.{◌≡◌, ◌++◌, codes};
 ghost use Rattle.cfs_streams.specs.Writing.{WritesWhole};
+ghost use Rattle.std.specs.Fmt.{decimal};
+ghost use Rattle.cfs_serve.specs.Report.{damage_text};
 ghost use Rattle.cfs_serve.specs.Told.{told};
 
 use crate::page::Page;
-use cfs_base::{Failed, Sink};
+use cfs_base::{Damage, Failed, Sink};
 use cfs_streams::write_whole;
 use itoa::Buffer;
 
@@ -22,6 +24,17 @@ pub struct Counts {
     pub free: u64,
 }
 
+/// What is wrong with a volume.
+#[derive(Clone, Copy, Debug, PartialEq, Eq)]
+pub enum VolumeFault {
+    /// The file holds no volume.
+    NotVolume,
+    /// It holds a volume of this version, which is another.
+    Version(u32),
+    /// A block of it is damaged.
+    Damaged(Damage),
+}
+
 /// What ended a run before its end, or spoiled it; or that a page was asked for.
 #[derive(Clone, Copy, Debug, PartialEq, Eq)]
 pub enum Cause {
@@ -30,8 +43,10 @@ pub enum Cause {
     Page(Page),
     /// The words are of no form.
     Words,
-    /// The volume's disk failed.
-    Disk,
+    /// The volume was refused as it was opened, or its service stopped at a block that is damaged.
+    Volume(VolumeFault),
+    /// The volume's disk failed. The moment of the disk at which the service stopped, if it did.
+    Disk(Option<u64>),
     /// A session's sink failed.
     Sink,
     /// That source failed.
@@ -54,7 +69,8 @@ impl Cause {
         match self {
             Cause::Nothing | Cause::Page(_) => 0,
             Cause::Words => 2,
-            Cause::Disk => 4,
+            Cause::Volume(_) => 3,
+            Cause::Disk(_) => 4,
             Cause::Sink => 5,
             Cause::Source(_) => 6,
             Cause::Memory => 7,
@@ -71,7 +87,9 @@ impl Cause {
         match self {
             Cause::Nothing | Cause::Page(_) => Ok(()),
             Cause::Words => write_whole(sink, b"words\n"),
-            Cause::Disk => write_whole(sink, b"disk\n"),
+            Cause::Volume(fault) => fault.write(sink),
+            Cause::Disk(None) => write_whole(sink, b"disk\n"),
+            Cause::Disk(Some(moment)) => write_number(sink, b"disk", moment),
             Cause::Sink => write_whole(sink, b"sink\n"),
             Cause::Source(source) => write_number(sink, b"source", source),
             Cause::Memory => write_whole(sink, b"memory\n"),
@@ -110,6 +128,40 @@ fn write_number<K: Sink>(sink: &mut K, word: &[u8], number: u64) -> Result<(), F
     write_whole(sink, b" ")?;
     write_whole(sink, digits.format(number).as_bytes())?;
     write_whole(sink, b"\n")
+}
+
+/// Writes the beginning of a damage's line, with its block.
+fn write_block<K: Sink>(sink: &mut K, block: u32) -> Result<(), Failed>
+    ensures { WritesWhole (K.intake sink.old) (K.intake sink.new) (codes "volume damaged " ++ decimal block) result }
+{
+    let mut digits = Buffer::new();
+    write_whole(sink, b"volume damaged ")?;
+    write_whole(sink, digits.format(block).as_bytes())
+}
+
+/// Writes the line of a damage.
+fn write_damage<K: Sink>(sink: &mut K, damage: Damage) -> Result<(), Failed>
+    ensures { WritesWhole (K.intake sink.old) (K.intake sink.new) (damage_text damage) result }
+{
+    write_block(sink, damage.block)?;
+    write_number(sink, b"", u64::from(damage.code))
+}
+
+impl VolumeFault {
+    ghost use Rattle.cfs_serve.specs.Report.{fault_text};
+
+    /// Writes its line.
+    fn write<K: Sink>(self, sink: &mut K) -> Result<(), Failed>
+        ensures { WritesWhole (K.intake sink.old) (K.intake sink.new) (fault_text self) result }
+    {
+        match self {
+            VolumeFault::NotVolume => write_whole(sink, b"volume not-volume\n"),
+            VolumeFault::Version(found) => {
+                write_number(sink, b"volume version", u64::from(found))
+            }
+            VolumeFault::Damaged(damage) => write_damage(sink, damage),
+        }
+    }
 }
 
 impl Counts {

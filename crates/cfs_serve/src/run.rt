@@ -1,14 +1,15 @@
 //! A whole run, and the one public call that makes it.
-ghost use Rattle.std.specs.Prelude.{◌≡◌, ◌⊎◌, ◌%◌, ◌*◌, ◌≤◌, map, length, option_map};
+ghost use Rattle.std.specs.Prelude.{◌≡◌, ◌⊎◌, ◌%◌, ◌*◌, ◌≤◌, None, Some, string_bytes, map, length, option_map};
 ghost use Rattle.cfs_base.specs.Outside.{Rose};
-ghost use Rattle.cfs_serve.specs.Words.{Format, asked_by};
-ghost use Rattle.cfs_serve.specs.Whole.{Asks, HasDisk, HasPlaces, IsWhole, ended};
-ghost use Rattle.cfs_serve.specs.Disks.{MakesVolume, OnDisk};
+ghost use Rattle.cfs_serve.specs.Words.{Format, asked_by, format_in, page_in};
+ghost use Rattle.cfs_serve.specs.Whole.{Asks, AsksOne, HasDisk, HasPlaces, IsWhole, ended};
+ghost use Rattle.cfs_serve.specs.Disks.{MakesVolume, OnDisk, ServesVolume};
+ghost use Rattle.cfs_serve.specs.Ground.{ground_of, ground_on, new_ground};
 ghost use Rattle.cfs_serve.specs.Top.{Said, before, after};
 
-use crate::play::{Played, nothing, play};
+use crate::play::{Played, nothing, play, serve_volume};
 use crate::report::{Cause, Report};
-use crate::words::{format_asked, page_asked, play_asked};
+use crate::words::{format_asked, page_asked, play_asked, serve_asked};
 use cfs_base::{Disk, Failed, Gate, Sink, Source};
 use cfs_core::Core;
 use cfs_trail::Trail;
@@ -56,50 +57,134 @@ fn make_volume<D: Disk>(disk: &mut D, seed: u64) -> Cause
     requires most { D.blocks disk.old ≤ 64 * 65536 }
     ensures made { (format : Format) → format.seed ≡ seed → D.blocks disk.old ≡ 64 * format.cylinders
         → MakesVolume D.Disk format result disk.old disk.new }
-    ensures told { (result ≡ Cause.Nothing) ⊎ ((result ≡ Cause.Disk) × Rose (D.faults disk.old) (D.faults disk.new)) }
+    ensures told { (result ≡ Cause.Nothing) ⊎ ((result ≡ Cause.Disk None) × Rose (D.faults disk.old) (D.faults disk.new)) }
 {
     match Core::format(disk, seed) {
         Ok(()) => Cause::Nothing,
-        Err(Failed) => Cause::Disk,
+        Err(Failed) => Cause::Disk(None),
     }
 }
 
-/// Shows the page, makes the volume or serves the session that is asked for. Answers what is to be told, and the trail.
-fn do_asked<D: Disk, S: Source, K: Sink>(
+/// Serves the session on the volume of this disk, which comes back. Answers what is to be told, and the trail.
+fn serve_disk<D: Disk, S: Source, K: Sink>(
     alloc: Global,
-    words: &[String],
-    disk: &mut Option<D>,
+    seed: u64,
+    disk: D,
+    sources: &mut Vec<S>,
+    sinks: &mut Vec<K>,
+) -> (Played, D)
+    requires sources { length sources.old.items ≡ 1 }
+    requires sinks { length sinks.old.items ≡ 1 }
+    ensures volume { ServesVolume D.Disk seed result.0.report result.0.trail.events result.0.trail.moments disk result.1 }
+    ensures asks { AsksOne (ground_on D.Disk disk) seed
+        (record { disk = Some (D.faults disk); sources = map S.supply sources.old.items; sinks = map K.intake sinks.old.items })
+        (record { disk = Some (D.faults result.1); sources = map S.supply sources.new.items; sinks = map K.intake sinks.new.items })
+        result.0.report result.0.trail.events }
+{
+    let sink = sinks.take_last();
+    let (played, sink, disk) = serve_volume(alloc, seed, disk, &mut sources[0], sink);
+    sinks.push_reserved(sink);
+    (played, disk)
+}
+
+/// Serves the session on a new volume in memory. Answers what is to be told, and the trail.
+fn play_memory<S: Source, K: Sink>(
+    alloc: Global,
+    cylinders: u32,
+    seed: u64,
     sources: &mut Vec<S>,
     sinks: &mut Vec<K>,
 ) -> Played
-    requires disk { HasDisk (asked_by words.now) (option_map D.blocks disk.old) }
-    requires places { HasPlaces (asked_by words.now) (length sources.old.items) (length sinks.old.items) }
-    ensures disk { OnDisk D.Disk (asked_by words.now) result.report.cause disk.old disk.new }
-    ensures asks { Asks (asked_by words.now)
-        (record { disk = option_map D.faults disk.old; sources = map S.supply sources.old.items; sinks = map K.intake sinks.old.items })
-        (record { disk = option_map D.faults disk.new; sources = map S.supply sources.new.items; sinks = map K.intake sinks.new.items })
+    requires some { 1 ≤ cylinders }
+    requires most { cylinders ≤ 1024 }
+    requires sources { length sources.old.items ≡ 1 }
+    requires sinks { length sinks.old.items ≡ 1 }
+    ensures { AsksOne (new_ground cylinders seed) seed
+        (record { disk = None; sources = map S.supply sources.old.items; sinks = map K.intake sinks.old.items })
+        (record { disk = None; sources = map S.supply sources.new.items; sinks = map K.intake sinks.new.items })
         result.report result.trail.events }
 {
-    if let Some(page) = page_asked(words) {
-        return nothing(alloc, Cause::Page(page));
+    let sink = sinks.take_last();
+    let (played, sink) = play(alloc, cylinders, seed, &mut sources[0], sink);
+    sinks.push_reserved(sink);
+    played
+}
+
+/// What a run did, and the disk of its volume.
+#[derive(Drop)]
+struct Done<D> {
+    played: Played,
+    disk: Option<D>,
+}
+
+/// Serves the session that is asked for on the volume of the disk, where there is one; nothing where the words are of no form.
+fn serve_asked_on<D: Disk, S: Source, K: Sink>(
+    alloc: Global,
+    words: &[String],
+    disk: Option<D>,
+    sources: &mut Vec<S>,
+    sinks: &mut Vec<K>,
+) -> Done<D>
+    requires disk { HasDisk (asked_by words.now) (option_map D.blocks disk) }
+    requires places { HasPlaces (asked_by words.now) (length sources.old.items) (length sinks.old.items) }
+    requires page { page_in (map string_bytes words.now) ≡ None }
+    requires format { format_in (map string_bytes words.now) ≡ None }
+    ensures disk { OnDisk D.Disk (asked_by words.now) result.played.report result.played.trail.events result.played.trail.moments disk result.disk }
+    ensures asks { Asks (asked_by words.now) (ground_of D.Disk (asked_by words.now) disk)
+        (record { disk = option_map D.faults disk; sources = map S.supply sources.old.items; sinks = map K.intake sinks.old.items })
+        (record { disk = option_map D.faults result.disk; sources = map S.supply sources.new.items; sinks = map K.intake sinks.new.items })
+        result.played.report result.played.trail.events }
+{
+    if let Some(asked) = play_asked(words) {
+        let played = play_memory(alloc, asked.cylinders as u32, asked.seed, sources, sinks);
+        return Done { played, disk };
     }
-    if let (Some(format), Some(disk)) = (format_asked(words), disk) {
-        return nothing(alloc, make_volume(disk, format.seed));
-    }
-    match play_asked(words) {
-        Some(asked) => {
-            let sink = sinks.take_last();
-            let (played, sink) = play(
-                alloc,
-                asked.cylinders as u32,
-                asked.seed,
-                &mut sources[0],
-                sink,
-            );
-            sinks.push_reserved(sink);
-            played
+    match (serve_asked(words), disk) {
+        (Some(served), Some(disk)) => {
+            let (played, disk) = serve_disk(alloc, served.seed, disk, sources, sinks);
+            Done {
+                played,
+                disk: Some(disk),
+            }
         }
-        None => nothing(alloc, Cause::Words),
+        (_, disk) => Done {
+            played: nothing(alloc, Cause::Words),
+            disk,
+        },
+    }
+}
+
+/// Shows the page, makes the volume or serves the session that is asked for.
+fn do_asked<D: Disk, S: Source, K: Sink>(
+    alloc: Global,
+    words: &[String],
+    disk: Option<D>,
+    sources: &mut Vec<S>,
+    sinks: &mut Vec<K>,
+) -> Done<D>
+    requires disk { HasDisk (asked_by words.now) (option_map D.blocks disk) }
+    requires places { HasPlaces (asked_by words.now) (length sources.old.items) (length sinks.old.items) }
+    ensures disk { OnDisk D.Disk (asked_by words.now) result.played.report result.played.trail.events result.played.trail.moments disk result.disk }
+    ensures asks { Asks (asked_by words.now) (ground_of D.Disk (asked_by words.now) disk)
+        (record { disk = option_map D.faults disk; sources = map S.supply sources.old.items; sinks = map K.intake sinks.old.items })
+        (record { disk = option_map D.faults result.disk; sources = map S.supply sources.new.items; sinks = map K.intake sinks.new.items })
+        result.played.report result.played.trail.events }
+{
+    if let Some(page) = page_asked(words) {
+        return Done {
+            played: nothing(alloc, Cause::Page(page)),
+            disk,
+        };
+    }
+    let Some(format) = format_asked(words) else {
+        return serve_asked_on(alloc, words, disk, sources, sinks);
+    };
+    match disk {
+        Some(mut disk) => Done {
+            played: nothing(alloc, make_volume(&mut disk, format.seed)),
+            disk: Some(disk),
+        },
+        None => unreachable!(),
     }
 }
 
@@ -111,22 +196,23 @@ fn run<D: Disk, S: Source, K: Sink>(
 ) -> Ended<D, S, K>
     requires disk { HasDisk (asked_by words.now) (option_map D.blocks bay.disk) }
     requires places { HasPlaces (asked_by words.now) (length bay.sources.items) (length bay.sinks.items) }
-    ensures disk { OnDisk D.Disk (asked_by words.now) result.told.cause bay.disk result.disk }
-    ensures whole { IsWhole (asked_by words.now)
+    ensures disk { OnDisk D.Disk (asked_by words.now) result.told result.trail.events result.trail.moments bay.disk result.disk }
+    ensures whole { IsWhole (asked_by words.now) (ground_of D.Disk (asked_by words.now) bay.disk)
         (record { disk = option_map D.faults bay.disk; sources = map S.supply bay.sources.items; sinks = map K.intake bay.sinks.items })
         (record { disk = option_map D.faults result.disk; sources = map S.supply result.sources.items; sinks = map K.intake result.sinks.items })
         (K.intake bay.report) (K.intake result.report) result.told result.status result.trail.events }
 {
     let Bay {
-        mut disk,
+        disk,
         mut sources,
         mut sinks,
         mut report,
     } = bay;
+    let Done { played, disk } = do_asked(alloc, words, disk, &mut sources, &mut sinks);
     let Played {
         report: told,
         trail,
-    } = do_asked(alloc, words, &mut disk, &mut sources, &mut sinks);
+    } = played;
     let written = told.write(&mut report).is_ok();
     Ended {
         status: status_of(written, told.cause),
@@ -148,8 +234,8 @@ pub fn top<D: Disk, S: Source, K: Sink, G: Gate>(
 ) -> Ended<D, S, K>
     requires disk { HasDisk (asked_by words.now) (option_map D.blocks bay.disk) }
     requires places { HasPlaces (asked_by words.now) (length bay.sources.items) (length bay.sinks.items) }
-    ensures disk { OnDisk D.Disk (asked_by words.now) result.told.cause bay.disk result.disk }
-    ensures said { Said (asked_by words.now)
+    ensures disk { OnDisk D.Disk (asked_by words.now) result.told result.trail.events result.trail.moments bay.disk result.disk }
+    ensures said { Said (asked_by words.now) (ground_of D.Disk (asked_by words.now) bay.disk)
         (before D.faults S.supply K.intake bay) (after D.faults S.supply K.intake result) result.told result.status result.trail.events }
 {
     run(alloc, words, bay)

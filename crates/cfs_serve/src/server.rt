@@ -1,17 +1,19 @@
 //! What a service stands on: a server that sessions ask and leave.
-ghost use Rattle.std.specs.Prelude.{◌≡◌, ◌+◌, ◌<◌, ◌≤◌, ℕ, Bool, true, false, IsSome};
-ghost use Rattle.cfs_base.specs.Outside.{Rose};
+ghost use Rattle.std.specs.Prelude.{◌≡◌, ◌+◌, ◌<◌, ◌≤◌, ℕ, Bool, List, true, false};
 ghost use Rattle.cfs_ports.specs.Heard.{is_built};
 ghost use Rattle.cfs_script.specs.Room.{FitsLine};
 ghost use Rattle.ufs_model.specs.declared.asked.Event.TheVariants as events;
 ghost use Rattle.ufs_model.specs.Asks.{IsAsked};
 ghost use Rattle.ufs_model.specs.State.{State};
-ghost use Rattle.cfs_serve.specs.Calls.{IsExact, Makes};
-ghost use Rattle.cfs_serve.specs.Events.{is_calm_reply};
+ghost use Rattle.cfs_serve.specs.Calls.{GoesOn, IsExact, Makes, Tells};
+ghost use Rattle.ufs_model.specs.Graph.{Graph};
+ghost use Rattle.ufs_model.specs.declared.asked.Event.{Event};
+ghost use Rattle.ufs_model.specs.declared.asked.Unread.{Unread};
 
 use cfs_base::{Disk, Session};
 use cfs_core::Core;
 use std::alloc::Global;
+use survival::runs_survive;
 use ufs_model::{Asker, Plain, Reply, Request};
 
 /// An asker that sessions leave, and that tells of its disk how often a call failed.
@@ -24,8 +26,14 @@ pub trait Server: Asker {
 
     ghost has_stopped: { Self → Bool };
 
+    /// It stopped, and at a block that is damaged.
+    ghost is_damaged: { Self → Bool };
+
     /// The clock of its disk; 0 where it has none.
     ghost clock: { Self → ℕ };
+
+    /// What is known, for a seed and a graph, of the crashes of a run with these events and the moments of its marks.
+    ghost lasts: { Self → ℕ → Graph → List Event → List ℕ → Type 0 };
 
     /// The answer to a request of the language, as `ask` gives it, with all that is known of it on a disk.
     fn answer(&mut self, alloc: Global, who: Session, request: &Request) -> Reply
@@ -35,9 +43,9 @@ pub trait Server: Asker {
             → IsAsked (Self.stands self.new) (Self.seed self.old) s who request.now result }
         ensures exact { (s : State) → Self.stands self.old s → 0 < cylinders self.old
             → IsExact (cylinders self.old) s who request.now result }
-        ensures calm { (s : State) → Self.stands self.old s → has_stopped self.old ≡ false → is_calm_reply result ≡ false
-            → Rose (faults self.old) (faults self.new) }
-        ensures runs { has_stopped self.old ≡ false → is_calm_reply result ≡ true → has_stopped self.new ≡ false }
+        ensures lasts { GoesOn Self.stands clock lasts (Self.seed self.old) self.old self.new (events.Ask who request.now result) }
+        ensures tells { Tells faults has_stopped is_damaged self.old self.new (events.Ask who request.now result) }
+        ensures undamaged { (s : State) → Self.stands self.old s → is_damaged self.old ≡ false → is_damaged self.new ≡ false }
         ensures fits { FitsLine result }
         ensures size { cylinders self.new ≡ cylinders self.old }
         ensures seed { Self.seed self.new ≡ Self.seed self.old }
@@ -47,14 +55,17 @@ pub trait Server: Asker {
     fn leave(&mut self, who: Session) -> Option<u64>
         ensures event { (s : State) → Self.stands self.old s
             → Makes (Self.stands self.new) (Self.seed self.old) s (events.Leave who result) }
-        ensures calm { IsSome result → Rose (faults self.old) (faults self.new) }
-        ensures runs { has_stopped self.old ≡ false → result ≡ None → has_stopped self.new ≡ false }
+        ensures lasts { GoesOn Self.stands clock lasts (Self.seed self.old) self.old self.new (events.Leave who result) }
+        ensures tells { Tells faults has_stopped is_damaged self.old self.new (events.Leave who result) }
+        ensures undamaged { (s : State) → Self.stands self.old s → is_damaged self.old ≡ false → is_damaged self.new ≡ false }
         ensures size { cylinders self.new ≡ cylinders self.old }
         ensures seed { Self.seed self.new ≡ Self.seed self.old }
         ensures drawn { Self.words self.new ≤ Self.words self.old };
 
+    /// The disk's clock. A line that is no request makes no call of the disk.
     fn moment(&self) -> u64
-        ensures { result ≡ clock self.now };
+        ensures clock { result ≡ clock self.now }
+        ensures lasts { (who : ℕ) (why : Unread) → GoesOn Self.stands clock lasts (Self.seed self.now) self.now self.now (events.Unread who why) };
 }
 
 /// The slow server has no disk.
@@ -67,7 +78,11 @@ impl Server for Plain {
 
     ghost has_stopped = { λ p. false };
 
+    ghost is_damaged = { λ p. false };
+
     ghost clock = { λ p. 0 };
+
+    ghost lasts = { λ p seed graph trail marks. Unit {0} };
 
     fn answer(&mut self, alloc: Global, who: Session, request: &Request) -> Reply {
         Plain::ask(self, alloc, who, request)
@@ -84,7 +99,8 @@ impl Server for Plain {
 }
 
 impl<D: Disk> Server for Core<D> {
-    ghost use Rattle.std.specs.Prelude.{is_some, length};
+    ghost use Rattle.std.specs.Prelude.{is_some, length, option_and_then};
+    ghost use Rattle.survival.specs.Trail.{RunSurvives};
 
     ghost faults = { λ k. D.faults k.disk };
 
@@ -92,16 +108,22 @@ impl<D: Disk> Server for Core<D> {
 
     ghost has_stopped = { λ k. is_some k.stop };
 
+    ghost is_damaged = { λ k. is_some (option_and_then (λ stop. stop.damage) k.stop) };
+
     ghost clock = { λ k. D.moment k.disk };
+
+    ghost lasts = { λ k seed graph trail marks. RunSurvives D.Disk seed graph trail marks k.disk };
 
     fn answer(&mut self, alloc: Global, who: Session, request: &Request) -> Reply {
         self.has_room();
+        runs_survive::<D>();
         let reply = Core::ask(self, alloc, who, request);
         self.has_room();
         reply
     }
 
     fn leave(&mut self, who: Session) -> Option<u64> {
+        runs_survive::<D>();
         match Core::leave(self, who) {
             Ok(()) => None,
             Err(halt) => Some(halt.moment),
@@ -109,6 +131,7 @@ impl<D: Disk> Server for Core<D> {
     }
 
     fn moment(&self) -> u64 {
+        runs_survive::<D>();
         Core::moment(self)
     }
 }

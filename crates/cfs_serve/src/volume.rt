@@ -1,10 +1,17 @@
-//! A new volume in memory, opened.
-ghost use Rattle.std.specs.Prelude.{◌≡◌, ◌≤◌, IfSome};
+//! Volumes, opened.
+ghost use Rattle.std.specs.Prelude.{◌≡◌, ◌*◌, ◌≤◌, IfErr, IfOk, IfSome, IsTrue, None, length};
+ghost use Rattle.cfs_core.specs.Opened.{IsOpened};
+ghost use Rattle.cfs_serve.specs.Opening.{IsRefusal, disk_of, told_of};
+ghost use Rattle.cfs_recover.specs.Recovered.{LeavesSinceBarrier};
+ghost use Rattle.vol_image.specs.Sound.{IsSound, IsSoundAs};
+ghost use Rattle.ufs_model.specs.Graph.{Graph};
 ghost use Rattle.cfs_serve.specs.Volume.{IsNewCore};
 
+use crate::report::{Cause, VolumeFault};
 use crate::sure_disk::SureDisk;
 use cfs_base::Disk;
-use cfs_core::Core;
+use cfs_core::{Core, OpenFault};
+use cfs_recover::RecoverFault;
 use std::alloc::Global;
 
 /// A new volume of so many cylinders, opened. None for want of memory.
@@ -18,4 +25,45 @@ pub(crate) fn new_volume(alloc: Global, cylinders: u32, seed: u64) -> Option<Cor
         unreachable!();
     };
     Core::open(alloc, disk, seed).ok()
+}
+
+/// A volume that was not opened: what is to be told, and the disk.
+#[derive(Drop)]
+pub(crate) struct Refused<D> {
+    pub cause: Cause,
+    pub disk: D,
+}
+
+/// What is to be told of a volume that was not opened.
+fn told_by(why: RecoverFault) -> Cause
+    ensures { result ≡ told_of why }
+{
+    match why {
+        RecoverFault::Disk => Cause::Disk(None),
+        RecoverFault::NotVolume => Cause::Volume(VolumeFault::NotVolume),
+        RecoverFault::Version { found } => Cause::Volume(VolumeFault::Version(found)),
+        RecoverFault::Damaged(damage) => Cause::Volume(VolumeFault::Damaged(damage)),
+        RecoverFault::Memory => Cause::Memory,
+    }
+}
+
+/// Opens the volume of a disk that a crash left. Nothing was written where the cause is the volume.
+pub(crate) fn open_volume<D: Disk>(alloc: Global, disk: D, seed: u64) -> Result<Core<D>, Refused<D>>
+    ensures opened { IsTrue (D.honest disk) → (graph : Graph) → IsSoundAs (D.content disk) graph → IfOk result (IsOpened D.Disk graph seed) }
+    ensures begins { IfOk result (λ core. (core.words ≡ record { seed = seed; drawn = 0 }) × (core.stop ≡ None)) }
+    ensures sound { IsTrue (D.honest disk) → IfOk result (λ core. IsSound (D.content disk)) }
+    ensures size { IfOk result (λ core. D.blocks disk ≡ 64 * length core.space.free) }
+    // Where it is refused, this is told: a failed call only where one failed, a fault of the volume only where it isn't sound.
+    ensures refused { IfErr result (λ e. IsRefusal D.Disk disk e.disk e.cause) }
+    ensures images { IsTrue (D.honest disk) → (graph : Graph) → IsSoundAs (D.content disk) graph
+        → LeavesSinceBarrier D.Disk disk (disk_of result) (λ c. IsSoundAs c graph) }
+    ensures later { D.faults disk ≤ D.faults (disk_of result) }
+{
+    match Core::open(alloc, disk, seed) {
+        Ok(core) => Ok(core),
+        Err(OpenFault { why, disk }) => Err(Refused {
+            cause: told_by(why),
+            disk,
+        }),
+    }
 }

@@ -2,7 +2,7 @@
 ghost use Rattle.std.specs.Prelude.{◌≡◌, ◌↔◌, ◌≤◌, List, ℕ, [], ◌∷◌, length, map, Some, None, IsNone, IfSome, IfErr, IfOk, Err, string_bytes};
 ghost use Rattle.ufs_model.specs.Spoken.{number_in};
 ghost use Rattle.cfs_serve.specs.Whole.{HasCylinders, HasPlaces, NamesVolume};
-ghost use Rattle.cfs_serve.specs.Words.{read_or_none, Play, Serves, Nothing, asked_in, format_in, page_in, play_in};
+ghost use Rattle.cfs_serve.specs.Words.{read_or_none, InFile, InMemory, Service, Serves, Nothing, asked_in, format_in, page_in, play_in, serve_in};
 
 use crate::limits::{MOST_CYLINDERS, MOST_FILE_CYLINDERS};
 use crate::page::Page;
@@ -14,6 +14,15 @@ use std::alloc::Global;
 #[derive(Clone, Copy, Debug)]
 pub(crate) struct Played<'a> {
     pub cylinders: u64,
+    pub seed: u64,
+    pub input: &'a str,
+    pub output: &'a str,
+}
+
+/// A service of one session on a volume in a file.
+#[derive(Clone, Copy, Debug)]
+pub(crate) struct Served<'a> {
+    pub volume: &'a str,
     pub seed: u64,
     pub input: &'a str,
     pub output: &'a str,
@@ -45,7 +54,7 @@ fn six_words<'a>(
 ) -> Option<Played<'a>>
     ensures none { IsNone result ↔ (play_in (verb.now ∷ cylinders.now ∷ seed.now ∷ collections.now ∷ input.now ∷ output.now ∷ []) ≡ None) }
     ensures some { IfSome result (λ a. play_in (verb.now ∷ cylinders.now ∷ seed.now ∷ collections.now ∷ input.now ∷ output.now ∷ [])
-        ≡ Some (record { cylinders = a.cylinders; seed = a.seed; input = a.input.now; output = a.output.now })) }
+        ≡ Some (record { volume = InMemory a.cylinders; seed = a.seed; input = a.input.now; output = a.output.now })) }
     ensures sized { IfSome result (λ a. (1 ≤ a.cylinders) × (a.cylinders ≤ 1024)) }
 {
     if verb != "play" {
@@ -72,7 +81,7 @@ fn six_words<'a>(
 pub(crate) fn play_asked(words: &[String]) -> Option<Played<'_>>
     ensures none { IsNone result ↔ (play_in (map string_bytes words.now) ≡ None) }
     ensures some { IfSome result (λ a. play_in (map string_bytes words.now)
-        ≡ Some (record { cylinders = a.cylinders; seed = a.seed; input = a.input.now; output = a.output.now })) }
+        ≡ Some (record { volume = InMemory a.cylinders; seed = a.seed; input = a.input.now; output = a.output.now })) }
     ensures sized { IfSome result (λ a. (1 ≤ a.cylinders) × (a.cylinders ≤ 1024)) }
 {
     let [verb, cylinders, seed, collections, input, output] = words else {
@@ -81,6 +90,57 @@ pub(crate) fn play_asked(words: &[String]) -> Option<Played<'_>>
     six_words(
         verb.as_str(),
         cylinders.as_str(),
+        seed.as_str(),
+        collections.as_str(),
+        input.as_str(),
+        output.as_str(),
+    )
+}
+
+/// What six words ask for that name a volume.
+fn volume_words<'a>(
+    verb: &str,
+    volume: &'a str,
+    seed: &str,
+    collections: &str,
+    input: &'a str,
+    output: &'a str,
+) -> Option<Served<'a>>
+    ensures none { IsNone result ↔ (serve_in (verb.now ∷ volume.now ∷ seed.now ∷ collections.now ∷ input.now ∷ output.now ∷ []) ≡ None) }
+    ensures some { IfSome result (λ a. serve_in (verb.now ∷ volume.now ∷ seed.now ∷ collections.now ∷ input.now ∷ output.now ∷ [])
+        ≡ Some (record { volume = InFile a.volume.now; seed = a.seed; input = a.input.now; output = a.output.now })) }
+{
+    if verb != "serve" {
+        return None;
+    }
+    let seed = number(seed)?;
+    let collections = number(collections)?;
+    if volume.is_empty() || volume == "-" || collections != 0 {
+        return None;
+    }
+    if input.is_empty() || output.is_empty() {
+        return None;
+    }
+    Some(Served {
+        volume,
+        seed,
+        input,
+        output,
+    })
+}
+
+/// The service on a volume in a file that the words ask for; nothing where they are not of that form.
+pub(crate) fn serve_asked(words: &[String]) -> Option<Served<'_>>
+    ensures none { IsNone result ↔ (serve_in (map string_bytes words.now) ≡ None) }
+    ensures some { IfSome result (λ a. serve_in (map string_bytes words.now)
+        ≡ Some (record { volume = InFile a.volume.now; seed = a.seed; input = a.input.now; output = a.output.now })) }
+{
+    let [verb, volume, seed, collections, input, output] = words else {
+        return None;
+    };
+    volume_words(
+        verb.as_str(),
+        volume.as_str(),
         seed.as_str(),
         collections.as_str(),
         input.as_str(),
@@ -167,14 +227,50 @@ fn volume_names(alloc: Global, volume: &str, cylinders: u64) -> Result<Names, Wo
     })
 }
 
+/// The request file and the reply file of a session, beside a volume.
+fn session_names(
+    alloc: Global,
+    volume: Option<Volume>,
+    input: &str,
+    output: &str,
+) -> Result<Names, WordsFault>
+    ensures fault { IfErr result (λ e. e ≡ WordsFault.Memory) }
+    ensures volume { IfOk result (λ n. n.volume ≡ volume) }
+    ensures places { IfOk result (λ n. (n.sources ≡ input.now ∷ []) × (n.sinks ≡ output.now ∷ [])) }
+{
+    let Ok(sources) = one_path(alloc, input) else {
+        return Err(WordsFault::Memory);
+    };
+    let Ok(sinks) = one_path(alloc, output) else {
+        return Err(WordsFault::Memory);
+    };
+    Ok(Names {
+        volume,
+        sources,
+        sinks,
+    })
+}
+
+/// The volume that is to be served, and the files of its session.
+fn served_names(alloc: Global, volume: &str, input: &str, output: &str) -> Result<Names, WordsFault>
+    ensures fault { IfErr result (λ e. e ≡ WordsFault.Memory) }
+    ensures volume { IfOk result (λ n. n.volume ≡ Some (Volume.Existing volume.now)) }
+    ensures places { IfOk result (λ n. (n.sources ≡ input.now ∷ []) × (n.sinks ≡ output.now ∷ [])) }
+{
+    let Ok(path) = path_of(alloc, volume) else {
+        return Err(WordsFault::Memory);
+    };
+    session_names(alloc, Some(Volume::Existing { path }), input, output)
+}
+
 /// What the words of a command name: nothing for a page. `Words` comes exactly where they are of no form.
 pub fn names(alloc: Global, words: &[String]) -> Result<Names, WordsFault>
     ensures words { result ≡ Err WordsFault.Words ↔ (asked_in (map string_bytes words.now) ≡ Nothing) }
     ensures volume { IfOk result (λ n. NamesVolume (asked_in (map string_bytes words.now)) n.volume) }
     ensures sized { IfOk result (λ n. IfSome n.volume HasCylinders) }
     ensures places { IfOk result (λ n. HasPlaces (asked_in (map string_bytes words.now)) (length n.sources) (length n.sinks)) }
-    ensures sources { IfOk result (λ n. (p : Play) → asked_in (map string_bytes words.now) ≡ Serves p → n.sources ≡ p.input ∷ []) }
-    ensures sinks { IfOk result (λ n. (p : Play) → asked_in (map string_bytes words.now) ≡ Serves p → n.sinks ≡ p.output ∷ []) }
+    ensures sources { IfOk result (λ n. (s : Service) → asked_in (map string_bytes words.now) ≡ Serves s → n.sources ≡ s.input ∷ []) }
+    ensures sinks { IfOk result (λ n. (s : Service) → asked_in (map string_bytes words.now) ≡ Serves s → n.sinks ≡ s.output ∷ []) }
 {
     if page_asked(words).is_some() {
         return Ok(Names {
@@ -186,18 +282,11 @@ pub fn names(alloc: Global, words: &[String]) -> Result<Names, WordsFault>
     if let Some(format) = format_asked(words) {
         return volume_names(alloc, format.volume, format.cylinders);
     }
-    let Some(play) = play_asked(words) else {
-        return Err(WordsFault::Words);
-    };
-    let Ok(sources) = one_path(alloc, play.input) else {
-        return Err(WordsFault::Memory);
-    };
-    let Ok(sinks) = one_path(alloc, play.output) else {
-        return Err(WordsFault::Memory);
-    };
-    Ok(Names {
-        volume: None,
-        sources,
-        sinks,
-    })
+    if let Some(play) = play_asked(words) {
+        return session_names(alloc, None, play.input, play.output);
+    }
+    match serve_asked(words) {
+        Some(served) => served_names(alloc, served.volume, served.input, served.output),
+        None => Err(WordsFault::Words),
+    }
 }

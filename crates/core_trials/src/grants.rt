@@ -11,19 +11,19 @@ use std::test::Fail;
 use ufs_model::{Plain, Ref, Reply, Request};
 use vol_format::format_volume;
 
-const MINE: Session = 0;
+pub const MINE: Session = 0;
 
-const THEIRS: Session = 1;
+pub const THEIRS: Session = 1;
 
 /// A core on a fresh volume, and the slow server.
-fn servers(alloc: Global) -> Result<(Core<MemoryDisk>, Plain), Fail> {
+pub fn servers(alloc: Global) -> Result<(Core<MemoryDisk>, Plain), Fail> {
     let mut disk = MemoryDisk::new(alloc, 64)?;
     format_volume(&mut disk, ROOT.word)?;
     Ok((opened(alloc, disk)?, Plain::new(alloc, ROOT, 0)?))
 }
 
 /// The core's answer where the slow server answers the same, None where they differ.
-fn asked(
+pub fn asked(
     core: &mut Core<MemoryDisk>,
     plain: &mut Plain,
     alloc: Global,
@@ -32,10 +32,24 @@ fn asked(
 ) -> Option<Reply>
     requires { serves request.now ≡ true }
 {
+    both(core, plain, alloc, who, request, request)
+}
+
+/// The same, where the slow server is asked for objects at other blocks.
+pub fn both(
+    core: &mut Core<MemoryDisk>,
+    plain: &mut Plain,
+    alloc: Global,
+    who: Session,
+    request: &Request,
+    other: &Request,
+) -> Option<Reply>
+    requires { serves request.now ≡ true }
+{
     if core.drawn() == u32::MAX || plain.drawn() == u32::MAX {
         return None;
     }
-    let other = plain.ask(alloc, who, request);
+    let other = plain.ask(alloc, who, other);
     let reply = core.ask(alloc, who, request);
     are_same(&reply, &other).then_some(reply)
 }
@@ -45,6 +59,11 @@ fn are_same(reply: &Reply, other: &Reply) -> bool {
     match (reply, other) {
         (Reply::Grant(grant), Reply::Grant(also)) => grant == also,
         (Reply::Number(count), Reply::Number(also)) => count == also,
+        (Reply::Content(bytes), Reply::Content(also)) => bytes.as_slice() == also.as_slice(),
+        (Reply::NoObject, Reply::NoObject) => true,
+        (Reply::NotIndex, Reply::NotIndex) => true,
+        (Reply::NotFile, Reply::NotFile) => true,
+        (Reply::Range, Reply::Range) => true,
         (Reply::Done, Reply::Done) => true,
         (Reply::Empty, Reply::Empty) => true,
         (Reply::Locked, Reply::Locked) => true,
@@ -56,7 +75,7 @@ fn are_same(reply: &Reply, other: &Reply) -> bool {
 }
 
 /// Opens the root index for reading: the grant, if it is opened.
-fn open(
+pub fn open(
     core: &mut Core<MemoryDisk>,
     plain: &mut Plain,
     alloc: Global,

@@ -1,15 +1,16 @@
 -- The entries of a volume whose maps a disk holds.
-use Rattle.std.proofs.Common.{◌≡◌, ◌≢◌, inl, inr, ℕ, ◌+◌, ◌*◌, ◌/◌, ◌%◌, true, false, List, get_or, set, Option, Some, None, refl, sym, ◌∙◌, ap, subst, arith}
+use Rattle.std.proofs.Common.{◌≡◌, ◌≢◌, inl, inr, ℕ, ◌+◌, ◌*◌, ◌/◌, ◌%◌, true, false, List, replicate, get_or, Option, Some, None, refl, sym, ◌∙◌, ap, subst, arith}
 use Rattle.std.specs.Prelude.{IsSome}
 use Rattle.std.proofs.lemmas.Bool.{cases_eq}
+use Rattle.std.proofs.lemmas.List.Elements.{All-replicate}
 use Rattle.cfs_base.specs.Disk.{Image, block_at}
 use Rattle.cyl_map.specs.declared.entry.MapEntry.{MapEntry}
 use Rattle.cyl_map.specs.Entry.{IsEntry, spelling}
-use Rattle.cyl_map.specs.Map.{IsFirstBadEntry, map_spelling, entry_at, is_free, free_entries}
-use Rattle.cyl_map.specs.Volume.{map_of, map_with, with_bytes, with_entry, entry_in, is_free_in, is_free_entry}
+use Rattle.cyl_map.specs.Map.{IsFirstBadEntry, SpellsMap, map_spelling, entry_at, is_free, free_entries}
+use Rattle.cyl_map.specs.Volume.{map_of, with_entry, entry_in, is_free_in, is_free_entry}
 use Rattle.cyl_map.proofs.Entries.{entry_of_bad}
-use Rattle.cyl_map.proofs.Maps.{entry_at-map_spelling}
-use Rattle.cyl_map.proofs.Volumes.{map_spelling-set, entry_in-with_entry_same, entry_in-with_entry_other, length-with_entry}
+use Rattle.cyl_map.proofs.Maps.{entry_at-map_spelling, spells_these}
+use Rattle.cyl_map.proofs.Volumes.{entry_in-with_entry_same, entry_in-with_entry_other, length-with_entry}
 use Rattle.cyl_alloc.specs.Maps.{IsMapOf}
 use Rattle.cyl_alloc.specs.Space.{IsBadMap, IsGoodMap, IsFreeElsewhere, free_in_cylinder, free_entry}
 use Rattle.cyl_alloc.proofs.Ranges.{listed, one_less, count_in}
@@ -36,11 +37,13 @@ module _ (image : Image) (n : ℕ) (map : List MapEntry) (is : IsMapOf image n m
       listed is_free (is_free_in image) (map_of n) map (λ k d lt. sym (free_is (map_of n + k) d (omega (arith, is.is_map.long)) ∙ ap (λ (i : ℕ). is_free (get_or map i d)) (omega (arith, is.is_map.long))))
       ∙ ap (count_in (is_free_in image) (map_of n)) is.is_map.long
 
-  -- the map with one entry changed is what is written
-  pub spelling-set : (e : MapEntry) → map_spelling (set map (n % 64) e) ≡ map_with image n e
-  spelling-set e =
-      map_spelling-set map (n % 64) e (omega (arith, is.is_map.long))
-      ∙ ap (λ (block : List ℕ). with_bytes block (n % 64) (spelling e)) (sym is.spelled)
+-- 512 zero bytes are those of a map
+zeros : replicate 512 0 ≡ map_spelling (replicate 64 free_entry)
+unfolding spelling
+zeros = refl
+
+pub zeros_spell : (bytes : List ℕ) → bytes ≡ replicate 512 0 → SpellsMap bytes
+zeros_spell bytes is = (spells_these bytes (replicate 64 free_entry) (record { long = refl; each = All-replicate IsEntry 64 free_entry (record { in_table = refl }) }) (is ∙ zeros)).1
 
 -- a block that spells no map has a bad entry
 pub is_bad : (image : Image) (n entry byte : ℕ) (block : List ℕ) → block ≡ block_at image (map_of n) → IsFirstBadEntry block entry byte → IsBadMap image n

@@ -3,3 +3,4 @@ pub mod Counts
 pub mod Maps
 pub mod Refusals
 pub mod Enters
+pub mod Known

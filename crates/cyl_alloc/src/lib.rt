@@ -4,9 +4,11 @@
 #![tactic(auto)]
 
 mod counts;
+mod known;
 mod laws;
 pub mod maps;
 mod space;
 
+pub use known::KnownMaps;
 pub use laws::counts_follow;
 pub use space::Space;

@@ -1,18 +1,17 @@
-//! The maps of a volume on a disk: one read, and one entry written.
-ghost use Rattle.std.specs.Prelude.{◌≡◌, ℕ, ◌<◌, true, false, IsTrue, IfOk, IfErr, OnOk, OnErr};
-ghost use Rattle.cfs_base.specs.Calls.{OnlyReads, HasStopped, HasTried, MakesAtMost};
-ghost use Rattle.cfs_base.specs.Disk.{Written};
-ghost use Rattle.cfs_base.specs.Run.{Tells, Leaves, left_now};
-ghost use Rattle.cyl_map.specs.Entry.{IsEntry};
-ghost use Rattle.cyl_map.specs.Map.{SpellsMap, entries_of};
-ghost use Rattle.cyl_map.specs.Volume.{map_of, map_with, with_entry};
+//! The maps of a volume on a disk.
+ghost use Rattle.std.specs.Prelude.{◌≡◌, ◌↔◌, ◌<◌, false, IsNone, IfOk, IfErr, IfSome, OnOk, position};
+ghost use Rattle.cfs_base.specs.Calls.{OnlyReads};
+ghost use Rattle.cfs_base.specs.Run.{Tells};
+ghost use Rattle.cyl_map.specs.Map.{entries_of, free_entries, is_free};
+ghost use Rattle.cyl_map.specs.Reading.{said_by};
+ghost use Rattle.cyl_map.specs.Volume.{map_of};
 ghost use Rattle.cyl_alloc.specs.Maps.{IsMapOf};
 ghost use Rattle.cyl_alloc.specs.Refusals.{IsMapTrouble};
 ghost use Rattle.cfs_base.specs.Refusals.{trouble_had_tried};
 ghost use Rattle.cyl_alloc.specs.Space.{IsGoodMap};
 
-use cfs_base::{Block, BlockNo, Damage, Disk, Failed, Trouble, code};
-use cyl_map::{Map, MapEntry};
+use cfs_base::{Block, BlockNo, Damage, Disk, Trouble, code};
+use cyl_map::Map;
 
 /// Reads the map that has a block's entry. `Damaged` names its map block, with code 2, which is no map.
 pub fn read_map<D: Disk>(disk: &mut D, block: u32) -> Result<Map, Trouble>
@@ -37,72 +36,26 @@ pub fn read_map<D: Disk>(disk: &mut D, block: u32) -> Result<Map, Trouble>
     }
 }
 
-/// Reads the map that has a block's entry into `map`. `Damaged` as by `read_map`.
-pub fn load_map<D: Disk>(disk: &mut D, block: u32, map: &mut Block) -> Result<(), Trouble>
-    requires { map_of block < D.blocks disk.old }
-    ensures map { Tells D.Disk disk.old → OnOk result (IsMapOf (D.content disk.old) block (entries_of map.new)) }
-    ensures spells { OnOk result (SpellsMap map.new) }
-    ensures whole { Tells D.Disk disk.old → OnOk result (IsGoodMap (D.content disk.old) block) }
-    ensures refused { IfErr result (IsMapTrouble D.Disk disk.old disk.new block) }
-    ensures untried { IfErr result (λ trouble. trouble_had_tried trouble ≡ false) }
-    ensures reads { OnlyReads D.Disk 1 disk.old disk.new }
+/// Whether the bytes of an entry say that the block is Free.
+fn says_free(bytes: &[u8; 8]) -> bool
+    ensures { result ≡ is_free (said_by bytes.now) }
 {
-    let at = 64 * (block / 64);
-    let Ok(()) = disk.read(BlockNo(at), map) else {
-        return Err(Trouble::Disk { tried: false });
-    };
-    match Map::check(map) {
-        Ok(()) => Ok(()),
-        Err(_) => Err(Trouble::Damaged(Damage {
-            block: at,
-            code: code::NO_ENTRY,
-        })),
-    }
+    bytes[0] % 0x80 == 0
 }
 
-/// Puts an entry in place of a block's into the map that was loaded, and writes that map. After a write that fails the
-/// map block has either content.
-pub fn store_entry<D: Disk>(
-    disk: &mut D,
-    block: u32,
-    map: &mut Block,
-    entry: MapEntry,
-) -> Result<(), Failed>
-    requires on_disk { map_of block < D.blocks disk.old }
-    requires entry { IsEntry entry }
-    requires spells { SpellsMap map.old }
-    ensures written { IsMapOf (D.content disk.old) block (entries_of map.old) →
-        OnOk result (D.content disk.new ≡ with_entry (D.content disk.old) block entry) }
-    ensures told { OnOk result ((n : ℕ) → IsTrue (D.told disk.old n) → IsTrue (D.told disk.new n)) }
-    ensures made { HasTried D.Disk disk.old disk.new }
-    ensures failed { OnErr result (HasStopped D.Disk true disk.old disk.new) }
-    ensures images { IsMapOf (D.content disk.old) block (entries_of map.old) → Leaves D.Disk disk.old disk.new
-        (Written (left_now D.Disk disk.old) (map_of block) (map_with (D.content disk.old) block entry)) }
-    ensures calls { MakesAtMost D.Disk 1 1 disk.old disk.new }
+/// The first of some entries that says that its block is Free.
+fn first_saying_free(entries: &[[u8; 8]]) -> Option<usize>
+    ensures { result ≡ position (λ bytes. is_free (said_by bytes)) entries.now }
 {
-    Map::put_in(map, (block % 64) as u8, entry);
-    disk.write(BlockNo(64 * (block / 64)), map)
+    entries.iter().position(|bytes| says_free(bytes))
 }
 
-/// Puts an entry in place of a block's into the map that was read, and writes that map. After a write that fails the map
-/// block has either content.
-pub fn write_entry<D: Disk>(
-    disk: &mut D,
-    block: u32,
-    mut map: Map,
-    entry: MapEntry,
-) -> Result<(), Failed>
-    requires on_disk { map_of block < D.blocks disk.old }
-    requires entry { IsEntry entry }
-    ensures written { IsMapOf (D.content disk.old) block map →
-        OnOk result (D.content disk.new ≡ with_entry (D.content disk.old) block entry) }
-    ensures told { OnOk result ((n : ℕ) → IsTrue (D.told disk.old n) → IsTrue (D.told disk.new n)) }
-    ensures made { HasTried D.Disk disk.old disk.new }
-    ensures failed { OnErr result (HasStopped D.Disk true disk.old disk.new) }
-    ensures images { IsMapOf (D.content disk.old) block map → Leaves D.Disk disk.old disk.new
-        (Written (left_now D.Disk disk.old) (map_of block) (map_with (D.content disk.old) block entry)) }
-    ensures calls { MakesAtMost D.Disk 1 1 disk.old disk.new }
+/// The first block that is Free in the map that a block spells.
+pub(crate) fn first_free(map: &Block) -> Option<u8>
+    ensures first { result ≡ position is_free (entries_of map.now) }
+    ensures none { IsNone result ↔ (free_entries (entries_of map.now) ≡ 0) }
+    ensures within { IfSome result (λ entry. entry < 64) }
 {
-    map.set((block % 64) as u8, entry);
-    disk.write(BlockNo(64 * (block / 64)), &map.encode())
+    let place = first_saying_free(map.bytes().as_chunks::<8>().0)?;
+    Some(place as u8)
 }

@@ -5,19 +5,22 @@ ghost use Rattle.cfs_base.specs.Disk.{Image, Written};
 ghost use Rattle.cfs_base.specs.Refusals.{had_tried, trouble_had_tried};
 ghost use Rattle.cfs_base.specs.Run.{Tells, Leaves, left_now};
 ghost use Rattle.cfs_base.specs.declared.refusal.Refused.TheVariants.{Full};
+ghost use Rattle.std.specs.Borrow.{sem};
 ghost use Rattle.cyl_map.specs.Entry.{IsEntry};
-ghost use Rattle.cyl_map.specs.Map.{is_free_state};
+ghost use Rattle.cyl_map.specs.Map.{SpellsMap, entries_of, is_free_state};
 ghost use Rattle.cyl_map.specs.Volume.{map_of, map_with, with_entry, is_free_in, free_from};
 ghost use Rattle.cyl_alloc.specs.Counts.{IsKept};
 ghost use Rattle.cyl_alloc.specs.Enters.{Enters};
+ghost use Rattle.cyl_alloc.specs.Known.{LendsKnown};
 ghost use Rattle.cyl_alloc.specs.Maps.{IsMapOf};
 ghost use Rattle.cyl_alloc.specs.Refusals as refusals;
 ghost use Rattle.cyl_alloc.specs.Space as spec;
 
 use crate::counts::Counts;
-use crate::maps::{read_map, write_entry};
-use cfs_base::{BlockNo, Damage, Disk, Need, NoMemory, Place, Refused, Trouble, code};
-use cyl_map::{BlockState, Map, MapEntry};
+use crate::known::KnownMaps;
+use crate::maps::{first_free, read_map};
+use cfs_base::{Block, BlockNo, Damage, Disk, Need, NoMemory, Place, Refused, Trouble, code};
+use cyl_map::{BlockState, MapEntry};
 use std::alloc::Global;
 use std::marker::Model;
 
@@ -26,6 +29,7 @@ use std::marker::Model;
 #[derive(Debug, Drop)]
 pub struct Space {
     counts: Counts,
+    known: KnownMaps,
 }
 
 impl Model for Space {
@@ -37,13 +41,6 @@ impl Model for Space {
     ghost view = { λ a. record { free = a.counts } };
 
     ghost invariant = { λ a. IsKept a.counts };
-}
-
-/// The least-numbered Free block, and the map that has its entry.
-#[derive(Clone, Copy)]
-struct Found {
-    block: u32,
-    map: Map,
 }
 
 impl Space {
@@ -70,7 +67,10 @@ impl Space {
                 Err(trouble) => return Err(Refused::from(trouble)),
             }
         }
-        Ok(Space { counts })
+        Ok(Space {
+            counts,
+            known: KnownMaps::new(),
+        })
     }
 
     /// No block is Free, before what the caller counts is given by `gave`.
@@ -80,7 +80,10 @@ impl Space {
         ensures none { IfOk result (λ space. space.free ≡ replicate cylinders 0) }
     {
         let counts = Counts::zeros(alloc, cylinders)?;
-        Ok(Space { counts })
+        Ok(Space {
+            counts,
+            known: KnownMaps::new(),
+        })
     }
 
     /// How many blocks of a cylinder are Free, in 0 to 64, with one read. `Damaged` names its map block, with code 2, which
@@ -126,8 +129,9 @@ impl Space {
         ensures untried { IfErr result (λ error. had_tried error ≡ false) }
         ensures reads { OnlyReads D.Disk 1 disk.old disk.new }
     {
-        match self.least(disk) {
-            Ok(found) => Ok(BlockNo(found.block)),
+        let mut map = Block::zero();
+        match self.least(disk, &mut map) {
+            Ok(block) => Ok(BlockNo(block)),
             Err(error) => Err(error),
         }
     }
@@ -175,8 +179,9 @@ impl Space {
         requires taken { is_free_state state ≡ false }
         ensures enters { Enters D.Disk (spec.entered state place owner) disk.old disk.new self.old self.new result }
     {
-        let found = match self.least(disk) {
-            Ok(found) => found,
+        let mut map = Block::zero();
+        let block = match self.least(disk, &mut map) {
+            Ok(block) => block,
             Err(error) => return Err(error),
         };
         let entry = MapEntry {
@@ -185,10 +190,10 @@ impl Space {
             place: Some(place),
             owner,
         };
-        match write_entry(disk, found.block, found.map, entry) {
+        match self.known.store_entry(disk, block, &mut map, entry) {
             Ok(()) => {
-                self.took(BlockNo(found.block));
-                Ok(BlockNo(found.block))
+                self.took(BlockNo(block));
+                Ok(BlockNo(block))
             }
             Err(_) => Err(Refused::Disk { tried: true }),
         }
@@ -218,17 +223,18 @@ impl Space {
             (map_with (D.content disk.old) block.0 spec.free_entry)) }
         ensures calls { MakesAtMost D.Disk 2 1 disk.old disk.new }
     {
-        let map = match read_map(disk, block.0) {
-            Ok(map) => map,
+        let mut map = Block::zero();
+        match self.known.load_map(disk, block.0, &mut map) {
+            Ok(()) => {}
             Err(trouble) => return Err(trouble),
-        };
+        }
         let entry = MapEntry {
             state: BlockState::Free,
             committed: false,
             place: None,
             owner: 0,
         };
-        match write_entry(disk, block.0, map, entry) {
+        match self.known.store_entry(disk, block.0, &mut map, entry) {
             Ok(()) => {
                 self.gave(block, 1);
                 Ok(())
@@ -266,16 +272,24 @@ impl Space {
         self.counts.put(cylinder, after);
     }
 
-    /// The least-numbered Free block, with the map that has its entry.
-    fn least<D: Disk>(&self, disk: &mut D) -> Result<Found, Refused>
+    /// The maps that are known, for calls that change entries. None of them changes a count.
+    pub fn known(&mut self) -> &mut KnownMaps
+        ensures* { sem 𝓛 (LendsKnown self.entry result) }
+    {
+        &mut self.known
+    }
+
+    /// The least-numbered Free block. Reads the map that has its entry into `map`.
+    fn least<D: Disk>(&self, disk: &mut D, map: &mut Block) -> Result<u32, Refused>
         requires size { D.blocks disk.old ≡ 64 * length self.now.free }
         ensures found { Tells D.Disk disk.old → spec.AreCounts (D.content disk.old) self.now →
-            IfOk result (λ found. spec.IsLeastFree (D.content disk.old) found.block) }
+            IfOk result (λ block. spec.IsLeastFree (D.content disk.old) block) }
         ensures map { Tells D.Disk disk.old →
-            IfOk result (λ found. IsMapOf (D.content disk.old) found.block found.map) }
+            IfOk result (λ block. IsMapOf (D.content disk.old) block (entries_of map.new)) }
+        ensures spells { OnOk result (SpellsMap map.new) }
         ensures whole { Tells D.Disk disk.old →
-            IfOk result (λ found. spec.IsGoodMap (D.content disk.old) found.block) }
-        ensures on_disk { IfOk result (λ found. found.block < D.blocks disk.old) }
+            IfOk result (λ block. spec.IsGoodMap (D.content disk.old) block) }
+        ensures on_disk { IfOk result (λ block. block < D.blocks disk.old) }
         ensures full { IsErr result → sum self.now.free ≡ 0 →
             result ≡ Err (Full (record { free = 0; need = 1 })) }
         ensures some { OnOk result (0 < sum self.now.free) }
@@ -286,15 +300,12 @@ impl Space {
         let Some(cylinder) = self.counts.first() else {
             return Err(Refused::Full(Need { free: 0, need: 1 }));
         };
-        let map = match read_map(disk, 64 * cylinder) {
-            Ok(map) => map,
+        match self.known.load_map(disk, 64 * cylinder, map) {
+            Ok(()) => {}
             Err(error) => return Err(Refused::from(error)),
-        };
-        match map.first_free() {
-            Some(entry) => Ok(Found {
-                block: 64 * cylinder + entry as u32,
-                map,
-            }),
+        }
+        match first_free(map) {
+            Some(entry) => Ok(64 * cylinder + entry as u32),
             None => Err(Refused::Damaged(Damage {
                 block: 64 * cylinder,
                 code: code::OTHER_COUNT,

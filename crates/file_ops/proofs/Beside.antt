@@ -1,7 +1,7 @@
 -- A special file changed by a draft that is begun, changed and committed.
 use Rattle.std.proofs.Common.{◌≡◌, inl, inr, ℕ, ◌+◌, ◌<◌, ◌≤◌, Bool, true, false, List, [], ◌∷◌, length, get_or, Option, Some, None, Ok, Err, refl, sym, ◌∙◌, ap, subst, arith}
 use Rattle.std.specs.Prelude.{IfErr, OnOk, Result, option_to_list, sum}
-use Rattle.cfs_base.specs.Calls.{HasStopped, MakesAtMost, OnlyReads}
+use Rattle.cfs_base.specs.Calls.{HasStopped, HasTried, MakesAtMost, OnlyReads}
 use Rattle.cfs_base.specs.Disk.{Image, Nothing, block_at}
 use Rattle.cfs_base.specs.Run.{Leaves, Tells}
 use Rattle.cfs_base.specs.declared.disk.Disk.{Ghosts}
@@ -9,7 +9,7 @@ use Rattle.cfs_base.specs.declared.identifier.Puid.{Puid}
 use Rattle.cfs_base.specs.declared.kind.FileKind.TheVariants as kinds
 use Rattle.cfs_base.specs.declared.refusal.Refused.{Refused}
 use Rattle.cfs_base.specs.declared.refusal.Refused.TheVariants as refused
-use Rattle.cfs_base.proofs.Calls.{makes_then, reads_make, reads_then, reads_within, tells_on}
+use Rattle.cfs_base.proofs.Calls.{makes_then, reads_make, reads_then, reads_within, stopped_after_reads, stopped_after_try, tells_on, then_tried}
 use Rattle.cfs_base.proofs.Runs.{still_tells, then, wider}
 use Rattle.block_tree.specs.Root.{IsRootBlock}
 use Rattle.block_tree.specs.declared.root.Root.{Root}
@@ -23,13 +23,13 @@ use Rattle.normal_files.proofs.FileCalls.{file_of}
 use Rattle.ufs_model.specs.declared.change.Change.TheVariants.{Overwrite}
 use Rattle.special_files.specs.Becomes.{Becomes}
 use Rattle.special_files.specs.Committing.{Committed, IsOldOrNew}
-use Rattle.special_files.specs.Drafting.{Drafting, IsOpen, begun_at, fresh_of, need_beside, opened_as, shadow_need}
+use Rattle.special_files.specs.Drafting.{Drafting, HasNoneFresh, IsOpen, begun_at, fresh_of, need_beside, opened_as, shadow_need}
 use Rattle.special_files.specs.Ends.{Ends}
 use Rattle.special_files.specs.Order.{ClaimsAndDrops}
 use Rattle.special_files.specs.Refusal.{IsRefusal, IsRefusalOrMemory, is_damaged, is_full}
 use Rattle.special_files.specs.Store.{replaced}
 use Rattle.special_files.proofs.Begun.{begun_fresh}
-use Rattle.special_files.proofs.Levels.{length-none}
+use Rattle.special_files.proofs.Levels.{length-none, none_is}
 use Rattle.special_files.proofs.Lists.{first_here}
 use Rattle.special_files.proofs.Refusals.{damage_since, refusal_after_reads}
 use Rattle.ufs_model.specs.Graph.{Graph, object_at, with_object}
@@ -63,13 +63,14 @@ pub record Drafts {D : Type 0} (g : Ghosts D) (floor : ℕ) (change : Change) (g
   pub sound : IfErr r (λ e. is_damaged e ≡ false)
 
 -- and one that committed it
-pub record Commits {D : Type 0} (g : Ghosts D) (d2 d3 : D) (k2 k3 : Kept) (now : Drafting) (r : Result (Unit {0}) Refused) : Type 0 where
+pub record Commits {D : Type 0} (g : Ghosts D) (wrote : Bool) (d2 d3 : D) (k2 k3 : Kept) (now : Drafting) (r : Result (Unit {0}) Refused) : Type 0 where
   pub done : (graph : Graph) (ds : List Opened) (id : Puid) (o : Object) (d : Draft) → StoreHas g graph ds d2 k2 → object_at graph id ≡ Some o → IsOpen ds id now d → now.created ≡ None → OnOk r (Committed g graph ds id d.object None d2 d3 k3)
   pub leaves : (graph : Graph) (ds : List Opened) (id : Puid) (o : Object) (d : Draft) → StoreHas g graph ds d2 k2 → object_at graph id ≡ Some o → IsOpen ds id now d → now.created ≡ None → Leaves g d2 d3 (IsOldOrNew graph graph id d.object)
   pub sound : (graph : Graph) (ds : List Opened) (id : Puid) (o : Object) (d : Draft) → StoreHas g graph ds d2 k2 → object_at graph id ≡ Some o → IsOpen ds id now d → now.created ≡ None → 1 ≤ sum k2.free → IfErr r (λ e. is_damaged e ≡ false)
-  pub refusal : IfErr r (IsCommitRefusal g now.at d2 d3 k3)
+  pub refusal : IfErr r (IsCommitRefusal g now.at wrote d2 d3 k3)
+  pub untried : IfErr r (λ e. e ≡ refused.Disk false → (k3 ≡ k2) × OnlyReads g 241 d2 d3)
   pub cylinders : length k3.free ≡ length k2.free
-  pub calls : MakesAtMost g 93139 46453 d2 d3
+  pub calls : MakesAtMost g 93138 46452 d2 d3
 
 -- with more calls
 pub ends_more : {D : Type 0} (g : Ghosts D) (at floor n t k m s : ℕ) (old new : D) (before after : Kept) (r : Result (Unit {0}) Refused) → Ends g at floor n t k old new before after r → n ≤ m → t ≤ s → Ends g at floor m s k old new before after r
@@ -86,6 +87,12 @@ ends_more g at floor n t k m s old new before after r is le lt = record {
     by (Ok u) told = tt
     by (Err e) told = λ same. let two = told same in (two.0, reads_within g old new n m le two.1)
 
+pub none_fresh : (at : ℕ) (was : Drafting) → was ≡ begun_at at None was.own → HasNoneFresh was
+none_fresh at was is = record {
+  leaves = λ leaf. ap (λ (x : Drafting). get_or x.leaves leaf false) is ∙ none_is 15360 leaf;
+  nodes = λ n. ap (λ (x : Drafting). get_or x.nodes n false) is ∙ none_is 120 n;
+}
+
 -- ---- refusals
 
 module _ {D : Type 0} (g : Ghosts D) (at floor : ℕ) (change : Change) (d0 : D) (k0 : Kept) where
@@ -101,17 +108,32 @@ module _ {D : Type 0} (g : Ghosts D) (at floor : ℕ) (change : Change) (d0 : D)
   from_refusal d1 kept (refused.Damaged damage) is = OfBlock is
   from_refusal d1 kept refused.Memory is = absurd is
 
-  from_commit : (d2 d3 : D) (kept : Kept) (n t : ℕ) (e : Refused) → MakesAtMost g n t d0 d2 → (Tells g d0 → Tells g d2) → IsCommitRefusal g at d2 d3 kept e → IsFileRefusal g at kinds.Special floor change d0 d3 kept e
-  from_commit d2 d3 kept n t (refused.Full need) first on is = absurd is
-  from_commit d2 d3 kept n t (refused.Disk tried) first on is = subst (λ (b : Bool). HasStopped g b d0 d3) (sym is.0) (record {
-    failed = record { cause = omega (arith, first.faults, is.1.failed.cause); clock = omega (arith, first.later, is.1.failed.clock) };
-    tries = λ yes. omega (arith, first.no_fewer, is.1.tries refl);
-    no_try = λ no. cc;
-    untouched = λ no. cc;
-  })
-  from_commit d2 d3 kept n t (refused.Damaged damage) first on (inl is) = OfBlock (damage_since g at d0 d2 d3 kept damage on is)
-  from_commit d2 d3 kept n t (refused.Damaged damage) first on (inr none) = NoneLeft none
-  from_commit d2 d3 kept n t refused.Memory first on is = absurd is
+  -- what was done before the commit: something was tried, or reads alone were made
+  pub record Comes (wrote : Bool) (n t : ℕ) (d2 : D) (k2 : Kept) : Type 0 where
+    pub calls : MakesAtMost g n t d0 d2
+    pub on : Tells g d0 → Tells g d2
+    pub tried : wrote ≡ true → HasTried g d0 d2
+    pub reads : wrote ≡ false → (k2 ≡ k0) × OnlyReads g 2 d0 d2
+
+  from_commit : (d2 d3 : D) (k2 kept : Kept) (n t : ℕ) (wrote : Bool) (e : Refused) → Comes wrote n t d2 k2 → IsCommitRefusal g at wrote d2 d3 kept e → IsFileRefusal g at kinds.Special floor change d0 d3 kept e
+  from_commit d2 d3 k2 kept n t wrote (refused.Full need) first is = absurd is
+  from_commit d2 d3 k2 kept n t true (refused.Disk tried) first is = subst (λ (b : Bool). HasStopped g b d0 d3) (sym is.1) (stopped_after_try g d0 d2 d3 n t is.0 first.calls (first.tried refl) is.2)
+  from_commit d2 d3 k2 kept n t false (refused.Disk tried) first is = subst (λ (b : Bool). HasStopped g b d0 d3) (sym is.1) (stopped_after_reads g d0 d2 d3 2 is.0 (first.reads refl).1 is.2)
+  from_commit d2 d3 k2 kept n t wrote (refused.Damaged damage) first (inl is) = OfBlock (damage_since g at d0 d2 d3 kept damage first.on is)
+  from_commit d2 d3 k2 kept n t wrote (refused.Damaged damage) first (inr none) = NoneLeft none
+  from_commit d2 d3 k2 kept n t wrote refused.Memory first is = absurd is
+
+  -- where nothing was tried in all, reads alone were made
+  untried_commit : (d2 d3 : D) (k2 kept : Kept) (n t : ℕ) (wrote : Bool) (e : Refused) → Comes wrote n t d2 k2 → IsCommitRefusal g at wrote d2 d3 kept e → (e ≡ refused.Disk false → (kept ≡ k2) × OnlyReads g 241 d2 d3) → is_untried e ≡ true → (kept ≡ k0) × OnlyReads g 31093 d0 d3
+  untried_commit d2 d3 k2 kept n t wrote (refused.Full need) first is only un = absurd is
+  untried_commit d2 d3 k2 kept n t wrote (refused.Disk true) first is only un = cc
+  untried_commit d2 d3 k2 kept n t true (refused.Disk false) first is only un = (let no : false ≡ true = is.1 in cc)
+  untried_commit d2 d3 k2 kept n t false (refused.Disk false) first is only un =
+      let before = first.reads refl in
+      let after = only refl in
+      (after.0 ∙ before.0, reads_then g d0 d2 d3 2 241 31093 before.1 after.1 (omega arith))
+  untried_commit d2 d3 k2 kept n t wrote (refused.Damaged damage) first is only un = cc
+  untried_commit d2 d3 k2 kept n t wrote refused.Memory first is only un = absurd is
 
   -- the root is one of fewer bytes
   pub short_why : (d1 : D) (kept : Kept) (own : Root) → (Tells g d0 → IsRootBlock (block_at (g.content d0) at) own) → own.size < end_of change → IsFileRefusal g at kinds.Special floor change d0 d1 kept (refused.Damaged (record { block = at; code = 3 }))
@@ -138,7 +160,7 @@ module _ {D : Type 0} (g : Ghosts D) (at floor : ℕ) (change : Change) (d0 : D)
     refused = why;
     untried = λ is. (kept, reads_within g d0 d1 n 31093 few reads);
     cylinders = ap (λ (k : Kept). length k.free) kept;
-    calls = makes_then g d0 d1 d1 n 0 124232 0 0 61939 (reads_make g d0 d1 n reads) (reads_make g d1 d1 0 (reads_none g d1)) (omega (arith, few)) (omega arith);
+    calls = makes_then g d0 d1 d1 n 0 124231 0 0 61938 (reads_make g d0 d1 n reads) (reads_make g d1 d1 0 (reads_none g d1)) (omega (arith, few)) (omega arith);
   }
 
 -- ---- a draft begun
@@ -197,7 +219,7 @@ module _ {D : Type 0} (g : Ghosts D) (at floor : ℕ) (change : Change) (d0 d1 :
       refused = from_refusal g at floor change d0 k0 d2 k2 e why;
       untried = by e ends.untried why spared;
       cylinders = ends.cylinders ∙ ap (λ (k : Kept). length k.free) kept;
-      calls = makes_then g d0 d1 d2 1 31092 124232 0 15486 61939 (reads_make g d0 d1 1 reads) ends.calls (omega arith) (omega arith);
+      calls = makes_then g d0 d1 d2 1 31092 124231 0 15486 61938 (reads_make g d0 d1 1 reads) ends.calls (omega arith) (omega arith);
     }
       where
         why : IsRefusal g at floor d0 d2 k2 e
@@ -213,18 +235,21 @@ module _ {D : Type 0} (g : Ghosts D) (at floor : ℕ) (change : Change) (d0 d1 :
     -- ---- it is made, and committed or not
 
     module _ (drafts : (graph : Graph) (ds : List Opened) (id : Puid) (f : File) → MayChange g at kinds.Special change graph ds id f d0 k0 → Drafts g floor change graph ds id f d1 d2 k1 k2 was now (Ok tt))
-        (ends : Ends {A = Unit {0}} g was.at floor 31092 15486 (sum k1.free) d1 d2 k1 k2 (Ok tt)) (same_at : now.at ≡ was.at) (same_shadow : now.shadow ≡ was.shadow) (same_created : now.created ≡ was.created) where
+        (ends : Ends {A = Unit {0}} g was.at floor 31092 15486 (sum k1.free) d1 d2 k1 k2 (Ok tt)) (same_at : now.at ≡ was.at) (same_shadow : now.shadow ≡ was.shadow) (same_created : now.created ≡ was.created)
+        (wrote : Bool) (tried : wrote ≡ true → HasTried g d1 d2) (untried : wrote ≡ false → (k2 ≡ k1) × OnlyReads g 1 d1 d2) where
       none_created : now.created ≡ None
       none_created = same_created ∙ ap (λ (x : Drafting). x.created) is_begun
 
       none_shadow : now.shadow ≡ None
       none_shadow = same_shadow ∙ ap (λ (x : Drafting). x.shadow) is_begun
 
-      first : MakesAtMost g 31093 15486 d0 d2
-      first = makes_then g d0 d1 d2 1 31092 31093 0 15486 15486 (reads_make g d0 d1 1 reads) ends.calls (omega arith) (omega arith)
-
-      on : Tells g d0 → Tells g d2
-      on tells = still_tells g (tells_on g d0 d1 d1 1 reads tells) ends.told ends.calls.same
+      first : Comes g at floor change d0 k0 wrote 31093 15486 d2 k2
+      first = record {
+        calls = makes_then g d0 d1 d2 1 31092 31093 0 15486 15486 (reads_make g d0 d1 1 reads) ends.calls (omega arith) (omega arith);
+        on = λ tells. still_tells g (tells_on g d0 d1 d1 1 reads tells) ends.told ends.calls.same;
+        tried = λ is. then_tried g d0 d1 d2 1 0 (reads_make g d0 d1 1 reads) (tried is);
+        reads = λ none. let two = untried none in (two.0 ∙ kept, reads_then g d0 d1 d2 1 1 2 reads two.1 (omega arith));
+      }
 
       module _ (graph : Graph) (ds : List Opened) (id : Puid) (f : File) (may : MayChange g at kinds.Special change graph ds id f d0 k0) where
         abbrev o : Object
@@ -262,19 +287,19 @@ module _ {D : Type 0} (g : Ghosts D) (at floor : ℕ) (change : Change) (d0 d1 :
           only = ch.only;
         })
 
-      pub ended : (d3 : D) (k3 : Kept) (r : Result (Unit {0}) Refused) → Commits g d2 d3 k2 k3 now r → ChangesFile g at kinds.Special floor change d0 d3 k0 k3 r
+      pub ended : (d3 : D) (k3 : Kept) (r : Result (Unit {0}) Refused) → Commits g wrote d2 d3 k2 k3 now r → ChangesFile g at kinds.Special floor change d0 d3 k0 k3 r
       ended d3 k3 r commits = by r commits
         where
-          left : (s : Result (Unit {0}) Refused) → Commits g d2 d3 k2 k3 now s → (graph : Graph) (ds : List Opened) (id : Puid) (f : File) → MayChange g at kinds.Special change graph ds id f d0 k0 → Leaves g d0 d3 (IsOldOrNew graph graph id (changed_object change (objects.File f)))
+          left : (s : Result (Unit {0}) Refused) → Commits g wrote d2 d3 k2 k3 now s → (graph : Graph) (ds : List Opened) (id : Puid) (f : File) → MayChange g at kinds.Special change graph ds id f d0 k0 → Leaves g d0 d3 (IsOldOrNew graph graph id (changed_object change (objects.File f)))
           left s cs graph ds id f may =
               let P = IsOldOrNew graph graph id (changed_object change (objects.File f)) in
               let m = drafts graph ds id f may in
               then g d0 d2 d3 P P (images P graph m.leaves (λ c h. inl h)) (cs.leaves graph _ id (objects.File f) (changed_draft change (begun f)) m.becomes.steps.store may.has.there m.becomes.is_open none_created) (λ c h. h)
 
-          all : MakesAtMost g 93139 46453 d2 d3 → MakesAtMost g 124232 61939 d0 d3
-          all calls = makes_then g d0 d2 d3 31093 93139 124232 15486 46453 61939 first calls (omega arith) (omega arith)
+          all : MakesAtMost g 93138 46452 d2 d3 → MakesAtMost g 124231 61938 d0 d3
+          all calls = makes_then g d0 d2 d3 31093 93138 124231 15486 46452 61938 first.calls calls (omega arith) (omega arith)
 
-          by : (s : Result (Unit {0}) Refused) → Commits g d2 d3 k2 k3 now s → ChangesFile g at kinds.Special floor change d0 d3 k0 k3 s
+          by : (s : Result (Unit {0}) Refused) → Commits g wrote d2 d3 k2 k3 now s → ChangesFile g at kinds.Special floor change d0 d3 k0 k3 s
           by (Ok tt) cs = record {
             done = λ graph ds id f may. let m = drafts graph ds id f may in done_is graph ds id f may d3 k3 (cs.done graph _ id (objects.File f) (changed_draft change (begun f)) m.becomes.steps.store may.has.there m.becomes.is_open none_created);
             order = λ graph ds id f may. let m = drafts graph ds id f may in order_is graph ds id f may d3 k3 (cs.done graph _ id (objects.File f) (changed_draft change (begun f)) m.becomes.steps.store may.has.there m.becomes.is_open none_created);
@@ -294,21 +319,17 @@ module _ {D : Type 0} (g : Ghosts D) (at floor : ℕ) (change : Change) (d0 d1 :
             room = λ graph ds id f may. tt;
             full = λ graph ds id f may is. absurd (not_full x cs.refusal is);
             sound = λ graph ds id f may. let m = drafts graph ds id f may in cs.sound graph _ id (objects.File f) (changed_draft change (begun f)) m.becomes.steps.store may.has.there m.becomes.is_open none_created (left_one graph ds id f may);
-            refused = from_commit g at floor change d0 k0 d2 d3 k3 31093 15486 x first on (subst (λ (n : ℕ). IsCommitRefusal g n d2 d3 k3 x) (same_at ∙ is_at) cs.refusal);
-            untried = λ un. absurd (not_untried x cs.refusal un);
+            refused = from_commit g at floor change d0 k0 d2 d3 k2 k3 31093 15486 wrote x first (why cs.refusal);
+            untried = untried_commit g at floor change d0 k0 d2 d3 k2 k3 31093 15486 wrote x first (why cs.refusal) cs.untried;
             cylinders = cs.cylinders ∙ ends.cylinders ∙ ap (λ (k : Kept). length k.free) kept;
             calls = all cs.calls;
           }
             where
-              not_full : (y : Refused) → IsCommitRefusal g now.at d2 d3 k3 y → is_full y ≡ true → ⊥
+              why : IsCommitRefusal g now.at wrote d2 d3 k3 x → IsCommitRefusal g at wrote d2 d3 k3 x
+              why = subst (λ (n : ℕ). IsCommitRefusal g n wrote d2 d3 k3 x) (same_at ∙ is_at)
+
+              not_full : (y : Refused) → IsCommitRefusal g now.at wrote d2 d3 k3 y → is_full y ≡ true → ⊥
               not_full (refused.Full need) is full = is
               not_full (refused.Disk tried) is full = cc
               not_full (refused.Damaged damage) is full = cc
               not_full refused.Memory is full = is
-
-              not_untried : (y : Refused) → IsCommitRefusal g now.at d2 d3 k3 y → is_untried y ≡ true → ⊥
-              not_untried (refused.Full need) is un = is
-              not_untried (refused.Disk true) is un = cc
-              not_untried (refused.Disk false) is un = (let no : false ≡ true = is.0 in cc)
-              not_untried (refused.Damaged damage) is un = cc
-              not_untried refused.Memory is un = is

@@ -1,4 +1,4 @@
 mod Begun
 mod Beside
 mod InPlace
-mod Settled
+mod Since

@@ -1,5 +1,5 @@
 -- A file changed: a normal one in place, a special one beside itself as one commit.
-use Rattle.std.specs.Prelude.{◌≡◌, ◌⊎◌, ℕ, ◌+◌, ◌-◌, ◌/◌, ◌<◌, ◌≤◌, true, false, List, [], length, sum, Result, IfErr, OnOk}
+use Rattle.std.specs.Prelude.{◌≡◌, ◌⊎◌, ℕ, ◌+◌, ◌-◌, ◌/◌, ◌<◌, ◌≤◌, ◌||◌, Bool, true, false, List, [], length, sum, Result, IfErr, OnOk}
 use Rattle.cfs_base.specs.Calls.{HasStopped, MakesAtMost, OnlyReads}
 use Rattle.cfs_base.specs.Codes.{no_root, too_full}
 use Rattle.cfs_base.specs.Disk.{Image, block_at}
@@ -135,12 +135,12 @@ IsFileRefusal g at kind floor change old new after (refusals.Disk tried) = HasSt
 IsFileRefusal g at kind floor change old new after (refusals.Damaged damage) = IsFileDamage g at kind change old new after damage
 IsFileRefusal g at kind floor change old new after refusals.Memory = kind ≡ kinds.Special
 
--- the same of a draft that is committed, which has tried a write where a device call failed
-abbrev pub IsCommitRefusal : {D : Type 0} → Ghosts D → (at : ℕ) → D → D → Kept → Refused → Type 0
-IsCommitRefusal g at old new after (refusals.Full need) = ⊥
-IsCommitRefusal g at old new after (refusals.Disk tried) = (tried ≡ true) × HasStopped g true old new
-IsCommitRefusal g at old new after (refusals.Damaged damage) = special.IsDamage g at old new after damage ⊎ IsNoneLeft after damage
-IsCommitRefusal g at old new after refusals.Memory = ⊥
+-- the same of a draft that is committed, before which a write was tried or not
+abbrev pub IsCommitRefusal : {D : Type 0} → Ghosts D → (at : ℕ) → (wrote : Bool) → D → D → Kept → Refused → Type 0
+IsCommitRefusal g at wrote old new after (refusals.Full need) = ⊥
+IsCommitRefusal g at wrote old new after (refusals.Disk tried) = (t : Bool) × (tried ≡ wrote || t) × HasStopped g t old new
+IsCommitRefusal g at wrote old new after (refusals.Damaged damage) = special.IsDamage g at old new after damage ⊎ IsNoneLeft after damage
+IsCommitRefusal g at wrote old new after refusals.Memory = ⊥
 
 -- ---- the call
 
@@ -159,4 +159,4 @@ pub record ChangesFile {D : Type 0} (g : Ghosts D) (at : ℕ) (kind : FileKind) 
   -- where nothing was tried all is as it was, after Full and want of memory too
   pub untried : IfErr result (λ e. is_untried e ≡ true → (after ≡ before) × OnlyReads g 31093 old new)
   pub cylinders : length after.free ≡ length before.free
-  pub calls : MakesAtMost g 124232 61939 old new
+  pub calls : MakesAtMost g 124231 61938 old new

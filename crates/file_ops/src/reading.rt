@@ -1,7 +1,7 @@
 //! A file, read.
 ghost use Rattle.std.specs.Prelude.{◌≡◌, ◌+◌, ◌<◌, ◌≤◌, ℕ, false, List, length, slice_range, IfErr, IfOk};
 ghost use Rattle.cfs_base.specs.Calls.{OnlyReads};
-ghost use Rattle.cfs_base.specs.Refusals.{had_tried};
+ghost use Rattle.cfs_base.specs.Refusals.{had_tried, trouble_had_tried};
 ghost use Rattle.cfs_base.specs.declared.identifier.Puid.{Puid};
 ghost use Rattle.cyl_alloc.specs.Space.{Kept};
 ghost use Rattle.file_ops.specs.Files as spec;
@@ -60,10 +60,12 @@ pub fn size<D: Disk>(disk: &mut D, at: BlockNo) -> Result<u64, Trouble>
     requires { at.0 < D.blocks disk.old }
     ensures size { (graph : Graph) (ds : List Opened) (space : Kept) (id : Puid) (f : File)
         → spec.HasFile D.Disk graph ds disk.old space at.0 id f → IfOk result (λ size. size ≡ length f.bytes) }
+    ensures limit { IfOk result (λ size. size ≤ 7864320) }
     // No damage where the disk holds the file.
     ensures sound { (graph : Graph) (ds : List Opened) (space : Kept) (id : Puid) (f : File)
         → spec.HasFile D.Disk graph ds disk.old space at.0 id f → IfErr result (λ trouble. is_damage trouble ≡ false) }
     ensures refused { IfErr result (IsTrouble D.Disk at.0 disk.old disk.new) }
+    ensures untried { IfErr result (λ trouble. trouble_had_tried trouble ≡ false) }
     ensures reads { OnlyReads D.Disk 1 disk.old disk.new }
 {
     match normal_files::read_root(disk, at) {

@@ -1,9 +1,11 @@
 //! A special file, changed beside itself as one commit.
-ghost use Rattle.std.specs.Prelude.{◌≡◌, ◌≢◌, ◌+◌, ◌*◌, ◌<◌, ◌≤◌, false, List, length, sum, None, Some, IfErr, OnOk};
-ghost use Rattle.cfs_base.specs.Calls.{MakesAtMost};
+ghost use Rattle.std.specs.Prelude.{◌≡◌, ◌≢◌, ◌+◌, ◌*◌, ◌<◌, ◌≤◌, if◌then◌else◌, false, List, length, sum, None, Some, IfErr, OnOk};
+ghost use Rattle.cfs_base.specs.Calls.{MakesAtMost, OnlyReads};
+ghost use Rattle.cfs_base.specs.Refusals.{refused_by, trouble_after_try};
 ghost use Rattle.cfs_base.specs.Run.{Leaves};
 ghost use Rattle.cfs_base.specs.declared.identifier.Puid.{Puid};
 ghost use Rattle.cfs_base.specs.declared.kind.FileKind.TheVariants as kinds;
+ghost use Rattle.cfs_base.specs.declared.refusal.Refused.TheVariants as refused;
 ghost use Rattle.file_ops.specs.Changes as spec;
 ghost use Rattle.intentions.specs.Store.{StoreHas};
 ghost use Rattle.special_files.specs.Committing.{Committed, IsOldOrNew};
@@ -15,15 +17,28 @@ ghost use Rattle.ufs_model.specs.declared.object.Draft as drafts;
 ghost use Rattle.ufs_model.specs.declared.object.Object.{Object};
 ghost use Rattle.vol_owners.specs.Account.{Opened};
 
-use cfs_base::{BlockNo, Damage, Disk, Refused, code};
+use cfs_base::{BlockNo, Damage, Disk, Refused, Trouble, code};
 use cyl_alloc::Space;
-use intentions::barrier;
 use special_files::Draft;
 use std::alloc::Global;
 
-/// Makes a draft its object, once what it put outlasts a crash. From that barrier on each failure is one after a try: no call
-/// of the draft tells whether it tried a write, and no device call may follow one that failed.
-fn commit<D: Disk>(draft: Draft, disk: &mut D, space: &mut Space) -> Result<(), Refused>
+/// The refusal of a call that may have tried a write before.
+fn since(wrote: bool, trouble: Trouble) -> Refused
+    ensures { result ≡ refused_by (if wrote then trouble_after_try trouble else trouble) }
+{
+    if wrote {
+        return Refused::from(trouble.after_try());
+    }
+    Refused::from(trouble)
+}
+
+/// Makes a draft its object. Where the draft wrote something before, each failure is one after a try.
+fn commit<D: Disk>(
+    draft: Draft,
+    disk: &mut D,
+    space: &mut Space,
+    wrote: bool,
+) -> Result<(), Refused>
     requires on_disk { draft.at < D.blocks disk.old }
     requires size { D.blocks disk.old ≡ 64 * length space.old.free }
     ensures done { (graph : Graph) (ds : List Opened) (id : Puid) (o : Object) (d : drafts.Draft)
@@ -35,9 +50,11 @@ fn commit<D: Disk>(draft: Draft, disk: &mut D, space: &mut Space) -> Result<(), 
     ensures sound { (graph : Graph) (ds : List Opened) (id : Puid) (o : Object) (d : drafts.Draft)
         → StoreHas D.Disk graph ds disk.old space.old → object_at graph id ≡ Some o → IsOpen ds id draft d
         → draft.created ≡ None → 1 ≤ sum space.old.free → IfErr result (λ e. is_damaged e ≡ false) }
-    ensures refused { IfErr result (spec.IsCommitRefusal D.Disk draft.at disk.old disk.new space.new) }
+    ensures refused { IfErr result (spec.IsCommitRefusal D.Disk draft.at wrote disk.old disk.new space.new) }
+    ensures untried { IfErr result (λ e. e ≡ refused.Disk false
+        → (space.new ≡ space.old) × OnlyReads D.Disk 241 disk.old disk.new) }
     ensures cylinders { length space.new.free ≡ length space.old.free }
-    ensures calls { MakesAtMost D.Disk 93139 46453 disk.old disk.new }
+    ensures calls { MakesAtMost D.Disk 93138 46452 disk.old disk.new }
 {
     if space.free() == 0 {
         return Err(Refused::Damaged(Damage {
@@ -45,13 +62,9 @@ fn commit<D: Disk>(draft: Draft, disk: &mut D, space: &mut Space) -> Result<(), 
             code: code::TOO_FULL,
         }));
     }
-    match barrier(disk) {
-        Ok(()) => {}
-        Err(trouble) => return Err(Refused::from(trouble)),
-    }
     match draft.commit(disk, space) {
         Ok(()) => Ok(()),
-        Err(trouble) => Err(Refused::from(trouble.after_try())),
+        Err(trouble) => Err(since(wrote, trouble)),
     }
 }
 
@@ -68,6 +81,7 @@ pub(crate) fn write_beside<D: Disk>(
     requires some { at.0 ≢ 0 }
     requires on_disk { at.0 < D.blocks disk.old }
     requires size { D.blocks disk.old ≡ 64 * length space.old.free }
+    requires least { 1 ≤ length bytes.now }
     requires most { length bytes.now ≤ 4096 }
     requires inside { offset + length bytes.now ≤ 7864320 }
     ensures { spec.ChangesFile D.Disk at.0 kinds.Special floor (Overwrite offset bytes.now) disk.old disk.new space.old space.new result }
@@ -83,7 +97,7 @@ pub(crate) fn write_beside<D: Disk>(
         }));
     }
     match draft.write(disk, space, offset, bytes, floor) {
-        Ok(()) => commit(draft, disk, space),
+        Ok(()) => commit(draft, disk, space, true),
         Err(error) => Err(error),
     }
 }
@@ -108,7 +122,10 @@ pub(crate) fn resize_beside<D: Disk>(
         Err(error) => return Err(error),
     };
     match draft.resize(disk, space, size, floor) {
-        Ok(()) => commit(draft, disk, space),
+        Ok(()) => {
+            let wrote = draft.has_fresh_nodes();
+            commit(draft, disk, space, wrote)
+        }
         Err(error) => Err(error),
     }
 }

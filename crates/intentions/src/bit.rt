@@ -21,6 +21,7 @@ ghost use Rattle.vol_image.specs.Sound.{Holds};
 use crate::change::Change;
 use crate::entry::{put_entry, read_entry};
 use cfs_base::{Block, BlockNo, Disk, Trouble};
+use cyl_alloc::KnownMaps;
 use cyl_map::MapEntry;
 
 /// Makes what was written outlast a crash.
@@ -43,6 +44,7 @@ pub fn barrier<D: Disk>(disk: &mut D) -> Result<(), Trouble>
 /// Puts another entry in place of the one that was read, with a barrier before and one after.
 fn put_between<D: Disk>(
     disk: &mut D,
+    known: &mut KnownMaps,
     block: BlockNo,
     map: &mut Block,
     entry: MapEntry,
@@ -61,25 +63,30 @@ fn put_between<D: Disk>(
     ensures calls { MakesAtMost D.Disk 3 3 disk.old disk.new }
 {
     barrier(disk)?; // what the entry leads to
-    put_entry(disk, block, map, entry)?;
+    put_entry(disk, known, block, map, entry)?;
     barrier(disk) // the entry
 }
 
 /// Changes the commit bit of a root.
-fn change_bit<D: Disk>(disk: &mut D, root: BlockNo, how: Change) -> Result<(), Trouble>
+fn change_bit<D: Disk>(
+    disk: &mut D,
+    known: &mut KnownMaps,
+    root: BlockNo,
+    how: Change,
+) -> Result<(), Trouble>
     requires on_disk { root.0 < D.blocks disk.old }
     requires fits { entries.Fits how }
     ensures changes { spec.ChangesBit D.Disk root.0 (λ e. entries.changed how e) disk.old disk.new result }
 {
     let mut map = Block::zero();
-    let entry = read_entry(disk, root, &mut map)?;
+    let entry = read_entry(disk, known, root, &mut map)?;
     let now = how.of(entry);
-    put_between(disk, root, &mut map, now)
+    put_between(disk, known, root, &mut map, now)
 }
 
 /// Sets the commit bit of a root. The barrier before it makes all durable to which it leads; from the one after it on the
 /// change outlasts a crash. `Damaged` names the map block of the root, with code 2, which is no map.
-pub fn commit<D: Disk>(disk: &mut D, root: BlockNo) -> Result<(), Trouble>
+pub fn commit<D: Disk>(disk: &mut D, known: &mut KnownMaps, root: BlockNo) -> Result<(), Trouble>
     requires { root.0 < D.blocks disk.old }
     ensures changes { spec.ChangesBit D.Disk root.0 (λ e. entries.with_bit e) disk.old disk.new result }
     // The draft becomes the object. All that a crash leaves besides what it might have left before has it.
@@ -90,15 +97,15 @@ pub fn commit<D: Disk>(disk: &mut D, root: BlockNo) -> Result<(), Trouble>
         → object_at graph id ≡ Some was → IsDraft (D.content disk.old) id.block s o
         → Leaves D.Disk disk.old disk.new (λ c. Holds c (with_object graph id o)) }
 {
-    change_bit(disk, root, Change::SetBit)
+    change_bit(disk, known, root, Change::SetBit)
 }
 
 /// Clears the commit bit of a root. The barrier before it makes durable what was finished. `Damaged` as in `commit`.
-pub fn clear_bit<D: Disk>(disk: &mut D, root: BlockNo) -> Result<(), Trouble>
+pub fn clear_bit<D: Disk>(disk: &mut D, known: &mut KnownMaps, root: BlockNo) -> Result<(), Trouble>
     requires { root.0 < D.blocks disk.old }
     ensures { spec.ChangesBit D.Disk root.0 (λ e. entries.without_bit e) disk.old disk.new result }
 {
-    change_bit(disk, root, Change::ClearBit)
+    change_bit(disk, known, root, Change::ClearBit)
 }
 
 /// Writes to the root what its shadow root holds, and makes that outlast a crash. Never `Damaged`.

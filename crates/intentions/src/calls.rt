@@ -8,6 +8,7 @@ ghost use Rattle.intentions.specs.Entries as entries;
 use crate::change::Change;
 use crate::entry::change_entry;
 use cfs_base::{BlockNo, Disk, Place, Trouble};
+use cyl_alloc::KnownMaps;
 
 /// Claims a Free block for an owner's place: its entry is IntendAllocate. `Damaged` names its map block, with code 2, which
 /// is no map.
@@ -21,7 +22,12 @@ pub fn intend_claim<D: Disk>(
     requires entry { IsEntry (intended place owner) }
     ensures { spec.ChangesEntry D.Disk block.0 (λ e. intended place owner) disk.old disk.new result }
 {
-    change_entry(disk, block, Change::Claim { place, owner })?;
+    change_entry(
+        disk,
+        &mut KnownMaps::new(),
+        block,
+        Change::Claim { place, owner },
+    )?;
     Ok(())
 }
 
@@ -30,7 +36,7 @@ pub fn intend_release<D: Disk>(disk: &mut D, block: BlockNo) -> Result<(), Troub
     requires { block.0 < D.blocks disk.old }
     ensures { spec.ChangesEntry D.Disk block.0 (λ e. entries.released e) disk.old disk.new result }
 {
-    change_entry(disk, block, Change::Release)?;
+    change_entry(disk, &mut KnownMaps::new(), block, Change::Release)?;
     Ok(())
 }
 
@@ -40,7 +46,7 @@ pub fn finish<D: Disk>(disk: &mut D, block: BlockNo) -> Result<(), Trouble>
     requires { block.0 < D.blocks disk.old }
     ensures { spec.ChangesEntry D.Disk block.0 (λ e. entries.finished e) disk.old disk.new result }
 {
-    change_entry(disk, block, Change::Finish)?;
+    change_entry(disk, &mut KnownMaps::new(), block, Change::Finish)?;
     Ok(())
 }
 
@@ -50,6 +56,6 @@ pub fn undo<D: Disk>(disk: &mut D, block: BlockNo) -> Result<(), Trouble>
     requires { block.0 < D.blocks disk.old }
     ensures { spec.ChangesEntry D.Disk block.0 (λ e. entries.undone e) disk.old disk.new result }
 {
-    change_entry(disk, block, Change::Undo)?;
+    change_entry(disk, &mut KnownMaps::new(), block, Change::Undo)?;
     Ok(())
 }

@@ -16,12 +16,13 @@ ghost use Rattle.intentions.specs.Entries as entries;
 
 use crate::change::Change;
 use cfs_base::{Block, BlockNo, Disk, Trouble};
-use cyl_alloc::maps::{load_map, store_entry};
+use cyl_alloc::KnownMaps;
 use cyl_map::{Map, MapEntry};
 
 /// Reads the entry of a block, and into `map` the map that has it.
 pub(crate) fn read_entry<D: Disk>(
     disk: &mut D,
+    known: &KnownMaps,
     block: BlockNo,
     map: &mut Block,
 ) -> Result<MapEntry, Trouble>
@@ -36,13 +37,14 @@ pub(crate) fn read_entry<D: Disk>(
     ensures untried { IfErr result (λ trouble. trouble_had_tried trouble ≡ false) }
     ensures reads { OnlyReads D.Disk 1 disk.old disk.new }
 {
-    load_map(disk, block.0, map)?;
+    known.load_map(disk, block.0, map)?;
     Ok(Map::entry_in(map, (block.0 % 64) as u8))
 }
 
 /// Puts another entry in place of the one that was read.
 pub(crate) fn put_entry<D: Disk>(
     disk: &mut D,
+    known: &mut KnownMaps,
     block: BlockNo,
     map: &mut Block,
     entry: MapEntry,
@@ -61,14 +63,19 @@ pub(crate) fn put_entry<D: Disk>(
         (map_with (D.content disk.old) block.0 entry)) }
     ensures calls { MakesAtMost D.Disk 1 1 disk.old disk.new }
 {
-    match store_entry(disk, block.0, map, entry) {
+    match known.store_entry(disk, block.0, map, entry) {
         Ok(()) => Ok(()),
         Err(_) => Err(Trouble::Disk { tried: true }),
     }
 }
 
 /// Changes the entry of a block, and gives the one that it had.
-pub fn change_entry<D: Disk>(disk: &mut D, block: BlockNo, how: Change) -> Result<MapEntry, Trouble>
+pub fn change_entry<D: Disk>(
+    disk: &mut D,
+    known: &mut KnownMaps,
+    block: BlockNo,
+    how: Change,
+) -> Result<MapEntry, Trouble>
     requires on_disk { block.0 < D.blocks disk.old }
     requires fits { entries.Fits how }
     ensures entry { Tells D.Disk disk.old → IfOk result (λ was.
@@ -77,9 +84,9 @@ pub fn change_entry<D: Disk>(disk: &mut D, block: BlockNo, how: Change) -> Resul
     ensures changes { spec.ChangesEntry D.Disk block.0 (λ e. entries.changed how e) disk.old disk.new result }
 {
     let mut map = Block::zero();
-    let entry = read_entry(disk, block, &mut map)?;
+    let entry = read_entry(disk, known, block, &mut map)?;
     let now = how.of(entry);
-    match put_entry(disk, block, &mut map, now) {
+    match put_entry(disk, known, block, &mut map, now) {
         Ok(()) => Ok(entry),
         Err(trouble) => Err(trouble),
     }

@@ -1,5 +1,5 @@
 //! The root, the nodes and the leaves of a file, read.
-ghost use Rattle.std.specs.Prelude.{◌≡◌, ◌<◌, ℕ, false, length, replicate, IfErr, IfOk, OnOk};
+ghost use Rattle.std.specs.Prelude.{◌≡◌, ◌<◌, ◌≤◌, ℕ, false, length, replicate, IfErr, IfOk, OnOk};
 ghost use Rattle.std.specs.List.{All};
 ghost use Rattle.block_tree.specs.Root.{IsRootBlock};
 ghost use Rattle.block_tree.specs.Tree.{bytes_in};
@@ -19,6 +19,7 @@ use cfs_base::{Block, BlockNo, Damage, Disk, Trouble, code};
 pub fn read_root<D: Disk>(disk: &mut D, at: BlockNo) -> Result<Root, Trouble>
     requires { at.0 < D.blocks disk.old }
     ensures root { Tells D.Disk disk.old → IfOk result (IsRootBlock (block_at (D.content disk.old) at.0)) }
+    ensures limit { IfOk result (λ root. root.size ≤ 7864320) }
     ensures refused { IfErr result (IsTrouble D.Disk at.0 disk.old disk.new) }
     ensures untried { IfErr result (λ trouble. trouble_had_tried trouble ≡ false) }
     ensures sound { (root : roots.Root) → Tells D.Disk disk.old → IsRootBlock (block_at (D.content disk.old) at.0) root

@@ -295,6 +295,17 @@ nothing_left g d P = record { later = omega arith; since = λ k c le h. inl h; n
 pub nothing_made : {D : Type 0} (g : Ghosts D) (d : D) (n t : ℕ) → MakesAtMost g n t d d
 nothing_made g d n t = record { later = omega arith; keeps = λ k c le was. was; same = record { size = refl; honesty = refl; telling = refl }; faults = omega arith; calls = omega arith; tries = omega arith; no_fewer = omega arith }
 
+-- no failure tells that nothing was tried, where something was
+pub tried_apart : (t : Trouble) → trouble_after_try t ≢ trouble.Disk false
+tried_apart (trouble.Disk tried) same = cc
+tried_apart (trouble.Damaged damage) same = cc
+
+pub finish_apart : {D : Type 0} (g : Ghosts D) (at : ℕ) (old new : D) (kept : Kept) (r : Result (Unit {0}) Trouble) → IfErr r (Fails g at old new kept) → IfErr r (λ t. t ≢ trouble.Disk false)
+finish_apart g at old new kept (Ok u) is = tt
+finish_apart g at old new kept (Err (trouble.Disk true)) is = λ same. cc
+finish_apart g at old new kept (Err (trouble.Disk false)) is = λ same. (let no : false ≡ true = is.0 in cc)
+finish_apart g at old new kept (Err (trouble.Damaged damage)) is = λ same. cc
+
 pub far_trouble : {D : Type 0} (g : Ghosts D) (at : ℕ) (d : D) (kept : Kept) (t : Trouble) → t ≡ far_root at → IsTrouble g at d d kept t
 far_trouble g at d kept t is = subst (IsTrouble g at d d kept) (sym is) (FarRoot refl refl)
 

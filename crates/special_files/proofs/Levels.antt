@@ -167,6 +167,12 @@ set_counted : (flags : List Bool) → length (set_in flags) ≡ count_by (λ b. 
 unfolding set_length
 set_counted flags = ap (length {A = ℕ}) (set_is flags (length flags) refl) ∙ is_count_by set_length (λ b. b) refl set_step flags
 
+-- where some are set one of them is
+pub counted_some : (flags : List Bool) → 0 < count_by (λ b. b) flags → (n : ℕ) × (get_or flags n false ≡ true)
+counted_some [] some = absurd (omega (arith, some))
+counted_some (true ∷ flags) some = (0, refl)
+counted_some (false ∷ flags) some = let more = counted_some flags some in (suc more.0, more.1)
+
 pub fresh_counted : (ds : List Opened) (id : Puid) (was : Drafting) (d : Draft) → IsOpen ds id was d → sum_by length d.fresh ≡ count_by (λ b. b) was.leaves + count_by (λ b. b) was.nodes
 fresh_counted ds id was d opened =
     omega (

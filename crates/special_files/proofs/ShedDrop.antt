@@ -229,15 +229,15 @@ module _ {D : Type 0} (g : Ghosts D) (was : Drafting) (f : ℕ) (leaves : List �
   put_full e room (Within within (NoWrite mid y block x gets short writes done)) = let same : e ≡ x = cc in ap is_full (same ∙ writes.refused)
   put_full e room (Within within (Put mid y block gets short writes done)) = cc
 
-  put_tried : (y : BlockNo) → f % 128 ≢ 0 → PutsWithin g f leaves was d1 d2 k0 k2 (Ok y) → HasTried g d1 d2
+  pub put_tried : (y : BlockNo) → f % 128 ≢ 0 → PutsWithin g f leaves was d1 d2 k0 k2 (Ok y) → HasTried g d1 d2
   put_tried y within (Whole z whole same kept done) = absurd (within whole)
   put_tried y within (Within w (NoBlock e gets done)) = cc
   put_tried y within (Within w (NoWrite mid z block e gets short writes done)) = cc
   put_tried y within (Within w (Put mid z block gets short writes done)) = then_tried g d1 mid d2 2 1 (gets_ends g (f / 128) 0 d1 mid k0 k2 was (Ok z) gets).calls writes.tried
 
-  put_nothing : (y : BlockNo) → f % 128 ≡ 0 → PutsWithin g f leaves was d1 d2 k0 k2 (Ok y) → (d2 ≡ d1) × (k2 ≡ k0)
-  put_nothing y whole (Whole z w same kept done) = (same, kept)
-  put_nothing y whole (Within within p) = absurd (within whole)
+  pub put_nothing : (result : Result BlockNo Refused) → f % 128 ≡ 0 → PutsWithin g f leaves was d1 d2 k0 k2 result → (d2 ≡ d1) × (k2 ≡ k0)
+  put_nothing result whole (Whole z w same kept done) = (same, kept)
+  put_nothing result whole (Within within p) = absurd (within whole)
 
   module _ (reads : OnlyReads g 120 d0 d1) where
     after_list : {A : Type 0} (d : D) (k : Kept) (r : Result A Refused) → Ends g was.at 0 30963 15482 (sum k0.free) d1 d k0 k r → Ends g was.at 0 31083 15482 (sum k0.free) d0 d k0 k r
@@ -269,7 +269,7 @@ module _ {D : Type 0} (g : Ghosts D) (was : Drafting) (f : ℕ) (leaves : List �
               (ends_then_err g was.at 0 d1 d2 d3 k0 k2 k2 y (refused_by t) 3 2 (sum k0.free) 30960 15480 0 (put_ends (Ok y) puts) (put_tried y (within is) puts) (undone k2) 30963 15482 (sum k0.free + 0) (omega arith) (omega arith) (omega arith))
               (omega arith) (omega arith)
           by false is =
-              let two = put_nothing y (whole is) puts in
+              let two = put_nothing (Ok y) (whole is) puts in
               let here = subst (λ (d : D). Ends {A = Unit {0}} g was.at 0 30960 15480 0 d d3 k2 k2 (Err (refused_by t))) two.0 (undone k2) in
               loose g was.at 30960 15480 0 30963 15482 d1 d3 k0 k2 (Err (refused_by t)) (subst (λ (k : Kept). Ends {A = Unit {0}} g was.at 0 30960 15480 0 d1 d3 k k2 (Err (refused_by t))) two.1 here) (omega arith) (omega arith)
 

@@ -1,9 +1,10 @@
 -- The size of a draft set to less, as the call does it: a node is read, a leaf cut, and leaves are dropped.
 use Rattle.std.proofs.Common.{◌≡◌, ◌≢◌, inl, inr, ℕ, ◌+◌, ◌-◌, ◌*◌, ◌/◌, ◌%◌, ◌<◌, ◌≤◌, Bool, true, false, List, length, get_or, set, Ok, Err, Some, refl, sym, ◌∙◌, ap, subst, get_or-set_same, arith}
 use Rattle.std.specs.Prelude.{◌==◌, ◌&&◌, ◌||◌, not, if◌then◌else◌, is_some, sum, IfErr, OnOk, Result}
-use Rattle.std.proofs.lemmas.Bool.{both_ways, cases_Bool, eqb-false, eqb-true}
-use Rattle.cfs_base.specs.Calls.{HasTried, OnlyReads}
+use Rattle.std.proofs.lemmas.Bool.{both_ways, cases_Bool, cases_lt, eqb-false, eqb-true}
+use Rattle.cfs_base.specs.Calls.{HasTried, MakesAtMost, OnlyReads}
 use Rattle.cfs_base.specs.Disk.{Image}
+use Rattle.cfs_base.proofs.Calls.{makes_then, reads_make, then_tried, tried_then}
 use Rattle.cfs_base.specs.declared.disk.Disk.{Ghosts}
 use Rattle.cfs_base.specs.declared.identifier.Puid.{Puid}
 use Rattle.cfs_base.specs.declared.refusal.Refused.{Refused}
@@ -21,13 +22,13 @@ use Rattle.vol_owners.specs.Change.{ChangesOnly, of_draft}
 use Rattle.intentions.specs.Store.{StoreHas}
 use Rattle.special_files.specs.Becomes.{Becomes}
 use Rattle.special_files.specs.Calls.{SetsFlags}
-use Rattle.special_files.specs.Drafting.{Drafting, IsOpen, is_fresh_leaf, is_fresh_node, leaf_takes, node_of, one_unless, shadow_need}
+use Rattle.special_files.specs.Drafting.{Drafting, HasNoneFresh, IsOpen, is_fresh_leaf, is_fresh_node, leaf_takes, node_of, one_unless, shadow_need}
 use Rattle.special_files.specs.Ends.{Ends}
 use Rattle.special_files.specs.Leaves.{leaves_of}
 use Rattle.special_files.specs.Nodes.{IsRead, leaves_at}
 use Rattle.special_files.specs.Puts.{PutsLeaf, StaysBut}
 use Rattle.special_files.specs.Refusal.{told_after}
-use Rattle.special_files.specs.Shed.{IsBorder, IsCutHere, KeepsOne, Resizes, border_takes, cut_takes, shrink_takes, sized}
+use Rattle.special_files.specs.Shed.{Forgets, IsBorder, IsCutHere, IsToldByNodes, KeepsOne, Resizes, border_takes, cut_takes, shrink_takes, sized}
 use Rattle.special_files.specs.declared.node.NodeRead.{NodeRead}
 use Rattle.special_files.proofs.Endings.{ends_then_err, ends_then_ok, makes_none, not_untried}
 use Rattle.special_files.proofs.PutStore.{the_draft}
@@ -195,6 +196,65 @@ pub kept_then : (was mid now : Drafting) (cut : Bool) (e : Refused) → (cut ≡
 kept_then was mid now true e same kept told = absurd (not_untried e told)
 kept_then was mid now false e same kept told = kept ∙ same refl
 
+-- ---- whether something was tried, which the fresh nodes tell
+
+module _ {D : Type 0} (g : Ghosts D) (was mid now : Drafting) (cut : Bool) (size from block : ℕ) (leaves : List ℕ) (d0 d1 d2 d3 : D) (k0 k2 k3 : Kept) (none : HasNoneFresh was) (reads : OnlyReads g 1 d0 d1)
+    (cut_calls : MakesAtMost g 8 4 d1 d2) (cut_tried : cut ≡ true → HasTried g d1 d2) (whole : cut ≡ false → (d2 ≡ d1) × (k2 ≡ k0) × (mid ≡ was)) (flags : cut ≡ true → SetsFlags (size / 512) was mid)
+    (drop_calls : MakesAtMost g 31083 15482 d2 d3) (drop_tried : from % 128 ≢ 0 → HasTried g d2 d3) (drop_none : from % 128 ≡ 0 → ((n : ℕ) → is_fresh_node mid n ≡ false) → (d3 ≡ d2) × (k3 ≡ k2)) (forgets : Forgets from block mid now)
+    (border : IsBorder leaves ((leaves_in size - 1) / 128) (leaves_in size) from) (cuts : IsCutHere size leaves cut) (few : size / 512 / 128 < length was.nodes) where
+  stale_then : from % 128 ≡ 0 → cut ≡ false → (n : ℕ) → is_fresh_node now n ≡ false
+  stale_then even not n = elim (cases_lt from (128 * n + 128)) [
+    | inr low ↦ (forgets.before n low).0 ∙ ap (λ (w : Drafting). is_fresh_node w n) (whole not).2 ∙ none.nodes n
+    | inl high ↦ (forgets.past n (omega (arith, high, even))).0
+  ]
+
+  fresh_then : cut ≡ true → (n : ℕ) × (is_fresh_node now n ≡ true)
+  fresh_then is =
+      let m = size / 512 / 128 in
+      let here = cuts.is is in
+      let past : size / 512 < from = (elim (cases_lt (size / 512) from) [
+        | inl high ↦ high
+        | inr low ↦ absurd (here.1 (border.none ((size / 512) % 128) (omega arith) (inl (omega (arith, low, here.0), omega (arith, here.0)))))
+      ]) in
+      let set_here : is_fresh_node mid m ≡ true = (elim (flags is).nodes [
+        | inl two ↦ absurd (both_ways _ (none.leaves (size / 512)) two.0)
+        | inr set ↦ ap (λ (ns : List Bool). get_or ns m false) set ∙ get_or-set_same was.nodes m true false few
+      ]) in
+      elim (cases_lt from (128 * m + 128)) [
+        | inr low ↦ (m, (forgets.before m low).0 ∙ set_here)
+        | inl high ↦ (from / 128, (forgets.here (omega (arith, high, past))).0)
+      ]
+
+  pub told_by_nodes : IsToldByNodes g d0 d3 k0 k3 now
+  told_by_nodes = record { tried = λ n. tries n; untried = untries }
+    where
+      to_cut : MakesAtMost g 9 4 d0 d2
+      to_cut = makes_then g d0 d1 d2 1 8 9 0 4 4 (reads_make g d0 d1 1 reads) cut_calls (omega arith) (omega arith)
+
+      after_cut : cut ≡ true → HasTried g d0 d3
+      after_cut is = tried_then g d0 d2 d3 31083 15482 (then_tried g d0 d1 d2 1 0 (reads_make g d0 d1 1 reads) (cut_tried is)) drop_calls
+
+      tries : (n : ℕ) → is_fresh_node now n ≡ true → HasTried g d0 d3
+      tries n fresh = elim (cases_Bool cut) [
+        | inl is ↦ after_cut is
+        | inr not ↦ elim (cases_Bool (from % 128 == 0)) [
+          | inl even ↦ absurd (both_ways _ (stale_then (eqb-true (from % 128) 0 even) not n) fresh)
+          | inr within ↦ then_tried g d0 d2 d3 9 4 to_cut (drop_tried (eqb-false (from % 128) 0 within))
+        ]
+      ]
+
+      untries : ((n : ℕ) → is_fresh_node now n ≡ false) → (k3 ≡ k0) × OnlyReads g 1 d0 d3
+      untries stale = elim (cases_Bool cut) [
+        | inl is ↦ absurd (let some = fresh_then is in both_ways _ (stale some.0) some.1)
+        | inr not ↦ elim (cases_Bool (from % 128 == 0)) [
+          | inr within ↦ absurd (both_ways _ (stale (from / 128)) (forgets.here (eqb-false (from % 128) 0 within)).0)
+          | inl even ↦
+              let all = whole not in
+              let two = drop_none (eqb-true (from % 128) 0 even) (λ n. ap (λ (w : Drafting). is_fresh_node w n) all.2 ∙ none.nodes n) in
+              (two.1 ∙ all.1, subst (OnlyReads g 1 d0) (sym (two.0 ∙ all.0)) reads)
+        ]
+      ]
+
 -- ---- to no less
 
 module _ {D : Type 0} (g : Ghosts D) (d0 : D) (k0 : Kept) (size floor : ℕ) (was now : Drafting) where
@@ -213,6 +273,10 @@ module _ {D : Type 0} (g : Ghosts D) (d0 : D) (k0 : Kept) (size floor : ℕ) (wa
   pub grown_stays : (r : Result (Unit {0}) Refused) → OnOk r (now ≡ sized was size) → IfErr r (λ e. now ≡ was) → Resizes size was now r
   grown_stays (Ok t) is kept = subst (StaysBut (sized was size)) (sym is) (stays_itself (sized was size))
   grown_stays (Err e) is kept = subst (StaysBut was) (sym kept) (stays_itself was)
+
+  pub grown_told : HasNoneFresh was → (r : Result (Unit {0}) Refused) → OnOk r (now ≡ sized was size) → OnOk r (IsToldByNodes g d0 d0 k0 k0 now)
+  grown_told none (Ok t) is = record { tried = λ n fresh. absurd (both_ways _ (ap (λ (w : Drafting). is_fresh_node w n) is ∙ none.nodes n) fresh); untried = λ stale. (refl, none_read) }
+  grown_told none (Err e) is = tt
 
   pub grown_ends : (r : Result (Unit {0}) Refused) → IfErr r (λ e. (e ≡ refusals.Full (record { free = sum k0.free; need = shadow_need was })) × (sum k0.free < shadow_need was + floor)) → Ends g was.at floor 31092 15486 (sum k0.free) d0 d0 k0 k0 r
   grown_ends (Ok t) is = record { told = λ b h. h; refused = tt; untried = tt; cylinders = refl; takes = omega arith; calls = makes_none g d0 31092 15486 }

@@ -69,6 +69,11 @@ is_fresh_leaf drafting leaf = get_or drafting.leaves leaf false
 abbrev pub is_fresh_node : Drafting → ℕ → Bool
 is_fresh_node drafting n = get_or drafting.nodes n false
 
+-- no block of it is fresh, as of a draft that was just begun
+pub record HasNoneFresh (drafting : Drafting) : Type 0 where
+  pub leaves : (leaf : ℕ) → is_fresh_leaf drafting leaf ≡ false
+  pub nodes : (n : ℕ) → is_fresh_node drafting n ≡ false
+
 abbrev pub one_unless : Bool → ℕ
 one_unless b = if b then 0 else 1
 

@@ -1,6 +1,7 @@
 -- Leaves dropped from a draft, from one on, with the nodes that have no leaf before it.
 use Rattle.std.specs.Prelude.{◌≡◌, ◌≢◌, ◌⊎◌, ℕ, zero, suc, Bool, not, ◌&&◌, ◌||◌, ◌++◌, get_or, ◌+◌, ◌*◌, ◌/◌, ◌%◌, ◌<◌, ◌≤◌, true, false, if◌then◌else◌, ◌==◌, List, [], ◌∷◌, length, None, slice_index, IfErr, OnOk, Result, Ok, Err}
 use Rattle.std.specs.List.{All}
+use Rattle.cfs_base.specs.Calls.{HasTried, OnlyReads}
 use Rattle.cfs_base.specs.Refusals.{trouble_after_try}
 use Rattle.cfs_base.specs.declared.refusal.Trouble.{Trouble}
 use Rattle.block_tree.specs.declared.root.Root as roots
@@ -174,3 +175,8 @@ sized was size = record was { root = record was.root { size = size } }
 abbrev pub Resizes : ℕ → Drafting → Drafting → Result (Unit {0}) Refused → Type 0
 Resizes size was now (Ok t) = StaysBut (sized was size) now
 Resizes size was now (Err e) = StaysBut was now
+
+-- Of a draft that had no fresh block a resize tried something exactly where a node is fresh then; else it read a node at most.
+pub record IsToldByNodes {D : Type 0} (g : Ghosts D) (old new : D) (before after : Kept) (now : Drafting) : Type 0 where
+  pub tried : (n : ℕ) → is_fresh_node now n ≡ true → HasTried g old new
+  pub untried : ((n : ℕ) → is_fresh_node now n ≡ false) → (after ≡ before) × OnlyReads g 1 old new

@@ -23,12 +23,13 @@ use crate::flips::{flip_all, give_all};
 use crate::whole::part_on_disk;
 use block_tree::Root;
 use cfs_base::{BlockNo, Disk, Trouble};
-use cyl_alloc::Space;
+use cyl_alloc::{KnownMaps, Space};
 use intentions::{Change, barrier};
 
 /// Takes back what was claimed for a draft: its nodes and leaves, its shadow root, and the root of an object that it makes.
 fn undo_all<D: Disk>(
     disk: &mut D,
+    known: &mut KnownMaps,
     taken: &[u32],
     shadow: Option<BlockNo>,
     created: Option<BlockNo>,
@@ -39,9 +40,9 @@ fn undo_all<D: Disk>(
     ensures flips { spec.Flips D.Disk (2 * length taken.now + (2 + 2)) (length taken.now + (1 + 1))
         (spec.undoing taken.now (number_of shadow) (number_of created)) disk.old disk.new result }
 {
-    flip_all(disk, taken, Change::Undo)?;
-    flip_made(disk, shadow, Change::Undo)?;
-    flip_made(disk, created, Change::Undo)
+    flip_all(disk, known, taken, Change::Undo)?;
+    flip_made(disk, known, shadow, Change::Undo)?;
+    flip_made(disk, known, created, Change::Undo)
 }
 
 /// Counts a block as Free again, if there is one.
@@ -76,7 +77,7 @@ fn give_up<D: Disk>(
     ensures cylinders { length space.new.free ≡ length space.old.free }
     ensures calls { MakesAtMost D.Disk (2 * length taken.now + (2 + 2)) (length taken.now + (1 + 1)) disk.old disk.new }
 {
-    match undo_all(disk, taken, shadow, created) {
+    match undo_all(disk, space.known(), taken, shadow, created) {
         Ok(()) => {
             give_all(space, taken);
             give_made(space, shadow);

@@ -16,14 +16,15 @@ ghost use Rattle.ufs_model.specs.declared.object.Object.{Object};
 ghost use Rattle.vol_image.specs.Run.{Carries};
 ghost use Rattle.vol_image.specs.Sound.{Holds};
 
-use crate::flips::{flip, flip_all, give_all};
+use crate::flips::{flip, flip_all};
 use cfs_base::{BlockNo, Disk, Trouble};
-use cyl_alloc::Space;
+use cyl_alloc::KnownMaps;
 use intentions::{Change, clear_bit, commit, copy_root};
 
 /// Changes the entry of the root of an object that is made, if one is.
 pub(crate) fn flip_made<D: Disk>(
     disk: &mut D,
+    known: &mut KnownMaps,
     created: Option<BlockNo>,
     how: Change,
 ) -> Result<(), Trouble>
@@ -32,7 +33,7 @@ pub(crate) fn flip_made<D: Disk>(
     ensures flips { spec.Flips D.Disk 2 1 (spec.flips how (option_to_list (number_of created))) disk.old disk.new result }
 {
     match created {
-        Some(block) => flip(disk, block, how),
+        Some(block) => flip(disk, known, block, how),
         None => Ok(()),
     }
 }
@@ -40,6 +41,7 @@ pub(crate) fn flip_made<D: Disk>(
 /// Finishes what the commit takes and drops, and gives up the shadow root.
 fn finish_all<D: Disk>(
     disk: &mut D,
+    known: &mut KnownMaps,
     shadow: BlockNo,
     taken: &[u32],
     dropped: &[u32],
@@ -53,19 +55,19 @@ fn finish_all<D: Disk>(
         (length taken.now + (length dropped.now + (1 + 1)))
         (spec.settling taken.now dropped.now (option_to_list (number_of created)) shadow.0) disk.old disk.new result }
 {
-    flip_all(disk, taken, Change::Finish)?;
-    flip_all(disk, dropped, Change::Finish)?;
-    flip_made(disk, created, Change::Finish)?;
-    flip(disk, shadow, Change::Undo)
+    flip_all(disk, known, taken, Change::Finish)?;
+    flip_all(disk, known, dropped, Change::Finish)?;
+    flip_made(disk, known, created, Change::Finish)?;
+    flip(disk, known, shadow, Change::Undo)
 }
 
 /// Clears the commit bit.
-fn clear<D: Disk>(disk: &mut D, at: BlockNo) -> Result<(), Trouble>
+fn clear<D: Disk>(disk: &mut D, known: &mut KnownMaps, at: BlockNo) -> Result<(), Trouble>
     requires { at.0 < D.blocks disk.old }
     ensures flips { spec.Flips D.Disk 4 3 (spec.flips changes.ClearBit (at.0 ∷ [])) disk.old disk.new result }
     ensures settled { Tells D.Disk disk.old → OnOk result (IsSettled D.Disk disk.new) }
 {
-    match clear_bit(disk, at) {
+    match clear_bit(disk, known, at) {
         Ok(()) => Ok(()),
         Err(trouble) => Err(trouble.after_try()),
     }
@@ -74,6 +76,7 @@ fn clear<D: Disk>(disk: &mut D, at: BlockNo) -> Result<(), Trouble>
 /// Settles an object whose root has what its shadow root has: its blocks, and then its commit bit.
 fn settle<D: Disk>(
     disk: &mut D,
+    known: &mut KnownMaps,
     at: BlockNo,
     shadow: BlockNo,
     taken: &[u32],
@@ -91,12 +94,17 @@ fn settle<D: Disk>(
         disk.old disk.new result }
     ensures settled { Tells D.Disk disk.old → OnOk result (IsSettled D.Disk disk.new) }
 {
-    finish_all(disk, shadow, taken, dropped, created)?;
-    clear(disk, at)
+    finish_all(disk, known, shadow, taken, dropped, created)?;
+    clear(disk, known, at)
 }
 
 /// Means to give up what is dropped, and sets the commit bit: the draft is the object from then on.
-fn decide<D: Disk>(disk: &mut D, at: BlockNo, dropped: &[u32]) -> Result<(), Trouble>
+fn decide<D: Disk>(
+    disk: &mut D,
+    known: &mut KnownMaps,
+    at: BlockNo,
+    dropped: &[u32],
+) -> Result<(), Trouble>
     requires on_disk { at.0 < D.blocks disk.old }
     requires dropped_on_disk { All (λ n. n < D.blocks disk.old) dropped.now }
     ensures put { (graph full : Graph) (word : ℕ) (was o : Object) (s : ℕ) (taken : List ℕ) (created : Option ℕ)
@@ -115,8 +123,8 @@ fn decide<D: Disk>(disk: &mut D, at: BlockNo, dropped: &[u32]) -> Result<(), Tro
     ensures fails { (kept : Kept) → IfErr result (spec.Fails D.Disk at.0 disk.old disk.new kept) }
     ensures calls { MakesAtMost D.Disk (2 * length dropped.now + 4) (length dropped.now + 3) disk.old disk.new }
 {
-    flip_all(disk, dropped, Change::Release)?;
-    match commit(disk, at) {
+    flip_all(disk, known, dropped, Change::Release)?;
+    match commit(disk, known, at) {
         Ok(()) => Ok(()),
         Err(trouble) => Err(trouble.after_try()),
     }
@@ -146,6 +154,7 @@ fn copy<D: Disk>(disk: &mut D, at: BlockNo, shadow: BlockNo) -> Result<(), Troub
 /// drops these of the object's.
 pub(crate) fn carry_out<D: Disk>(
     disk: &mut D,
+    known: &mut KnownMaps,
     at: BlockNo,
     shadow: BlockNo,
     taken: &[u32],
@@ -163,7 +172,7 @@ pub(crate) fn carry_out<D: Disk>(
     ensures calls { MakesAtMost D.Disk (2 * length taken.now + 4 * length dropped.now + 15)
         (length taken.now + 2 * length dropped.now + 10) disk.old disk.new }
 {
-    decide(disk, at, dropped)?;
+    decide(disk, known, at, dropped)?;
     copy(disk, at, shadow)?;
-    settle(disk, at, shadow, taken, dropped, created)
+    settle(disk, known, at, shadow, taken, dropped, created)
 }

@@ -1,9 +1,10 @@
 //! A draft committed.
-ghost use Rattle.std.specs.Prelude.{◌≡◌, ◌<◌, ◌+◌, ◌*◌, ℕ, List, length, Option, Some, IfErr};
+ghost use Rattle.std.specs.Prelude.{◌≡◌, ◌≢◌, ◌<◌, ◌+◌, ◌*◌, ℕ, List, false, length, Option, Some, IfErr};
 ghost use Rattle.std.specs.List.{All};
 ghost use Rattle.cfs_base.specs.Calls.{HasTried, MakesAtMost};
 ghost use Rattle.cfs_base.specs.declared.identifier.Puid.{Puid};
 ghost use Rattle.cfs_base.specs.declared.refusal.Refused.TheVariants as refused;
+ghost use Rattle.cfs_base.specs.declared.refusal.Trouble.TheVariants as troubles;
 ghost use Rattle.intentions.specs.Store.{StoreHas};
 ghost use Rattle.special_files.specs.Committing as spec;
 ghost use Rattle.special_files.specs.Drafting.{Drafting, IsOpen, number_of};
@@ -45,7 +46,7 @@ pub(crate) fn finish<D: Disk>(
     ensures calls { MakesAtMost D.Disk (2 * length taken.now + 4 * length dropped.now + 15)
         (length taken.now + 2 * length dropped.now + 10) disk.old disk.new }
 {
-    match carry_out(disk, at, shadow, taken, dropped, created) {
+    match carry_out(disk, space.known(), at, shadow, taken, dropped, created) {
         Ok(()) => {
             give_all(space, dropped);
             space.gave(shadow, 1);
@@ -78,6 +79,8 @@ pub(crate) fn commit_begun<D: Disk>(
         → spec.CommitEnds D.Disk graph ds id d.object made disk.old disk.new space.new result }
     ensures refused { IfErr result (IsTrouble D.Disk at.0 disk.old disk.new space.new) }
     ensures made { HasTried D.Disk disk.old disk.new }
+    // No device call comes before the first try.
+    ensures untried { IfErr result (λ t. t ≢ troubles.Disk false) }
     ensures cylinders { length space.new.free ≡ length space.old.free }
     ensures calls { MakesAtMost D.Disk 93136 46451 disk.old disk.new }
 {

@@ -1,11 +1,12 @@
 //! A draft committed that has no shadow root yet.
 ghost use Rattle.std.specs.Prelude.{◌≡◌, ◌≢◌, ◌<◌, ◌≤◌, ◌+◌, ◌*◌, ℕ, List, false, length, sum, Option, None, Some, IfErr, OnOk};
 ghost use Rattle.std.specs.List.{All};
-ghost use Rattle.cfs_base.specs.Calls.{HasTried, MakesAtMost};
+ghost use Rattle.cfs_base.specs.Calls.{HasTried, MakesAtMost, OnlyReads};
 ghost use Rattle.cfs_base.specs.Refusals.{refused_by};
 ghost use Rattle.cfs_base.specs.declared.identifier.Puid.{Puid};
 ghost use Rattle.cfs_base.specs.declared.kind.Place.TheVariants.{ShadowRoot};
 ghost use Rattle.cfs_base.specs.declared.refusal.Refused.TheVariants as refused;
+ghost use Rattle.cfs_base.specs.declared.refusal.Trouble.TheVariants as troubles;
 ghost use Rattle.cyl_alloc.specs.Enters.{Enters};
 ghost use Rattle.cyl_alloc.specs.Space.{intended};
 ghost use Rattle.intentions.specs.Store.{StoreHas};
@@ -79,6 +80,7 @@ pub(crate) fn commit_listed<D: Disk>(
         → spec.CommitEnds D.Disk graph ds id d.object made disk.old disk.new space.new result }
     ensures refused { IfErr result (IsTrouble D.Disk at.0 disk.old disk.new space.new) }
     ensures made { OnOk result (HasTried D.Disk disk.old disk.new) }
+    ensures untried { IfErr result (λ t. t ≡ troubles.Disk false → (space.new ≡ space.old) × OnlyReads D.Disk 1 disk.old disk.new) }
     ensures cylinders { length space.new.free ≡ length space.old.free }
     ensures calls { MakesAtMost D.Disk (2 * length taken.now + 4 * length dropped.now + 18)
         (length taken.now + 2 * length dropped.now + 12) disk.old disk.new }
@@ -117,6 +119,7 @@ pub(crate) fn commit_direct<D: Disk>(
         → spec.CommitEnds D.Disk graph ds id d.object made disk.old disk.new space.new result }
     ensures refused { IfErr result (IsTrouble D.Disk at.0 disk.old disk.new space.new) }
     ensures made { OnOk result (HasTried D.Disk disk.old disk.new) }
+    ensures untried { IfErr result (λ t. t ≡ troubles.Disk false → (space.new ≡ space.old) × OnlyReads D.Disk 241 disk.old disk.new) }
     ensures cylinders { length space.new.free ≡ length space.old.free }
     ensures calls { MakesAtMost D.Disk 93138 46452 disk.old disk.new }
 {

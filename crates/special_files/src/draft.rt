@@ -1,5 +1,5 @@
 //! The draft of an object.
-ghost use Rattle.std.specs.Prelude.{◌≡◌, ◌+◌, ◌<◌, ◌≤◌, ℕ, List, false, length, sum, IfErr, OnOk};
+ghost use Rattle.std.specs.Prelude.{◌≡◌, ◌+◌, ◌<◌, ◌≤◌, ℕ, List, true, false, length, sum, IfErr, OnOk};
 ghost use Rattle.std.specs.List.{sum_by};
 ghost use Rattle.cfs_base.specs.declared.identifier.Puid.{Puid};
 ghost use Rattle.cfs_base.specs.declared.refusal.Refused.TheVariants as refused;
@@ -94,6 +94,14 @@ impl Draft {
         ensures { result ≡ is_fresh_node self.now node }
     {
         self.nodes.has(node)
+    }
+
+    /// Whether a node is the draft's own, as is that of each leaf that it wrote.
+    pub fn has_fresh_nodes(&self) -> bool
+        ensures some { result ≡ true → (n : ℕ) × (is_fresh_node self.now n ≡ true) }
+        ensures none { result ≡ false → (n : ℕ) → is_fresh_node self.now n ≡ false }
+    {
+        self.nodes.count() > 0
     }
 
     fn shadow_count(&self) -> u32

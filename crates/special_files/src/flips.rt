@@ -5,30 +5,40 @@ ghost use Rattle.intentions.specs.Entries.{Fits};
 ghost use Rattle.special_files.specs.Committing as spec;
 
 use cfs_base::{BlockNo, Disk, Trouble};
-use cyl_alloc::Space;
+use cyl_alloc::{KnownMaps, Space};
 use intentions::{Change, change_entry};
 
 /// Changes the entry of a block, where a write or a barrier was tried before.
-pub(crate) fn flip<D: Disk>(disk: &mut D, block: BlockNo, how: Change) -> Result<(), Trouble>
+pub(crate) fn flip<D: Disk>(
+    disk: &mut D,
+    known: &mut KnownMaps,
+    block: BlockNo,
+    how: Change,
+) -> Result<(), Trouble>
     requires on_disk { block.0 < D.blocks disk.old }
     requires fits { Fits how }
     ensures flips { spec.Flips D.Disk 2 1 (record { block = block.0; how = how } ∷ []) disk.old disk.new result }
 {
-    match change_entry(disk, block, how) {
+    match change_entry(disk, known, block, how) {
         Ok(_) => Ok(()),
         Err(trouble) => Err(trouble.after_try()),
     }
 }
 
 /// Changes the entries of all these blocks, one after another.
-pub(crate) fn flip_all<D: Disk>(disk: &mut D, blocks: &[u32], how: Change) -> Result<(), Trouble>
+pub(crate) fn flip_all<D: Disk>(
+    disk: &mut D,
+    known: &mut KnownMaps,
+    blocks: &[u32],
+    how: Change,
+) -> Result<(), Trouble>
     requires on_disk { All (λ n. n < D.blocks disk.old) blocks.now }
     requires fits { Fits how }
     ensures flips { spec.Flips D.Disk (2 * length blocks.now) (length blocks.now) (spec.flips how blocks.now)
         disk.old disk.new result }
 {
     for block in blocks {
-        flip(disk, BlockNo(*block), how)?;
+        flip(disk, known, BlockNo(*block), how)?;
     }
     Ok(())
 }

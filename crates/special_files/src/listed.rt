@@ -1,5 +1,5 @@
 //! The blocks of a draft's own that become Free where leaves are dropped.
-ghost use Rattle.std.specs.Prelude.{◌≡◌, ◌≢◌, ◌+◌, ◌-◌, ◌*◌, ◌/◌, ◌<◌, ◌≤◌, ◌==◌, ◌++◌, if◌then◌else◌, ℕ, IsTrue, false, length, slice_index, List, Some, IfErr, IfOk, OnOk};
+ghost use Rattle.std.specs.Prelude.{◌≡◌, ◌≢◌, ◌+◌, ◌-◌, ◌*◌, ◌/◌, ◌<◌, ◌≤◌, ◌==◌, ◌++◌, if◌then◌else◌, ℕ, IsTrue, false, [], get_or, length, slice_index, List, Ok, Some, IfErr, IfOk, OnOk};
 ghost use Rattle.std.specs.List.{All};
 ghost use Rattle.cfs_base.specs.Calls.{OnlyReads};
 ghost use Rattle.cfs_base.specs.Refusals.{trouble_after_try, trouble_had_tried};
@@ -24,6 +24,7 @@ use crate::flags::Flags;
 use crate::node::{NodeRead, read_node};
 use block_tree::{Node, Root};
 use cfs_base::{BlockNo, Disk, Trouble};
+use cyl_alloc::KnownMaps;
 use intentions::{Change, change_entry};
 
 /// A node of a draft with this root, which is read unless it was the last that was.
@@ -111,6 +112,8 @@ pub(crate) fn list_from<D: Disk>(
     ensures sound { (graph : Graph) (ds : List Opened) (space : Kept) (id : Puid) (o : Object) (was : Drafting) (d : drafts.Draft)
         → StoreHas D.Disk graph ds disk.old space → object_at graph id ≡ Some o → IsOpen ds id was d
         → spec.HasParts was root.now leaves.now nodes.now → IfErr result (λ trouble. is_damage trouble ≡ false) }
+    // Where no node is fresh there is none, and nothing is read.
+    ensures none { ((n : ℕ) → get_or nodes.now n false ≡ false) → (result ≡ Ok tt) × (list.new ≡ []) × (disk.new ≡ disk.old) }
     ensures reads { OnlyReads D.Disk 120 disk.old disk.new }
 {
     list.clear();
@@ -142,17 +145,22 @@ fn since(tried: bool, trouble: Trouble) -> Trouble
 }
 
 /// Takes back what was claimed for these blocks, one after another. A failure before the first write tells so.
-pub(crate) fn undo_listed<D: Disk>(disk: &mut D, blocks: &[u32]) -> Result<(), Trouble>
+pub(crate) fn undo_listed<D: Disk>(
+    disk: &mut D,
+    known: &mut KnownMaps,
+    blocks: &[u32],
+) -> Result<(), Trouble>
     requires { All (λ n. n < D.blocks disk.old) blocks.now }
     ensures flips { Flips D.Disk (2 * length blocks.now) (length blocks.now) (flips Undo blocks.now)
         disk.old disk.new (spec.as_tried result) }
     ensures told { OnOk result ((n : ℕ) → IsTrue (D.told disk.old n) → IsTrue (D.told disk.new n)) }
     ensures refused { (at : ℕ) (kept : Kept) → IfErr result (IsTrouble D.Disk at disk.old disk.new kept) }
     ensures untried { IfErr result (λ t. t ≡ trouble.Disk false → OnlyReads D.Disk 1 disk.old disk.new) }
+    ensures none { blocks.now ≡ [] → disk.new ≡ disk.old }
 {
     let mut tried = false;
     for block in blocks {
-        match change_entry(disk, BlockNo(*block), Change::Undo) {
+        match change_entry(disk, known, BlockNo(*block), Change::Undo) {
             Ok(_) => tried = true,
             Err(trouble) => return Err(since(tried, trouble)),
         }

@@ -8,7 +8,7 @@ ghost use Rattle.intentions.specs.Store.{StoreHas};
 ghost use Rattle.leaf_changes.specs.Bytes as changes;
 ghost use Rattle.special_files.specs.Becomes.{Becomes};
 ghost use Rattle.special_files.specs.Calls.{SetsFlags};
-ghost use Rattle.special_files.specs.Drafting.{IsOpen, need_beside, node_of, shadow_need};
+ghost use Rattle.special_files.specs.Drafting.{HasNoneFresh, IsOpen, is_fresh_node, need_beside, node_of, shadow_need};
 ghost use Rattle.special_files.specs.Ends.{Ends};
 ghost use Rattle.special_files.specs.Leaves.{leaves_of};
 ghost use Rattle.special_files.specs.Nodes.{IsRead, IsSafe};
@@ -187,6 +187,11 @@ impl Draft {
             → IsRead (D.content disk.old) self.old read.now → spec.KeepsOne from read.now
             → spec.Drops D.Disk graph ds id from disk.old disk.new space.new self.old self.new result }
         ensures stays { StaysBut self.old self.new }
+        ensures forgets { OnOk result ((block : ℕ) × spec.Forgets from block self.old self.new) }
+        // Something was tried where a node is written; else, where no node is fresh, nothing is done to the disk.
+        ensures tried { from % 128 ≢ 0 → OnOk result (HasTried D.Disk disk.old disk.new) }
+        ensures untried { from % 128 ≡ 0 → ((n : ℕ) → is_fresh_node self.old n ≡ false)
+            → (disk.new ≡ disk.old) × (space.new ≡ space.old) }
         ensures ends { Ends D.Disk self.old.at 0 31083 15482 (sum space.old.free) disk.old disk.new space.old space.new result }
         ensures kept { IfErr result (λ e. self.new ≡ self.old) }
         ensures room { spec.border_takes self.old from ≤ sum space.old.free → IfErr result (λ e. is_full e ≡ false) }
@@ -208,7 +213,7 @@ impl Draft {
             Ok(block) => block,
             Err(error) => return Err(error),
         };
-        match undo_listed(disk, self.taken.as_slice()) {
+        match undo_listed(disk, space.known(), self.taken.as_slice()) {
             Ok(()) => {}
             Err(trouble) => return Err(after(from % 128 != 0, Refused::from(trouble))),
         }
@@ -296,6 +301,8 @@ impl Draft {
         ensures room { (graph : Graph) (ds : List Opened) (id : Puid) (o : Object) (d : drafts.Draft) (f : File)
             → StoreHas D.Disk graph ds disk.old space.old → object_at graph id ≡ Some o → IsOpen ds id self.old d
             → d.object ≡ objects.File f → OnOk result (need_beside (SetSize size) d self.old + floor ≤ sum space.old.free) }
+        ensures told { HasNoneFresh self.old
+            → OnOk result (spec.IsToldByNodes D.Disk disk.old disk.new space.old space.new self.new) }
         ensures ends { Ends D.Disk self.old.at floor 31092 15486 (sum space.old.free)
             disk.old disk.new space.old space.new result }
         ensures kept { IfErr result (λ e. e ≡ refused.Disk false → self.new ≡ self.old) }
@@ -371,6 +378,9 @@ impl Draft {
         ensures room { (graph : Graph) (ds : List Opened) (id : Puid) (o : Object) (d : drafts.Draft) (f : File)
             → StoreHas D.Disk graph ds disk.old space.old → object_at graph id ≡ Some o → IsOpen ds id self.old d
             → d.object ≡ objects.File f → OnOk result (need_beside (SetSize size) d self.old + floor ≤ sum space.old.free) }
+        // Of a draft that had no fresh block it tells whether a write was tried.
+        ensures told { HasNoneFresh self.old
+            → OnOk result (spec.IsToldByNodes D.Disk disk.old disk.new space.old space.new self.new) }
         ensures ends { Ends D.Disk self.old.at floor 31092 15486 (sum space.old.free)
             disk.old disk.new space.old space.new result }
         // To no less than it is, the disk isn't touched.

@@ -1,8 +1,9 @@
 //! A draft becomes its object.
 ghost use Rattle.std.specs.Prelude.{◌≡◌, ◌≢◌, ◌<◌, ◌≤◌, ◌*◌, ◌++◌, ℕ, List, false, length, sum, Option, None, Some, IfErr, OnOk};
-ghost use Rattle.cfs_base.specs.Calls.{HasTried, MakesAtMost};
+ghost use Rattle.cfs_base.specs.Calls.{HasTried, MakesAtMost, OnlyReads};
 ghost use Rattle.cfs_base.specs.Run.{Leaves};
 ghost use Rattle.cfs_base.specs.declared.identifier.Puid.{Puid};
+ghost use Rattle.cfs_base.specs.declared.refusal.Trouble.TheVariants as troubles;
 ghost use Rattle.intentions.specs.Store.{StoreHas};
 ghost use Rattle.special_files.specs.Changed.{unlike};
 ghost use Rattle.special_files.specs.Committing as spec;
@@ -76,6 +77,7 @@ fn commit_parts<D: Disk>(
         → spec.CommitEnds D.Disk graph ds id d.object made disk.old disk.new space.new result }
     ensures refused { IfErr result (IsTrouble D.Disk at.0 disk.old disk.new space.new) }
     ensures made { OnOk result (HasTried D.Disk disk.old disk.new) }
+    ensures untried { IfErr result (λ t. t ≡ troubles.Disk false → (space.new ≡ space.old) × OnlyReads D.Disk 241 disk.old disk.new) }
     ensures cylinders { length space.new.free ≡ length space.old.free }
     ensures calls { MakesAtMost D.Disk 93138 46452 disk.old disk.new }
 {
@@ -128,6 +130,9 @@ impl Draft {
             → IfErr result (λ t. is_damage t ≡ false) }
         ensures refused { IfErr result (IsTrouble D.Disk self.at disk.old disk.new space.new) }
         ensures made { OnOk result (HasTried D.Disk disk.old disk.new) }
+        // Where a device call failed before the first try, only reads were made.
+        ensures untried { IfErr result (λ t. t ≡ troubles.Disk false
+            → (space.new ≡ space.old) × OnlyReads D.Disk 241 disk.old disk.new) }
         ensures cylinders { length space.new.free ≡ length space.old.free }
         ensures calls { MakesAtMost D.Disk 93138 46452 disk.old disk.new }
     {

@@ -182,6 +182,8 @@ impl Draft {
         ensures ends { Ends D.Disk self.old.at floor (8 * (spec.leaves_in (offset + length bytes.now) - offset / 512))
             (4 * (spec.leaves_in (offset + length bytes.now) - offset / 512))
             (sum space.old.free) disk.old disk.new space.old space.new result }
+        // Where there are bytes a leaf is written.
+        ensures tried { 1 ≤ length bytes.now → OnOk result (HasTried D.Disk disk.old disk.new) }
         ensures kept { IfErr result (λ e. e ≡ refused.Disk false → self.new ≡ self.old) }
         ensures sound { (graph : Graph) (ds : List Opened) (id : Puid) (o : Object) (d : drafts.Draft)
             → StoreHas D.Disk graph ds disk.old space.old → object_at graph id ≡ Some o → IsOpen ds id self.old d

@@ -2,9 +2,10 @@
 ghost use Rattle.std.specs.Prelude.{◌≡◌, ◌*◌, length};
 ghost use Rattle.cfs_fakes.specs.Memory.{contents};
 
-use cfs_base::{Block, BlockNo, Disk, Failed, Refused, Trouble};
+use cfs_base::{Block, BlockNo, Disk, Failed, FileKind, Refused, Trouble};
 use cfs_fakes::MemoryDisk;
 use cyl_alloc::Space;
+use file_ops::write;
 use special_files::Draft;
 use std::alloc::Global;
 use std::test::Fail;
@@ -15,7 +16,7 @@ pub const LIMIT: usize = 7_864_320;
 /// The fill byte of the file.
 pub const FILL: u8 = 7;
 
-/// A disk in memory of at most 128 blocks that sees which blocks are read twice, and counts what is written. It tells nothing.
+/// A disk in memory of at most 128 blocks that sees which blocks are read twice, and counts writes and barriers. It tells nothing.
 #[derive(Drop)]
 pub struct Watched {
     pub memory: MemoryDisk,
@@ -24,6 +25,7 @@ pub struct Watched {
     pub is_twice: bool,
     /// How often maps were written, and how often other blocks.
     pub writes: [u32; 2],
+    pub barriers: u32,
 }
 
 impl Disk for Watched {
@@ -74,6 +76,7 @@ impl Disk for Watched {
     }
 
     fn barrier(&mut self) -> Result<(), Failed> {
+        self.barriers = self.barriers.saturating_add(1);
         self.memory.barrier()
     }
 }
@@ -137,6 +140,7 @@ impl Volume {
             was_read: [false; 128],
             is_twice: false,
             writes: [0; 2],
+            barriers: 0,
         };
         if disk.blocks() != blocks {
             return Err("a disk of another size")?;
@@ -175,6 +179,24 @@ impl Volume {
             draft.write(&mut self.disk, &mut self.space, place as u64, bytes, 0)?;
         }
         Ok(())
+    }
+
+    /// Writes bytes into the leaf of the file, as one change.
+    pub fn write_direct(&mut self, alloc: Global, bytes: &[u8]) -> Result<(), Refused> {
+        if self.disk.blocks() <= 2 || bytes.is_empty() || bytes.len() > 512 {
+            return Err(Refused::Memory);
+        }
+        let (disk, space) = (&mut self.disk, &mut self.space);
+        write(
+            alloc,
+            disk,
+            space,
+            BlockNo(2),
+            FileKind::Special,
+            0,
+            bytes,
+            0,
+        )
     }
 
     /// Whether the draft reads as it should around a place.

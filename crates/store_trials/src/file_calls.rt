@@ -1,6 +1,7 @@
 //! Calls on files of either kind: what they read, take and refuse.
+use crate::draft_volume;
 use crate::volume::{FILE, INDEX, Volume};
-use cfs_base::{Bytes, FileKind, Kind, Need, Refused};
+use cfs_base::{Bytes, Disk, FileKind, Kind, Need, Refused};
 use std::alloc::Global;
 use std::test::Fail;
 
@@ -107,5 +108,64 @@ fn where_all_leaves_are_held_no_map_is_touched_by_a_normal_write(
     volume.write_file(alloc, kind, 500, &[1; 20], 4)?;
     // Both leaves are read besides.
     assert_eq!(rt; volume.moment().saturating_sub(from), 5 + 7);
+    Ok(())
+}
+
+#[test]
+fn a_special_write_of_one_held_leaf_is_16_writes_and_5_barriers(
+    rt: HostRuntime,
+) -> Result<(), Fail> {
+    let alloc = rt.alloc();
+    // A leaf that is written in part is read besides.
+    let leaf = [0x5a; 512];
+    for (bytes, reads) in [(&leaf[..1], 18), (&leaf[..], 17)] {
+        let mut volume = draft_volume::Volume::new(alloc, 1)?;
+        let from = volume.disk.calls();
+        volume.write_direct(alloc, bytes)?;
+        // Maps: three claims, two marks, the bit set, five entries finished, the bit cleared. Others: a leaf, a node, two roots.
+        assert_eq!(rt; volume.disk.writes, [12, 4]);
+        assert_eq!(rt; volume.disk.barriers, 5);
+        assert_eq!(rt; volume.disk.calls().saturating_sub(from), reads + 16 + 5);
+    }
+    Ok(())
+}
+
+/// The bytes of eight leaves, which differ from leaf to leaf.
+fn eight_leaves() -> [u8; 4096] {
+    let mut bytes = [0x30u8; 4096];
+    for (place, byte) in bytes.iter_mut().enumerate() {
+        *byte = byte.wrapping_add((place / 512) as u8);
+    }
+    bytes
+}
+
+#[test]
+fn a_normal_write_claims_over_a_cylinder_border(rt: HostRuntime) -> Result<(), Fail> {
+    let alloc = rt.alloc();
+    let kind = FileKind::Normal;
+    let mut volume = Volume::of_cylinders(alloc, 2)?;
+    volume.create(alloc, 0, Kind::Normal, 7, 0, FILE)?;
+    volume.resize_file(alloc, kind, 32_768, 4)?;
+    // Of the first 64 blocks the map, the label, three of the root index and the file's root are taken, of the others the map.
+    assert_eq!(rt; volume.free_in_two()?, [58, 63]);
+    let ones = [1; 4096];
+    volume.write_file(alloc, kind, 0, &ones, 4)?;
+    volume.write_file(alloc, kind, 4_096, &ones, 4)?;
+    volume.write_file(alloc, kind, 8_192, &ones, 4)?;
+    volume.write_file(alloc, kind, 12_288, &ones, 4)?;
+    volume.write_file(alloc, kind, 16_384, &ones, 4)?;
+    volume.write_file(alloc, kind, 20_480, &ones, 4)?;
+    volume.write_file(alloc, kind, 24_576, &ones, 4)?;
+    // 56 leaves and their node leave block 63 alone in the first cylinder.
+    assert_eq!(rt; volume.free_in_two()?, [1, 63]);
+    let bytes = eight_leaves();
+    volume.write_file(alloc, kind, 28_672, &bytes, 4)?;
+    assert_eq!(rt; volume.free_in_two()?, [0, 56]);
+    assert_eq!(rt; volume.space.free(), 56);
+    assert!(rt; *volume.block(63)?.bytes() == [0x30; 512]);
+    assert!(rt; *volume.block(65)?.bytes() == [0x31; 512]);
+    assert!(rt; *volume.block(71)?.bytes() == [0x37; 512]);
+    assert!(rt; has(&mut volume, alloc, 32_768, 28_672, &bytes)?);
+    assert!(rt; has(&mut volume, alloc, 32_768, 24_576, &ones)?);
     Ok(())
 }

@@ -3,7 +3,7 @@ ghost use Rattle.std.specs.Prelude.{◌≡◌, ◌*◌, ◌<◌, ◌≤◌, true
 ghost use Rattle.cfs_fakes.specs.Memory.{contents};
 ghost use Rattle.index_ops.specs.Creates.{MayBeMade};
 
-use cfs_base::{BlockNo, Bytes, Disk, FileKind, Kind, Puid, Refused, Trouble};
+use cfs_base::{Block, BlockNo, Bytes, Disk, Failed, FileKind, Kind, Puid, Refused, Trouble};
 use cfs_fakes::MemoryDisk;
 use cyl_alloc::Space;
 use file_ops::{read, resize, size, write};
@@ -20,7 +20,7 @@ pub const FILE: u64 = 0x0000_0003_903d_f1a0;
 
 pub const INDEX: u64 = 0x0000_0006_e56a_5d40;
 
-/// A volume of one cylinder with what is Free counted. Its disk records.
+/// A volume of one or two cylinders with what is Free counted. Its disk records.
 #[derive(Drop)]
 pub struct Volume {
     pub disk: MemoryDisk,
@@ -30,10 +30,36 @@ pub struct Volume {
 
 impl Volume {
     pub fn fresh(alloc: Global) -> Result<Volume, Fail> {
-        let mut disk = MemoryDisk::recording(alloc, 64, Vec::new(alloc))?;
+        Volume::of_cylinders(alloc, 1)
+    }
+
+    /// So many cylinders, at most two.
+    pub fn of_cylinders(alloc: Global, count: u32) -> Result<Volume, Fail> {
+        let cylinders = count.max(1).min(2);
+        let mut disk = MemoryDisk::recording(alloc, 64 * cylinders, Vec::new(alloc))?;
         format_volume(&mut disk, Puid::of(ROOT).word)?;
-        let space = Space::counted(alloc, &mut disk, 1)?;
+        let space = Space::counted(alloc, &mut disk, cylinders)?;
         Ok(Volume { disk, space })
+    }
+
+    /// A block.
+    pub fn block(&mut self, at: u32) -> Result<Block, Failed> {
+        if at >= self.disk.blocks() {
+            return Err(Failed);
+        }
+        let mut block = Block::zero();
+        self.disk.read(BlockNo(at), &mut block)?;
+        Ok(block)
+    }
+
+    /// How many blocks of each of two cylinders are Free.
+    pub fn free_in_two(&mut self) -> Result<[u32; 2], Trouble> {
+        if self.disk.blocks() != 128 {
+            return Err(Trouble::Disk { tried: false });
+        }
+        let first = Space::count_free(&mut self.disk, 0)?;
+        let second = Space::count_free(&mut self.disk, 1)?;
+        Ok([first, second])
     }
 
     /// One on which the root index names the file, of this size, of the bytes 1 and 2 and then fill bytes, and the greatest

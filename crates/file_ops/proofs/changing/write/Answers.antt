@@ -21,7 +21,7 @@ returns-in-Ok g c =
       refused = tt;
       untried = tt;
       cylinders = e.cylinders;
-      calls = makes_within g.D.Disk c.args.disk.now c.write.new.disk 73 43 124232 61939 (omega arith) (omega arith) e.calls;
+      calls = makes_within g.D.Disk c.args.disk.now c.write.new.disk 73 43 124231 61938 (omega arith) (omega arith) e.calls;
     })
 
 pub returns-in-Err : goal.returns-in-Err
@@ -38,5 +38,5 @@ returns-in-Err g c =
       refused = place_refusal g.D.Disk _ c.args.at.0 c.args.floor (Overwrite c.args.offset c.args.bytes.now) c.args.disk.now c.write.new.disk c.args.space.now c.write.new.space (λ damage is. elim is [ inl file ↦ OfFile file | inr claims ↦ OfClaims claims ]) c.in-Err.error e.refused;
       untried = λ un. let two = e.untried un in (two.0, reads_within g.D.Disk c.args.disk.now c.write.new.disk 73 31093 (omega arith) two.1);
       cylinders = e.cylinders;
-      calls = makes_within g.D.Disk c.args.disk.now c.write.new.disk 73 43 124232 61939 (omega arith) (omega arith) e.calls;
+      calls = makes_within g.D.Disk c.args.disk.now c.write.new.disk 73 43 124231 61938 (omega arith) (omega arith) e.calls;
     })

@@ -2,7 +2,7 @@ use Rattle.std.proofs.Common.{List, refl}
 use Rattle.cfs_base.specs.declared.identifier.Puid.{Puid}
 use Rattle.cfs_base.specs.declared.kind.FileKind.TheVariants as kinds
 use Rattle.file_ops.specs.Changes.{MayChange}
-use Rattle.file_ops.proofs.Beside.{begun, ended, err_change, opens}
+use Rattle.file_ops.proofs.Beside.{begun, ended, err_change, none_fresh, opens}
 use Rattle.ufs_model.specs.Graph.{Graph}
 use Rattle.ufs_model.specs.declared.change.Change.TheVariants.{SetSize}
 use Rattle.ufs_model.specs.declared.object.File.{File}
@@ -31,6 +31,7 @@ pub returns-in-Ok-resize : goal.returns-in-Ok-resize
 returns-in-Ok-resize g c =
     let e = c.in-Ok.ensures in
     let r = c.in-Ok-resize.ensures in
+    let none = none_fresh c.args.at.0 c.in-Ok.draft e.begun in
     let starts = λ (graph : Graph) (ds : List Opened) (id : Puid) (f : File) (may : MayChange g.D.Disk c.args.at.0 kinds.Special (SetSize c.args.size) graph ds id f c.args.disk.now c.args.space.now). e.store graph ds id (objects.File f) may.has.store may.has.root may.has.there may.has.shut in
     ended g.D.Disk c.args.at.0 c.args.floor (SetSize c.args.size) c.args.disk.now c.begin_direct.new.disk c.args.space.now c.begin_direct.new.space c.in-Ok.draft e.begun e.reads e.space starts c.resize.new.disk c.resize.new.space c.resize.new.self
     (λ graph ds id f may.
@@ -43,5 +44,6 @@ returns-in-Ok-resize g c =
       full = tt;
       sound = tt;
     })
-    r.ends r.stays.at r.stays.shadow r.stays.created c.commit.new.disk c.commit.new.space c.commit.result
-    (record { done = c.commit.ensures.done; leaves = c.commit.ensures.leaves; sound = c.commit.ensures.sound; refusal = c.commit.ensures.refused; cylinders = c.commit.ensures.cylinders; calls = c.commit.ensures.calls })
+    r.ends r.stays.at r.stays.shadow r.stays.created c.has_fresh_nodes-wrote.result
+    (λ wrote. let some = c.has_fresh_nodes-wrote.ensures.some wrote in (r.told none).tried some.0 some.1) (λ none_now. (r.told none).untried (c.has_fresh_nodes-wrote.ensures.none none_now)) c.commit.new.disk c.commit.new.space c.commit.result
+    (record { done = c.commit.ensures.done; leaves = c.commit.ensures.leaves; sound = c.commit.ensures.sound; refusal = c.commit.ensures.refused; untried = c.commit.ensures.untried; cylinders = c.commit.ensures.cylinders; calls = c.commit.ensures.calls })

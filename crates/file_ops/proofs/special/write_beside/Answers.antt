@@ -1,4 +1,4 @@
-use Rattle.std.proofs.Common.{inl, ◌+◌, ◌-◌, ◌/◌, ◌<◌, List, length, Ok, Err, refl, sym, ap, subst, arith}
+use Rattle.std.proofs.Common.{inl, ◌+◌, ◌-◌, ◌/◌, ◌<◌, true, List, length, Ok, Err, refl, sym, ap, subst, arith}
 use Rattle.std.specs.Prelude.{sum}
 use Rattle.cfs_base.specs.Calls.{OnlyReads}
 use Rattle.cfs_base.specs.declared.identifier.Puid.{Puid}
@@ -74,5 +74,5 @@ returns-in-Ok-write g c =
       sound = tt;
     })
     (ends_more g.D.Disk was.at c.args.floor _ _ (sum c.begin_direct.new.space.free) 31092 15486 d1 c.write.new.disk c.begin_direct.new.space c.write.new.space (Ok (tt {0})) r.ends (omega (arith, c.requires.most)) (omega (arith, c.requires.most)))
-    r.stays.at r.stays.shadow r.stays.created c.commit.new.disk c.commit.new.space c.commit.result
-    (record { done = c.commit.ensures.done; leaves = c.commit.ensures.leaves; sound = c.commit.ensures.sound; refusal = c.commit.ensures.refused; cylinders = c.commit.ensures.cylinders; calls = c.commit.ensures.calls })
+    r.stays.at r.stays.shadow r.stays.created true (λ wrote. r.tried c.requires.least) (λ no. cc) c.commit.new.disk c.commit.new.space c.commit.result
+    (record { done = c.commit.ensures.done; leaves = c.commit.ensures.leaves; sound = c.commit.ensures.sound; refusal = c.commit.ensures.refused; untried = c.commit.ensures.untried; cylinders = c.commit.ensures.cylinders; calls = c.commit.ensures.calls })

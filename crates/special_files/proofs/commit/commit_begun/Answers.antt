@@ -1,7 +1,8 @@
-use Rattle.std.proofs.Common.{Some, ◌≡◌, ℕ, ◌+◌, ◌*◌, ◌<◌, false, List, length, None, refl, sym, ◌∙◌, ap, subst, arith}
+use Rattle.std.proofs.Common.{Some, ◌≡◌, ◌≢◌, ℕ, ◌+◌, ◌*◌, ◌<◌, false, List, length, None, refl, sym, ◌∙◌, ap, subst, arith}
 use Rattle.std.specs.List.{All}
 use Rattle.cfs_base.specs.Disk.{Image, block_at}
 use Rattle.cfs_base.specs.declared.refusal.Trouble.{Trouble}
+use Rattle.cfs_base.specs.declared.refusal.Trouble.TheVariants as troubles
 use Rattle.cfs_base.proofs.Calls.{makes_then, reads_make, tells_on, tried_then}
 use Rattle.cfs_base.proofs.Runs.{still_tells, then}
 use Rattle.block_tree.specs.Root.{root_spelling}
@@ -12,7 +13,7 @@ use Rattle.special_files.specs.Committing.{IsReady}
 use Rattle.special_files.specs.Drafting.{number_of, opened_as}
 use Rattle.special_files.specs.Refusal.{IsTrouble, is_damage}
 use Rattle.special_files.proofs.Amid.{amid_reads}
-use Rattle.special_files.proofs.CommitDraft.{after_damage, amid1, below_all, finish_tried, ready1, shadow_leaves, store1, tree1}
+use Rattle.special_files.proofs.CommitDraft.{after_damage, amid1, below_all, finish_apart, finish_tried, ready1, shadow_leaves, store1, tree1, tried_apart}
 use Rattle.special_files.proofs.CommitStore.{commit_ends, commit_stops}
 use Rattle.special_files.proofs.CommitDone.{makes_more}
 use Rattle.special_files.proofs.Endings.{trouble_after_tried}
@@ -24,6 +25,7 @@ returns-in-Err g c = record {
       (shadow_leaves g.D.Disk graph ds id o c.args.disk.now c.write_own.new.disk c.write_own.new.disk c.args.space.now was d c.args.shadow.0 c.encode.result store at opened parts.shadow_is c.write_own.ensures.images) refl;
   refused = c.in-Err.ensures.stopped;
   made = c.write_own.ensures.tried;
+  untried = λ same. cc;
   cylinders = refl;
   calls = makes_more g.D.Disk c.args.disk.now c.write_own.new.disk 1 1 93136 46451 (omega arith) (omega arith) c.write_own.ensures.calls;
 }
@@ -42,6 +44,7 @@ returns-in-Err-changed g c =
       refused = subst (λ (t : Trouble). IsTrouble g.D.Disk c.args.at.0 c.args.disk.now c.changed.new.disk c.args.space.now t) (sym c.after_try.ensures)
           (trouble_after_tried g.D.Disk c.args.at.0 0 c.args.disk.now c.write_own.new.disk c.changed.new.disk c.args.space.now 1 1 c.write_own.ensures.calls c.write_own.ensures.tried told c.in-Err-changed.trouble (c.in-Err-changed.ensures.refused c.args.space.now));
       made = tried_then g.D.Disk c.args.disk.now c.write_own.new.disk c.changed.new.disk 240 0 c.write_own.ensures.tried (reads_make g.D.Disk c.write_own.new.disk c.changed.new.disk 240 reads);
+      untried = subst (λ (t : Trouble). t ≢ troubles.Disk false) (sym c.after_try.ensures) (tried_apart c.in-Err-changed.trouble);
       cylinders = refl;
       calls = makes_then g.D.Disk c.args.disk.now c.write_own.new.disk c.changed.new.disk 1 240 93136 1 0 46451 c.write_own.ensures.calls (reads_make g.D.Disk c.write_own.new.disk c.changed.new.disk 240 reads) (omega arith) (omega arith);
     }
@@ -81,6 +84,7 @@ returns g c =
           made makes c.args.at.0 (opened.at ∙ parts.at_is) c.finish.new.disk c.finish.new.space c.finish.result c.finish.ensures.finishes;
       refused = finish_tried g.D.Disk c.args.at.0 c.args.disk.now c.changed.new.disk c.finish.new.disk c.finish.new.space 241 1 _ _ first (λ tells. tells_on g.D.Disk c.write_own.new.disk c.changed.new.disk c.finish.new.disk 240 reads (still_tells g.D.Disk tells told c.write_own.ensures.calls.same)) c.finish.ensures.calls tried c.finish.result c.finish.ensures.fails;
       made = tried;
+      untried = finish_apart g.D.Disk c.args.at.0 c.changed.new.disk c.finish.new.disk c.finish.new.space c.finish.result c.finish.ensures.fails;
       cylinders = c.finish.ensures.cylinders;
       calls = calls;
     }

@@ -1,5 +1,6 @@
-use Rattle.std.proofs.Common.{ℕ, List, ◌++◌, ◌+◌, ◌/◌, ◌-◌, sym, ◌∙◌, ap, subst, arith}
-use Rattle.std.specs.Prelude.{◌==◌, slice_index}
+use Rattle.std.proofs.Common.{◌≡◌, ℕ, false, List, [], ◌++◌, ◌+◌, ◌/◌, ◌-◌, sym, ◌∙◌, ap, subst, arith}
+use Rattle.std.specs.Prelude.{◌==◌, get_or, slice_index}
+use Rattle.std.proofs.lemmas.Bool.{both_ways}
 use Rattle.special_files.specs.Shed.{fresh_in, one_if}
 use Rattle.special_files.proofs.Refusals.{trouble_after_reads}
 use Rattle.special_files.proofs.ShedListing.{ListRun, near_now, run_all, run_lists, run_skips, run_tells}
@@ -8,11 +9,11 @@ use Rattle.special_files.proofs.listed.list_from.Goals.{then-has+in-Ok, else-has
 
 pub returns-in-Err-clause-refused : goal.returns-in-Err-clause-refused
 returns-in-Err-clause-refused g c = λ kept.
-    trouble_after_reads g.D.Disk c.args.at.0 c.args.disk.now c.loop-number.disk c.node_again.new.disk kept (c.loop-number.number - c.args.from / 128) c.in-Err.trouble c.loop-number.invariant.reads (c.in-Err.ensures.refused kept)
+    trouble_after_reads g.D.Disk c.args.at.0 c.args.disk.now c.loop-number.disk c.node_again.new.disk kept (c.loop-number.number - c.args.from / 128) c.in-Err.trouble c.loop-number.invariant.run.reads (c.in-Err.ensures.refused kept)
 
 pub returns-in-Err-clause-sound : goal.returns-in-Err-clause-sound
 returns-in-Err-clause-sound g c = λ graph ds space id o was d store at opened parts.
-    let run = c.loop-number.invariant in
+    let run = c.loop-number.invariant.run in
     let size = g.met.D.Disk.sized c.args.disk.now store.carries.tells.honest in
     c.in-Err.ensures.sound (run_tells g.D.Disk c.args.root.now c.args.leaves.now c.args.nodes.now c.args.read.now c.args.from c.loop-number.number c.args.disk.now c.loop-number.disk c.loop-number.list run c.loop-number-test.true store.carries.tells)
     (near_now g.D.Disk c.args.root.now c.args.leaves.now c.args.nodes.now c.args.read.now c.args.from c.loop-number.number c.args.disk.now c.loop-number.disk c.loop-number.list run graph ds space id o was d store at opened parts size c.requires.some)
@@ -20,21 +21,28 @@ returns-in-Err-clause-sound g c = λ graph ds space id o was d store at opened p
 pub loop-number-preserved : goal.loop-number-preserved
 loop-number-preserved g c =
     let n = c.loop-number.number in
-    let Run = λ (disk : g.row.D.Denot) (list : List ℕ). ListRun g.D.Disk c.args.root.now c.args.leaves.now c.args.nodes.now c.args.read.now c.args.from (n + 1) c.args.disk.now disk list in
+    let Run = λ (disk : g.row.D.Denot) (list : List ℕ). record {
+      run : ListRun g.D.Disk c.args.root.now c.args.leaves.now c.args.nodes.now c.args.read.now c.args.from (n + 1) c.args.disk.now disk list;
+      none : ((m : ℕ) → get_or c.args.nodes.now m false ≡ false) → (list ≡ []) × (disk ≡ c.args.disk.now);
+    } in
     elim c.if-has.branch [
       | then-has+in-Ok w ↦
           let f = c.args.from in
           let node = w.in-Ok.node.leaves in
           let block = slice_index c.args.root.now.nodes n in
-          subst (λ (disk : g.row.D.Denot). Run disk c.if-has.list) (sym w.disk-is) (subst (Run w.node_again.new.disk) (sym w.list-is)
-          (run_lists g.D.Disk c.args.root.now c.args.leaves.now c.args.nodes.now c.args.read.now f n c.args.disk.now c.loop-number.disk c.loop-number.list c.loop-number.invariant c.loop-number-test.true w.node_again.new.disk node w.list_node.new.list
-          (sym c.has.ensures ∙ w.if-has.true) w.in-Ok.ensures.reads w.in-Ok.ensures.there w.in-Ok.ensures.leaves c.requires.some w.in-Ok.ensures.node
-          (w.list_node.ensures ∙ ap (λ (place : ℕ). c.loop-number.list ++ (one_if (place == 0) block ++ fresh_in c.args.leaves.now node n place (128 - place))) w.saturating_sub-place.ensures)))
-      | else-has w ↦ subst (λ (disk : g.row.D.Denot). Run disk c.if-has.list) (sym w.disk-is) (subst (Run c.loop-number.disk) (sym w.list-is)
-          (run_skips g.D.Disk c.args.root.now c.args.leaves.now c.args.nodes.now c.args.read.now c.args.from n c.args.disk.now c.loop-number.disk c.loop-number.list c.loop-number.invariant c.loop-number-test.true (sym c.has.ensures ∙ w.if-has.false)))
+          subst (λ (disk : g.row.D.Denot). Run disk c.if-has.list) (sym w.disk-is) (subst (Run w.node_again.new.disk) (sym w.list-is) (record {
+            none = λ stale. absurd (both_ways _ (stale n) (sym c.has.ensures ∙ w.if-has.true));
+            run = run_lists g.D.Disk c.args.root.now c.args.leaves.now c.args.nodes.now c.args.read.now f n c.args.disk.now c.loop-number.disk c.loop-number.list c.loop-number.invariant.run c.loop-number-test.true w.node_again.new.disk node w.list_node.new.list
+                (sym c.has.ensures ∙ w.if-has.true) w.in-Ok.ensures.reads w.in-Ok.ensures.there w.in-Ok.ensures.leaves c.requires.some w.in-Ok.ensures.node
+                (w.list_node.ensures ∙ ap (λ (place : ℕ). c.loop-number.list ++ (one_if (place == 0) block ++ fresh_in c.args.leaves.now node n place (128 - place))) w.saturating_sub-place.ensures);
+          }))
+      | else-has w ↦ subst (λ (disk : g.row.D.Denot). Run disk c.if-has.list) (sym w.disk-is) (subst (Run c.loop-number.disk) (sym w.list-is) (record {
+        none = c.loop-number.invariant.none;
+        run = run_skips g.D.Disk c.args.root.now c.args.leaves.now c.args.nodes.now c.args.read.now c.args.from n c.args.disk.now c.loop-number.disk c.loop-number.list c.loop-number.invariant.run c.loop-number-test.true (sym c.has.ensures ∙ w.if-has.false);
+      }))
     ]
 
 pub returns-clause-listed : goal.returns-clause-listed
 returns-clause-listed g c = λ graph ds space id o was d store at opened parts read.
-    run_all g.D.Disk c.args.root.now c.args.leaves.now c.args.nodes.now c.args.read.now c.args.from c.loop-number.number c.args.disk.now c.loop-number.disk c.loop-number.list c.loop-number.invariant (omega (arith, c.loop-number-test.false, c.requires.limit, c.loop-number.auto.number-end))
+    run_all g.D.Disk c.args.root.now c.args.leaves.now c.args.nodes.now c.args.read.now c.args.from c.loop-number.number c.args.disk.now c.loop-number.disk c.loop-number.list c.loop-number.invariant.run (omega (arith, c.loop-number-test.false, c.requires.limit, c.loop-number.auto.number-end))
     graph ds space id o was d store at opened parts read

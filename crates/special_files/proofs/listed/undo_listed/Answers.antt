@@ -35,4 +35,5 @@ loop-block-preserved g c =
       told = λ n was. c.in-Ok.ensures.changes.told n (c.loop-block.invariant.told n was);
       later = λ same. then_tried g.D.Disk c.args.disk.now c.loop-block.disk c.change_entry.new.disk (2 * i) i c.loop-block.invariant.so_far.calls c.in-Ok.ensures.changes.tried;
       first = λ clash. cc;
+      start = λ zero. absurd (omega (arith, zero));
     }

@@ -10,4 +10,5 @@ invariant-loop-block g l = record {
   told : (n : ℕ) → IsTrue (g.D.Disk.told l.initial.disk n) → IsTrue (g.D.Disk.told l.disk n);
   later : l.tried ≡ true → HasTried g.D.Disk l.initial.disk l.disk;
   first : l.tried ≡ false → l.disk ≡ l.initial.disk;
+  start : l.block-index ≡ 0 → l.disk ≡ l.initial.disk;
 }

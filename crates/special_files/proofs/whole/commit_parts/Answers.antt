@@ -1,6 +1,7 @@
-use Rattle.std.proofs.Common.{Option, refl, ◌∙◌, ap, subst, arith}
+use Rattle.std.proofs.Common.{◌≡◌, false, Option, refl, sym, ◌∙◌, ap, subst, arith}
 use Rattle.cfs_base.specs.declared.identifier.BlockNo.{BlockNo}
-use Rattle.special_files.specs.Committing.{AreParts}
+use Rattle.cfs_base.specs.declared.refusal.Trouble.TheVariants as troubles
+use Rattle.special_files.specs.Committing.{AreParts, far_root}
 use Rattle.special_files.specs.Drafting.{number_of}
 use Rattle.special_files.proofs.CommitDraft.{far_trouble, nothing_made, shadow_below}
 use Rattle.special_files.proofs.CommitStore.{made_below}
@@ -21,6 +22,7 @@ returns-in-Err g c = record {
       absurd (omega (arith, below, size, far.far));
   refused = far_trouble g.D.Disk c.args.at.0 c.args.disk.now c.args.space.now c.in-Err.trouble c.in-Err.ensures.far.1;
   made = tt;
+  untried = λ same. (let no : far_root c.args.at.0 ≡ troubles.Disk false = sym c.in-Err.ensures.far.1 ∙ same in cc);
   cylinders = refl;
   calls = nothing_made g.D.Disk c.args.disk.now 93138 46452;
 }
@@ -33,6 +35,7 @@ returns-in-Err-is_on_disk g c = record {
       absurd (omega (arith, below, size, c.in-Err-is_on_disk.ensures.far.0));
   refused = far_trouble g.D.Disk c.args.at.0 c.args.disk.now c.args.space.now c.in-Err-is_on_disk.trouble c.in-Err-is_on_disk.ensures.far.1;
   made = tt;
+  untried = λ same. (let no : far_root c.args.at.0 ≡ troubles.Disk false = sym c.in-Err-is_on_disk.ensures.far.1 ∙ same in cc);
   cylinders = refl;
   calls = nothing_made g.D.Disk c.args.disk.now 93138 46452;
 }

@@ -1,14 +1,16 @@
 use Rattle.std.proofs.Common.{◌⊎◌, inl, inr, ◌≡◌, ◌*◌, ◌<◌, ◌≤◌, ◌||◌, ℕ, false, length, true, None, Ok, Err, refl, sym, ◌∙◌, subst, arith}
 use Rattle.ufs_model.specs.declared.asked.Reply.TheVariants as replies
 use Rattle.ufs_model.specs.declared.asked.Request.TheVariants as asks
+use Rattle.ufs_model.specs.declared.object.Object.TheVariants as objects
 use Rattle.cfs_core.specs.Calls.{Tries}
 use Rattle.cfs_core.specs.Kernel.{Kernel, bare_seats}
+use Rattle.cfs_core.specs.Looks.{ReachesAll}
 use Rattle.std.specs.Prelude.{◌==◌, nat_lt}
 use Rattle.std.proofs.lemmas.Bool.Decides.{nat_tests}
 use Rattle.cfs_base.specs.declared.kind.Kind.TheVariants as kinds
 use Rattle.index_ops.specs.Creates.{made_of}
 use Rattle.cfs_core.proofs.After.{makes_then}
-use Rattle.cfs_core.proofs.Answering.{ReachesAll, known, tries_failed, tries_refused}
+use Rattle.cfs_core.proofs.Answering.{known, tries_failed, tries_refused}
 use Rattle.cfs_core.proofs.Makings.{index_goes, index_makes, index_range}
 use Rattle.cfs_core.proofs.Refusing.{beyond}
 use Rattle.cfs_core.proofs.kernel.Core.create_index.Goals as goal
@@ -35,7 +37,7 @@ pub returns-else-slots-gt-MOST_SLOTS : goal.returns-else-slots-gt-MOST_SLOTS
 returns-else-slots-gt-MOST_SLOTS g c =
     let k : Kernel _ = record { disk = c.self.inside.disk; root = c.self.inside.root; names = c.self.inside.names; space = c.self.inside.space; words = c.self.inside.words; seats = bare_seats c.self.inside.grants.grants; collecting = None; stop = c.self.inside.stop } in
     let request = asks.CreateIndex c.args.slots c.args.to c.args.slot in
-    let reach = subst (λ x. ReachesAll g.D.Disk x c.args.who request c.in-Ok.index) (sym c.self.view_is) (c.in-Ok.ensures.reached request (record { to = refl; each = λ s who. refl })) in
+    let reach = subst (λ x. ReachesAll g.D.Disk objects.Index x c.args.who request c.in-Ok.index) (sym c.self.view_is) (c.in-Ok.ensures.reached request (record { to = refl; each = λ s who. refl })) in
     subst (λ x. Tries g.D.Disk x c.make.new.self c.args.who request c.make.result) c.self.view_is
     (makes_then g.D.Disk 1 k c.has_slot.new.disk c.make.new.self c.has_slot.ensures.calm.reads request c.in-Ok.index c.args.slot (made_of kinds.Index 0 (8 * c.args.slots))
     (index_makes c.args.slots c.args.to c.args.slot) c.args.who c.make.result reach c.make.ensures
@@ -47,9 +49,9 @@ pub returns-then-slots-eq0 : goal.returns-then-slots-eq0
 returns-then-slots-eq0 g c =
     let k : Kernel _ = record { disk = c.self.inside.disk; root = c.self.inside.root; names = c.self.inside.names; space = c.self.inside.space; words = c.self.inside.words; seats = bare_seats c.self.inside.grants.grants; collecting = None; stop = c.self.inside.stop } in
     let request = asks.CreateIndex c.args.slots c.args.to c.args.slot in
-    let reach = subst (λ x. ReachesAll g.D.Disk x c.args.who request c.in-Ok.index) (sym c.self.view_is) (c.in-Ok.ensures.reached request (record { to = refl; each = λ s who. refl })) in
+    let reach = subst (λ x. ReachesAll g.D.Disk objects.Index x c.args.who request c.in-Ok.index) (sym c.self.view_is) (c.in-Ok.ensures.reached request (record { to = refl; each = λ s who. refl })) in
     subst (λ x. Tries g.D.Disk x (record k { disk = c.has_slot.new.disk }) c.args.who request (Ok replies.Range)) c.self.view_is
-    (tries_refused g.D.Disk g.met.D.Disk.left_sized g.met.D.Disk.sized k c.in-Ok.index c.args.who request reach 1 c.has_slot.new.disk replies.Range tt c.has_slot.ensures.calm.reads
+    (tries_refused g.D.Disk g.met.D.Disk.left_sized g.met.D.Disk.sized objects.Index k c.in-Ok.index c.args.who request reach 1 c.has_slot.new.disk replies.Range tt c.has_slot.ensures.calm.reads
     (λ s i serves r knows.
     let inside = inside_of c.args.slot (length i.slots) (sym (c.in-Ok-true.ensures.exact i knows) ∙ c.in-Ok-true.field-0-test) in
     index_range s c.args.who c.args.to c.in-Ok.index i c.args.slot c.args.slots r inside (out_of c.args.slots c.then-slots-eq0.either)))
@@ -58,16 +60,15 @@ pub returns-in-Ok-false : goal.returns-in-Ok-false
 returns-in-Ok-false g c =
     let k : Kernel _ = record { disk = c.self.inside.disk; root = c.self.inside.root; names = c.self.inside.names; space = c.self.inside.space; words = c.self.inside.words; seats = bare_seats c.self.inside.grants.grants; collecting = None; stop = c.self.inside.stop } in
     let request = asks.CreateIndex c.args.slots c.args.to c.args.slot in
-    let reach = subst (λ x. ReachesAll g.D.Disk x c.args.who request c.in-Ok.index) (sym c.self.view_is) (c.in-Ok.ensures.reached request (record { to = refl; each = λ s who. refl })) in
+    let reach = subst (λ x. ReachesAll g.D.Disk objects.Index x c.args.who request c.in-Ok.index) (sym c.self.view_is) (c.in-Ok.ensures.reached request (record { to = refl; each = λ s who. refl })) in
     subst (λ x. Tries g.D.Disk x (record k { disk = c.has_slot.new.disk }) c.args.who request (Ok replies.Slot)) c.self.view_is
-    (tries_refused g.D.Disk g.met.D.Disk.left_sized g.met.D.Disk.sized k c.in-Ok.index c.args.who request reach 1 c.has_slot.new.disk replies.Slot tt c.has_slot.ensures.calm.reads
+    (tries_refused g.D.Disk g.met.D.Disk.left_sized g.met.D.Disk.sized objects.Index k c.in-Ok.index c.args.who request reach 1 c.has_slot.new.disk replies.Slot tt c.has_slot.ensures.calm.reads
     (λ s i serves r knows. beyond 0 s c.args.who c.args.to c.in-Ok.index i request c.args.slot r refl (sym (c.in-Ok-false.ensures.exact i knows) ∙ c.in-Ok-false.field-0-test)))
 
 pub returns-in-Err-has_slot : goal.returns-in-Err-has_slot
 returns-in-Err-has_slot g c =
     let k : Kernel _ = record { disk = c.self.inside.disk; root = c.self.inside.root; names = c.self.inside.names; space = c.self.inside.space; words = c.self.inside.words; seats = bare_seats c.self.inside.grants.grants; collecting = None; stop = c.self.inside.stop } in
     let request = asks.CreateIndex c.args.slots c.args.to c.args.slot in
-    let reach = subst (λ x. ReachesAll g.D.Disk x c.args.who request c.in-Ok.index) (sym c.self.view_is) (c.in-Ok.ensures.reached request (record { to = refl; each = λ s who. refl })) in
-    subst (λ x. Tries g.D.Disk x (record k { disk = c.has_slot.new.disk }) c.args.who request (Err c.from.result)) c.self.view_is
-    (subst (λ e. Tries g.D.Disk k (record k { disk = c.has_slot.new.disk }) c.args.who request (Err e)) (sym c.from.ensures)
-    (tries_failed g.D.Disk g.met.D.Disk.left_sized g.met.D.Disk.sized k c.in-Ok.index c.args.who request reach 1 c.has_slot.new.disk c.in-Err-has_slot.trouble c.has_slot.ensures.calm.reads c.in-Err-has_slot.ensures.calm.sound c.in-Err-has_slot.ensures.calm.cause))
+    let reach = subst (λ x. ReachesAll g.D.Disk objects.Index x c.args.who request c.in-Ok.index) (sym c.self.view_is) (c.in-Ok.ensures.reached request (record { to = refl; each = λ s who. refl })) in
+    subst (λ x. Tries g.D.Disk x (record k { disk = c.has_slot.new.disk }) c.args.who request (Err c.in-Err-has_slot.unread)) c.self.view_is
+    (tries_failed g.D.Disk g.met.D.Disk.left_sized g.met.D.Disk.sized objects.Index k c.in-Ok.index c.args.who request reach 1 c.has_slot.new.disk c.in-Err-has_slot.unread c.has_slot.ensures.calm.reads c.in-Err-has_slot.ensures.calm.sound c.in-Err-has_slot.ensures.calm.cause)

@@ -1,31 +1,52 @@
 use Rattle.std.proofs.Common.{◌∙◌, ap, sym, subst, rules}
 use Rattle.cfs_base.specs.Disk.{Image}
 use Rattle.cfs_base.proofs.Calls.{reads_make, then_tried}
+use Rattle.cyl_map.specs.Map.{entries_of}
 use Rattle.cyl_map.specs.Volume.{is_free_entry, with_entry}
 use Rattle.cyl_alloc.specs.Maps.{IsMapOf}
-use Rattle.cyl_alloc.specs.Space.{entered}
+use Rattle.cyl_alloc.specs.Space.{Kept, after_taking, entered}
 use Rattle.cyl_alloc.proofs.Counted.{counts_taken, counts_along}
 use Rattle.cyl_alloc.proofs.Entries.{some_entry}
 use Rattle.cyl_alloc.proofs.space.Space.enter.Goals as goal
 
-pub returns-in-Ok-write_entry : goal.returns-in-Ok-write_entry
-returns-in-Ok-write_entry g c = record {
+pub returns-in-Ok-store_entry : goal.returns-in-Ok-store_entry
+returns-in-Ok-store_entry g c = record {
   enters = record {
     entered = search rules;
     on_disk = search rules;
     whole = search rules;
     told = search rules;
-    made = then_tried g.D.Disk c.args.disk.now c.least.new.disk c.write_entry.new.disk 1 0 (reads_make g.D.Disk c.args.disk.now c.least.new.disk 1 c.in-Ok.ensures.reads) c.in-Ok-write_entry.ensures.made;
+    made = then_tried g.D.Disk c.args.disk.now c.least.new.disk c.store_entry.new.disk 1 0 (reads_make g.D.Disk c.args.disk.now c.least.new.disk 1 c.in-Ok.ensures.reads) c.in-Ok-store_entry.ensures.made;
     counts = λ tells counts.
         let image = g.D.Disk.content c.args.disk.now in
-        let n = c.in-Ok.found.block in
+        let n = c.in-Ok.block in
         let e = entered c.args.state c.args.place c.args.owner in
         let same = c.least.ensures.reads.content in
-        let is = subst (λ (i : Image). IsMapOf i n c.in-Ok.found.map) (sym same) (c.in-Ok.ensures.map tells) in
-        let wrote = c.in-Ok-write_entry.ensures.written is ∙ ap (λ (i : Image). with_entry i n e) same in
+        let is = subst (λ (i : Image). IsMapOf i n (entries_of c.least.new.map)) (sym same) (c.in-Ok.ensures.map tells) in
+        let wrote = c.in-Ok-store_entry.ensures.written is ∙ ap (λ (i : Image). with_entry i n e) same in
         let old = some_entry image n (c.in-Ok.ensures.whole tells) in
         let free = sym (ap is_free_entry old.1) ∙ (c.in-Ok.ensures.found tells counts).free in
-        counts_along _ _ _ _ (counts_taken image c.args.self.now n old.0 e counts old.1 c.requires.entry free c.requires.taken).0 wrote c.took.ensures.taken;
+        counts_along _ _ _ _ (counts_taken image c.args.self.now n old.0 e counts old.1 c.requires.entry free c.requires.taken).0 wrote (c.took.ensures.taken ∙ ap (λ (kept : Kept). after_taking kept n) c.self.view_is);
+    taken = search rules;
+    kept = search rules;
+    cylinders = search rules;
+    full = search rules;
+    refused = search rules;
+    unless_tried = search rules;
+    images = search rules;
+    calls = search rules;
+  };
+}
+
+pub returns-in-Err-store_entry : goal.returns-in-Err-store_entry
+returns-in-Err-store_entry g c = record {
+  enters = record {
+    entered = search rules;
+    on_disk = search rules;
+    whole = search rules;
+    told = search rules;
+    made = search rules;
+    counts = search rules;
     taken = search rules;
     kept = search rules;
     cylinders = search rules;

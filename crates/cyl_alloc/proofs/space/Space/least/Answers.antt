@@ -1,5 +1,6 @@
 use Rattle.std.proofs.Common.{◌∙◌, ◌*◌, ℕ, List, ap, sym, subst, refl, inr, arith}
 use Rattle.std.specs.Prelude.{Some, sum}
+use Rattle.cyl_map.specs.Map.{entries_of}
 use Rattle.cyl_alloc.specs.Counts.{IsFirstAbove}
 use Rattle.cyl_alloc.specs.Space.{Kept}
 use Rattle.cyl_alloc.proofs.Counted.{is_least, no_counts}
@@ -13,7 +14,7 @@ returns-in_default-clause-refused g c = (refl, refl, ap (λ (kept : Kept). sum k
 pub returns-in-Some-first_free-clause-found : goal.returns-in-Some-first_free-clause-found
 returns-in-Some-first_free-clause-found g c tells counts =
     let above = subst (λ (l : List ℕ). IsFirstAbove l (Some c.in-Some.cylinder)) (ap (λ (kept : Kept). kept.free) c.self.view_is) c.in-Some.ensures.first in
-    is_least (g.D.Disk.content c.args.disk.now) c.args.self.now c.in-Some.cylinder c.in-Some-first_free.entry c.in-Ok.map counts above (c.in-Ok.ensures.map tells) (sym c.in-Some-first_free.ensures.first)
+    is_least (g.D.Disk.content c.args.disk.now) c.args.self.now c.in-Some.cylinder c.in-Some-first_free.entry (entries_of c.load_map.new.map) counts above (c.in-Ok.ensures.map tells) (sym c.in-Some-first_free.ensures.first)
 
 pub returns-in-None-clause-refused : goal.returns-in-None-clause-refused
 returns-in-None-clause-refused g c =
@@ -22,10 +23,10 @@ returns-in-None-clause-refused g c =
       block = omega arith;
       on_disk = omega (arith, above.0, c.requires.size);
       first = first_at c.args.self.now.free c.in-Some.cylinder (64 * c.in-Some.cylinder) above refl;
-      why = inr (refl, λ tells. no_counts (g.D.Disk.content c.args.disk.now) c.args.self.now c.in-Some.cylinder c.in-Ok.map above (c.in-Ok.ensures.map tells) (c.in-None.ensures.none.0 refl));
+      why = inr (refl, λ tells. no_counts (g.D.Disk.content c.args.disk.now) c.args.self.now c.in-Some.cylinder (entries_of c.load_map.new.map) above (c.in-Ok.ensures.map tells) (c.in-None.ensures.none.0 refl));
     }
 
 pub returns-in-Err-clause-refused : goal.returns-in-Err-clause-refused
 returns-in-Err-clause-refused g c =
     let above = subst (λ (l : List ℕ). IsFirstAbove l (Some c.in-Some.cylinder)) (ap (λ (kept : Kept). kept.free) c.self.view_is) c.in-Some.ensures.first in
-    rw c.from.ensures (find_refused g.D.Disk c.args.disk.now c.read_map.new.disk c.args.self.now c.in-Some.cylinder c.in-Err.error above c.requires.size c.in-Err.ensures.refused)
+    rw c.from.ensures (find_refused g.D.Disk c.args.disk.now c.load_map.new.disk c.args.self.now c.in-Some.cylinder c.in-Err.error above c.requires.size c.in-Err.ensures.refused)

@@ -1,9 +1,10 @@
-use Rattle.std.proofs.Common.{ℕ, ◌*◌, ◌/◌, ◌%◌, ◌<◌, length, Ok, Err, sym, ◌∙◌, ap, subst, arith}
+use Rattle.std.proofs.Common.{ℕ, ◌*◌, ◌/◌, ◌%◌, ◌<◌, length, Ok, Err, refl, sym, ◌∙◌, ap, subst, arith}
 use Rattle.std.specs.Prelude.{◌==◌, not, sum}
 use Rattle.std.specs.List.{All}
 use Rattle.cfs_base.specs.declared.refusal.Refused.{Refused}
+use Rattle.cfs_base.proofs.Calls.{reads_make, then_tried, tried_then}
 use Rattle.special_files.specs.Committing.{given_all}
-use Rattle.special_files.specs.Drafting.{Drafting, node_of, opened_as}
+use Rattle.special_files.specs.Drafting.{Drafting, is_fresh_node, node_of, opened_as}
 use Rattle.special_files.specs.Ends.{Ends}
 use Rattle.special_files.specs.Nodes.{IsRead, IsSafe}
 use Rattle.special_files.specs.Puts.{StaysBut}
@@ -11,7 +12,7 @@ use Rattle.special_files.specs.Refusal.{IsTrouble, is_damaged, is_full, told_aft
 use Rattle.special_files.specs.Shed.{AreShed, Forgets, PutsWithin}
 use Rattle.special_files.proofs.Fills.{leaves_read, not_full}
 use Rattle.special_files.proofs.Refusals.{damaged_by}
-use Rattle.special_files.proofs.ShedDrop.{drop_done, drop_ok_ends, drop_put_err, drop_undo_err, ne_false, ne_true, put_ends, put_err_ends, put_full, undo_err_ends}
+use Rattle.special_files.proofs.ShedDrop.{drop_done, drop_ok_ends, drop_put_err, drop_undo_err, ne_false, ne_true, put_ends, put_err_ends, put_full, put_nothing, put_tried, undo_err_ends}
 use Rattle.special_files.proofs.Shrunk.{stays_itself}
 use Rattle.special_files.proofs.WriteLeaf.{ends_trouble}
 use Rattle.special_files.proofs.WriteRuns.{still_room}
@@ -123,3 +124,35 @@ returns-in-Err-undo_listed-clause-kept g c = c.self.view_is
 
 pub returns-clause-stays : goal.returns-clause-stays
 returns-clause-stays g c = subst (λ (w : Drafting). StaysBut w c.forget.new.self) c.self.view_is c.forget.ensures.stays
+
+-- ---- whether something was tried
+
+pub returns-in-Err-clause-untried : goal.returns-in-Err-clause-untried
+returns-in-Err-clause-untried g c = λ whole stale. ((c.list_from.ensures.none (λ n. ap (λ (w : Drafting). is_fresh_node w n) c.self.view_is ∙ stale n)).2, refl)
+
+pub returns-in-Err-put_within-clause-untried : goal.returns-in-Err-put_within-clause-untried
+returns-in-Err-put_within-clause-untried g c = λ whole stale.
+    let put = put_nothing g.D.Disk c.args.self.now c.args.from c.args.read.now.node.leaves c.args.disk.now c.list_from.new.disk c.put_within.new.disk c.args.space.now c.put_within.new.space (Err c.in-Err-put_within.error) whole (subst (λ (w : Drafting). PutsWithin g.D.Disk c.args.from c.args.read.now.node.leaves w c.list_from.new.disk c.put_within.new.disk c.args.space.now c.put_within.new.space (Err c.in-Err-put_within.error)) c.self.view_is c.in-Err-put_within.ensures) in
+    (put.0 ∙ (c.list_from.ensures.none (λ n. ap (λ (w : Drafting). is_fresh_node w n) c.self.view_is ∙ stale n)).2, put.1)
+
+pub returns-in-Err-undo_listed-clause-untried : goal.returns-in-Err-undo_listed-clause-untried
+returns-in-Err-undo_listed-clause-untried g c = λ whole stale.
+    let put = put_nothing g.D.Disk c.args.self.now c.args.from c.args.read.now.node.leaves c.args.disk.now c.list_from.new.disk c.put_within.new.disk c.args.space.now c.put_within.new.space (Ok c.in-Ok-put_within.block) whole (subst (λ (w : Drafting). PutsWithin g.D.Disk c.args.from c.args.read.now.node.leaves w c.list_from.new.disk c.put_within.new.disk c.args.space.now c.put_within.new.space (Ok c.in-Ok-put_within.block)) c.self.view_is c.in-Ok-put_within.ensures) in
+    let list = c.list_from.ensures.none (λ n. ap (λ (w : Drafting). is_fresh_node w n) c.self.view_is ∙ stale n) in
+    (c.undo_listed.ensures.none (c.as_slice.ensures ∙ list.1) ∙ put.0 ∙ list.2, put.1)
+
+pub returns-clause-untried : goal.returns-clause-untried
+returns-clause-untried g c = λ whole stale.
+    let put = put_nothing g.D.Disk c.args.self.now c.args.from c.args.read.now.node.leaves c.args.disk.now c.list_from.new.disk c.put_within.new.disk c.args.space.now c.put_within.new.space (Ok c.in-Ok-put_within.block) whole (subst (λ (w : Drafting). PutsWithin g.D.Disk c.args.from c.args.read.now.node.leaves w c.list_from.new.disk c.put_within.new.disk c.args.space.now c.put_within.new.space (Ok c.in-Ok-put_within.block)) c.self.view_is c.in-Ok-put_within.ensures) in
+    let list = c.list_from.ensures.none (λ n. ap (λ (w : Drafting). is_fresh_node w n) c.self.view_is ∙ stale n) in
+    (c.undo_listed.ensures.none (c.as_slice.ensures ∙ list.1) ∙ put.0 ∙ list.2, c.give_all.ensures.given ∙ ap (given_all c.put_within.new.space) (c.as_slice-2.ensures ∙ list.1) ∙ put.1)
+
+pub returns-clause-tried : goal.returns-clause-tried
+returns-clause-tried g c = λ within.
+    tried_then g.D.Disk c.args.disk.now c.put_within.new.disk c.undo_listed.new.disk _ _
+    (then_tried g.D.Disk c.args.disk.now c.list_from.new.disk c.put_within.new.disk 120 0 (reads_make g.D.Disk c.args.disk.now c.list_from.new.disk 120 c.in-Ok.ensures.reads)
+    (put_tried g.D.Disk c.args.self.now c.args.from c.args.read.now.node.leaves c.args.disk.now c.list_from.new.disk c.put_within.new.disk c.args.space.now c.put_within.new.space c.in-Ok-put_within.block within (subst (λ (w : Drafting). PutsWithin g.D.Disk c.args.from c.args.read.now.node.leaves w c.list_from.new.disk c.put_within.new.disk c.args.space.now c.put_within.new.space (Ok c.in-Ok-put_within.block)) c.self.view_is c.in-Ok-put_within.ensures)))
+    c.in-Ok-undo_listed.ensures.flips.calls
+
+pub returns-clause-forgets : goal.returns-clause-forgets
+returns-clause-forgets g c = (c.in-Ok-put_within.block.0, subst (λ (w : Drafting). Forgets c.args.from c.in-Ok-put_within.block.0 w c.forget.new.self) c.self.view_is c.forget.ensures)

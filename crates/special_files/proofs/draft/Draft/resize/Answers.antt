@@ -1,6 +1,6 @@
 use Rattle.std.proofs.Common.{inl, refl, ap, arith}
 use Rattle.special_files.specs.Refusal.{is_damaged}
-use Rattle.special_files.proofs.ShrinkRun.{grown_ends, grown_stays, none_read}
+use Rattle.special_files.proofs.ShrinkRun.{grown_ends, grown_stays, grown_told, none_read}
 use Rattle.special_files.proofs.WriteLeaf.{if_err}
 use Rattle.special_files.proofs.draft.Draft.resize.Goals as goal
 
@@ -63,3 +63,9 @@ returns-clause-order g c = c.shrink.ensures.order
 
 pub returns-then-self-size-clause-order : goal.returns-then-self-size-clause-order
 returns-then-self-size-clause-order g c = c.grow.ensures.order
+
+pub returns-then-self-size-clause-told : goal.returns-then-self-size-clause-told
+returns-then-self-size-clause-told g c = λ none. grown_told g.D.Disk c.args.disk.now c.args.space.now c.args.size c.args.floor c.args.self.now c.grow.new.self none c.grow.result c.grow.ensures.only_size
+
+pub returns-clause-told : goal.returns-clause-told
+returns-clause-told g c = c.shrink.ensures.told

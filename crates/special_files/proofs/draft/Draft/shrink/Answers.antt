@@ -3,6 +3,7 @@ use Rattle.std.specs.Prelude.{sum}
 use Rattle.std.proofs.lemmas.Bool.{both_ways}
 use Rattle.cfs_base.specs.declared.refusal.Refused.{Refused}
 use Rattle.cfs_base.specs.declared.refusal.Refused.TheVariants as refused
+use Rattle.ufs_model.specs.Object.{leaves_in}
 use Rattle.ufs_model.specs.State.{changed_draft}
 use Rattle.ufs_model.specs.declared.change.Change.TheVariants.{SetSize}
 use Rattle.special_files.specs.Becomes.{Becomes}
@@ -10,11 +11,11 @@ use Rattle.special_files.specs.Drafting.{Drafting}
 use Rattle.special_files.specs.Ends.{Ends}
 use Rattle.special_files.specs.Puts.{StaysBut}
 use Rattle.special_files.specs.Refusal.{is_damaged, is_full}
-use Rattle.special_files.specs.Shed.{cut_takes, sized}
+use Rattle.special_files.specs.Shed.{IsBorder, IsToldByNodes, cut_takes, sized}
 use Rattle.special_files.proofs.Fills.{leaves_read, not_full}
 use Rattle.special_files.proofs.Refusals.{damaged_by}
 use Rattle.special_files.proofs.ShrinkCall.{call_done, call_drops, call_images, call_order, call_need}
-use Rattle.special_files.proofs.ShrinkRun.{both_take, cut_less, kept_then, shrink_err_ends, shrink_ok_ends, sized_stays}
+use Rattle.special_files.proofs.ShrinkRun.{both_take, cut_less, kept_then, shrink_err_ends, shrink_ok_ends, sized_stays, told_by_nodes}
 use Rattle.special_files.proofs.WriteLeaf.{ends_since, ends_trouble, images_since, near_there, read_since, store_now}
 use Rattle.special_files.proofs.WriteRuns.{ends_any, ends_wider, full_ends, stays_then, still_room, still_sound}
 use Rattle.special_files.proofs.draft.Draft.shrink.Goals as goal
@@ -171,3 +172,14 @@ pub returns-clause-ends : goal.returns-clause-ends
 returns-clause-ends g c =
     shrink_ok_ends g.D.Disk c.args.self.now c.cut_if.new.self c.is_cut-cut.result c.args.size c.args.floor c.args.disk.now c.turn_to.new.disk c.cut_if.new.disk c.drop_from.new.disk c.args.space.now c.cut_if.new.space c.drop_from.new.space c.in-Ok.ensures.reads c.in-Ok-cut_if.ensures.stays
     c.in-Ok-cut_if.ensures.ends c.in-Ok-drop_from.ensures.ends
+
+pub returns-clause-told : goal.returns-clause-told
+returns-clause-told g c = λ none.
+    let cut = c.in-Ok-cut_if.ensures in
+    let drops = c.in-Ok-drop_from.ensures in
+    let number = ap (λ (n : ℕ). n / 128) (c.saturating_sub-number.ensures ∙ ap (λ (t : ℕ). t - 1) c.leaves_in-to.ensures) in
+    let told = told_by_nodes g.D.Disk c.args.self.now c.cut_if.new.self c.drop_from.new.self c.is_cut-cut.result c.args.size c.border-from.result drops.forgets.0 c.turn_to.new.read.node.leaves c.args.disk.now c.turn_to.new.disk c.cut_if.new.disk c.drop_from.new.disk c.args.space.now c.cut_if.new.space c.drop_from.new.space none c.in-Ok.ensures.reads
+    cut.ends.calls cut.tried (λ whole. let all = cut.none whole in (all.1, all.2, all.3)) cut.flags drops.ends.calls drops.tried drops.untried drops.forgets.1
+    (subst (λ (t : ℕ). IsBorder c.turn_to.new.read.node.leaves ((leaves_in c.args.size - 1) / 128) t c.border-from.result) c.leaves_in-to.ensures (subst (λ (n : ℕ). IsBorder c.turn_to.new.read.node.leaves n c.leaves_in-to.result c.border-from.result) number c.border-from.ensures)) c.is_cut-cut.ensures
+    (omega (arith, c.requires.less, ap (λ (w : Drafting). w.root.size) c.self.view_is, c.self.invariant.3, ap (λ (w : Drafting). length w.nodes) c.self.view_is, c.self.invariant.2)) in
+    subst (λ (w : Drafting). IsToldByNodes g.D.Disk c.args.disk.now c.drop_from.new.disk c.args.space.now c.drop_from.new.space (sized w c.args.size)) (sym c.self-2.view_is) (record { tried = told.tried; untried = told.untried })

@@ -100,3 +100,6 @@ pub returns-clause-order : goal.returns-clause-order
 returns-clause-order g c = λ graph ds id o d store at opened.
     subst (λ (n : ℕ). AreClaimed (claims_from c.args.self.now.at c.args.self.now.leaves c.args.self.now.nodes (c.args.offset / 512) n) (g.D.Disk.content c.args.disk.now) (g.D.Disk.content c.loop-leaf.disk))
     (omega (arith, c.loop-leaf-test.false, c.loop-leaf.invariant.upto, c.leaves_in-to.ensures)) ((c.loop-leaf.invariant.model graph ds id o d store at opened c.requires.within).order 0 _ (λ m. refl))
+
+pub returns-clause-tried : goal.returns-clause-tried
+returns-clause-tried g c = λ some. c.loop-leaf.invariant.tried (omega (arith, c.loop-leaf-test.false, c.leaves_in-to.ensures, some))

@@ -1,12 +1,15 @@
-use Rattle.std.proofs.Common.{◌≡◌, ◌*◌, ◌/◌, ◌%◌, ℕ, List, set, ◌∙◌, ap, sym, subst}
+use Rattle.std.proofs.Common.{◌≡◌, ◌*◌, ◌/◌, ◌%◌, ℕ, List, set, ◌∙◌, ap, sym, subst, arith}
 use Rattle.std.specs.Prelude.{OnOk}
+use Rattle.std.proofs.lemmas.List.Elements.{All-set}
 use Rattle.cfs_base.specs.Disk.{Written}
 use Rattle.cfs_base.specs.Run.{Leaves, left_now}
 use Rattle.cyl_map.specs.Entry.{spelling}
-use Rattle.cyl_map.specs.Map.{entries_of}
+use Rattle.cyl_map.specs.Map.{SpellsMap, entries_of}
 use Rattle.cyl_map.specs.Volume.{map_with, with_bytes, with_entry}
+use Rattle.cyl_map.proofs.Maps.{IsMap-set, length-entries_of, spells_these}
+use Rattle.cyl_map.proofs.Volumes.{map_spelling-set}
 use Rattle.cyl_alloc.specs.Maps.{IsMapOf}
-use Rattle.cyl_alloc.proofs.maps.store_entry.Goals as goal
+use Rattle.cyl_alloc.proofs.known.KnownMaps.store_entry.Goals as goal
 
 -- what is written is the map with the entry
 block : (g : _) (c : goal.After-write g) → IsMapOf (g.D.Disk.content c.args.disk.now) c.args.block (entries_of c.args.map.now) → c.put_in.new.block ≡ map_with (g.D.Disk.content c.args.disk.now) c.args.block c.args.entry
@@ -21,3 +24,18 @@ returns-clause-written g c is =
 pub returns-clause-images : goal.returns-clause-images
 returns-clause-images g c is =
     subst (λ (b : List ℕ). Leaves g.D.Disk c.args.disk.now c.write.new.self (Written (left_now g.D.Disk c.args.disk.now) (64 * (c.args.block / 64)) b)) (block g c is) c.write.ensures.images
+
+-- and it is a map
+spells : (g : _) (c : goal.After-write g) → SpellsMap c.put_in.new.block
+spells g c =
+    let was = entries_of c.args.map.now in
+    let k = c.args.block % 64 in
+    let e = c.args.entry in
+    let put = c.put_in.ensures ∙ ap (λ (b : List ℕ). with_bytes b k (spelling e)) c.requires.spells.spelled ∙ sym (map_spelling-set was k e (omega (arith, length-entries_of c.args.map.now))) in
+    (spells_these c.put_in.new.block (set was k e) (IsMap-set was k e c.requires.spells.entries c.requires.entry) put).1
+
+pub returns-clause-spells : goal.returns-clause-spells
+returns-clause-spells g c = spells g c
+
+pub invariant_of-self : goal.invariant_of-self
+invariant_of-self g c = All-set SpellsMap _ _ _ (spells g c) c.self.invariant

@@ -1,0 +1,64 @@
+use Rattle.std.proofs.Common.{◌≡◌, Option, Some, None, sym, ◌∙◌, ap}
+use Rattle.cfs_base.specs.declared.disk.Disk.{Ghosts}
+use Rattle.cfs_base.specs.declared.identifier.Puid.{Puid}
+use Rattle.cfs_base.specs.declared.kind.Kind.{Kind}
+use Rattle.puid_space.specs.Directory.{kind_in}
+use Rattle.puid_space.specs.Kinds.{kind_of}
+use Rattle.ufs_model.specs.declared.asked.Reply.TheVariants as replies
+use Rattle.ufs_model.specs.declared.asked.Wanted.{Wanted}
+use Rattle.ufs_model.specs.declared.object.Object.{Object}
+use Rattle.ufs_model.specs.Graph.{object_at}
+use Rattle.ufs_model.specs.State.{State}
+use Rattle.cfs_core.specs.Kernel.{Kernel}
+use Rattle.cfs_core.specs.StandsFor.{Serves}
+use Rattle.cfs_core.specs.Ways.{unfit_of}
+use Rattle.cfs_core.proofs.Answering.{tries_refusal, unfit_plain}
+use Rattle.cfs_core.proofs.Serving.{kind_is, kind_there, object_listed}
+use Rattle.cfs_core.proofs.Ways.{arrives, lacking, locked, no_name, read_only, refused_way, unfit_on_way}
+use Rattle.cfs_core.proofs.kernel.Core.object_at.Goals as goal
+
+-- an object that is wanted is there, where its kind is listed
+wanted_there : {D : Type 0} (g : Ghosts D) (k : Kernel D) (s : State) → Serves g k s → (id : Puid) (wants : Wanted) (found : Option Kind) (kind : Kind) → found ≡ kind_in k.names.named id → (found ≡ Some kind) × (unfit_of wants found ≡ None)
+    → (o : Object) × (object_at s.graph id ≡ Some o) × (unfit_of wants (Some (kind_of o)) ≡ None)
+wanted_there g k s serves id wants found kind is fit =
+    let o = object_listed g k s serves id kind (sym is ∙ fit.0) in
+    (o.0, o.1, ap (λ x. unfit_of wants (Some x)) (kind_is g k s serves id o.0 kind (sym is ∙ fit.0) o.1) ∙ ap (unfit_of wants) (sym fit.0) ∙ fit.1)
+
+pub returns-in-None-clause-refused : goal.returns-in-None-clause-refused
+returns-in-None-clause-refused g c = λ request by. tries_refusal g.D.Disk g.met.D.Disk.left_sized g.met.D.Disk.sized c.args.self.now c.args.who request replies.NoGrant tt
+    (λ s serves. refused_way s c.args.who request c.args.wants c.args.way by replies.NoGrant (no_name s c.args.who c.args.wants c.args.way (sym (c.goes_to.ensures s serves) ∙ c.in-None.is)))
+
+pub returns-then-lacks-clause-refused : goal.returns-then-lacks-clause-refused
+returns-then-lacks-clause-refused g c = λ request by. tries_refusal g.D.Disk g.met.D.Disk.left_sized g.met.D.Disk.sized c.args.self.now c.args.who request replies.NoObject tt
+    (λ s serves. refused_way s c.args.who request c.args.wants c.args.way by replies.NoObject
+    (lacking s c.args.who c.args.wants c.args.way serves.state c.in-Some.id (sym c.in-Some.is ∙ c.goes_to.ensures s serves) (sym (c.lacks.ensures.gone s serves) ∙ c.if-lacks.true)))
+
+pub returns-in-Err-clause-refused : goal.returns-in-Err-clause-refused
+returns-in-Err-clause-refused g c = λ request by. tries_refusal g.D.Disk g.met.D.Disk.left_sized g.met.D.Disk.sized c.args.self.now c.args.who request c.in-Err.reply (unfit_plain c.args.wants c.kind.result c.in-Err.reply c.in-Err.ensures.unfit)
+    (λ s serves. refused_way s c.args.who request c.args.wants c.args.way by c.in-Err.reply
+    (unfit_on_way s c.args.who c.args.wants c.args.way serves.state c.in-Some.id (sym c.in-Some.is ∙ c.goes_to.ensures s serves) (sym (c.lacks.ensures.gone s serves) ∙ c.if-lacks.false) c.in-Err.reply
+    (sym (ap (unfit_of c.args.wants) (c.kind.ensures.kind ∙ kind_there g.D.Disk c.args.self.now s serves c.in-Some.id)) ∙ c.in-Err.ensures.unfit)))
+
+pub returns-then-may_only_read-clause-refused : goal.returns-then-may_only_read-clause-refused
+returns-then-may_only_read-clause-refused g c = λ request by. tries_refusal g.D.Disk g.met.D.Disk.left_sized g.met.D.Disk.sized c.args.self.now c.args.who request replies.ReadOnly tt
+    (λ s serves.
+    let o = wanted_there g.D.Disk c.args.self.now s serves c.in-Some.id c.args.wants c.kind.result c.in-Ok.kind c.kind.ensures.kind c.in-Ok.ensures.fit in
+    refused_way s c.args.who request c.args.wants c.args.way by replies.ReadOnly
+    (read_only s c.args.who c.args.wants c.args.way serves.state c.in-Some.id (sym c.in-Some.is ∙ c.goes_to.ensures s serves) (sym (c.lacks.ensures.gone s serves) ∙ c.if-lacks.false) o.0 o.1 o.2
+    (sym (c.may_only_read.ensures s serves) ∙ c.if-may_only_read.true)))
+
+pub returns-then-is_met-clause-refused : goal.returns-then-is_met-clause-refused
+returns-then-is_met-clause-refused g c = λ request by. tries_refusal g.D.Disk g.met.D.Disk.left_sized g.met.D.Disk.sized c.args.self.now c.args.who request replies.Locked tt
+    (λ s serves.
+    let o = wanted_there g.D.Disk c.args.self.now s serves c.in-Some.id c.args.wants c.kind.result c.in-Ok.kind c.kind.ensures.kind c.in-Ok.ensures.fit in
+    refused_way s c.args.who request c.args.wants c.args.way by replies.Locked
+    (locked s c.args.who c.args.wants c.args.way serves.state c.in-Some.id (sym c.in-Some.is ∙ c.goes_to.ensures s serves) (sym (c.lacks.ensures.gone s serves) ∙ c.if-lacks.false) o.0 o.1 o.2
+    (sym (c.may_only_read.ensures s serves) ∙ c.if-may_only_read.false) (sym (c.is_met.ensures s serves) ∙ c.if-is_met.true)))
+
+pub returns-clause-arrived : goal.returns-clause-arrived
+returns-clause-arrived g c = λ request by s serves.
+    let o = wanted_there g.D.Disk c.args.self.now s serves c.in-Some.id c.args.wants c.kind.result c.in-Ok.kind c.kind.ensures.kind c.in-Ok.ensures.fit in (
+      o.0,
+      arrives s c.args.who c.args.wants c.args.way serves.state c.in-Some.id (sym c.in-Some.is ∙ c.goes_to.ensures s serves) (sym (c.lacks.ensures.gone s serves) ∙ c.if-lacks.false) o.0 o.1 o.2
+          (sym (c.may_only_read.ensures s serves) ∙ c.if-may_only_read.false) (sym (c.is_met.ensures s serves) ∙ c.if-is_met.false) request by,
+    )

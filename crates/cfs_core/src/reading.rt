@@ -1,0 +1,117 @@
+//! Requests that read a file.
+ghost use Rattle.std.specs.Prelude.{◌≡◌, ◌+◌, ◌<◌, ◌≤◌, IfOk, length};
+ghost use Rattle.cfs_core.specs.Calls.{Tries};
+ghost use Rattle.cfs_core.specs.Looks.{IsCalm, Knows, content_of, measured};
+ghost use Rattle.normal_files.specs.Touched.{leaves_touched, nodes_touched};
+ghost use Rattle.ufs_model.specs.Plain.{IsPlainReply};
+ghost use Rattle.ufs_model.specs.Refusal as refusal;
+ghost use Rattle.ufs_model.specs.declared.asked.Request.TheVariants as asks;
+ghost use Rattle.ufs_model.specs.declared.object.File.{File};
+ghost use Rattle.ufs_model.specs.declared.object.Object.TheVariants as objects;
+
+use crate::kernel::Core;
+use crate::way::Way;
+use cfs_base::{BlockNo, Disk, Refused, Session};
+use std::alloc::Global;
+use ufs_model::{MOST_AT_ONCE, Ref, Reply};
+
+/// Whether 1 to 4,096 bytes lie within the size.
+pub(crate) fn is_range(size: u64, offset: u64, count: u64) -> bool
+    ensures { result ≡ refusal.is_range size offset count }
+{
+    0 < count && count <= MOST_AT_ONCE && offset <= size && count <= size - offset
+}
+
+/// The size in bytes of the file at a block.
+pub(crate) fn bytes_in<D: Disk>(disk: &mut D, file: BlockNo) -> Result<u64, Refused>
+    requires { file.0 < D.blocks disk.old }
+    ensures exact { (f : File) → Knows D.Disk disk.old file.0 (objects.File f) → IfOk result (λ size. size ≡ length f.bytes) }
+    ensures limit { IfOk result (λ size. size ≤ 7864320) }
+    ensures calm { IsCalm D.Disk objects.File 1 file.0 disk.old disk.new result }
+{
+    match file_ops::size(disk, file) {
+        Ok(size) => Ok(size),
+        Err(trouble) => Err(Refused::from(trouble)),
+    }
+}
+
+/// So many bytes of the file at a block, from an offset on, as a reply: `Range` where they aren't 1 to 4,096 within its size.
+fn content<D: Disk>(
+    alloc: Global,
+    disk: &mut D,
+    file: BlockNo,
+    offset: u64,
+    count: u64,
+) -> Result<Reply, Refused>
+    requires { file.0 < D.blocks disk.old }
+    ensures exact { (f : File) → Knows D.Disk disk.old file.0 (objects.File f)
+        → IfOk result (λ reply. reply ≡ content_of f offset count) }
+    ensures plain { IfOk result IsPlainReply }
+    ensures calm { IsCalm D.Disk objects.File (2 + nodes_touched offset count + leaves_touched offset count) file.0 disk.old disk.new result }
+{
+    let size = match bytes_in(disk, file) {
+        Ok(size) => size,
+        Err(refused) => return Err(refused),
+    };
+    if !is_range(size, offset, count) {
+        return Ok(Reply::Range);
+    }
+    match file_ops::read(alloc, disk, file, offset, count as usize) {
+        Ok(bytes) => Ok(Reply::Content(bytes)),
+        Err(refused) => Err(refused),
+    }
+}
+
+/// The size of the file at a block, as a reply.
+fn measure<D: Disk>(disk: &mut D, file: BlockNo) -> Result<Reply, Refused>
+    requires { file.0 < D.blocks disk.old }
+    ensures exact { (f : File) → Knows D.Disk disk.old file.0 (objects.File f) → IfOk result (λ reply. reply ≡ measured f) }
+    ensures plain { IfOk result IsPlainReply }
+    ensures calm { IsCalm D.Disk objects.File 1 file.0 disk.old disk.new result }
+{
+    match bytes_in(disk, file) {
+        Ok(size) => Ok(Reply::Number(size)),
+        Err(refused) => Err(refused),
+    }
+}
+
+impl<D: Disk> Core<D> {
+    /// So many bytes of a file, from an offset on.
+    pub(crate) fn read(
+        &mut self,
+        alloc: Global,
+        who: Session,
+        to: Ref,
+        offset: u64,
+        count: u64,
+    ) -> Result<Reply, Refused>
+        ensures { Tries D.Disk self.old self.new who (asks.Read to offset count) result }
+    {
+        let way = Way {
+            to,
+            also: None,
+            changes: false,
+        };
+        let file = match self.file_at(who, way) {
+            Ok((file, _)) => file,
+            Err(reply) => return Ok(reply),
+        };
+        content(alloc, &mut self.disk, BlockNo(file.block), offset, count)
+    }
+
+    /// The size of a file in bytes.
+    pub(crate) fn size(&mut self, who: Session, to: Ref) -> Result<Reply, Refused>
+        ensures { Tries D.Disk self.old self.new who (asks.Size to) result }
+    {
+        let way = Way {
+            to,
+            also: None,
+            changes: false,
+        };
+        let file = match self.file_at(who, way) {
+            Ok((file, _)) => file,
+            Err(reply) => return Ok(reply),
+        };
+        measure(&mut self.disk, BlockNo(file.block))
+    }
+}

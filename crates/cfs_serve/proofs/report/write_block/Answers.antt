@@ -1,0 +1,13 @@
+use Rattle.std.specs.Prelude.{codes}
+use Rattle.std.specs.Fmt.{decimal}
+use Rattle.std.proofs.lemmas.Result.{err_from_is_err_and}
+use Rattle.cfs_streams.proofs.WriteLaws.{cut, then_whole}
+use Rattle.cfs_serve.proofs.report.write_block.Goals as goal
+
+pub returns-in_err-write_whole : goal.returns-in_err-write_whole
+returns-in_err-write_whole g c =
+    let p = err_from_is_err_and c.from_residual.result c.from_residual.ensures.1 in
+    rw p.1 (cut _ _ (codes "volume damaged ") (decimal c.args.block) c.in_err-write_whole.ensures)
+
+pub returns : goal.returns
+returns g c = then_whole c.write_whole-2.result _ _ _ (codes "volume damaged ") (decimal c.args.block) c.in_ok-write_whole.ensures (rw (c.as_bytes.ensures.value, c.format.ensures.text) at c.write_whole-2.ensures)

@@ -1,0 +1,42 @@
+-- What a service begins on.
+use Rattle.std.specs.Prelude.{◌≡◌, ℕ, ◌/◌, IsTrue, Option, Some, None}
+use Rattle.cfs_base.specs.declared.disk.Disk.{Ghosts}
+use Rattle.ufs_model.specs.Graph.{Graph, fresh_graph}
+use Rattle.vol_image.specs.Sound.{IsSound, IsSoundAs}
+use Rattle.cfs_serve.specs.Words.{Asked, Format, Formats, InFile, InMemory, Nothing, Place, Serves, Shows, root_of}
+
+-- the cylinders of the volume, the graphs that it may read as, and that it is known to be no sound one
+pub record Ground : Type 1 where
+  pub cylinders : ℕ
+  pub reads : Graph → Type 0
+  pub unsound : Type 0
+
+-- the graph of a new volume: a root index of empty slots
+abbrev pub opened : ℕ → Graph
+opened seed = fresh_graph (root_of seed)
+
+abbrev pub new_ground : (cylinders seed : ℕ) → Ground
+new_ground cylinders seed = record { cylinders = cylinders; reads = λ graph. graph ≡ opened seed; unsound = ⊥ }
+
+-- a volume on a disk: of one that isn't honest nothing is known
+abbrev pub ground_on : {D : Type 0} → Ghosts D → D → Ground
+ground_on g d = record {
+  cylinders = g.blocks d / 64;
+  reads = λ graph. IsTrue (g.honest d) × IsSoundAs (g.content d) graph;
+  unsound = IsTrue (g.honest d) × ¬ IsSound (g.content d);
+}
+
+abbrev pub no_ground : Ground
+no_ground = record { cylinders = 0; reads = λ graph. ⊥; unsound = ⊥ }
+
+abbrev ground_at : {D : Type 0} → Ghosts D → Place → (seed : ℕ) → Option D → Ground
+ground_at g (InMemory cylinders) seed disk = new_ground cylinders seed
+ground_at g (InFile path) seed (Some d) = ground_on g d
+ground_at g (InFile path) seed None = no_ground
+
+-- of what is asked for, and the disk of the volume where it is in a file
+abbrev pub ground_of : {D : Type 0} → Ghosts D → Asked → Option D → Ground
+ground_of g (Serves service) disk = ground_at g service.volume service.seed disk
+ground_of g (Formats format) disk = no_ground
+ground_of g (Shows page) disk = no_ground
+ground_of g Nothing disk = no_ground

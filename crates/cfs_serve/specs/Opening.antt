@@ -1,0 +1,31 @@
+-- What is told of a volume that wasn't opened.
+use Rattle.std.specs.Prelude.{◌≡◌, IsTrue, Result, Ok, Err, Option, Some, None}
+use Rattle.cfs_base.specs.Outside.{Rose}
+use Rattle.cfs_base.specs.declared.disk.Disk.{Ghosts}
+use Rattle.cfs_core.specs.Kernel.{Kernel}
+use Rattle.cfs_recover.specs.declared.fault.RecoverFault.{RecoverFault}
+use Rattle.cfs_recover.specs.declared.fault.RecoverFault.TheVariants as whys
+use Rattle.vol_image.specs.Sound.{IsSound}
+use Rattle.cfs_serve.specs.declared.report.Cause.{Cause}
+use Rattle.cfs_serve.specs.declared.report.Cause.TheVariants as causes
+use Rattle.cfs_serve.specs.declared.report.VolumeFault.TheVariants as faults
+use Rattle.cfs_serve.specs.declared.volume.Refused.{Refused}
+
+abbrev pub told_of : RecoverFault → Cause
+told_of whys.Disk = causes.Disk None
+told_of whys.NotVolume = causes.Volume faults.NotVolume
+told_of (whys.Version found) = causes.Volume (faults.Version found)
+told_of (whys.Damaged d) = causes.Volume (faults.Damaged d)
+told_of whys.Memory = causes.Memory
+
+-- a fault of the volume only where an honest disk holds no sound one, a failed call only where one failed; else want of memory
+abbrev pub IsRefusal : {D : Type 0} → Ghosts D → D → D → Cause → Type 0
+IsRefusal g old new (causes.Volume fault) = IsTrue (g.honest old) → ¬ IsSound (g.content old)
+IsRefusal g old new (causes.Disk moment) = (moment ≡ None) × Rose (g.faults old) (g.faults new)
+IsRefusal g old new causes.Memory = Unit {0}
+IsRefusal g old new cause = ⊥
+
+-- the disk, in a core or handed back
+abbrev pub disk_of : {D : Type 0} → Result (Kernel D) (Refused D) → D
+disk_of (Ok k) = k.disk
+disk_of (Err e) = e.disk

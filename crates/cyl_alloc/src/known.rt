@@ -1,0 +1,120 @@
+//! Maps that are known to be ones.
+ghost use Rattle.std.specs.Prelude.{◌≡◌, ℕ, ◌<◌, true, false, IsTrue, IfErr, OnOk, OnErr};
+ghost use Rattle.cfs_base.specs.Calls.{OnlyReads, HasStopped, HasTried, MakesAtMost};
+ghost use Rattle.cfs_base.specs.Disk.{Written};
+ghost use Rattle.cfs_base.specs.Run.{Tells, Leaves, left_now};
+ghost use Rattle.cyl_map.specs.Entry.{IsEntry};
+ghost use Rattle.cyl_map.specs.Map.{IsFirstBadEntry, SpellsMap, entries_of};
+ghost use Rattle.cyl_map.specs.Volume.{map_of, map_with, with_entry};
+ghost use Rattle.cyl_alloc.specs.Maps.{IsMapOf};
+ghost use Rattle.cyl_alloc.specs.Refusals.{IsMapTrouble};
+ghost use Rattle.cfs_base.specs.Refusals.{trouble_had_tried};
+ghost use Rattle.cyl_alloc.specs.Space.{IsGoodMap};
+
+use cfs_base::{Block, BlockNo, Damage, Disk, Failed, Trouble, code};
+use cyl_map::{BadMap, Map, MapEntry};
+use std::marker::Model;
+
+/// How many maps are known. Each cylinder has its place among them by its number.
+const KNOWN: usize = 8;
+
+/// The bytes of some maps: of those that were written last, which most often are the next that are read. The same bytes
+/// aren't tested again. Which maps they are makes no difference to what is read or written.
+#[derive(Debug, Drop)]
+pub struct KnownMaps {
+    maps: [Block; KNOWN],
+}
+
+/// The place of a block's map among those that are known.
+fn place_of(block: u32) -> usize
+    ensures { result < 8 }
+{
+    (block / 64) as usize % KNOWN
+}
+
+impl Model for KnownMaps {
+    ghost use Rattle.std.specs.List.{All};
+    ghost use Rattle.cyl_map.specs.Map.{SpellsMap};
+
+    ghost Value = { Unit {0} };
+
+    ghost view = { λ _. tt };
+
+    ghost invariant = { λ a. All SpellsMap a.maps };
+}
+
+/// Whether a block spells a map, refused as by `Map::check`. The same bytes as those of a map aren't tested again.
+fn check_beside(block: &Block, map: &Block) -> Result<(), BadMap>
+    requires spells { SpellsMap map.now }
+    ensures map { OnOk result (SpellsMap block.now) }
+    ensures refused { IfErr result (λ bad. IsFirstBadEntry block.now bad.entry bad.byte) }
+{
+    if block == map {
+        return Ok(());
+    }
+    Map::check(block)
+}
+
+impl KnownMaps {
+    /// The map of 64 Free blocks is known.
+    pub fn new() -> KnownMaps {
+        KnownMaps {
+            maps: [Block::zero(); KNOWN],
+        }
+    }
+
+    /// Reads the map that has a block's entry into `map`. `Damaged` names its map block, with code 2, which is no map.
+    pub fn load_map<D: Disk>(
+        &self,
+        disk: &mut D,
+        block: u32,
+        map: &mut Block,
+    ) -> Result<(), Trouble>
+        requires { map_of block < D.blocks disk.old }
+        ensures map { Tells D.Disk disk.old → OnOk result (IsMapOf (D.content disk.old) block (entries_of map.new)) }
+        ensures spells { OnOk result (SpellsMap map.new) }
+        ensures whole { Tells D.Disk disk.old → OnOk result (IsGoodMap (D.content disk.old) block) }
+        ensures refused { IfErr result (IsMapTrouble D.Disk disk.old disk.new block) }
+        ensures untried { IfErr result (λ trouble. trouble_had_tried trouble ≡ false) }
+        ensures reads { OnlyReads D.Disk 1 disk.old disk.new }
+    {
+        let at = 64 * (block / 64);
+        let Ok(()) = disk.read(BlockNo(at), map) else {
+            return Err(Trouble::Disk { tried: false });
+        };
+        match check_beside(map, &self.maps[place_of(block)]) {
+            Ok(()) => Ok(()),
+            Err(_) => Err(Trouble::Damaged(Damage {
+                block: at,
+                code: code::NO_ENTRY,
+            })),
+        }
+    }
+
+    /// Puts an entry in place of a block's into the map that was loaded, and writes that map, which is known then. After
+    /// a write that fails the map block has either content.
+    pub fn store_entry<D: Disk>(
+        &mut self,
+        disk: &mut D,
+        block: u32,
+        map: &mut Block,
+        entry: MapEntry,
+    ) -> Result<(), Failed>
+        requires on_disk { map_of block < D.blocks disk.old }
+        requires entry { IsEntry entry }
+        requires spells { SpellsMap map.old }
+        ensures spells { SpellsMap map.new }
+        ensures written { IsMapOf (D.content disk.old) block (entries_of map.old) →
+            OnOk result (D.content disk.new ≡ with_entry (D.content disk.old) block entry) }
+        ensures told { OnOk result ((n : ℕ) → IsTrue (D.told disk.old n) → IsTrue (D.told disk.new n)) }
+        ensures made { HasTried D.Disk disk.old disk.new }
+        ensures failed { OnErr result (HasStopped D.Disk true disk.old disk.new) }
+        ensures images { IsMapOf (D.content disk.old) block (entries_of map.old) → Leaves D.Disk disk.old disk.new
+            (Written (left_now D.Disk disk.old) (map_of block) (map_with (D.content disk.old) block entry)) }
+        ensures calls { MakesAtMost D.Disk 1 1 disk.old disk.new }
+    {
+        Map::put_in(map, (block % 64) as u8, entry);
+        self.maps[place_of(block)] = *map;
+        disk.write(BlockNo(64 * (block / 64)), map)
+    }
+}

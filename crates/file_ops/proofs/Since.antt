@@ -1,0 +1,32 @@
+-- The trouble of a commit, told as one of the whole change: something was tried before it, or not.
+use Rattle.std.proofs.Common.{◌≡◌, inl, ℕ, Bool, true, false, refl}
+use Rattle.std.specs.Prelude.{if◌then◌else◌}
+use Rattle.cfs_base.specs.Refusals.{refused_by, trouble_after_try}
+use Rattle.cfs_base.specs.declared.disk.Disk.{Ghosts}
+use Rattle.cfs_base.specs.declared.refusal.Refused.TheVariants as refused
+use Rattle.cfs_base.specs.declared.refusal.Trouble.{Trouble}
+use Rattle.cfs_base.specs.declared.refusal.Trouble.TheVariants as trouble
+use Rattle.cyl_alloc.specs.Space.{Kept}
+use Rattle.file_ops.specs.Changes.{IsCommitRefusal}
+use Rattle.special_files.specs.Refusal.{IsTrouble, is_damage, is_damaged}
+
+abbrev pub since : Bool → Trouble → Trouble
+since wrote t = if wrote then trouble_after_try t else t
+
+pub sound_since : (wrote : Bool) (t : Trouble) → is_damage t ≡ false → is_damaged (refused_by (since wrote t)) ≡ false
+sound_since true (trouble.Disk tried) is = refl
+sound_since true (trouble.Damaged damage) is = is
+sound_since false (trouble.Disk tried) is = refl
+sound_since false (trouble.Damaged damage) is = is
+
+pub untried_since : (wrote : Bool) (t : Trouble) → refused_by (since wrote t) ≡ refused.Disk false → t ≡ trouble.Disk false
+untried_since true (trouble.Disk tried) same = cc
+untried_since false (trouble.Disk tried) same = cc
+untried_since true (trouble.Damaged damage) same = cc
+untried_since false (trouble.Damaged damage) same = cc
+
+pub refused_since : {D : Type 0} (g : Ghosts D) (at : ℕ) (old new : D) (kept : Kept) (wrote : Bool) (t : Trouble) → IsTrouble g at old new kept t → IsCommitRefusal g at wrote old new kept (refused_by (since wrote t))
+refused_since g at old new kept true (trouble.Disk tried) is = (tried, refl, is)
+refused_since g at old new kept false (trouble.Disk tried) is = (tried, refl, is)
+refused_since g at old new kept true (trouble.Damaged damage) is = inl is
+refused_since g at old new kept false (trouble.Damaged damage) is = inl is
