@@ -18,7 +18,7 @@ use Rattle.ufs_model.specs.declared.object.Object.{Object}
 use Rattle.ufs_model.specs.declared.object.Object.TheVariants as objects
 use Rattle.ufs_model.specs.Refusal.{refusal_of}
 use Rattle.ufs_model.specs.State.{State}
-use Rattle.cfs_core.specs.Calls.{Answers, EndsSo, IsCause, Owes, Tries, TriesOn}
+use Rattle.cfs_core.specs.Calls.{AddsNoStray, Answers, EndsSo, IsCause, Owes, Tries, TriesOn}
 use Rattle.cfs_core.specs.Kernel.{Kernel}
 use Rattle.cfs_core.specs.Looks.{ReachesAll}
 use Rattle.cfs_core.specs.Makes.{IsMaking, TriesToMake}
@@ -36,20 +36,20 @@ module _ {D : Type 0} (g : Ghosts D) (n : ℕ) (old : Kernel D) (d : D) (new : K
   module _ (s : State) (who : ℕ) where
     answers : (reply : Reply) → Answers g mid new s who request reply → Answers g old new s who request reply
     answers reply is = record {
-      event = record { after = is.event.after; step = is.event.step; stands = is.event.stands; survives = record { crashes = first _ is.event.survives.crashes; now = is.event.survives.now } };
+      event = record { after = is.event.after; step = is.event.step; stores = is.event.stores; strays = subst (λ (i : Image). AddsNoStray i (g.content new.disk) s.graph is.event.after.graph) reads.content is.event.strays; survives = record { crashes = first _ is.event.survives.crashes; now = is.event.survives.now } };
       still = λ all. is.still all ∙ reads.content;
       owed = subst (λ (i : Image). Owes old.words.seed s who request i (sum old.space.free) reply) reads.content is.owed;
     }
 
-    ends : (r : Result Reply Refused) → EndsSo g mid new s who request r → EndsSo g old new s who request r
+    pub ends : (r : Result Reply Refused) → EndsSo g mid new s who request r → EndsSo g old new s who request r
     ends (Ok reply) is = answers reply is
     ends (Err (refusals.Full need)) is = answers (replies.Full need) is
     ends (Err (refusals.Disk false)) is = answers (replies.Disk None) is
-    ends (Err (refusals.Disk true)) is = record { block = is.block; allowed = is.allowed; names = is.names; same = is.same; fits = is.fits; leaves = first _ is.leaves }
+    ends (Err (refusals.Disk true)) is = record { allowed = is.allowed; drawn = is.drawn; named = is.named; grants = is.grants; leaves = first _ is.leaves }
     ends (Err (refusals.Damaged damage)) is = is
     ends (Err refusals.Memory) is = answers replies.Memory is
 
-  cause : (r : Result Reply Refused) → IfErr r (IsCause g d new.disk) → IfErr r (IsCause g old.disk new.disk)
+  pub cause : (r : Result Reply Refused) → IfErr r (IsCause g d new.disk) → IfErr r (IsCause g old.disk new.disk)
   cause (Ok reply) is = tt
   cause (Err (refusals.Full need)) is = tt
   cause (Err (refusals.Disk tried)) is = stopped_after_reads g old.disk d new.disk n tried reads is
@@ -68,6 +68,7 @@ module _ {D : Type 0} (g : Ghosts D) (n : ℕ) (old : Kernel D) (d : D) (new : K
     size = tries.size ∙ reads.same.size;
     faults = omega (arith, reads.faults, tries.faults);
     stop = tries.stop;
+    collections = tries.collections;
     seed = tries.seed;
     kept = tries.kept;
     drawn = tries.drawn;
@@ -83,6 +84,7 @@ module _ {D : Type 0} (g : Ghosts D) (n : ℕ) (old : Kernel D) (d : D) (new : K
     size = tries.size;
     faults = tries.faults;
     stop = tries.stop;
+    collections = tries.collections;
     seed = tries.seed;
     kept = tries.kept;
     drawn = omega (arith, tries.drawn, making.draw);

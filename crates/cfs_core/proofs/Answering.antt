@@ -62,7 +62,7 @@ module _ {D : Type 0} (g : Ghosts D) (left_sized : (d : D) (t : ℕ) (c : Image)
     (n : ℕ) (old new : Kernel D) (reads : OnlyReads g n old.disk new.disk) (same : new ≡ record old { disk = new.disk }) where
   module _ (s : State) (who : ℕ) (serves : Serves g old s) (none : old.stop ≡ None) where
     on : (e : Event) → next old.words.seed s e ≡ Some s → Makes g old new s e
-    on e step = stays g n old new reads same s serves left_sized (sized old.disk serves.store.carries.tells.honest) none e step
+    on e step = stays g n old new reads same s serves left_sized (sized old.disk serves.store.carries.tells.honest) e step
 
     pub refused : (request : Request) (reply : Reply) → refusal_of s who request ≡ Some reply → Answers g old new s who request reply
     refused request reply is = record {
@@ -106,6 +106,7 @@ module _ {D : Type 0} (g : Ghosts D) (left_sized : (d : D) (t : ℕ) (c : Image)
     size = reads.same.size;
     faults = reads.faults;
     stop = ap (λ (k : Kernel D). k.stop) same;
+    collections = ap (λ (k : Kernel D). k.collections) same;
     seed = ap (λ (k : Kernel D). k.words.seed) same;
     kept = omega (arith, ap (λ (k : Kernel D). k.words.drawn) same);
     drawn = omega (arith, ap (λ (k : Kernel D). k.words.drawn) same);

@@ -1,25 +1,36 @@
 -- A request that was asked: of a core that stopped, answered, or refused by what lies below.
-use Rattle.std.proofs.Common.{◌≡◌, inl, inr, ℕ, ◌-◌, length, true, false, Option, Some, None, Ok, Err, IsTrue, refl, sym, ◌∙◌, ap, subst, arith}
-use Rattle.std.specs.Prelude.{map, sum}
+use Rattle.std.proofs.Common.{◌≡◌, inl, inr, ⊎_elim, ℕ, ◌-◌, List, [], length, true, false, Option, Some, None, Ok, Err, IsTrue, refl, sym, ◌∙◌, ap, subst, arith}
+use Rattle.std.specs.Prelude.{sum}
 use Rattle.std.proofs.lemmas.Bool.{eq-eqb}
 use Rattle.cfs_base.specs.Disk.{Image}
 use Rattle.cfs_base.specs.declared.disk.Disk.{Ghosts}
 use Rattle.cfs_base.specs.declared.refusal.Refused.{Refused}
 use Rattle.cfs_base.specs.declared.refusal.Refused.TheVariants as refusals
-use Rattle.survival.proofs.Calls.{doubt}
+use Rattle.cfs_base.proofs.Runs.{wider}
+use Rattle.marking.specs.declared.memory.Rescue.{Rescue}
+use Rattle.marking.specs.Meanwhile.{is_done, rescues_of}
+use Rattle.puid_space.specs.Directory.{Listing}
+use Rattle.survival.specs.Call.{After, CutInDoubt, InDoubt, Late}
+use Rattle.survival.proofs.Calls.{call}
+use Rattle.ufs_model.specs.declared.asked.Event.{Event}
 use Rattle.ufs_model.specs.declared.asked.Event.TheVariants as events
 use Rattle.ufs_model.specs.declared.asked.Reply.{Reply}
 use Rattle.ufs_model.specs.declared.asked.Reply.TheVariants as replies
 use Rattle.ufs_model.specs.declared.asked.Request.{Request}
+use Rattle.ufs_model.specs.Graph.{Graph}
 use Rattle.ufs_model.specs.Next.{next}
 use Rattle.ufs_model.specs.Plain.{IsPlainReply}
+use Rattle.ufs_model.specs.Refusal.{refusal_of}
 use Rattle.ufs_model.specs.State.{State, stopped_at}
+use Rattle.cfs_core.specs.declared.collecting.Collections.{Collections}
 use Rattle.cfs_core.specs.declared.kernel.Stop.{Stop}
 use Rattle.cfs_core.specs.Asked.{Asks, Happens, IsShortContent, IsToldCause, stopped_by, told}
-use Rattle.cfs_core.specs.Calls.{Answers, EndsSo, IsCause, IsInDoubt, Owes, Tries, leaves_all}
-use Rattle.cfs_core.specs.Kernel.{Kernel, Seat}
+use Rattle.cfs_core.specs.Calls.{Answers, CutShort, EndsSo, IsCause, IsInDoubt, MayStand, Owes, Tries, Undone, Whole, leaves_all}
+use Rattle.cfs_core.specs.Kernel.{Kernel}
+use Rattle.cfs_core.specs.Rescues.{AreRescued}
 use Rattle.cfs_core.specs.StandsFor.{IsFront, Serves, Stands}
-use Rattle.cfs_core.proofs.Serving.{fits, pending, running, serves_from}
+use Rattle.cfs_core.proofs.Collected.{collection_asked, collection_ready, rescued_after, same_rescued}
+use Rattle.cfs_core.proofs.Serving.{fewer_lost, fits, pending, running, serves_from, serves_with, stands_from, stored, stored_beside}
 
 plain_goes_on : (reply : Reply) → IsPlainReply reply → (before : Option Stop) → stopped_by reply before ≡ before
 plain_goes_on (replies.Disk doubt) plain before = absurd plain
@@ -42,18 +53,64 @@ told_short (refusals.Disk true) moment = tt
 told_short (refusals.Damaged damage) moment = tt
 told_short refusals.Memory moment = tt
 
-happens : {D : Type 0} (g : Ghosts D) (old new : Kernel D) (s : State) (who : ℕ) (request : Request) (reply : Reply) → Answers g old new s who request reply → Happens g old new s (events.Ask who request reply)
-happens g old new s who request reply is = record { after = is.event.after; step = is.event.step; stands = is.event.stands; survives = inl is.event.survives }
+-- A call that answered, and whose collector was told of it: `mid` had room for the rescue.
+module _ {D : Type 0} (g : Ghosts D) (old : Kernel D) (x : Collections) (ready : AreRescued old.collections.collector x.collector []) where
+  abbrev roomy : Kernel D
+  roomy = record old { collections = x }
+
+  pub serves_roomy : (s : State) → Serves g old s → Serves g roomy s
+  serves_roomy s serves = serves_with g roomy s (stored_beside g old x s (stored g old s serves)) (collection_ready (g.content old.disk) s old.collections.collector x.collector ready serves.collecting)
+
+  happens : ((d : D) → IsTrue (g.honest d) → length (g.content d) ≡ g.blocks d) → (mid : Kernel D) → g.blocks mid.disk ≡ g.blocks old.disk → (y : Collections) (s : State) (who : ℕ) (request : Request) (reply : Reply) → mid.stop ≡ None → AreRescued x.collector y.collector (rescues_of s who request reply) → Serves g old s
+      → Answers g roomy mid s who request reply → Happens g old (record mid { collections = y }) s (events.Ask who request reply)
+  happens sized mid size y s who request reply none rescued serves is = record {
+    after = is.event.after;
+    step = is.event.step;
+    stands = stands_from g (record mid { collections = y }) is.event.after none (serves_with g (record mid { collections = y }) is.event.after (stored_beside g mid y is.event.after is.event.stores)
+        (collection_asked (g.content old.disk) (g.content mid.disk) old.words.seed s is.event.after who request reply is.event.step serves.state is.event.strays x.collector y.collector rescued (serves_roomy s serves).collecting));
+    survives = inl is.event.survives;
+    lost = λ _. fewer_lost (g.content old.disk) (g.content mid.disk) s.graph is.event.after.graph
+        (sized mid.disk is.event.stores.store.carries.tells.honest ∙ size ∙ sym (sized old.disk serves.store.carries.tells.honest)) is.event.strays;
+  }
+
+  -- there was no memory for the rescue
+  pub asks_starved : x.called ≡ old.collections.called → x.finished ≡ old.collections.finished → (who : ℕ) (request : Request) → old.stop ≡ None → Asks g old roomy who request replies.Memory
+  asks_starved called finished who request none = record {
+    event = λ s stands. record {
+      after = s;
+      step = refl;
+      stands = stands_from g roomy s none (serves_roomy s (serves_from g old s none stands));
+      survives = inr (record { disk = refl; after = s; step = refl; graph = refl });
+      lost = λ _. omega arith;
+    };
+    owed = λ _ s stands. tt;
+    still = λ _ s stands all. refl;
+    stopped = λ stop is. cc;
+    stops = λ _. none;
+    cause = λ _. tt;
+    rescued = λ _ s stands. ready;
+    called = called;
+    finished = finished;
+    size = refl;
+    faults = omega arith;
+    short = tt;
+    seed = refl;
+    kept = omega arith;
+    drawn = omega arith;
+  }
 
 -- a core that stopped
 pub asks_stopped : {D : Type 0} (g : Ghosts D) (k : Kernel D) (who : ℕ) (request : Request) (stop : Stop) → k.stop ≡ Some stop → Asks g k k who request (replies.Stopped stop.moment)
 asks_stopped g k who request stop is = record {
-  event = λ s stands. record { after = s; step = step s (subst (Stands g k s) is stands); stands = stands; survives = inr (record { disk = refl; after = s; step = step s (subst (Stands g k s) is stands); graph = refl }) };
+  event = λ s stands. record { after = s; step = step s (subst (Stands g k s) is stands); stands = stands; survives = inr (record { disk = refl; after = s; step = step s (subst (Stands g k s) is stands); graph = refl }); lost = λ _. omega arith };
   owed = λ none. cc;
   still = λ none. cc;
   stopped = λ other same. let one : stop ≡ other = cc in (refl, ap (λ (x : Stop). replies.Stopped x.moment) one);
   stops = λ none. cc;
   cause = λ none. absurd (cc (is, none));
+  rescued = λ none. cc;
+  called = refl;
+  finished = refl;
   size = refl;
   faults = omega arith;
   short = tt;
@@ -66,14 +123,22 @@ asks_stopped g k who request stop is = record {
     step s front = rw (front.stopped, is, eq-eqb stop.moment stop.moment refl) refl
 
 -- one that answered
-pub asks_answered : {D : Type 0} (g : Ghosts D) (old new : Kernel D) (who : ℕ) (request : Request) (reply : Reply) → old.stop ≡ None → Tries g old new who request (Ok reply) → Asks g old new who request reply
-asks_answered g old new who request reply none tries = record {
-  event = λ s stands. happens g old new s who request reply (tries.ends s (serves_from g old s none stands) none);
-  owed = λ _ s stands. (tries.ends s (serves_from g old s none stands) none).owed;
-  still = λ _ s stands. (tries.ends s (serves_from g old s none stands) none).still;
+pub asks_answered : {D : Type 0} (g : Ghosts D) → ((d : D) → IsTrue (g.honest d) → length (g.content d) ≡ g.blocks d) → (old : Kernel D) (x : Collections) → AreRescued old.collections.collector x.collector []
+    → x.called ≡ old.collections.called → x.finished ≡ old.collections.finished → (mid : Kernel D) (y : Collections) (who : ℕ) (request : Request) (reply : Reply) (more : List Rescue)
+    → ((s : State) → Serves g (record old { collections = x }) s → more ≡ rescues_of s who request reply) → AreRescued mid.collections.collector y.collector more → y.called ≡ mid.collections.called → y.finished ≡ mid.collections.finished → old.stop ≡ None
+    → Tries g (record old { collections = x }) mid who request (Ok reply) → Asks g old (record mid { collections = y }) who request reply
+asks_answered g sized old x ready called finished mid y who request reply more are rescued called_on finished_on none tries = record {
+  event = λ s stands. let serves = serves_from g old s none stands in
+      happens g old x ready sized mid tries.size y s who request reply (tries.stop ∙ none) (all_rescued s serves) serves
+      (tries.ends s (serves_roomy g old x ready s serves) none);
+  owed = λ _ s stands. (tries.ends s (serves_roomy g old x ready s (serves_from g old s none stands)) none).owed;
+  still = λ _ s stands. (tries.ends s (serves_roomy g old x ready s (serves_from g old s none stands)) none).still;
   stopped = λ stop is. cc;
   stops = λ _. tries.stop ∙ none ∙ sym (plain_goes_on reply tries.plain None);
-  cause = λ _. plain_cause g old.disk new.disk reply tries.plain;
+  cause = λ _. plain_cause g old.disk mid.disk reply tries.plain;
+  rescued = λ _ s stands. rescued_after old.collections.collector x.collector y.collector (rescues_of s who request reply) ready (all_rescued s (serves_from g old s none stands));
+  called = called_on ∙ ap (λ (c : Collections). c.called) tries.collections ∙ called;
+  finished = finished_on ∙ ap (λ (c : Collections). c.finished) tries.collections ∙ finished;
   size = tries.size;
   faults = tries.faults;
   short = plain_short reply tries.plain;
@@ -81,42 +146,68 @@ asks_answered g old new who request reply none tries = record {
   kept = tries.kept;
   drawn = tries.drawn;
 }
+  where
+    all_rescued : (s : State) → Serves g old s → AreRescued x.collector y.collector (rescues_of s who request reply)
+    all_rescued s serves = subst (AreRescued x.collector y.collector) (are s (serves_roomy g old x ready s serves)) (subst (λ (c : Collections). AreRescued c.collector y.collector more) tries.collections rescued)
 
 -- one that was refused from below
 module _ {D : Type 0} (g : Ghosts D) (left_sized : (d : D) (t : ℕ) (c : Image) → g.left_since d t c → length c ≡ g.blocks d) (sized : (d : D) → IsTrue (g.honest d) → length (g.content d) ≡ g.blocks d)
-    (old mid : Kernel D) (size : g.blocks mid.disk ≡ g.blocks old.disk) (who : ℕ) (request : Request) (none : old.stop ≡ None) where
+    (old : Kernel D) (x : Collections) (ready : AreRescued old.collections.collector x.collector []) (called : x.called ≡ old.collections.called) (finished : x.finished ≡ old.collections.finished) (mid : Kernel D) (size : g.blocks mid.disk ≡ g.blocks old.disk) (who : ℕ) (request : Request) (none : old.stop ≡ None) where
   abbrev stopped_as : Reply → Kernel D
   stopped_as reply = record mid { stop = stopped_by reply mid.stop }
 
-  in_doubt : (s : State) (moment : ℕ) → Serves g old s → IsInDoubt g old mid s who request → Happens g old (stopped_as (replies.Disk (Some moment))) s (events.Ask who request (replies.Disk (Some moment)))
+  abbrev doubted : ℕ → Event
+  doubted moment = events.Ask who request (replies.Disk (Some moment))
+
+  late : (s : State) (moment : ℕ) → Serves g old s → refusal_of s who request ≡ None → (h : Graph) → MayStand old.words.seed s who request h → Late old.words.seed s (doubted moment) h
+  late s moment serves allowed h Undone = After (doubted moment) (stopped_at moment s) (rw (running g old s serves none) refl)
+  late s moment serves allowed h (Whole b names) = InDoubt who b moment request allowed names
+  late s moment serves allowed h (CutShort id was now f changes between) = CutInDoubt who moment request id was now f changes between
+
+  in_doubt : (s : State) (moment : ℕ) → Serves g old s → IsInDoubt g (roomy g old x ready) mid s who request → Happens g old (stopped_as (replies.Disk (Some moment))) s (events.Ask who request (replies.Disk (Some moment)))
   in_doubt s moment serves is = record {
     after = stopped_at moment s;
     step = rw (running g old s serves none) refl;
     stands = record {
-      drawn = serves.front.drawn ∙ sym (ap (λ (k : Kernel D). k.words.drawn) is.same);
-      names = ap (λ (k : Kernel D). k.names.named) is.same ∙ serves.front.names;
-      grants = ap (λ (k : Kernel D). map (λ (seat : Seat). seat.grant) k.seats) is.same ∙ serves.front.grants;
+      drawn = serves.front.drawn ∙ sym is.drawn;
+      names = ap (λ (n : Listing). n.named) is.named ∙ serves.front.names;
+      grants = is.grants ∙ serves.front.grants;
       stopped = refl;
     };
-    survives = inl (doubt g left_sized old.words.seed s old.disk mid.disk (fits g old s serves (g.blocks mid.disk) (sized old.disk serves.store.carries.tells.honest ∙ sym size)) who is.block moment request
-        (running g old s serves none) is.allowed is.names is.fits is.leaves (pending g old s serves));
+    lost = λ none. cc;
+    survives = inl (call g left_sized old.words.seed s (doubted moment) old.disk mid.disk (record {
+      crashes = wider g old.disk mid.disk _ _ is.leaves (λ c some. record { graph = some.graph; may = inr (late s moment serves is.allowed some.graph some.may); fits = some.fits; holds = some.holds });
+      now = λ c left. ⊎_elim
+          (λ was. record { graph = s.graph; may = late s moment serves is.allowed s.graph Undone; fits = fits g old s serves (g.blocks mid.disk) (sized old.disk serves.store.carries.tells.honest ∙ sym size); holds = pending g old s serves c was })
+          (λ some. record { graph = some.graph; may = late s moment serves is.allowed some.graph some.may; fits = some.fits; holds = some.holds }) (is.leaves.now c left);
+    }));
   }
 
-  told_happens : (refused : Refused) (moment : ℕ) (s : State) → Serves g old s → EndsSo g old mid s who request (Err refused) → Happens g old (stopped_as (told refused moment)) s (events.Ask who request (told refused moment))
-  told_happens (refusals.Full need) moment s serves is = happens g old mid s who request (replies.Full need) is
-  told_happens (refusals.Disk false) moment s serves is = happens g old mid s who request (replies.Disk None) is
-  told_happens (refusals.Disk true) moment s serves is = in_doubt s (moment - 1) serves is
-  told_happens (refusals.Damaged damage) moment s serves is = absurd is
-  told_happens refusals.Memory moment s serves is = happens g old mid s who request replies.Memory is
+  -- nothing is rescued
+  nothing : (s : State) (reply : Reply) → is_done reply ≡ false → rescues_of s who request reply ≡ []
+  nothing s reply undone = rw undone refl
 
-  told_owed : (refused : Refused) (moment : ℕ) (s : State) → EndsSo g old mid s who request (Err refused) → Owes old.words.seed s who request (g.content old.disk) (sum old.space.free) (told refused moment)
+  refused_so : (reply : Reply) (s : State) → mid.stop ≡ None → mid.collections ≡ x → is_done reply ≡ false → Serves g old s → Answers g (roomy g old x ready) mid s who request reply → Happens g old mid s (events.Ask who request reply)
+  refused_so reply s runs same undone serves is =
+      happens g old x ready sized mid size mid.collections s who request reply runs
+      (subst (λ (more : List Rescue). AreRescued x.collector mid.collections.collector more) (sym (nothing s reply undone))
+      (subst (λ (c : Collections). AreRescued x.collector c.collector []) (sym same) (same_rescued x.collector))) serves is
+
+  told_happens : (refused : Refused) (moment : ℕ) (s : State) → mid.stop ≡ None → mid.collections ≡ x → Serves g old s → EndsSo g (roomy g old x ready) mid s who request (Err refused) → Happens g old (stopped_as (told refused moment)) s (events.Ask who request (told refused moment))
+  told_happens (refusals.Full need) moment s runs same serves is = refused_so (replies.Full need) s runs same refl serves is
+  told_happens (refusals.Disk false) moment s runs same serves is = refused_so (replies.Disk None) s runs same refl serves is
+  told_happens (refusals.Disk true) moment s runs same serves is = in_doubt s (moment - 1) serves is
+  told_happens (refusals.Damaged damage) moment s runs same serves is = absurd is
+  told_happens refusals.Memory moment s runs same serves is = refused_so replies.Memory s runs same refl serves is
+
+  told_owed : (refused : Refused) (moment : ℕ) (s : State) → EndsSo g (roomy g old x ready) mid s who request (Err refused) → Owes old.words.seed s who request (g.content old.disk) (sum old.space.free) (told refused moment)
   told_owed (refusals.Full need) moment s is = is.owed
   told_owed (refusals.Disk false) moment s is = tt
   told_owed (refusals.Disk true) moment s is = tt
   told_owed (refusals.Damaged damage) moment s is = absurd is
   told_owed refusals.Memory moment s is = tt
 
-  told_still : (refused : Refused) (moment : ℕ) (s : State) → EndsSo g old mid s who request (Err refused) → leaves_all (told refused moment) ≡ true → g.content mid.disk ≡ g.content old.disk
+  told_still : (refused : Refused) (moment : ℕ) (s : State) → EndsSo g (roomy g old x ready) mid s who request (Err refused) → leaves_all (told refused moment) ≡ true → g.content mid.disk ≡ g.content old.disk
   told_still (refusals.Full need) moment s is leaves = is.still leaves
   told_still (refusals.Disk false) moment s is leaves = is.still leaves
   told_still (refusals.Disk true) moment s is leaves = absurd (cc leaves)
@@ -130,14 +221,25 @@ module _ {D : Type 0} (g : Ghosts D) (left_sized : (d : D) (t : ℕ) (c : Image)
   told_cause (refusals.Damaged damage) is = tt
   told_cause refusals.Memory is = tt
 
-  pub asks_refused : (refused : Refused) (new : Kernel D) → new ≡ stopped_as (told refused (g.moment mid.disk)) → Tries g old mid who request (Err refused) → Asks g old new who request (told refused (g.moment mid.disk))
+  undone : (refused : Refused) (moment : ℕ) → is_done (told refused moment) ≡ false
+  undone (refusals.Full need) moment = refl
+  undone (refusals.Disk false) moment = refl
+  undone (refusals.Disk true) moment = refl
+  undone (refusals.Damaged damage) moment = refl
+  undone refusals.Memory moment = refl
+
+  pub asks_refused : (refused : Refused) (new : Kernel D) → new ≡ stopped_as (told refused (g.moment mid.disk)) → Tries g (roomy g old x ready) mid who request (Err refused) → Asks g old new who request (told refused (g.moment mid.disk))
   asks_refused refused new is tries = subst (λ (k : Kernel D). Asks g old k who request (told refused (g.moment mid.disk))) (sym is) (record {
-    event = λ s stands. let serves = serves_from g old s none stands in told_happens refused (g.moment mid.disk) s serves (tries.ends s serves none);
-    still = λ _ s stands. told_still refused (g.moment mid.disk) s (tries.ends s (serves_from g old s none stands) none);
-    owed = λ _ s stands. told_owed refused (g.moment mid.disk) s (tries.ends s (serves_from g old s none stands) none);
+    event = λ s stands. let serves = serves_from g old s none stands in told_happens refused (g.moment mid.disk) s (tries.stop ∙ none) tries.collections serves (tries.ends s (serves_roomy g old x ready s serves) none);
+    still = λ _ s stands. told_still refused (g.moment mid.disk) s (tries.ends s (serves_roomy g old x ready s (serves_from g old s none stands)) none);
+    owed = λ _ s stands. told_owed refused (g.moment mid.disk) s (tries.ends s (serves_roomy g old x ready s (serves_from g old s none stands)) none);
     stopped = λ stop same. cc;
     stops = λ _. ap (λ (o : Option Stop). stopped_by (told refused (g.moment mid.disk)) o) (tries.stop ∙ none);
     cause = λ _. told_cause refused tries.cause;
+    rescued = λ _ s stands. subst (λ (more : List Rescue). AreRescued old.collections.collector mid.collections.collector more) (sym (nothing s (told refused (g.moment mid.disk)) (undone refused (g.moment mid.disk))))
+        (subst (λ (c : Collections). AreRescued old.collections.collector c.collector []) (sym tries.collections) ready);
+    called = ap (λ (c : Collections). c.called) tries.collections ∙ called;
+    finished = ap (λ (c : Collections). c.finished) tries.collections ∙ finished;
     size = size;
     faults = tries.faults;
     short = told_short refused (g.moment mid.disk);

@@ -23,8 +23,6 @@ use Rattle.puid_space.specs.Kinds.{kind_of, kinds_of}
 use Rattle.puid_space.proofs.Graphs.{insert_entry-same, keys_of-kinds_in, kind_in-kinds_in, kinds_in-insert_entry}
 use Rattle.ufs_model.specs.declared.asked.Reply.TheVariants as replies
 use Rattle.ufs_model.specs.declared.asked.Request.{Request}
-use Rattle.ufs_model.specs.declared.collection.Collection.{Collection}
-use Rattle.ufs_model.specs.declared.collection.Collection.TheVariants as collections
 use Rattle.ufs_model.specs.declared.change.Change.TheVariants.{Fill}
 use Rattle.ufs_model.specs.declared.object.Draft.{Draft}
 use Rattle.ufs_model.specs.declared.object.Index.{Index}
@@ -33,12 +31,13 @@ use Rattle.ufs_model.specs.declared.object.Object.TheVariants as objects
 use Rattle.ufs_model.specs.Graph.{Graph, has_block, ids_of, is_free_root, object_at, with_object}
 use Rattle.ufs_model.specs.Identifier.{puid_cmp, rises, same_puid}
 use Rattle.ufs_model.specs.Object.{blocks_of}
-use Rattle.ufs_model.specs.Outcome.{created, with_edge}
+use Rattle.ufs_model.specs.Outcome.{created}
 use Rattle.ufs_model.specs.Need.{need_of}
 use Rattle.ufs_model.specs.Refusal.{refusal_of, target}
 use Rattle.ufs_model.specs.State.{State, changed_draft, named, put, seen}
 use Rattle.ufs_model.specs.Word.{word}
 use Rattle.ufs_model.proofs.Graphs.{object_at-with_object, rises-with_object}
+use Rattle.ufs_model.proofs.Outcomes.{edge_stays}
 use Rattle.ufs_model.proofs.RootBlocks.{has_block-still}
 use Rattle.ufs_model.proofs.WellStates.{put_object-at, seen_object}
 use Rattle.vol_image.specs.Sound.{Holds}
@@ -50,7 +49,7 @@ use Rattle.vol_owners.proofs.Keys.{block_there}
 use Rattle.vol_owners.proofs.Rooms.{free_is_root}
 use Rattle.cfs_core.specs.Kernel.{Kernel}
 use Rattle.cfs_core.specs.Makes.{IsMaking}
-use Rattle.cfs_core.specs.StandsFor.{HasCollection, Serves, drafts_of_seats}
+use Rattle.cfs_core.specs.StandsFor.{Serves, drafts_of_seats, is_sweeping}
 use Rattle.cfs_core.specs.Ways.{Reaches}
 use Rattle.cfs_core.proofs.Changed.{of_this}
 use Rattle.cfs_core.proofs.Committed.{IsBeside, IsOutcome}
@@ -96,7 +95,7 @@ need_is s who index i slot o request making r = making.need s who ∙ rw (r.bare
 
 -- ---- an object is made, with block b as its root
 
-module _ {D : Type 0} (g : Ghosts D) (k : Kernel D) (s : State) (who : ℕ) (serves : Serves g k s) (idle : k.collecting ≡ None) (index : Puid) (i : Index) (slot : ℕ) (o : Object) (one : blocks_of o ≡ 1) (request : Request) (making : IsMaking request slot o)
+module _ {D : Type 0} (g : Ghosts D) (k : Kernel D) (s : State) (who : ℕ) (serves : Serves g k s) (index : Puid) (i : Index) (slot : ℕ) (o : Object) (one : blocks_of o ≡ 1) (request : Request) (making : IsMaking request slot o)
     (r : Reaches s who request index (objects.Index i)) (goes : refusal_of s who request ≡ None) (enough : 8 ≤ sum k.space.free) (b : ℕ) (least : IsLeastFree (g.content k.disk) b) where
   abbrev id : Puid
   id = record { block = b; word = word k.words.seed (s.drawn + 1) }
@@ -167,19 +166,14 @@ module _ {D : Type 0} (g : Ghosts D) (k : Kernel D) (s : State) (who : ℕ) (ser
       words = record { seed = k.words.seed; drawn = k.words.drawn + 1 };
     }
 
-    quiet : (o : Option Puid) (c : Collection) → c ≡ collections.None → with_edge o id c ≡ c
-    quiet None c none = rw none refl
-    quiet (Some x) c none = rw none refl
-
     pub beside : IsBeside k new s after h
     beside = record {
       grants = ap (λ (t : State). t.grants) filled_is;
       stopped = ap (λ (t : State). t.stopped) filled_is;
-      collection = quiet (named s who (target request)) s.collection (subst (HasCollection (g.content k.disk) s) idle serves.collecting);
+      sweeping = edge_stays is_sweeping (λ a b c d. refl) (named s who (target request)) id s.collection;
       rooted = refl;
       seats = refl;
       root = refl;
-      collecting = refl;
       stop = refl;
       drawn = ap (λ (t : State). t.drawn) filled_is ∙ ap (λ n. n + 1) serves.front.drawn;
       named = names_are;

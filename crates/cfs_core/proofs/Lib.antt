@@ -1,3 +1,5 @@
+mod Seated
+mod Readied
 pub mod Serving
 mod Ways
 mod Refusing
@@ -6,13 +8,31 @@ mod Calm
 mod Grown
 mod Committed
 mod Changed
+mod Few
+mod Collected
 mod Putting
 mod Created
 mod Placed
 mod After
+mod Filed
 mod Makings
 mod Regranted
 mod Granted
-mod Asked
+mod Drafted
+mod Moved
+mod Taken
+mod Ended
+mod Ending
+mod GivenUp
+mod Leaving
+mod Dropping
+mod Openings
+mod Altered
+mod Barred
+mod Rewritten
+pub mod Asked
 mod SoundGraph
 mod Opened
+mod Tidied
+mod Stepping
+mod Stepped

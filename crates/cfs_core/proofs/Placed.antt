@@ -5,7 +5,6 @@ use Rattle.std.specs.List.{list_any}
 use Rattle.std.specs.BTreeMap.{insert_entry}
 use Rattle.cfs_base.specs.Calls.{OnlyReads}
 use Rattle.cfs_base.specs.Disk.{Image}
-use Rattle.cfs_base.specs.Run.{Leaves}
 use Rattle.cfs_base.specs.declared.disk.Disk.{Ghosts}
 use Rattle.cfs_base.specs.declared.identifier.Puid.{Puid}
 use Rattle.cfs_base.specs.declared.kind.Kind.{Kind}
@@ -44,7 +43,7 @@ use Rattle.cfs_core.specs.Makes.{IsMaking, Names, TriesToMake}
 use Rattle.cfs_core.specs.StandsFor.{Serves, drafts_of_seats}
 use Rattle.cfs_core.specs.Ways.{Reaches}
 use Rattle.cfs_core.proofs.Answering.{disk_failed, memory, reads_none}
-use Rattle.cfs_core.proofs.Committed.{did, in_doubt}
+use Rattle.cfs_core.proofs.Committed.{LeavesThese, did, in_doubt, uncut}
 use Rattle.cfs_core.proofs.Created.{beside, inside, least_one, least_there, need_is, no_root, not_zero, outcome, theirs}
 use Rattle.cfs_core.proofs.Serving.{running, shut, stays}
 
@@ -74,7 +73,7 @@ never_full g at slot old new before after need (inl none) = none
 never_full g at slot old new before after need (inr map) = let no = map.is in cc
 
 module _ {D : Type 0} (g : Ghosts D) (left_sized : (d : D) (t : ℕ) (c : Image) → g.left_since d t c → length c ≡ g.blocks d) (sized : (d : D) → IsTrue (g.honest d) → length (g.content d) ≡ g.blocks d)
-    (k : Kernel D) (d : D) (space : Kept) (idle : k.collecting ≡ None) (room : k.names.room ≡ g.blocks k.disk) (index : Puid) (slot : ℕ) (o : Object) (one : blocks_of o ≡ 1) (w : ℕ) (word_is : w ≡ word k.words.seed (k.words.drawn + 1))
+    (k : Kernel D) (d : D) (space : Kept) (room : k.names.room ≡ g.blocks k.disk) (index : Puid) (slot : ℕ) (o : Object) (one : blocks_of o ≡ 1) (w : ℕ) (word_is : w ≡ word k.words.seed (k.words.drawn + 1))
     (r : Result Puid Refused) (puts : PutsObject g index.block slot o w k.disk d k.space space r) (enough : 8 ≤ sum k.space.free) where
   abbrev mid : Kernel D
   mid = record k { disk = d; space = space }
@@ -98,9 +97,9 @@ module _ {D : Type 0} (g : Ghosts D) (left_sized : (d : D) (t : ℕ) (c : Image)
     abbrev id_at : ℕ → Puid
     id_at b = record { block = b; word = word k.words.seed (s.drawn + 1) }
 
-    leaves_at : (b : ℕ) → IsLeastFree (g.content k.disk) b → Leaves g k.disk d (λ c. Holds c s.graph ⊎ Holds c (with_made s.graph index i slot (id_at b) o))
-    leaves_at b least = wider g k.disk d _ _ (puts.leaves s.graph (drafts_of_seats k.seats s.grants) index i has) (λ c p. ⊎_elim inl (λ t. inr
-        (subst (λ (q : Puid). Holds c (with_made s.graph index i slot q o)) (ap (λ n. named n w) (least_one (g.content k.disk) t.0 b t.1 least) ∙ ap (λ n. named b n) word_drawn) t.2)) p)
+    leaves_at : (b : ℕ) → IsLeastFree (g.content k.disk) b → LeavesThese g k.disk d s who request (replies.Id (id_at b)) (with_made s.graph index i slot (id_at b) o)
+    leaves_at b least = uncut g k.disk d s who request (replies.Id (id_at b)) _ (wider g k.disk d _ _ (puts.leaves s.graph (drafts_of_seats k.seats s.grants) index i has) (λ c p. ⊎_elim inl (λ t. inr
+        (subst (λ (q : Puid). Holds c (with_made s.graph index i slot q o)) (ap (λ n. named n w) (least_one (g.content k.disk) t.0 b t.1 least) ∙ ap (λ n. named b n) word_drawn) t.2)) p))
 
     short : ¬ IsShort s who request (sum k.space.free)
     short is = omega (arith, is.few, enough, need_is s who index i slot o request making reach)
@@ -111,16 +110,15 @@ module _ {D : Type 0} (g : Ghosts D) (left_sized : (d : D) (t : ℕ) (c : Image)
         let least = two.1.least in
         let same : id_at p.block ≡ p = ap (λ n. named p.block n) (sym word_drawn ∙ sym two.0) in
         let b = p.block in
-        let there = inside g k s who serves idle index i slot o one request making reach goes enough b least in
-        let named_so = names.named (not_zero g k s who serves idle index i slot o one request making reach goes enough b least) (omega (arith, there, room, sized k.disk serves.store.carries.tells.honest))
-        (root_is k.names.named s.graph b serves.front.names ∙ no_root g k s who serves idle index i slot o one request making reach goes enough b least) in
-        let answers = did g left_sized sized k (kernel_with (id_at b)) size none idle s (created k.words.seed s who (target request) slot o b).1 who b request (replies.Id (id_at b)) serves (with_made s.graph index i slot (id_at b) o) 3
-        (outcome g k s who serves idle index i slot o one request making reach goes enough b least) (leaves_at b least) (beside g k s who serves idle index i slot o one request making reach goes enough b least d space) (index.block ∷ b ∷ [])
+        let there = inside g k s who serves index i slot o one request making reach goes enough b least in
+        let named_so = names.named (not_zero g k s who serves index i slot o one request making reach goes enough b least) (omega (arith, there, room, sized k.disk serves.store.carries.tells.honest))
+        (root_is k.names.named s.graph b serves.front.names ∙ no_root g k s who serves index i slot o one request making reach goes enough b least) in
+        let answers = did g left_sized sized k (kernel_with (id_at b)) size none s (created k.words.seed s who (target request) slot o b).1 who b request (replies.Id (id_at b)) serves (with_made s.graph index i slot (id_at b) o) 3
+        (outcome g k s who serves index i slot o one request making reach goes enough b least) (leaves_at b least) (beside g k s who serves index i slot o one request making reach goes enough b least d space) (index.block ∷ b ∷ [])
         (record {
           store = subst (λ (q : Puid). StoreHas g (with_made s.graph index i slot q o) (drafts_of_seats k.seats s.grants) d space) (sym same) two.1.store;
-          settled = two.1.settled;
           only = two.1.only;
-          these = theirs g k s who serves idle index i slot o one request making reach goes enough b least;
+          these = theirs g k s who serves index i slot o one request making reach goes enough b least;
         })
         tt refl short (λ _. least) in
         subst (EndsSo g k new s who request) (sym named_so.0)
@@ -138,8 +136,8 @@ module _ {D : Type 0} (g : Ghosts D) (left_sized : (d : D) (t : ℕ) (c : Image)
     doubtful : IsInDoubt g k mid s who request
     doubtful =
         let some = least_there (g.content k.disk) (length (g.content k.disk)) 0 (λ m below. absurd (omega (arith, below))) (omega (arith, enough, sum_is (g.content k.disk) k.space serves.store.counts)) in
-        in_doubt g left_sized sized k mid size none idle s (created k.words.seed s who (target request) slot o some.0).1 who some.0 request (replies.Id (id_at some.0)) serves (with_made s.graph index i slot (id_at some.0) o) 3
-        (outcome g k s who serves idle index i slot o one request making reach goes enough some.0 some.1) (leaves_at some.0 some.1) refl
+        in_doubt g left_sized sized k mid size none s (created k.words.seed s who (target request) slot o some.0).1 who some.0 request (replies.Id (id_at some.0)) serves (with_made s.graph index i slot (id_at some.0) o) 3
+        (outcome g k s who serves index i slot o one request making reach goes enough some.0 some.1) (leaves_at some.0 some.1) refl
 
     as_it_was : (space ≡ k.space) × OnlyReads g 9 k.disk d → mid ≡ record k { disk = d }
     as_it_was two = ap (λ (x : Kept). record k { disk = d; space = x }) two.0
@@ -163,6 +161,7 @@ module _ {D : Type 0} (g : Ghosts D) (left_sized : (d : D) (t : ℕ) (c : Image)
     size = ap g.blocks names.disk ∙ size;
     faults = omega (arith, ap g.faults names.disk, puts.calls.faults);
     stop = names.stop;
+    collections = names.collections;
     seed = names.seed;
     kept = names.kept;
     drawn = names.drawn;
@@ -180,6 +179,7 @@ module _ {D : Type 0} (g : Ghosts D) (left_sized : (d : D) (t : ℕ) (c : Image)
     size = size;
     faults = puts.calls.faults;
     stop = refl;
+    collections = refl;
     seed = refl;
     kept = omega arith;
     drawn = omega arith;
@@ -196,7 +196,7 @@ module _ {D : Type 0} (g : Ghosts D) (left_sized : (d : D) (t : ℕ) (c : Image)
   tries_short = record {
     ends = λ request making s who i serves none reach within goes.
         let need = need_is s who index i slot o request making reach in record {
-          event = stays g 0 k (record k { disk = d; space = space }) reads (ap (λ (x : Kept). record k { disk = d; space = x }) same_space) s serves left_sized (sized k.disk serves.store.carries.tells.honest) none
+          event = stays g 0 k (record k { disk = d; space = space }) reads (ap (λ (x : Kept). record k { disk = d; space = x }) same_space) s serves left_sized (sized k.disk serves.store.carries.tells.honest)
               (events.Ask who request (replies.Full (record { free = sum k.space.free; need = 4 }))) (making.full k.words.seed s who (sum k.space.free) (running g k s serves none) goes need few);
           still = λ all. reads.content;
           owed = ByWant goes (record { delete = making.delete; few = omega (arith, few, need) }) (ap (λ (n : ℕ). replies.Full (record { free = sum k.space.free; need = n })) (sym need));
@@ -206,6 +206,7 @@ module _ {D : Type 0} (g : Ghosts D) (left_sized : (d : D) (t : ℕ) (c : Image)
     size = ap g.blocks same_disk;
     faults = reads.faults;
     stop = refl;
+    collections = refl;
     seed = refl;
     kept = omega arith;
     drawn = omega arith;

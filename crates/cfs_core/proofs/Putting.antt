@@ -17,6 +17,7 @@ use Rattle.ufs_model.specs.declared.asked.Request.{Request}
 use Rattle.ufs_model.specs.declared.asked.Request.TheVariants as asks
 use Rattle.ufs_model.specs.declared.object.Index.{Index}
 use Rattle.ufs_model.specs.declared.object.Object.TheVariants as objects
+use Rattle.ufs_model.specs.Graph.{with_object}
 use Rattle.ufs_model.specs.Outcome.{creates, outcome_of}
 use Rattle.ufs_model.specs.Refusal.{refusal_of}
 use Rattle.ufs_model.specs.State.{State}
@@ -26,8 +27,9 @@ use Rattle.cfs_core.specs.Kernel.{Kernel}
 use Rattle.cfs_core.specs.StandsFor.{Serves, drafts_of_seats}
 use Rattle.cfs_core.specs.Ways.{Reaches}
 use Rattle.cfs_core.proofs.Answering.{disk_failed, memory, reads_none}
-use Rattle.cfs_core.proofs.Changed.{slot_did, slot_in_doubt}
-use Rattle.cfs_core.proofs.Grown.{added_by}
+use Rattle.cfs_core.proofs.Changed.{object_did, object_in_doubt}
+use Rattle.cfs_core.proofs.Committed.{LeavesThese, uncut}
+use Rattle.cfs_core.proofs.Grown.{added_by, filled_blocks}
 use Rattle.cfs_core.proofs.Refusing.{Puts, retain_full, retain_need}
 use Rattle.cfs_core.proofs.Serving.{running, shut, stays}
 
@@ -42,7 +44,7 @@ done_cause g at slot old new after (Ok u) is = tt
 done_cause g at slot old new after (Err e) is = refusal_cause g at slot old new after e is
 
 module _ {D : Type 0} (g : Ghosts D) (left_sized : (d : D) (t : ℕ) (c : Image) → g.left_since d t c → length c ≡ g.blocks d) (sized : (d : D) → IsTrue (g.honest d) → length (g.content d) ≡ g.blocks d)
-    (k : Kernel D) (d : D) (space : Kept) (idle : k.collecting ≡ None) (index : Puid) (slot : ℕ) (what : Option Puid) (request : Request) (makes : creates request ≡ false)
+    (k : Kernel D) (d : D) (space : Kept) (index : Puid) (slot : ℕ) (what : Option Puid) (request : Request) (makes : creates request ≡ false)
     (speaks : IsSpeakable (events.Ask 0 request replies.Done)) (result : Result (Unit {0}) Refused) (puts : PutsSlot g index.block slot what k.disk d k.space space result)
     (out : (s : State) (who : ℕ) (i : Index) → Serves g k s → Reaches s who request index (objects.Index i)
     → (outcome_of k.words.seed s who request 0 ≡ (replies.Done, (outcome_of k.words.seed s who request 0).1)) × Puts s (outcome_of k.words.seed s who request 0).1 index (index_with i slot what))
@@ -66,15 +68,17 @@ module _ {D : Type 0} (g : Ghosts D) (left_sized : (d : D) (t : ℕ) (c : Image)
     speak : (w : ℕ) → IsSpeakable (events.Ask w request replies.Done)
     speak w = speaks
 
+    left : LeavesThese g k.disk d s who request replies.Done (with_object s.graph index (index_with i slot what))
+    left = uncut g k.disk d s who request replies.Done _ (puts.leaves s.graph (drafts_of_seats k.seats s.grants) index i has)
+
     ends : (r : Result (Unit {0}) Refused) → r ≡ result → EndsSo g k new s who request (done_or r)
-    ends (Ok u) is = slot_did g left_sized sized k new size refl none idle s (outcome_of k.words.seed s who request 0).1 who request serves index i reach.there slot what goes makes (speak who)
-        (out s who i serves reach).0 (out s who i serves reach).1 (room s who i serves reach).0 (room s who i serves reach).1
-        (puts.leaves s.graph (drafts_of_seats k.seats s.grants) index i has) (rw (← is) at (puts.done s.graph (drafts_of_seats k.seats s.grants) index i has))
+    ends (Ok u) is = let changes = rw (← is) at (puts.done s.graph (drafts_of_seats k.seats s.grants) index i has) in
+        object_did g left_sized sized k new size refl none s (outcome_of k.words.seed s who request 0).1 who request serves index (objects.Index i) (index_with i slot what) reach.there refl (added_by what) (filled_blocks i slot what) goes makes (speak who)
+        (out s who i serves reach).0 (out s who i serves reach).1 (room s who i serves reach).0 (room s who i serves reach).1 left changes.store changes.only
     ends (Err (refusals.Full need)) is = absurd (rw (← is) at puts.refused)
     ends (Err (refusals.Disk false)) is = let two = (rw (← is) at puts.untried) refl in disk_failed g left_sized sized 9 k new two.1 (ap (λ (x : Kept). record k { disk = d; space = x }) two.0) s who serves none request
-    ends (Err (refusals.Disk true)) is = slot_in_doubt g left_sized sized k new size refl none idle s (outcome_of k.words.seed s who request 0).1 who request serves index i reach.there slot what goes makes (speak who)
-        (out s who i serves reach).0 (out s who i serves reach).1 (room s who i serves reach).0 (room s who i serves reach).1
-        (puts.leaves s.graph (drafts_of_seats k.seats s.grants) index i has)
+    ends (Err (refusals.Disk true)) is = object_in_doubt g left_sized sized k new size refl none s (outcome_of k.words.seed s who request 0).1 who request serves index (objects.Index i) (index_with i slot what) reach.there refl (added_by what) (filled_blocks i slot what) goes makes (speak who)
+        (out s who i serves reach).0 (out s who i serves reach).1 (room s who i serves reach).0 (room s who i serves reach).1 left
     ends (Err (refusals.Damaged damage)) is = let no : true ≡ false = rw (← is) at (puts.sound s.graph (drafts_of_seats k.seats s.grants) index i has) in cc
     ends (Err refusals.Memory) is = let two = (rw (← is) at puts.memory) refl in memory g left_sized sized 9 k new two.1 (ap (λ (x : Kept). record k { disk = d; space = x }) two.0) s who serves none request
 
@@ -86,6 +90,7 @@ module _ {D : Type 0} (g : Ghosts D) (left_sized : (d : D) (t : ℕ) (c : Image)
     size = puts.calls.same.size;
     faults = puts.calls.faults;
     stop = refl;
+    collections = refl;
     seed = refl;
     kept = omega arith;
     drawn = omega arith;
@@ -114,7 +119,7 @@ module _ {D : Type 0} (g : Ghosts D) (left_sized : (d : D) (t : ℕ) (c : Image)
   pub tries_full : TriesOn g k (record k { disk = d; space = space }) index slot request (Err (refusals.Full need))
   tries_full = record {
     ends = λ s who i serves none reach inside goes. record {
-      event = stays g 0 k (record k { disk = d; space = space }) reads as_it_was s serves left_sized (sized k.disk serves.store.carries.tells.honest) none (events.Ask who request (replies.Full need))
+      event = stays g 0 k (record k { disk = d; space = space }) reads as_it_was s serves left_sized (sized k.disk serves.store.carries.tells.honest) (events.Ask who request (replies.Full need))
           (retain_full k.words.seed s who to index i slot (sum k.space.free) id reach (running g k s serves none) goes few);
       still = λ all. reads.content;
       owed = ByWant goes (record { delete = refl; few = omega (arith, few, retain_need k.words.seed s who to index i slot id reach) })
@@ -125,6 +130,7 @@ module _ {D : Type 0} (g : Ghosts D) (left_sized : (d : D) (t : ℕ) (c : Image)
     size = ap g.blocks same_disk;
     faults = reads.faults;
     stop = refl;
+    collections = refl;
     seed = refl;
     kept = omega arith;
     drawn = omega arith;

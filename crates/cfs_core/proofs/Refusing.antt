@@ -1,5 +1,5 @@
 -- Requests on an index that they reach: when they are refused, and what they do.
-use Rattle.std.proofs.Common.{◌≡◌, ◌⊎◌, inl, inr, ℕ, ◌<◌, length, Bool, true, false, Option, Some, None, refl, sym, ◌∙◌, ap, subst, arith}
+use Rattle.std.proofs.Common.{◌≡◌, ◌⊎◌, inl, inr, ℕ, List, ◌<◌, length, Bool, true, false, Option, Some, None, refl, sym, ◌∙◌, ap, subst, arith}
 use Rattle.std.specs.Prelude.{nat_le, nat_lt}
 use Rattle.std.proofs.lemmas.Bool.Decides.{nat_tests}
 use Rattle.cfs_base.specs.declared.identifier.Puid.{Puid}
@@ -12,18 +12,17 @@ use Rattle.ufs_model.specs.declared.asked.Reply.TheVariants as replies
 use Rattle.ufs_model.specs.declared.asked.Request.{Request}
 use Rattle.ufs_model.specs.declared.asked.Request.TheVariants as asks
 use Rattle.ufs_model.specs.declared.asked.Wanted.TheVariants.{AFile, AnIndex}
+use Rattle.ufs_model.specs.declared.change.Change.{Change}
 use Rattle.ufs_model.specs.declared.change.Change.TheVariants.{Fill}
 use Rattle.ufs_model.specs.declared.object.Draft.{Draft}
 use Rattle.ufs_model.specs.declared.object.File.{File}
 use Rattle.ufs_model.specs.declared.object.Index.{Index}
 use Rattle.ufs_model.specs.declared.object.Object.{Object}
 use Rattle.ufs_model.specs.declared.object.Object.TheVariants as objects
-use Rattle.ufs_model.specs.declared.collection.Collection.{Collection}
-use Rattle.ufs_model.specs.declared.collection.Collection.TheVariants as collections
 use Rattle.ufs_model.specs.Graph.{object_at, with_object}
 use Rattle.ufs_model.specs.Need.{need_of}
-use Rattle.ufs_model.specs.Object.{slot_of}
-use Rattle.ufs_model.specs.Outcome.{changed, outcome_of, with_edge}
+use Rattle.ufs_model.specs.Object.{changed_object, slot_of}
+use Rattle.ufs_model.specs.Outcome.{changed, outcome_of}
 use Rattle.ufs_model.specs.Plain.{is_id}
 use Rattle.ufs_model.specs.Refusal.{has_no_slot, is_range, refusal_of, slot_named}
 use Rattle.ufs_model.specs.State.{State, changed_draft, draft_of, is_running, named, seen}
@@ -31,9 +30,11 @@ use Rattle.ufs_model.specs.Next.{next}
 use Rattle.ufs_model.specs.declared.asked.Event.TheVariants as events
 use Rattle.index_ops.specs.Changes.{index_with}
 use Rattle.cfs_core.specs.Calls.{looked}
+use Rattle.ufs_model.proofs.Outcomes.{edge_stays}
 use Rattle.ufs_model.proofs.WellStates.{put_object-at, seen_object}
 use Rattle.cfs_core.specs.Looks.{content_of, counted, measured}
 use Rattle.cfs_core.specs.Makes.{file_kind}
+use Rattle.cfs_core.specs.StandsFor.{is_sweeping}
 use Rattle.cfs_core.specs.Ways.{Reaches, unfit_of}
 
 -- ---- the state with another object in the place of one
@@ -43,7 +44,13 @@ pub record Puts (s after : State) (id : Puid) (o : Object) : Type 0 where
   pub grants : after.grants ≡ s.grants
   pub drawn : after.drawn ≡ s.drawn
   pub stopped : after.stopped ≡ s.stopped
-  pub collection : after.collection ≡ s.collection
+  pub sweeping : is_sweeping after.collection ≡ is_sweeping s.collection
+
+-- an object that has no draft through the reference, changed
+pub put_is : (s : State) (who : ℕ) (to : Ref) (id : Puid) (o : Object) (change : Change) → named s who to ≡ Some id → draft_of s who to ≡ None → object_at s.graph id ≡ Some o
+    → changed s who to change ≡ record s { graph = with_object s.graph id (changed_object change o) }
+put_is s who to id o change name bare there = put_object-at s who to id (changed_draft change (seen s who to)) name bare
+    ∙ ap (λ (d : Draft). record s { graph = with_object s.graph id (changed_draft change d).object }) (seen_object s who to id o name bare there)
 
 pub index_there : (o : Object) → unfit_of AnIndex (Some (kind_of o)) ≡ None → (i : Index) × (o ≡ objects.Index i)
 index_there (objects.Index i) is = (i, refl)
@@ -106,28 +113,19 @@ module _ (seed : ℕ) (s : State) (who : ℕ) (to : Ref) (index : Puid) (i : Ind
       at false None is what = let here : looked i slot ≡ replies.Empty = rw (is, what) refl in let no : false ≡ true = sym (ap is_id here) ∙ same in cc
       at false (Some x) is what = (r.rest ∙ rw (r.bare, r.name, r.there, is, what) refl, grind (arith, nat_tests))
 
-  put_is : (what : Option Puid) (slot : ℕ) → named s who to ≡ Some index → draft_of s who to ≡ None → object_at s.graph index ≡ Some (objects.Index i)
-      → changed s who to (Fill slot what) ≡ record s { graph = with_object s.graph index (index_with i slot what) }
-  put_is what slot name bare there = put_object-at s who to index (changed_draft (Fill slot what) (seen s who to)) name bare
-      ∙ ap (λ (d : Draft). record s { graph = with_object s.graph index (changed_draft (Fill slot what) d).object }) (seen_object s who to index (objects.Index i) name bare there)
-
   -- the state after a slot is filled or emptied
-  pub retain_out : (slot : ℕ) (id : Puid) → Reached (asks.Retain to slot id) → s.collection ≡ collections.None → Puts s (outcome_of seed s who (asks.Retain to slot id) 0).1 index (index_with i slot (Some id))
-  retain_out slot id r quiet = record {
-    graph = ap (λ (t : State). t.graph) (put_is (Some id) slot r.name r.bare r.there);
-    grants = ap (λ (t : State). t.grants) (put_is (Some id) slot r.name r.bare r.there);
-    drawn = ap (λ (t : State). t.drawn) (put_is (Some id) slot r.name r.bare r.there);
-    stopped = ap (λ (t : State). t.stopped) (put_is (Some id) slot r.name r.bare r.there);
-    collection = at (named s who to) s.collection quiet;
+  pub retain_out : (slot : ℕ) (id : Puid) → Reached (asks.Retain to slot id) → Puts s (outcome_of seed s who (asks.Retain to slot id) 0).1 index (index_with i slot (Some id))
+  retain_out slot id r = record {
+    graph = ap (λ (t : State). t.graph) (put_is s who to index (objects.Index i) (Fill slot (Some id)) r.name r.bare r.there);
+    grants = ap (λ (t : State). t.grants) (put_is s who to index (objects.Index i) (Fill slot (Some id)) r.name r.bare r.there);
+    drawn = ap (λ (t : State). t.drawn) (put_is s who to index (objects.Index i) (Fill slot (Some id)) r.name r.bare r.there);
+    stopped = ap (λ (t : State). t.stopped) (put_is s who to index (objects.Index i) (Fill slot (Some id)) r.name r.bare r.there);
+    sweeping = edge_stays is_sweeping (λ a b c d. refl) (named s who to) id s.collection;
   }
-    where
-      at : (o : Option Puid) (c : Collection) → c ≡ collections.None → with_edge o id c ≡ c
-      at None c none = rw none refl
-      at (Some x) c none = rw none refl
 
   pub delete_out : (slot : ℕ) → Reached (asks.Delete to slot) → Puts s (outcome_of seed s who (asks.Delete to slot) 0).1 index (index_with i slot None)
-  delete_out slot r = subst (λ (t : State). Puts s t index (index_with i slot None)) (sym (put_is None slot r.name r.bare r.there))
-      (record { graph = refl; grants = refl; drawn = refl; stopped = refl; collection = refl })
+  delete_out slot r = subst (λ (t : State). Puts s t index (index_with i slot None)) (sym (put_is s who to index (objects.Index i) (Fill slot None) r.name r.bare r.there))
+      (record { graph = refl; grants = refl; drawn = refl; stopped = refl; sweeping = refl })
 
   pub retain_need : (slot : ℕ) (id : Puid) → Reached (asks.Retain to slot id) → need_of s who (asks.Retain to slot id) ≡ 3
   retain_need slot id r = rw (r.bare, r.name, r.there) refl
@@ -160,3 +158,19 @@ module _ (seed : ℕ) (s : State) (who : ℕ) (to : Ref) (id : Puid) (f : File) 
       at : (t : Bool) → is_range (length f.bytes) offset count ≡ t → IsSeen seed s who (asks.Read to offset count) (content_of f offset count)
       at true is = inr (r.rest ∙ rw (r.bare, r.name, r.there, is) refl, λ b. rw (r.bare, r.name, r.there, is) refl)
       at false is = inl (r.rest ∙ rw (r.bare, r.name, r.there, is) refl)
+
+  -- ---- one that is changed
+
+  module _ (offset : ℕ) (bytes : List ℕ) (r : Reaches s who (asks.Write to offset bytes) id (objects.File f)) where
+    pub write_goes : is_range (length f.bytes) offset (length bytes) ≡ true → refusal_of s who (asks.Write to offset bytes) ≡ None
+    write_goes is = r.rest ∙ rw (r.bare, r.name, r.there, is) refl
+
+    pub write_range : is_range (length f.bytes) offset (length bytes) ≡ false → refusal_of s who (asks.Write to offset bytes) ≡ Some replies.Range
+    write_range is = r.rest ∙ rw (r.bare, r.name, r.there, is) refl
+
+  module _ (size : ℕ) (r : Reaches s who (asks.Resize to size) id (objects.File f)) where
+    pub resize_goes : nat_lt 7864320 size ≡ false → refusal_of s who (asks.Resize to size) ≡ None
+    resize_goes is = r.rest ∙ rw is refl
+
+    pub resize_range : nat_lt 7864320 size ≡ true → refusal_of s who (asks.Resize to size) ≡ Some replies.Range
+    resize_range is = r.rest ∙ rw is refl

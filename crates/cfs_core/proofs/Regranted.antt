@@ -1,43 +1,34 @@
--- Calls that change the grants alone, none of which has a draft.
-use Rattle.std.proofs.Common.{◌≡◌, ℕ, List, [], ◌∷◌, length, Bool, true, false, cond, ◌&&◌, Option, Some, None, is_none, refl, sym, ◌∙◌, ap, subst, inr, arith, ◌+◌}
-use Rattle.std.specs.Prelude.{filter, find, nat_le, not, ◌==◌}
+-- Calls that change the grants, and no draft.
+use Rattle.std.proofs.Common.{◌≡◌, ℕ, List, [], ◌∷◌, ◌++◌, length, Bool, true, false, cond, ◌&&◌, Option, Some, None, is_some, refl, sym, ◌∙◌, ap, subst, arith, ◌+◌, append-nil, append_assoc}
+use Rattle.std.specs.Prelude.{filter, find, map, nat_le, not}
 use Rattle.std.proofs.lemmas.Bool.Decides.{nat_tests}
 use Rattle.std.specs.List.{list_all}
-use Rattle.std.proofs.lemmas.Bool.{and_parts}
+use Rattle.std.proofs.lemmas.Bool.{and_parts, or_parts}
 use Rattle.cfs_base.specs.Disk.{Image}
 use Rattle.cfs_base.specs.declared.disk.Disk.{Ghosts}
 use Rattle.cfs_base.specs.declared.identifier.Tuid.{Tuid}
 use Rattle.intentions.specs.Store.{StoreHas}
 use Rattle.open_table.specs.declared.grant.Grant as seats
-use Rattle.open_table.specs.Model.{table_of}
+use Rattle.open_table.specs.Grants as tables
 use Rattle.puid_space.specs.Draw.{Draws}
 use Rattle.puid_space.specs.Kinds.{kinds_of}
+use Rattle.special_files.specs.Drafting.{Drafting}
 use Rattle.survival.proofs.Calls.{loose}
 use Rattle.cfs_base.proofs.Runs.{wider}
 use Rattle.ufs_model.specs.declared.asked.Event.{Event}
-use Rattle.ufs_model.specs.declared.asked.Event.TheVariants as events
-use Rattle.ufs_model.specs.declared.collection.Collection.TheVariants as collections
 use Rattle.ufs_model.specs.declared.object.Draft.{Draft}
 use Rattle.ufs_model.specs.declared.object.Grant.{Grant}
 use Rattle.ufs_model.specs.Graph.{Graph}
 use Rattle.ufs_model.specs.Next.{next}
-use Rattle.ufs_model.specs.State.{State, after_leave, is_grant}
+use Rattle.ufs_model.specs.State.{State, is_grant}
 use Rattle.ufs_model.specs.WellFormed.{IsState}
-use Rattle.ufs_model.proofs.WellStates.{leave_keeps}
 use Rattle.vol_owners.specs.Account.{IsSwept, Opened}
-use Rattle.cfs_core.specs.declared.kernel.Stop.{Stop}
-use Rattle.cfs_core.specs.Asked.{Happens}
-use Rattle.cfs_core.specs.Calls.{Makes}
-use Rattle.cfs_core.specs.Kernel.{Kernel, bare_seats}
-use Rattle.cfs_core.specs.StandsFor.{AreDraftsOf, HasCollection, HasDraftOf, IsFront, Serves, Stands, StandsFor, drafts_of_seats, is_sweeping}
+use Rattle.cfs_core.specs.Calls.{AddsNoStray, Makes}
+use Rattle.cfs_core.specs.Kernel.{Kernel, Seat, grants_in, is_drawn_by}
+use Rattle.cfs_core.specs.Seats.{have_draft, seats_but}
+use Rattle.cfs_core.specs.StandsFor.{AreDraftsOf, HasDraftOf, IsFront, Serves, Stores, bare, drafts_at, drafts_of_seats, is_sweeping}
 use Rattle.cfs_core.proofs.Answering.{reads_none}
-use Rattle.cfs_core.proofs.Serving.{fits, pending, stands_from}
-use Rattle.cfs_core.proofs.Ways.{grants_of_bare, none_drafted}
-
--- ---- grants without a draft
-
-abbrev pub are_bare : List Grant → Bool
-are_bare grants = list_all (λ grant. is_none grant.draft) grants
+use Rattle.cfs_core.proofs.Serving.{fits, none_more, pending}
 
 pub all_filter : {X : Type 0} (P M : X → Bool) (xs : List X) → list_all P xs ≡ true → list_all P (filter M xs) ≡ true
 all_filter P M [] is = refl
@@ -49,117 +40,158 @@ all_filter P M (x ∷ xs) is =
     ]
 
 -- each is drawn where more are drawn
-pub drawn_more : (gs : List seats.Grant) (n m : ℕ) → m ≡ n + 1 → list_all (λ (x : seats.Grant). nat_le x.tuid.draw n) gs ≡ true → list_all (λ (x : seats.Grant). nat_le x.tuid.draw m) gs ≡ true
+pub drawn_more : (ss : List Seat) (n m : ℕ) → m ≡ n + 1 → list_all (is_drawn_by n) ss ≡ true → list_all (is_drawn_by m) ss ≡ true
 drawn_more [] n m more is = refl
-drawn_more (x ∷ gs) n m more is =
-    let two = and_parts (nat_le x.tuid.draw n) (list_all (λ (y : seats.Grant). nat_le y.tuid.draw n) gs) is in
-    let below : nat_le x.tuid.draw m ≡ true = further x.tuid.draw n m more two.0 in rw (below, drawn_more gs n m more two.1) refl
+drawn_more (x ∷ ss) n m more is =
+    let two = and_parts (is_drawn_by n x) (list_all (is_drawn_by n) ss) is in
+    let below : is_drawn_by m x ≡ true = further x.grant.tuid.draw n m more two.0 in rw (below, drawn_more ss n m more two.1) refl
   where
     further : (d n m : ℕ) → m ≡ n + 1 → nat_le d n ≡ true → nat_le d m ≡ true
     further d n m more le = grind (arith, nat_tests)
 
--- a core without drafts stands for none
-pub bare_there : (ds : List Opened) (gs : List seats.Grant) (grants : List Grant) → AreDraftsOf ds (bare_seats gs) grants → are_bare grants ≡ true
-bare_there ds [] [] are = refl
-bare_there ds [] (grant ∷ grants) are = absurd are
-bare_there ds (g ∷ gs) [] are = absurd are
-bare_there ds (g ∷ gs) (grant ∷ grants) are = at (bare_there ds gs grants are.1) grant.draft are.0
-  where
-    at : are_bare grants ≡ true → (d : Option Draft) → HasDraftOf ds (record { grant = g; drafting = None }) None d → (is_none d && are_bare grants) ≡ true
-    at rest None has = rest
-    at rest (Some d) has = absurd has
+pub grants_push : (ss : List Seat) (x : Seat) → grants_in (ss ++ x ∷ []) ≡ grants_in ss ++ x.grant ∷ []
+grants_push [] x = refl
+grants_push (y ∷ ss) x = ap (λ more. y.grant ∷ more) (grants_push ss x)
 
--- one that is found has none
-pub found_bare : (who : ℕ) (t : Tuid) (x : Grant) (grants : List Grant) → find (is_grant who t) grants ≡ Some x → are_bare grants ≡ true → x.draft ≡ None
-found_bare who t x [] is bare = cc
-found_bare who t x (y ∷ grants) is bare =
-    let two = and_parts (is_none y.draft) (are_bare grants) bare in
-    elim (is_grant who t y) as (λ b. cond b (Some y) (find (is_grant who t) grants) ≡ Some x → x.draft ≡ None) [
-      | true ↦ λ h. (let same : y ≡ x = cc in none_of x.draft (subst (λ (z : Grant). is_none z.draft ≡ true) same two.0))
-      | false ↦ λ h. found_bare who t x grants h two.1
-    ] is
+-- a grant whose seat has no draft has none
+pub draft_none : (ds : List Opened) (who : ℕ) (t : Tuid) (ss : List Seat) (grants : List Grant) → grants_in ss ≡ map bare grants → AreDraftsOf ds ss grants → have_draft (tables.is_grant who t) ss ≡ false
+    → (x : Grant) → find (is_grant who t) grants ≡ Some x → x.draft ≡ None
+draft_none ds who t [] [] table are none x found = cc
+draft_none ds who t [] (y ∷ grants) table are none x found = absurd are
+draft_none ds who t (seat ∷ ss) [] table are none x found = cc
+draft_none ds who t (seat ∷ ss) (y ∷ grants) table are none x found =
+    let head : seat.grant ≡ bare y = cc in
+    let tail : grants_in ss ≡ map bare grants = cc in
+    let two = or_parts (tables.is_grant who t seat.grant && is_some seat.drafting) (have_draft (tables.is_grant who t) ss) none in
+    at (draft_none ds who t ss grants tail are.1 two.1 x) (is_grant who t y) (subst (λ (e : seats.Grant). (tables.is_grant who t e && is_some seat.drafting) ≡ false) head two.0) found
   where
-    none_of : (d : Option Draft) → is_none d ≡ true → d ≡ None
-    none_of None is = refl
-    none_of (Some d) is = cc
+    here : (drafting : Option Drafting) (d : Option Draft) → is_some drafting ≡ false → HasDraftOf ds seat drafting d → d ≡ None
+    here None None none has = refl
+    here None (Some d) none has = absurd has
+    here (Some drafting) d none has = cc
 
--- and those that it has for grants without drafts are theirs
-pub bare_drafts : (ds : List Opened) (grants : List Grant) → are_bare grants ≡ true → AreDraftsOf ds (bare_seats (table_of grants)) grants
-bare_drafts ds [] bare = tt
-bare_drafts ds (grant ∷ grants) bare = (at grant.draft (and_parts (is_none grant.draft) (are_bare grants) bare).0, bare_drafts ds grants (and_parts (is_none grant.draft) (are_bare grants) bare).1)
-  where
-    at : (d : Option Draft) → is_none d ≡ true → HasDraftOf ds (record { grant = record { tuid = grant.tuid; session = grant.session; id = grant.id; mode = grant.mode }; drafting = None }) None d
-    at None none = tt
-    at (Some d) none = cc
+    at : (find (is_grant who t) grants ≡ Some x → x.draft ≡ None) → (b : Bool) → (b && is_some seat.drafting) ≡ false → cond b (Some y) (find (is_grant who t) grants) ≡ Some x → x.draft ≡ None
+    at rest true quiet found = (let same : y ≡ x = cc in ap (λ (e : Grant). e.draft) (sym same) ∙ here seat.drafting y.draft quiet are.0)
+    at rest false quiet found = rest found
+
+-- ---- the drafts of other grants
+
+-- the grants after a call have the drafts of those before it
+pub record KeepsDrafts (ss left : List Seat) (grants after : List Grant) : Type 0 where
+  pub same : drafts_of_seats left after ≡ drafts_of_seats ss grants
+  pub have : (ds : List Opened) → AreDraftsOf ds ss grants → AreDraftsOf ds left after
+
+module _ (ds : List Opened) (seat : Seat) (grant : Grant) (has : HasDraftOf ds seat seat.drafting grant.draft) where
+  -- one more
+  pub push_have : (ss : List Seat) (grants : List Grant) → AreDraftsOf ds ss grants → AreDraftsOf ds (ss ++ seat ∷ []) (grants ++ grant ∷ [])
+  push_have [] [] are = (has, tt)
+  push_have [] (x ∷ grants) are = absurd are
+  push_have (x ∷ ss) [] are = absurd are
+  push_have (x ∷ ss) (y ∷ grants) are = (are.0, push_have ss grants are.1)
+
+pub push_drafts : (ds : List Opened) (seat : Seat) (grant : Grant) (ss : List Seat) (grants : List Grant) → AreDraftsOf ds ss grants
+    → drafts_of_seats (ss ++ seat ∷ []) (grants ++ grant ∷ []) ≡ drafts_at seat seat.drafting grant.draft ++ drafts_of_seats ss grants
+push_drafts ds seat grant [] [] are = sym (append-nil _)
+push_drafts ds seat grant [] (x ∷ grants) are = absurd are
+push_drafts ds seat grant (x ∷ ss) [] are = absurd are
+push_drafts ds seat grant (x ∷ ss) (y ∷ grants) are = ap (λ more. more ++ drafts_at x x.drafting y.draft) (push_drafts ds seat grant ss grants are.1) ∙ append_assoc (drafts_at seat seat.drafting grant.draft) _ _
+
+module _ (test : seats.Grant → Bool) where
+  abbrev left_of : List Grant → List Grant
+  left_of grants = filter (λ grant. not (test (bare grant))) grants
+
+  but_have : (ds : List Opened) (ss : List Seat) (grants : List Grant) → grants_in ss ≡ map bare grants → AreDraftsOf ds ss grants → AreDraftsOf ds (seats_but test ss) (left_of grants)
+  but_have ds [] [] table are = tt
+  but_have ds [] (y ∷ grants) table are = absurd are
+  but_have ds (x ∷ ss) [] table are = absurd are
+  but_have ds (x ∷ ss) (y ∷ grants) table are =
+      let head : x.grant ≡ bare y = cc in
+      let tail : grants_in ss ≡ map bare grants = cc in
+      rw (← head) (at (but_have ds ss grants tail are.1) (test x.grant))
+    where
+      at : AreDraftsOf ds (seats_but test ss) (left_of grants) → (b : Bool) → AreDraftsOf ds (cond (not b) (x ∷ seats_but test ss) (seats_but test ss)) (cond (not b) (y ∷ left_of grants) (left_of grants))
+      at rest true = rest
+      at rest false = (are.0, rest)
+
+  but_same : (ds : List Opened) (ss : List Seat) (grants : List Grant) → grants_in ss ≡ map bare grants → AreDraftsOf ds ss grants → have_draft test ss ≡ false
+      → drafts_of_seats (seats_but test ss) (left_of grants) ≡ drafts_of_seats ss grants
+  but_same ds [] [] table are none = refl
+  but_same ds [] (y ∷ grants) table are none = absurd are
+  but_same ds (x ∷ ss) [] table are none = absurd are
+  but_same ds (x ∷ ss) (y ∷ grants) table are none =
+      let head : x.grant ≡ bare y = cc in
+      let tail : grants_in ss ≡ map bare grants = cc in
+      let two = or_parts (test x.grant && is_some x.drafting) (have_draft test ss) none in
+      rw (← head) (at (but_same ds ss grants tail are.1 two.1) (test x.grant) two.0)
+    where
+      gone : (drafting : Option Drafting) (d : Option Draft) → is_some drafting ≡ false → drafts_at x drafting d ≡ []
+      gone None d none = refl
+      gone (Some drafting) d none = cc
+
+      at : drafts_of_seats (seats_but test ss) (left_of grants) ≡ drafts_of_seats ss grants → (b : Bool) → (b && is_some x.drafting) ≡ false
+          → drafts_of_seats (cond (not b) (x ∷ seats_but test ss) (seats_but test ss)) (cond (not b) (y ∷ left_of grants) (left_of grants)) ≡ drafts_of_seats ss grants ++ drafts_at x x.drafting y.draft
+      at rest true bare = rest ∙ sym (append-nil _) ∙ ap (λ more. drafts_of_seats ss grants ++ more) (sym (gone x.drafting y.draft bare))
+      at rest false bare = ap (λ more. more ++ drafts_at x x.drafting y.draft) rest
+
+  -- fewer, of which those that go have none
+  pub but_keeps : (ds : List Opened) (ss : List Seat) (grants : List Grant) → grants_in ss ≡ map bare grants → AreDraftsOf ds ss grants → have_draft test ss ≡ false → KeepsDrafts ss (seats_but test ss) grants (left_of grants)
+  but_keeps ds ss grants table are none = record { same = but_same ds ss grants table are none; have = λ es. but_have es ss grants table }
+
+  pub but_table : (ss : List Seat) (grants : List Grant) → grants_in ss ≡ map bare grants → grants_in (seats_but test ss) ≡ map bare (left_of grants)
+  but_table [] [] table = refl
+  but_table [] (y ∷ grants) table = cc
+  but_table (x ∷ ss) [] table = cc
+  but_table (x ∷ ss) (y ∷ grants) table =
+      let head : x.grant ≡ bare y = cc in
+      let tail : grants_in ss ≡ map bare grants = cc in
+      rw (← head) (at head (but_table ss grants tail) (test x.grant))
+    where
+      at : x.grant ≡ bare y → grants_in (seats_but test ss) ≡ map bare (left_of grants) → (b : Bool)
+          → grants_in (cond (not b) (x ∷ seats_but test ss) (seats_but test ss)) ≡ map bare (cond (not b) (y ∷ left_of grants) (left_of grants))
+      at head rest true = rest
+      at head rest false = rw (head, rest) refl
 
 -- ---- the state with these grants
 
-pub record IsRegranted (s after : State) (left : List seats.Grant) (drawn : ℕ) : Type 0 where
+pub record IsRegranted (s after : State) (left : List Seat) (drawn : ℕ) : Type 0 where
   pub graph : after.graph ≡ s.graph
-  pub idle : s.collection ≡ collections.None → after.collection ≡ collections.None
+  pub sweeping : is_sweeping after.collection ≡ is_sweeping s.collection
   pub stopped : after.stopped ≡ s.stopped
   pub drawn_is : after.drawn ≡ drawn
-  pub table : left ≡ table_of after.grants
+  pub table : grants_in left ≡ map bare after.grants
 
-module _ {D : Type 0} (g : Ghosts D) (k : Kernel D) (grants left : List seats.Grant) (words : Draws) (before : k.seats ≡ bare_seats grants) (s after : State) (is : IsRegranted s after left words.drawn) where
+module _ {D : Type 0} (g : Ghosts D) (k : Kernel D) (left : List Seat) (words : Draws) (s after : State) (is : IsRegranted s after left words.drawn) where
   abbrev new : Kernel D
-  new = record k { words = words; seats = bare_seats left }
+  new = record k { words = words; seats = left }
 
   front_after : IsFront k s → IsFront new after
   front_after front = record {
     drawn = is.drawn_is;
     names = front.names ∙ ap kinds_of (sym is.graph);
-    grants = grants_of_bare left ∙ is.table;
+    grants = is.table;
     stopped = is.stopped ∙ front.stopped;
   }
 
-  module _ (idle : k.collecting ≡ None) (state : IsState after) (bare : are_bare after.grants ≡ true) (serves : Serves g k s) where
-    quiet : s.collection ≡ collections.None
-    quiet = subst (HasCollection (g.content k.disk) s) idle serves.collecting
-
-    drafts_after : AreDraftsOf [] (bare_seats left) after.grants
-    drafts_after = subst (λ (gs : List seats.Grant). AreDraftsOf [] (bare_seats gs) after.grants) (sym is.table) (bare_drafts [] after.grants bare)
-
-    none_after : drafts_of_seats (bare_seats left) after.grants ≡ []
-    none_after = (none_drafted [] left after.grants drafts_after).0
-
-    none_before : drafts_of_seats k.seats s.grants ≡ []
-    none_before = ap (λ ss. drafts_of_seats ss s.grants) before ∙ (none_drafted _ grants s.grants (subst (λ ss. AreDraftsOf (drafts_of_seats k.seats s.grants) ss s.grants) before serves.drafts)).0
-
-    pub serves_after : Serves g new after
-    serves_after = record {
+  module _ (state : IsState after) (keeps : KeepsDrafts k.seats left s.grants after.grants) (serves : Serves g k s) where
+    pub stores_after : Stores g new after
+    stores_after = record {
       front = front_after serves.front;
       state = state;
       root = ap (λ (h : Graph). h.root) is.graph ∙ serves.root;
-      store = subst (λ (h : Graph). StoreHas g h (drafts_of_seats (bare_seats left) after.grants) k.disk k.space) (sym is.graph)
-          (subst (λ (ds : List Opened). StoreHas g s.graph ds k.disk k.space) (none_before ∙ sym none_after) serves.store);
-      drafts = subst (λ (ds : List Opened). AreDraftsOf ds (bare_seats left) after.grants) (sym none_after) drafts_after;
-      swept = λ calm. subst (IsSwept (g.content k.disk)) (sym is.graph) (serves.swept (ap is_sweeping quiet));
+      store = subst (λ (h : Graph). StoreHas g h (drafts_of_seats left after.grants) k.disk k.space) (sym is.graph)
+          (subst (λ (ds : List Opened). StoreHas g s.graph ds k.disk k.space) (sym keeps.same) serves.store);
+      drafts = subst (λ (ds : List Opened). AreDraftsOf ds left after.grants) (sym keeps.same) (keeps.have _ serves.drafts);
+      swept = λ calm. subst (IsSwept (g.content k.disk)) (sym is.graph) (serves.swept (sym is.sweeping ∙ calm));
       four = serves.four;
-      collecting = subst (HasCollection (g.content k.disk) after) (sym idle) (is.idle quiet);
     }
 
     module _ (left_sized : (d : D) (t : ℕ) (c : Image) → g.left_since d t c → length c ≡ g.blocks d) (wide : length (g.content k.disk) ≡ g.blocks k.disk) where
-      pub makes_after : k.stop ≡ None → (e : Event) → next k.words.seed s e ≡ Some after → Makes g k new s e
-      makes_after none e step = record {
+      pub makes_after : (e : Event) → next k.words.seed s e ≡ Some after → Makes g k new s e
+      makes_after e step = record {
         after = after;
         step = step;
-        stands = stands_from g new after none serves_after;
+        stores = stores_after;
+        strays = subst (AddsNoStray (g.content k.disk) (g.content k.disk) s.graph) (sym is.graph) (none_more (g.content k.disk) (g.content k.disk) s.graph refl);
         survives = loose g left_sized k.words.seed s k.disk k.disk (fits g k s serves (g.blocks k.disk) wide) e after step is.graph
-            (wider g k.disk k.disk _ _ (reads_none g 0 k.disk).images (λ c no. absurd no)) (pending g k s serves);
+            (wider g k.disk k.disk _ _ (reads_none g 0 k.disk).images (λ c stays. absurd stays)) (pending g k s serves);
       }
-
--- ---- a session leaves
-
-pub leaves_drop : {D : Type 0} (g : Ghosts D) (k : Kernel D) (s : State) (who : ℕ) (grants left : List seats.Grant) → k.seats ≡ bare_seats grants → k.collecting ≡ None → left ≡ table_of (after_leave s who).grants → StandsFor g k s
-    → Happens g k (record k { seats = bare_seats left }) s (events.Leave who None)
-leaves_drop {D} g k s who grants left before idle table stands =
-    record { after = after_leave s who; step = refl; stands = at k.stop stands; survives = inr (record { disk = refl; after = after_leave s who; step = refl; graph = refl }) }
-  where
-    is : (front : IsFront k s) → IsRegranted s (after_leave s who) left k.words.drawn
-    is front = record { graph = refl; idle = λ quiet. quiet; stopped = refl; drawn_is = front.drawn; table = table }
-
-    at : (o : Option Stop) → Stands g k s o → Stands g (record k { seats = bare_seats left }) (after_leave s who) o
-    at (Some stop) front = front_after g k grants left k.words before s (after_leave s who) (is front) front
-    at None serves = serves_after g k grants left k.words before s (after_leave s who) (is serves.front) idle (leave_keeps s who serves.state)
-        (all_filter (λ (x : Grant). is_none x.draft) (λ x. not (x.session == who)) s.grants (bare_there _ grants s.grants (subst (λ ss. AreDraftsOf (drafts_of_seats k.seats s.grants) ss s.grants) before serves.drafts))) serves

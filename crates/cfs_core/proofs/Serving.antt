@@ -1,6 +1,6 @@
 -- What a core that serves knows of its disk, and what it goes on to know after calls that only read.
 use Rattle.std.proofs.Common.{◌≡◌, ◌≢◌, cond, ℕ, ◌+◌, ◌*◌, ◌/◌, ◌≤◌, List, [], ◌∷◌, length, Bool, true, false, Option, Some, None, refl, sym, ◌∙◌, ap, subst, arith}
-use Rattle.std.specs.Prelude.{◌==◌, ◌||◌, is_some, map, option_map, sum}
+use Rattle.std.specs.Prelude.{◌==◌, ◌||◌, is_some, option_map, sum}
 use Rattle.std.proofs.lemmas.Bool.{eq-eqb}
 use Rattle.cfs_base.specs.Calls.{OnlyReads}
 use Rattle.cfs_base.specs.Disk.{Image}
@@ -10,6 +10,7 @@ use Rattle.cfs_base.specs.declared.identifier.Puid.{Puid}
 use Rattle.cfs_base.specs.declared.kind.Kind.{Kind}
 use Rattle.cfs_base.proofs.Runs.{wider}
 use Rattle.cyl_alloc.proofs.Counted.{sum_is}
+use Rattle.cyl_map.specs.Volume.{entry_in}
 use Rattle.puid_space.specs.Directory.{has_root_in, kind_in}
 use Rattle.puid_space.specs.Kinds.{kind_of}
 use Rattle.puid_space.proofs.Graphs.{kind_in-kinds_in}
@@ -20,8 +21,6 @@ use Rattle.ufs_model.specs.declared.asked.Event.{Event}
 use Rattle.ufs_model.specs.declared.object.Index.{Index}
 use Rattle.ufs_model.specs.declared.object.Object.{Object}
 use Rattle.ufs_model.specs.declared.object.Object.TheVariants as objects
-use Rattle.open_table.specs.declared.grant.Grant as seats
-use Rattle.open_table.specs.Model.{table_of}
 use Rattle.ufs_model.specs.Graph.{Graph, is_there, object_at}
 use Rattle.ufs_model.specs.Identifier.{same_puid}
 use Rattle.ufs_model.specs.Next.{next}
@@ -31,12 +30,16 @@ use Rattle.vol_image.specs.Sound.{Holds, IsClosedGraph, graph_blocks}
 use Rattle.vol_image.proofs.Law.{frames_hold}
 use Rattle.vol_image.proofs.Reached.{same_puid_is}
 use Rattle.vol_owners.specs.Account.{IsSwept, Opened, drafts_of}
+use Rattle.vol_owners.specs.Owner.{is_stray, stray_blocks}
 use Rattle.vol_owners.specs.Room.{blocks_taken}
 use Rattle.vol_owners.proofs.Rooms.{no_strays, room}
-use Rattle.cfs_core.specs.Calls.{Makes}
-use Rattle.cfs_core.specs.Kernel.{Kernel, Seat, bare_seats}
-use Rattle.cfs_core.specs.StandsFor.{HasCollection, IsFront, Serves, Stands, StandsFor, drafts_of_seats, is_sweeping}
-use Rattle.cfs_core.proofs.Ways.{grants_of_bare, shut_at}
+use Rattle.vol_owners.proofs.Sums.{ones_le}
+use Rattle.cfs_core.specs.declared.collecting.Collections.{Collections}
+use Rattle.cfs_core.specs.Calls.{AddsNoStray, Makes}
+use Rattle.cfs_core.specs.Kernel.{Kernel}
+use Rattle.cfs_core.specs.Room.{lost_blocks}
+use Rattle.cfs_core.specs.StandsFor.{HasCollection, Serves, Stands, StandsFor, Stores, drafts_of_seats, is_sweeping}
+use Rattle.cfs_core.proofs.Ways.{shut_at}
 
 -- ---- the directory
 
@@ -63,9 +66,50 @@ serves_from g k s none stands = subst (Stands g k s) none stands
 pub stands_from : {D : Type 0} (g : Ghosts D) (k : Kernel D) (s : State) → k.stop ≡ None → Serves g k s → StandsFor g k s
 stands_from g k s none serves = subst (Stands g k s) (sym none) serves
 
--- the grants of the state, as the core has them
-pub table_is : {D : Type 0} (k : Kernel D) (s : State) → IsFront k s → (grants : List seats.Grant) → k.seats ≡ bare_seats grants → table_of s.grants ≡ grants
-table_is k s front grants is = sym front.grants ∙ ap (map (λ (seat : Seat). seat.grant)) is ∙ grants_of_bare grants
+-- all but the collection, and the collection
+pub stored : {D : Type 0} (g : Ghosts D) (k : Kernel D) (s : State) → Serves g k s → Stores g k s
+stored g k s serves = record {
+  front = serves.front;
+  state = serves.state;
+  root = serves.root;
+  store = serves.store;
+  drafts = serves.drafts;
+  swept = serves.swept;
+  four = serves.four;
+}
+
+pub serves_with : {D : Type 0} (g : Ghosts D) (k : Kernel D) (s : State) → Stores g k s → HasCollection (g.content k.disk) s k.collections.collector → Serves g k s
+serves_with g k s stores has = record {
+  front = stores.front;
+  state = stores.state;
+  root = stores.root;
+  store = stores.store;
+  drafts = stores.drafts;
+  swept = stores.swept;
+  four = stores.four;
+  collecting = has;
+}
+
+-- with another collector, or none
+pub stored_beside : {D : Type 0} (g : Ghosts D) (k : Kernel D) (c : Collections) (s : State) → Stores g k s → Stores g (record k { collections = c }) s
+stored_beside g k c s stores = record {
+  front = record { drawn = stores.front.drawn; names = stores.front.names; grants = stores.front.grants; stopped = stores.front.stopped };
+  state = stores.state;
+  root = stores.root;
+  store = stores.store;
+  drafts = stores.drafts;
+  swept = stores.swept;
+  four = stores.four;
+}
+
+-- what leaves image and graph as they were adds no stray
+pub none_more : (a b : Image) (h : Graph) → b ≡ a → AddsNoStray a b h h
+none_more a b h same = λ n stray. (ap (λ (i : Image). entry_in i n) same, subst (λ (i : Image). is_stray h (entry_in i n) ≡ true) same stray)
+
+-- nor leaves more blocks behind
+pub fewer_lost : (a b : Image) (g h : Graph) → length b ≡ length a → AddsNoStray a b g h → lost_blocks b h ≤ lost_blocks a g
+fewer_lost a b g h wide adds =
+    omega (arith, ones_le (λ n. is_stray h (entry_in b n)) (λ n. is_stray g (entry_in a n)) 0 (length a) (λ n stray. (adds n stray).1), ap (λ n. stray_blocks b h n) wide)
 
 module _ {D : Type 0} (g : Ghosts D) (k : Kernel D) (s : State) (serves : Serves g k s) where
   abbrev drafts : List Opened
@@ -103,7 +147,12 @@ module _ {D : Type 0} (g : Ghosts D) (k : Kernel D) (s : State) (serves : Serves
   pub pending : (c : Image) → left_now g k.disk c → Holds c s.graph
   pending c left = frames_hold (g.content k.disk) c s.graph serves.store.account.holds (serves.store.carries.here c left)
 
-  -- the room by the formula, while nothing sweeps; and what the objects take at most
+  -- the room by the formula; while nothing sweeps; and what the objects take at most
+  pub room_with : sum k.space.free + blocks_taken s.graph drafts + lost_blocks (g.content k.disk) s.graph + 1 ≡ 63 * length k.space.free
+  room_with =
+      let image = g.content k.disk in
+      omega (arith, room image s.graph drafts serves.store.account serves.store.ordered, sum_is image k.space serves.store.counts, serves.store.counts.size)
+
   pub room_is : (free : ℕ) → is_sweeping s.collection ≡ false → free ≡ sum k.space.free → free + blocks_taken s.graph drafts + 1 ≡ 63 * length k.space.free
   room_is free none is =
       let image = g.content k.disk in
@@ -135,16 +184,17 @@ module _ {D : Type 0} (g : Ghosts D) (n : ℕ) (old new : Kernel D) (reads : Onl
         drafts = serves.drafts;
         swept = λ none. subst (λ (i : Image). IsSwept i s.graph) (sym reads.content) (serves.swept none);
         four = serves.four;
-        collecting = subst (λ (i : Image). HasCollection i s old.collecting) (sym reads.content) serves.collecting;
+        collecting = subst (λ (i : Image). HasCollection i s old.collections.collector) (sym reads.content) serves.collecting;
       })
 
   module _ (left_sized : (d : D) (t : ℕ) (c : Image) → g.left_since d t c → length c ≡ g.blocks d) (wide : length (g.content old.disk) ≡ g.blocks old.disk) where
     -- an event that leaves the state, as a refusal
-    pub stays : old.stop ≡ None → (e : Event) → next old.words.seed s e ≡ Some s → Makes g old new s e
-    stays none e step = record {
+    pub stays : (e : Event) → next old.words.seed s e ≡ Some s → Makes g old new s e
+    stays e step = record {
       after = s;
       step = step;
-      stands = stands_from g new s (ap (λ (k : Kernel D). k.stop) same ∙ none) serves_on;
+      stores = stored g new s serves_on;
+      strays = none_more (g.content old.disk) (g.content new.disk) s.graph reads.content;
       survives = loose g left_sized old.words.seed s old.disk new.disk (fits g old s serves (g.blocks new.disk) (wide ∙ sym reads.same.size)) e s step refl
           (wider g old.disk new.disk _ _ reads.images (λ c no. absurd no)) (pending g old s serves);
     }

@@ -1,8 +1,9 @@
 -- What refuses a request on its way, and what a table of grants tells of it.
-use Rattle.std.proofs.Common.{◌≡◌, ℕ, List, [], ◌∷◌, ◌++◌, Bool, true, false, cond, not, ◌&&◌, ◌||◌, Option, Some, None, is_some, is_none, refl, sym, ◌∙◌, ap, subst}
+use Rattle.std.proofs.Common.{◌≡◌, ℕ, List, [], ◌∷◌, ◌++◌, Bool, true, false, cond, not, ◌&&◌, ◌||◌, Option, Some, None, is_some, is_none, refl, sym, ◌∙◌, ap, subst, append-nil}
 use Rattle.std.specs.Prelude.{map, option_map, option_and_then}
-use Rattle.std.specs.List.{list_all, sum_by}
+use Rattle.std.specs.List.{list_all}
 use Rattle.std.proofs.lemmas.Bool.{and_parts}
+use Rattle.std.proofs.lemmas.List.Elements.{filter-append}
 use Rattle.cfs_base.specs.declared.identifier.Puid.{Puid}
 use Rattle.cfs_base.specs.declared.kind.FileKind.{FileKind}
 use Rattle.cfs_base.specs.declared.kind.FileKind.TheVariants as file_kinds
@@ -29,11 +30,10 @@ use Rattle.ufs_model.specs.State.{State, draft_of, grant_of, named, object_of}
 use Rattle.ufs_model.specs.WellFormed.{IsState, is_grant_in, is_open_so}
 use Rattle.ufs_model.proofs.WellStates.{grant_found, open_there}
 use Rattle.vol_image.proofs.Reached.{same_puid_is}
-use Rattle.vol_owners.specs.Account.{Opened, drafts_of}
+use Rattle.vol_owners.specs.Account.{drafts_of}
 use Rattle.cfs_core.specs.declared.way.Way.{Way}
-use Rattle.cfs_core.specs.Kernel.{Seat, bare_seats}
-use Rattle.cfs_core.specs.Room.{draft_blocks}
-use Rattle.cfs_core.specs.StandsFor.{AreDraftsOf, HasDraftOf, bare, drafts_of_seats}
+use Rattle.cfs_core.specs.Kernel.{Seat}
+use Rattle.cfs_core.specs.StandsFor.{bare, drafts_of_seats}
 use Rattle.cfs_core.specs.Ways.{Arrives, GoesBy, Reaches, is_gone, on_the_way, once_there, reads_by, unfit_of}
 
 -- ---- the first that holds of more conditions
@@ -52,23 +52,7 @@ first_later (c ∷ cs) ds is = elim c.0 as (λ b. cond b (Some c.1) (first_of cs
   | false ↦ λ h. first_later cs ds h
 ] is
 
--- ---- the grants of a state, as the core has them
-
-pub grants_of_bare : (gs : List seats.Grant) → map (λ (seat : Seat). seat.grant) (bare_seats gs) ≡ gs
-grants_of_bare [] = refl
-grants_of_bare (g ∷ gs) = ap (λ rest. g ∷ rest) (grants_of_bare gs)
-
--- none of them has a draft
-pub none_drafted : (ds : List Opened) (gs : List seats.Grant) (grants : List Grant) → AreDraftsOf ds (bare_seats gs) grants → (drafts_of_seats (bare_seats gs) grants ≡ []) × (sum_by draft_blocks grants ≡ 0)
-none_drafted ds [] [] are = (refl, refl)
-none_drafted ds [] (grant ∷ grants) are = absurd are
-none_drafted ds (g ∷ gs) [] are = absurd are
-none_drafted ds (g ∷ gs) (grant ∷ grants) are = at (none_drafted ds gs grants are.1) grant.draft are.0
-  where
-    at : (drafts_of_seats (bare_seats gs) grants ≡ []) × (sum_by draft_blocks grants ≡ 0) → (d : Option Draft) → HasDraftOf ds (record { grant = g; drafting = None }) None d
-        → (drafts_of_seats (bare_seats (g ∷ gs)) (record grant { draft = d } ∷ grants) ≡ []) × (sum_by draft_blocks (record grant { draft = d } ∷ grants) ≡ 0)
-    at rest None has = (rest.0, rest.1)
-    at rest (Some d) has = absurd has
+-- ---- the drafts of a state, as the core has them
 
 -- ---- an index has no draft
 
@@ -93,12 +77,13 @@ module _ (graph : Graph) (index : Puid) (i : Index) (found : object_at graph ind
       same_id = let one : seat.grant ≡ bare grant = cc in ap (λ (x : seats.Grant). x.id) one
 
       at : drafts_of (drafts_of_seats ss grants) index ≡ [] → (drafting : Option Drafting) (d : Option Draft) → grant.draft ≡ d → drafts_of (drafts_of_seats (record seat { drafting = drafting } ∷ ss) (record grant { draft = d } ∷ grants)) index ≡ []
-      at rest None None is = rest
-      at rest None (Some d) is = rest
-      at rest (Some drafting) None is = rest
+      at rest None None is = ap (λ ds. drafts_of ds index) (append-nil (drafts_of_seats ss grants)) ∙ rest
+      at rest None (Some d) is = ap (λ ds. drafts_of ds index) (append-nil (drafts_of_seats ss grants)) ∙ rest
+      at rest (Some drafting) None is = ap (λ ds. drafts_of ds index) (append-nil (drafts_of_seats ss grants)) ∙ rest
       at rest (Some drafting) (Some d) is =
           let so : is_open_so (object_at graph grant.id) (Some d) ≡ true = subst (λ o. is_open_so (object_at graph grant.id) o ≡ true) is parts.0 in
-          let other : same_puid seat.grant.id index ≡ false = not_of seat.grant.id d (subst (λ (x : Puid). is_open_so (object_at graph x) (Some d) ≡ true) (sym same_id) so) in rw other rest
+          let other : same_puid seat.grant.id index ≡ false = not_of seat.grant.id d (subst (λ (x : Puid). is_open_so (object_at graph x) (Some d) ≡ true) (sym same_id) so) in
+          filter-append (λ e. same_puid e.id index) (drafts_of_seats ss grants) _ ∙ rw (rest, other) refl
 
 -- ---- what a table of grants tells
 

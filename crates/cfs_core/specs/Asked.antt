@@ -4,6 +4,7 @@ use Rattle.cfs_base.specs.Calls.{HasStopped}
 use Rattle.cfs_base.specs.declared.disk.Disk.{Ghosts}
 use Rattle.cfs_base.specs.declared.refusal.Refused.{Refused}
 use Rattle.cfs_base.specs.declared.refusal.Refused.TheVariants as refusals
+use Rattle.marking.specs.Meanwhile.{rescues_of}
 use Rattle.survival.specs.Call.{Survived}
 use Rattle.ufs_model.specs.declared.asked.Event.{Event}
 use Rattle.ufs_model.specs.declared.asked.Event.TheVariants as events
@@ -18,6 +19,8 @@ use Rattle.cfs_core.specs.declared.kernel.Halt.{Halt}
 use Rattle.cfs_core.specs.declared.kernel.Stop.{Stop}
 use Rattle.cfs_core.specs.Calls.{Owes, leaves_all}
 use Rattle.cfs_core.specs.Kernel.{Kernel}
+use Rattle.cfs_core.specs.Rescues.{AreRescued}
+use Rattle.cfs_core.specs.Room.{MayLose, lost_blocks}
 use Rattle.cfs_core.specs.StandsFor.{StandsFor}
 
 -- ---- what is told of a refusal from below, at this moment of the disk
@@ -53,6 +56,7 @@ pub record Happens {D : Type 0} (g : Ghosts D) (old new : Kernel D) (s : State) 
   pub step : next old.words.seed s e ≡ Some after
   pub stands : StandsFor g new after
   pub survives : Survived g old.words.seed s e old.disk new.disk
+  pub lost : new.stop ≡ None → MayLose e s.graph after.graph (lost_blocks (g.content old.disk) s.graph) (lost_blocks (g.content new.disk) after.graph)
 
 -- A device call failed in this call. With a doubt something had been tried, and the moment is the one before that which the
 -- disk has now. A core that runs tells no stop.
@@ -74,6 +78,10 @@ pub record Asks {D : Type 0} (g : Ghosts D) (old new : Kernel D) (who : ℕ) (re
   -- it stops after a doubt and at a damage alone
   pub stops : old.stop ≡ None → new.stop ≡ stopped_by reply None
   pub cause : old.stop ≡ None → IsToldCause g old.disk new.disk reply
+  -- what was put into an index, or opened, is a rescue while a collection marks; no step of one is made
+  pub rescued : old.stop ≡ None → (s : State) → StandsFor g old s → AreRescued old.collections.collector new.collections.collector (rescues_of s who request reply)
+  pub called : new.collections.called ≡ old.collections.called
+  pub finished : new.collections.finished ≡ old.collections.finished
   -- on any disk
   pub size : g.blocks new.disk ≡ g.blocks old.disk
   pub faults : g.faults old.disk ≤ g.faults new.disk

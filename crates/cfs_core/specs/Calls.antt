@@ -1,24 +1,26 @@
 -- What a call of a core is: one event, and how exact its reply is.
-use Rattle.std.specs.Prelude.{◌≡◌, ◌⊎◌, ℕ, ◌+◌, ◌<◌, ◌≤◌, Bool, true, false, nat_le, if◌then◌else◌, length, sum, Result, Ok, Err, IfErr, IfOk, Some, None}
+use Rattle.std.specs.Prelude.{◌≡◌, ℕ, ◌+◌, ◌<◌, ◌≤◌, Bool, true, false, nat_le, if◌then◌else◌, length, sum, Result, Ok, Err, IfErr, IfOk, Some, None}
 use Rattle.cfs_base.specs.Calls.{HasStopped}
 use Rattle.cfs_base.specs.Disk.{Image}
 use Rattle.cfs_base.specs.Run.{Leaves}
 use Rattle.cfs_base.specs.declared.disk.Disk.{Ghosts}
 use Rattle.cfs_base.specs.declared.identifier.Puid.{Puid}
-use Rattle.cfs_base.specs.declared.kind.Mode.TheVariants as modes
 use Rattle.cfs_base.specs.declared.refusal.Refused.{Refused}
 use Rattle.cfs_base.specs.declared.refusal.Refused.TheVariants as refusals
 use Rattle.cyl_alloc.specs.Space.{IsLeastFree}
+use Rattle.cyl_map.specs.Volume.{entry_in}
 use Rattle.survival.specs.Call.{CallSurvives}
-use Rattle.survival.specs.Held.{Fits}
+use Rattle.survival.specs.Held.{HoldsSome}
 use Rattle.ufs_model.specs.declared.asked.Event.{Event}
 use Rattle.ufs_model.specs.declared.asked.Event.TheVariants as events
 use Rattle.ufs_model.specs.declared.asked.Reply.{Reply}
 use Rattle.ufs_model.specs.declared.asked.Reply.TheVariants as replies
 use Rattle.ufs_model.specs.declared.asked.Request.{Request}
 use Rattle.ufs_model.specs.declared.asked.Request.TheVariants as asks
+use Rattle.ufs_model.specs.declared.object.File.{File}
 use Rattle.ufs_model.specs.declared.object.Index.{Index}
 use Rattle.ufs_model.specs.declared.object.Object.TheVariants as objects
+use Rattle.ufs_model.specs.Graph.{Graph, with_object}
 use Rattle.ufs_model.specs.Limits.{reserve}
 use Rattle.ufs_model.specs.Need.{need_of}
 use Rattle.ufs_model.specs.Next.{next}
@@ -27,28 +29,11 @@ use Rattle.ufs_model.specs.Outcome.{creates, draws, outcome_of, slot_reply}
 use Rattle.ufs_model.specs.Plain.{IsPlainReply}
 use Rattle.ufs_model.specs.Refusal.{refusal_of}
 use Rattle.ufs_model.specs.State.{State}
-use Rattle.vol_image.specs.Sound.{Holds}
-use Rattle.vol_image.specs.Survives.{MayName}
-use Rattle.cfs_core.specs.Kernel.{Kernel}
-use Rattle.cfs_core.specs.StandsFor.{Serves, StandsFor}
+use Rattle.vol_image.specs.Survives.{ChangesInPlace, IsBetween, MayName}
+use Rattle.vol_owners.specs.Owner.{is_stray}
+use Rattle.cfs_core.specs.Kernel.{Kernel, grants_in}
+use Rattle.cfs_core.specs.StandsFor.{Serves, Stores}
 use Rattle.cfs_core.specs.Ways.{Reaches}
-
--- ---- requests that are served
-
-abbrev pub serves : Request → Bool
-serves (asks.CreateFile kind fill index slot) = true
-serves (asks.CreateIndex slots index slot) = true
-serves (asks.Retain index slot id) = true
-serves (asks.Retrieve index slot) = true
-serves (asks.Delete index slot) = true
-serves (asks.Slots index) = true
-serves (asks.OpenFor id modes.Reading) = true
-serves (asks.OpenFor id modes.Writing) = false
-serves (asks.Close grant commit) = true
-serves (asks.Read file offset count) = true
-serves (asks.Write file offset bytes) = false
-serves (asks.Size file) = true
-serves (asks.Resize file size) = false
 
 -- ---- replies
 
@@ -85,11 +70,17 @@ Owes seed s who request image free reply = IsOwed seed s who request image free 
 
 -- ---- one event
 
--- the event may come in the state, the core stands for the state after it, and what a crash leaves survives
+-- each block of an object that is gone was one before
+abbrev pub AddsNoStray : Image → Image → Graph → Graph → Type 0
+AddsNoStray a b g h = (n : ℕ) → is_stray h (entry_in b n) ≡ true → (entry_in b n ≡ entry_in a n) × (is_stray g (entry_in a n) ≡ true)
+
+-- The event may come in the state, the store has the state after it, and what a crash leaves survives. The collector isn't
+-- told of it yet.
 pub record Makes {D : Type 0} (g : Ghosts D) (old new : Kernel D) (s : State) (e : Event) : Type 0 where
   pub after : State
   pub step : next old.words.seed s e ≡ Some after
-  pub stands : StandsFor g new after
+  pub stores : Stores g new after
+  pub strays : AddsNoStray (g.content old.disk) (g.content new.disk) s.graph after.graph
   pub survives : CallSurvives g old.words.seed s e old.disk new.disk
 
 -- all is as it was after such a reply
@@ -107,14 +98,20 @@ pub record Answers {D : Type 0} (g : Ghosts D) (old new : Kernel D) (s : State) 
   pub still : leaves_all reply ≡ true → g.content new.disk ≡ g.content old.disk
   pub owed : Owes old.words.seed s who request (g.content old.disk) (sum old.space.free) reply
 
--- The call failed after its first write: what it would have done may have been done.
+-- the objects that may be read of a request which isn't refused: those of before, those of after, or those with a normal file
+-- whose change was cut short
+pub data MayStand (seed : ℕ) (s : State) (who : ℕ) (request : Request) : Graph → Type 0 where
+  Undone : MayStand seed s who request s.graph
+  Whole : (b : ℕ) → MayName s request b → MayStand seed s who request (outcome_of seed s who request b).1.graph
+  CutShort : (id : Puid) (old new f : File) → ChangesInPlace s who request id old new → IsBetween old new f → MayStand seed s who request (with_object s.graph id (objects.File f))
+
+-- The call failed after its first write: what it would have done may have been done, or a part of it.
 pub record IsInDoubt {D : Type 0} (g : Ghosts D) (old new : Kernel D) (s : State) (who : ℕ) (request : Request) : Type 0 where
-  pub block : ℕ
   pub allowed : refusal_of s who request ≡ None
-  pub names : MayName s request block
-  pub same : new ≡ record old { disk = new.disk; space = new.space }
-  pub fits : Fits (g.blocks new.disk) (outcome_of old.words.seed s who request block).1.graph
-  pub leaves : Leaves g old.disk new.disk (λ c. Holds c s.graph ⊎ Holds c (outcome_of old.words.seed s who request block).1.graph)
+  pub drawn : new.words.drawn ≡ old.words.drawn
+  pub named : new.names ≡ old.names
+  pub grants : grants_in new.seats ≡ grants_in old.seats
+  pub leaves : Leaves g old.disk new.disk (HoldsSome (g.blocks new.disk) (MayStand old.words.seed s who request))
 
 -- how a call ends that tries to answer
 abbrev pub EndsSo : {D : Type 0} → Ghosts D → Kernel D → Kernel D → State → ℕ → Request → Result Reply Refused → Type 0
@@ -140,6 +137,7 @@ pub record Tries {D : Type 0} (g : Ghosts D) (old new : Kernel D) (who : ℕ) (r
   pub size : g.blocks new.disk ≡ g.blocks old.disk
   pub faults : g.faults old.disk ≤ g.faults new.disk
   pub stop : new.stop ≡ old.stop
+  pub collections : new.collections ≡ old.collections
   pub seed : new.words.seed ≡ old.words.seed
   pub kept : old.words.drawn ≤ new.words.drawn
   pub drawn : new.words.drawn ≤ old.words.drawn + draws request
@@ -153,6 +151,7 @@ pub record TriesOn {D : Type 0} (g : Ghosts D) (old new : Kernel D) (index : Pui
   pub size : g.blocks new.disk ≡ g.blocks old.disk
   pub faults : g.faults old.disk ≤ g.faults new.disk
   pub stop : new.stop ≡ old.stop
+  pub collections : new.collections ≡ old.collections
   pub seed : new.words.seed ≡ old.words.seed
   pub kept : old.words.drawn ≤ new.words.drawn
   pub drawn : new.words.drawn ≤ old.words.drawn + draws request

@@ -1,13 +1,17 @@
 -- What contracts see of a core.
-use Rattle.std.specs.Prelude.{◌≡◌, ℕ, ◌*◌, true, false, nat_le, List, map, length, Option, None}
+use Rattle.std.specs.Prelude.{◌≡◌, ℕ, ◌+◌, ◌*◌, ◌≤◌, Bool, true, false, ◌||◌, ◌&&◌, nat_le, nat_lt, if◌then◌else◌, List, map, length, Option, Some, None, IfSome, is_none, is_some}
+use Rattle.std.specs.Option.{option_map_or}
 use Rattle.std.specs.List.{list_all}
 use Rattle.cfs_base.specs.declared.identifier.Puid.{Puid}
-use Rattle.collector_steps.specs.Collecting.{Collecting}
+use Rattle.collector_steps.specs.Collecting.{Collecting, volume_of}
+use Rattle.collector_steps.specs.declared.phase.Phase.{Phase}
+use Rattle.collector_steps.specs.declared.phase.Phase.TheVariants as phases
 use Rattle.cyl_alloc.specs.Space.{Kept}
 use Rattle.open_table.specs.declared.grant.Grant.{Grant}
 use Rattle.puid_space.specs.Directory.{Listing, has_root_in}
 use Rattle.puid_space.specs.Draw.{Draws}
 use Rattle.special_files.specs.Drafting.{Drafting}
+use Rattle.cfs_core.specs.declared.collecting.Collections.{Collections}
 use Rattle.cfs_core.specs.declared.kernel.Stop.{Stop}
 
 -- a grant, and the draft of a special file that is open for writing
@@ -15,9 +19,19 @@ pub record Seat : Type 0 where
   pub grant : Grant
   pub drafting : Option Drafting
 
--- the seats of grants that have no draft
-abbrev pub bare_seats : List Grant → List Seat
-bare_seats grants = map (λ grant. record { grant = grant; drafting = None }) grants
+abbrev pub grants_in : List Seat → List Grant
+grants_in seats = map (λ seat. seat.grant) seats
+
+-- drawn no later than this
+abbrev pub is_drawn_by : ℕ → Seat → Bool
+is_drawn_by drawn seat = nat_le seat.grant.tuid.draw drawn
+
+-- a draft as it stands between two calls: its object's root is below this block, it has a shadow root, and it makes nothing
+abbrev pub is_ready_for : ℕ → Drafting → Bool
+is_ready_for blocks d = nat_lt d.at blocks && is_some d.shadow && is_none d.created
+
+abbrev pub is_ready : ℕ → Seat → Bool
+is_ready blocks seat = option_map_or (is_ready_for blocks) seat.drafting true
 
 pub record Kernel (D : Type 0) : Type 0 where
   pub disk : D
@@ -29,13 +43,43 @@ pub record Kernel (D : Type 0) : Type 0 where
   -- the seed of the random words, and how many were drawn
   pub words : Draws
   pub seats : List Seat
-  pub collecting : Option Collecting
+  pub collections : Collections
   pub stop : Option Stop
+
+-- ---- collections
+
+abbrev pub marks_in : Phase → Bool
+marks_in phases.Idle = false
+marks_in phases.Marking = true
+marks_in (phases.Inner cylinder) = false
+marks_in (phases.Roots cylinder) = false
+marks_in phases.Swept = false
+
+abbrev pub sweeps_in : Phase → Bool
+sweeps_in phases.Idle = false
+sweeps_in phases.Marking = false
+sweeps_in (phases.Inner cylinder) = true
+sweeps_in (phases.Roots cylinder) = true
+sweeps_in phases.Swept = true
+
+-- a collection runs
+abbrev pub runs : Option Collecting → Bool
+runs None = false
+runs (Some k) = marks_in k.phase || sweeps_in k.phase
+
+-- A collector is one of the volume. No more collections were finished than called for, and one that runs was called for.
+pub record AreKept (room : ℕ) (c : Collections) : Type 0 where
+  pub volume : IfSome c.collector (λ k. volume_of k ≡ room)
+  pub few : c.finished + (if runs c.collector then 1 else 0) ≤ c.called
+
+-- ---- on any disk
 
 -- On any disk: it has 64 blocks a cylinder, there is room for the identifier of each, and none has block 0. Each grant was
 -- drawn.
-pub record IsSized {D : Type 0} (blocks : D → ℕ) (disk : D) (names : Listing) (space : Kept) (grants : List Grant) (drawn : ℕ) : Type 0 where
+pub record IsSized {D : Type 0} (blocks : D → ℕ) (disk : D) (names : Listing) (space : Kept) (seats : List Seat) (drawn : ℕ) (collections : Collections) : Type 0 where
   pub size : blocks disk ≡ 64 * length space.free
   pub room : names.room ≡ blocks disk
   pub some : has_root_in names.named 0 ≡ false
-  pub drawn_all : list_all (λ grant. nat_le grant.tuid.draw drawn) grants ≡ true
+  pub drawn_all : list_all (is_drawn_by drawn) seats ≡ true
+  pub kept : AreKept names.room collections
+  pub ready : list_all (is_ready names.room) seats ≡ true

@@ -1,9 +1,15 @@
 pub mod Kernel
+pub mod Seats
 pub mod StandsFor
+pub mod Leaving
 pub mod Room
 pub mod Calls
+pub mod Drafts
+pub mod Opening
 pub mod Looks
 pub mod Ways
 pub mod Makes
 pub mod Asked
 pub mod Opened
+pub mod Rescues
+pub mod Collect

@@ -56,6 +56,7 @@ pub record TriesToMake {D : Type 0} (g : Ghosts D) (old new : Kernel D) (index :
   pub size : g.blocks new.disk ≡ g.blocks old.disk
   pub faults : g.faults old.disk ≤ g.faults new.disk
   pub stop : new.stop ≡ old.stop
+  pub collections : new.collections ≡ old.collections
   pub seed : new.words.seed ≡ old.words.seed
   pub kept : old.words.drawn ≤ new.words.drawn
   pub drawn : new.words.drawn ≤ old.words.drawn + 1
@@ -71,6 +72,7 @@ pub record Names {D : Type 0} (old new : Kernel D) (id : Puid) (kind : Kind) (re
   pub astray : IfErr result (λ e. is_damaged e ≡ true)
   pub disk : new.disk ≡ old.disk
   pub stop : new.stop ≡ old.stop
+  pub collections : new.collections ≡ old.collections
   pub seed : new.words.seed ≡ old.words.seed
   pub kept : old.words.drawn ≤ new.words.drawn
   pub drawn : new.words.drawn ≤ old.words.drawn + 1

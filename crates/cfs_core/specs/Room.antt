@@ -1,10 +1,15 @@
 -- The room of a state: what is Free on a disk of so many cylinders, while nothing sweeps.
-use Rattle.std.specs.Prelude.{◌≡◌, ℕ, ◌+◌, ◌*◌, length}
+use Rattle.std.specs.Prelude.{◌≡◌, ℕ, ◌+◌, ◌*◌, ◌≤◌, length, Option, Some, None}
 use Rattle.std.specs.List.{sum_by}
 use Rattle.std.specs.Option.{option_map_or}
+use Rattle.cfs_base.specs.Disk.{Image}
+use Rattle.ufs_model.specs.declared.asked.Event.{Event}
+use Rattle.ufs_model.specs.declared.asked.Event.TheVariants as events
 use Rattle.ufs_model.specs.declared.object.Grant.{Grant}
+use Rattle.ufs_model.specs.Graph.{Graph}
 use Rattle.ufs_model.specs.State.{State}
 use Rattle.vol_image.specs.Sound.{graph_blocks}
+use Rattle.vol_owners.specs.Owner.{stray_blocks}
 
 -- the shadow root of a grant's draft, and the leaves and nodes that are the draft's alone
 abbrev pub draft_blocks : Grant → ℕ
@@ -17,3 +22,19 @@ blocks_in s = graph_blocks s.graph + sum_by draft_blocks s.grants
 -- all others are Free but the map of each cylinder and the label
 abbrev pub IsRoom : ℕ → State → ℕ → Type 0
 IsRoom cylinders s free = free + blocks_in s + 1 ≡ 63 * cylinders
+
+-- ---- while a collection sweeps
+
+-- the blocks that objects which are gone have still: they are neither Free nor in any use
+abbrev pub lost_blocks : Image → Graph → ℕ
+lost_blocks image g = stray_blocks image g (length image)
+
+-- Objects that vanish leave their blocks behind; else there are no more such blocks after an event, or after none, than
+-- before.
+abbrev pub MayLose : Event → Graph → Graph → (before after : ℕ) → Type 0
+MayLose (events.Vanish ids) g h before after = after + graph_blocks h ≡ before + graph_blocks g
+MayLose e g h before after = after ≤ before
+
+abbrev pub MayLoseBy : Option Event → Graph → Graph → (before after : ℕ) → Type 0
+MayLoseBy None g h before after = after ≤ before
+MayLoseBy (Some e) g h before after = MayLose e g h before after

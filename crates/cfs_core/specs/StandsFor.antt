@@ -1,5 +1,5 @@
 -- When a core stands for a state: a relation, since no field of a core has all that a collection remembers.
-use Rattle.std.specs.Prelude.{◌≡◌, ◌≤◌, Bool, true, false, List, [], ◌∷◌, ◌++◌, map, sum, Option, Some, None, option_map}
+use Rattle.std.specs.Prelude.{◌≡◌, ◌≤◌, Bool, true, false, ◌||◌, List, [], ◌∷◌, ◌++◌, map, sum, Option, Some, None, option_map}
 use Rattle.cfs_base.specs.Disk.{Image}
 use Rattle.cfs_base.specs.declared.disk.Disk.{Ghosts}
 use Rattle.collector_steps.specs.Collecting.{Collecting, Collects}
@@ -12,11 +12,14 @@ use Rattle.ufs_model.specs.declared.collection.Collection.TheVariants as collect
 use Rattle.ufs_model.specs.declared.object.Draft.{Draft}
 use Rattle.ufs_model.specs.declared.object.Grant.{Grant}
 use Rattle.ufs_model.specs.Limits.{reserve}
+use Rattle.ufs_model.specs.Need.{is_normal}
+use Rattle.ufs_model.specs.Refusal.{is_reading}
 use Rattle.ufs_model.specs.State.{State}
+use Rattle.ufs_model.specs.Vanish.{is_marking}
 use Rattle.ufs_model.specs.WellFormed.{IsState}
 use Rattle.vol_owners.specs.Account.{IsSwept, Opened}
 use Rattle.cfs_core.specs.declared.kernel.Stop.{Stop}
-use Rattle.cfs_core.specs.Kernel.{Kernel, Seat}
+use Rattle.cfs_core.specs.Kernel.{Kernel, Seat, grants_in, marks_in, sweeps_in}
 
 -- ---- grants
 
@@ -24,21 +27,27 @@ use Rattle.cfs_core.specs.Kernel.{Kernel, Seat}
 abbrev pub bare : Grant → seats.Grant
 bare g = record { tuid = g.tuid; session = g.session; id = g.id; mode = g.mode }
 
--- the drafts that the grants have, as the store accounts for them
-abbrev drafts_at : Seat → Option Drafting → Option Draft → List Opened
+-- the drafts that the grants have, as the store accounts for them, those that were begun later first
+abbrev pub drafts_at : Seat → Option Drafting → Option Draft → List Opened
 drafts_at seat (Some drafting) (Some d) = opened_as seat.grant.id drafting d ∷ []
 drafts_at seat (Some drafting) None = []
 drafts_at seat None draft = []
 
 abbrev pub drafts_of_seats : List Seat → List Grant → List Opened
-drafts_of_seats (seat ∷ seats) (grant ∷ grants) = drafts_at seat seat.drafting grant.draft ++ drafts_of_seats seats grants
+drafts_of_seats (seat ∷ seats) (grant ∷ grants) = drafts_of_seats seats grants ++ drafts_at seat seat.drafting grant.draft
 drafts_of_seats [] grants = []
 drafts_of_seats (seat ∷ seats) [] = []
+
+-- the draft of a special file, which a grant for writing has
+pub record IsDraftOf (ds : List Opened) (grant : seats.Grant) (drafting : Drafting) (d : Draft) : Type 0 where
+  pub is_open : IsOpen ds grant.id drafting d
+  pub special : is_normal d.object ≡ false
+  pub writes : is_reading grant.mode ≡ false
 
 -- the core has a draft exactly where the grant has one, and that is this one
 abbrev pub HasDraftOf : List Opened → Seat → Option Drafting → Option Draft → Type 0
 HasDraftOf ds seat None None = Unit {0}
-HasDraftOf ds seat (Some drafting) (Some d) = IsOpen ds seat.grant.id drafting d
+HasDraftOf ds seat (Some drafting) (Some d) = IsDraftOf ds seat.grant drafting d
 HasDraftOf ds seat None (Some d) = ⊥
 HasDraftOf ds seat (Some drafting) None = ⊥
 
@@ -55,10 +64,20 @@ is_sweeping collections.None = false
 is_sweeping (collections.Marking edges starts) = false
 is_sweeping collections.Sweeping = true
 
+-- a collection runs
+abbrev pub is_collecting : Collection → Bool
+is_collecting c = is_marking c || is_sweeping c
+
+-- The collector is as far as the state's collection, and keeps what holds of one between any two calls.
+pub record HasCollector (image : Image) (s : State) (k : Collecting) : Type 0 where
+  pub marking : is_marking s.collection ≡ marks_in k.phase
+  pub sweeping : is_sweeping s.collection ≡ sweeps_in k.phase
+  pub collects : Collects image s k
+
 -- a core without a collector has no collection
 abbrev pub HasCollection : Image → State → Option Collecting → Type 0
 HasCollection image s None = s.collection ≡ collections.None
-HasCollection image s (Some k) = Collects image s k
+HasCollection image s (Some k) = HasCollector image s k
 
 -- ---- standing for
 
@@ -66,11 +85,21 @@ HasCollection image s (Some k) = Collects image s k
 pub record IsFront {D : Type 0} (k : Kernel D) (s : State) : Type 0 where
   pub drawn : s.drawn ≡ k.words.drawn
   pub names : k.names.named ≡ kinds_of s.graph
-  pub grants : map (λ seat. seat.grant) k.seats ≡ map bare s.grants
+  pub grants : grants_in k.seats ≡ map bare s.grants
   pub stopped : s.stopped ≡ option_map (λ stop. stop.moment) k.stop
 
 -- The store has the graph and the drafts, whatever writes wait for a barrier; the blocks of vanished objects are gone but
 -- in a sweep; and four blocks are Free.
+pub record Stores {D : Type 0} (g : Ghosts D) (k : Kernel D) (s : State) : Type 0 where
+  pub front : IsFront k s
+  pub state : IsState s
+  pub root : s.graph.root ≡ k.root
+  pub store : StoreHas g s.graph (drafts_of_seats k.seats s.grants) k.disk k.space
+  pub drafts : AreDraftsOf (drafts_of_seats k.seats s.grants) k.seats s.grants
+  pub swept : is_sweeping s.collection ≡ false → IsSwept (g.content k.disk) s.graph
+  pub four : reserve ≤ sum k.space.free
+
+-- And the collection is there.
 pub record Serves {D : Type 0} (g : Ghosts D) (k : Kernel D) (s : State) : Type 0 where
   pub front : IsFront k s
   pub state : IsState s
@@ -79,7 +108,7 @@ pub record Serves {D : Type 0} (g : Ghosts D) (k : Kernel D) (s : State) : Type 
   pub drafts : AreDraftsOf (drafts_of_seats k.seats s.grants) k.seats s.grants
   pub swept : is_sweeping s.collection ≡ false → IsSwept (g.content k.disk) s.graph
   pub four : reserve ≤ sum k.space.free
-  pub collecting : HasCollection (g.content k.disk) s k.collecting
+  pub collecting : HasCollection (g.content k.disk) s k.collections.collector
 
 abbrev pub Stands : {D : Type 0} → Ghosts D → Kernel D → State → Option Stop → Type 0
 Stands g k s None = Serves g k s

@@ -1,10 +1,11 @@
 //! A request, answered.
-ghost use Rattle.std.specs.Prelude.{◌≡◌, ◌<◌, true};
+ghost use Rattle.std.specs.Prelude.{◌≡◌, ◌<◌, option_to_list};
 ghost use Rattle.cfs_core.specs.Asked.{Asks, stopped_by, told};
-ghost use Rattle.cfs_core.specs.Calls.{Tries, serves};
+ghost use Rattle.cfs_core.specs.Calls.{Tries};
+ghost use Rattle.cfs_core.specs.Rescues.{AreRescued, HasRoomFor, rescue_of};
 
 use crate::kernel::{Core, Stop};
-use cfs_base::{Disk, Mode, Refused, Session};
+use cfs_base::{Disk, Puid, Refused, Session};
 use std::alloc::Global;
 use ufs_model::{Reply, Request};
 
@@ -13,7 +14,6 @@ impl<D: Disk> Core<D> {
     /// `Disk` without a doubt, `Full` and `Memory` all is as it was. After `Disk` with one, and after `Damaged`, the core
     /// has stopped, and answers `Stopped` from then on, with no call of the disk.
     pub fn ask(&mut self, alloc: Global, who: Session, request: &Request) -> Reply
-        requires served { serves request.now ≡ true }
         requires words { self.old.words.drawn < 4294967295 }
         ensures { Asks D.Disk self.old self.new who request.now result }
     {
@@ -22,15 +22,18 @@ impl<D: Disk> Core<D> {
                 moment: stop.moment,
             };
         }
+        if let Err(_) = self.collections.make_room(request) {
+            return Reply::Memory;
+        }
+        let index = self.aim(who, request);
         match self.answer(alloc, who, request) {
-            Ok(reply) => reply,
+            Ok(reply) => self.tell(index, request, reply),
             Err(refused) => self.refuse(refused),
         }
     }
 
     /// Tries to answer a request.
     fn answer(&mut self, alloc: Global, who: Session, request: &Request) -> Result<Reply, Refused>
-        requires served { serves request.now ≡ true }
         requires words { self.old.words.drawn < 4294967295 }
         ensures { Tries D.Disk self.old self.new who request.now result }
     {
@@ -48,24 +51,40 @@ impl<D: Disk> Core<D> {
             Request::CreateIndex { slots, index, slot } => {
                 self.create_index(alloc, who, *slots, *index, *slot)
             }
-            Request::OpenFor { id, mode } => match mode {
-                Mode::Reading => self.open_to_read(who, *id),
-                Mode::Writing => Ok(Reply::NoGrant),
-            },
-            Request::Close { grant, commit } => Ok(self.close(who, *grant, *commit)),
+            Request::OpenFor { id, mode } => self.open_for(alloc, who, *id, *mode),
+            Request::Close { grant, commit } => self.close(who, *grant, *commit),
             Request::Read {
                 file,
                 offset,
                 count,
             } => self.read(alloc, who, *file, *offset, *count),
+            Request::Write {
+                file,
+                offset,
+                bytes,
+            } => self.write(alloc, who, *file, *offset, bytes.as_slice()),
             Request::Size { file } => self.size(who, *file),
-            _ => Ok(Reply::NoGrant),
+            Request::Resize { file, size } => self.resize(alloc, who, *file, *size),
         }
+    }
+
+    /// Tells the collector what was put into this index, or opened.
+    fn tell(&mut self, index: Option<Puid>, request: &Request, reply: Reply) -> Reply
+        requires room { HasRoomFor request.now self.old.collections.collector }
+        ensures told { result ≡ reply }
+        ensures new { self.new ≡ record self.old { collections = self.new.collections } }
+        ensures rescued { AreRescued self.old.collections.collector self.new.collections.collector
+            (option_to_list (rescue_of index request.now reply)) }
+        ensures called { self.new.collections.called ≡ self.old.collections.called }
+        ensures finished { self.new.collections.finished ≡ self.old.collections.finished }
+    {
+        self.collections.rescue(index, request, &reply);
+        reply
     }
 
     /// The reply to a request that was refused by what lies below. The core stops where what was asked may have been done,
     /// and at a damage.
-    fn refuse(&mut self, refused: Refused) -> Reply
+    pub(crate) fn refuse(&mut self, refused: Refused) -> Reply
         ensures told { result ≡ told refused (D.moment self.old.disk) }
         ensures stop { self.new ≡ record self.old { stop = stopped_by (told refused (D.moment self.old.disk)) self.old.stop } }
     {

@@ -1,25 +1,91 @@
-//! Requests that open an object, and that end a grant.
-ghost use Rattle.std.specs.Prelude.{◌≡◌, ◌<◌, Ok};
-ghost use Rattle.cfs_base.specs.declared.kind.Mode.TheVariants.{Reading};
+//! Requests that open an object.
+ghost use Rattle.std.specs.Prelude.{◌≡◌, ◌≢◌, ◌<◌, ◌*◌, length};
 ghost use Rattle.cfs_core.specs.Calls.{Tries};
+ghost use Rattle.cfs_core.specs.Opening as spec;
 ghost use Rattle.ufs_model.specs.declared.asked.Request.TheVariants as asks;
 
 use crate::kernel::Core;
-use cfs_base::{Disk, Mode, Puid, Refused, Session, Tuid};
+use cfs_base::{BlockNo, Disk, Kind, Mode, Puid, Refused, Session, Tuid};
+use cyl_alloc::Space;
 use open_table::{AcquireFault, Grant, table_follows_the_model};
-use ufs_model::Reply;
+use special_files::Draft;
+use std::alloc::Global;
+use ufs_model::{RESERVE, Reply};
+
+/// Whether an object of this kind is an index that is to be opened for writing.
+fn is_unfit(kind: Kind, mode: Mode) -> bool
+    ensures { result ≡ spec.is_unfit kind mode }
+{
+    match (kind, mode) {
+        (Kind::Index, Mode::Writing) => true,
+        _ => false,
+    }
+}
+
+/// Whether an object of this kind gets a draft where it is opened so.
+fn gets_draft(kind: Kind, mode: Mode) -> bool
+    ensures { result ≡ spec.gets_draft kind mode }
+{
+    match (kind, mode) {
+        (Kind::Special, Mode::Writing) => true,
+        _ => false,
+    }
+}
+
+/// What an opening is told that a grant stands against.
+fn told_of(fault: AcquireFault) -> Reply
+    ensures { result ≡ spec.told_of fault }
+{
+    match fault {
+        AcquireFault::Locked { mode: _ } => Reply::Locked,
+        AcquireFault::Grants => Reply::Grants,
+    }
+}
+
+/// The draft of the object at a block, if it is to have one.
+fn first_draft<D: Disk>(
+    alloc: Global,
+    disk: &mut D,
+    space: &mut Space,
+    at: BlockNo,
+    wanted: bool,
+) -> Result<Option<Draft>, Refused>
+    requires some { at.0 ≢ 0 }
+    requires on_disk { at.0 < D.blocks disk.old }
+    requires size { D.blocks disk.old ≡ 64 * length space.old.free }
+    ensures begins { spec.Begins D.Disk at.0 wanted disk.old disk.new space.old space.new result }
+    ensures cylinders { length space.new.free ≡ length space.old.free }
+{
+    if !wanted {
+        return Ok(None);
+    }
+    match Draft::begin(alloc, disk, space, at, RESERVE) {
+        Ok(draft) => Ok(Some(draft)),
+        Err(refused) => Err(refused),
+    }
+}
 
 impl<D: Disk> Core<D> {
-    /// Opens an object for reading. Memory is taken before anything changes.
-    pub(crate) fn open_to_read(&mut self, who: Session, id: Puid) -> Result<Reply, Refused>
+    /// Opens an object: a special file for writing with a draft, of which all memory is taken before its shadow root is.
+    pub(crate) fn open_for(
+        &mut self,
+        alloc: Global,
+        who: Session,
+        id: Puid,
+        mode: Mode,
+    ) -> Result<Reply, Refused>
         requires words { self.old.words.drawn < 4294967295 }
-        ensures { Tries D.Disk self.old self.new who (asks.OpenFor id Reading) result }
+        ensures { Tries D.Disk self.old self.new who (asks.OpenFor id mode) result }
     {
-        if self.kind(id).is_none() {
-            return Ok(Reply::NoObject);
+        let kind = match self.kind(id) {
+            Some(kind) => kind,
+            None => return Ok(Reply::NoObject),
+        };
+        if is_unfit(kind, mode) {
+            return Ok(Reply::NotFile);
         }
         table_follows_the_model();
-        if let Err(want) = self.grants.reserve() {
+        if let Err(want) = self.seats.reserve() {
             return Err(Refused::from(want));
         }
         let tuid = Tuid {
@@ -30,27 +96,23 @@ impl<D: Disk> Core<D> {
             tuid,
             session: who,
             id,
-            mode: Mode::Reading,
+            mode,
         };
-        match self.grants.acquire(grant) {
-            Ok(()) => {
-                self.words.next();
-                Ok(Reply::Grant(tuid))
-            }
-            Err(AcquireFault::Locked { mode: _ }) => Ok(Reply::Locked),
-            Err(AcquireFault::Grants) => Ok(Reply::Grants),
+        if let Some(fault) = self.seats.fault(grant) {
+            return Ok(told_of(fault));
         }
-    }
-
-    /// Ends a grant, none of which has a draft.
-    pub(crate) fn close(&mut self, who: Session, grant: Tuid, commit: bool) -> Reply
-        ensures { Tries D.Disk self.old self.new who (asks.Close grant commit) (Ok result) }
-    {
-        table_follows_the_model();
-        let _commit = commit;
-        if let Err(_) = self.grants.close(who, grant) {
-            return Reply::NoGrant;
-        }
-        Reply::Done
+        let draft = match first_draft(
+            alloc,
+            &mut self.disk,
+            &mut self.space,
+            BlockNo(id.block),
+            gets_draft(kind, mode),
+        ) {
+            Ok(draft) => draft,
+            Err(refused) => return Err(refused),
+        };
+        self.seats.open(grant, draft);
+        self.words.next();
+        Ok(Reply::Grant(tuid))
     }
 }

@@ -1,19 +1,17 @@
 //! A core, and what it tells of itself.
-ghost use Rattle.std.specs.Prelude.{◌≡◌, ◌≢◌, ◌+◌, ◌*◌, ◌<◌, length, false, IsOk, IsSome, option_map, option_and_then, sum};
-ghost use Rattle.cfs_core.specs.Asked.{Happens, halted};
-ghost use Rattle.cfs_core.specs.Room.{IsRoom, draft_blocks};
-ghost use Rattle.std.specs.List.{sum_by};
-ghost use Rattle.cfs_core.specs.StandsFor.{Serves, StandsFor, drafts_of_seats, is_sweeping};
+ghost use Rattle.std.specs.Prelude.{◌≡◌, ◌≢◌, ◌+◌, ◌*◌, ◌<◌, ◌≤◌, length, false, IsSome, option_map, option_and_then, sum};
+ghost use Rattle.cfs_core.specs.Room.{IsRoom, lost_blocks};
+ghost use Rattle.cfs_core.specs.Kernel.{runs};
+ghost use Rattle.cfs_core.specs.StandsFor.{Serves, StandsFor, drafts_of_seats, is_collecting, is_sweeping};
 ghost use Rattle.cyl_map.specs.Volume.{free_from};
 ghost use Rattle.puid_space.specs.Directory.{kind_in};
 ghost use Rattle.ufs_model.specs.State.{State};
-ghost use Rattle.ufs_model.specs.declared.asked.Event.TheVariants as events;
-ghost use Rattle.ufs_model.specs.declared.collection.Collection.TheVariants as collections;
 ghost use Rattle.vol_owners.specs.Room.{blocks_taken};
 
+use crate::collecting::Collections;
+use crate::seats::Seats;
 use cfs_base::{Damage, Disk, Kind, Puid, Session};
 use cyl_alloc::Space;
-use open_table::{Grants, table_follows_the_model};
 use puid_space::{Directory, Draw};
 use std::alloc::Global;
 use std::marker::Model;
@@ -54,13 +52,13 @@ pub struct Core<D: Disk> {
     pub(crate) names: Directory,
     pub(crate) space: Space,
     pub(crate) words: Draw,
-    pub(crate) grants: Grants,
+    pub(crate) seats: Seats,
+    pub(crate) collections: Collections,
     pub(crate) stop: Option<Stop>,
 }
 
 impl<D: Disk> Model for Core<D> {
-    ghost use Rattle.std.specs.Prelude.{None};
-    ghost use Rattle.cfs_core.specs.Kernel.{IsSized, Kernel, bare_seats};
+    ghost use Rattle.cfs_core.specs.Kernel.{IsSized, Kernel};
 
     ghost Value = { Kernel D };
 
@@ -70,12 +68,12 @@ impl<D: Disk> Model for Core<D> {
       names = c.names;
       space = c.space;
       words = c.words;
-      seats = bare_seats c.grants.grants;
-      collecting = None;
+      seats = c.seats.seats;
+      collections = c.collections;
       stop = c.stop;
     } };
 
-    ghost invariant = { λ c. IsSized D.blocks c.disk c.names c.space c.grants.grants c.words.drawn };
+    ghost invariant = { λ c. IsSized D.blocks c.disk c.names c.space c.seats.seats c.words.drawn c.collections };
 }
 
 impl<D: Disk> Core<D> {
@@ -92,47 +90,35 @@ impl<D: Disk> Core<D> {
         ensures stopped { result.stopped ≡ option_map (λ stop. stop.moment) self.now.stop }
         ensures damage { result.damage ≡ option_and_then (λ stop. stop.damage) self.now.stop }
         ensures grants { result.grants ≡ length self.now.seats }
-        ensures running { result.running ≡ false }
-        ensures called { result.called ≡ 0 }
-        ensures finished { result.finished ≡ 0 }
+        ensures running { result.running ≡ runs self.now.collections.collector }
+        ensures collects { (s : State) → Serves D.Disk self.now s → result.running ≡ is_collecting s.collection }
+        ensures called { result.called ≡ self.now.collections.called }
+        ensures finished { result.finished ≡ self.now.collections.finished }
+        // Never more are finished than were called for.
+        ensures few { result.finished ≤ result.called }
     {
         Status {
             objects: self.names.len(),
-            grants: self.grants.len(),
+            grants: self.seats.len(),
             free: self.space.free(),
-            running: false,
-            called: 0,
-            finished: 0,
+            running: self.collections.is_running(),
+            called: self.collections.called,
+            finished: self.collections.finished,
             stopped: self.stop.map(|stop| stop.moment),
             damage: self.stop.and_then(|stop| stop.damage),
         }
     }
 
-    /// The Free blocks that the core counts are the room, as long as nothing sweeps; and no draft is open yet, and no
-    /// collection runs. This does nothing: it is a law.
+    /// The Free blocks that the core counts are the room, as long as nothing sweeps, and else the room less the blocks of
+    /// objects that are gone. This does nothing: it is a law.
     pub fn has_room(&self)
         ensures size { D.blocks self.now.disk ≡ 64 * length self.now.space.free }
-        ensures undrafted { (s : State) → Serves D.Disk self.now s → sum_by draft_blocks s.grants ≡ 0 }
-        ensures idle { (s : State) → Serves D.Disk self.now s → s.collection ≡ collections.None }
         ensures room { (s : State) → Serves D.Disk self.now s → is_sweeping s.collection ≡ false
             → IsRoom (length self.now.space.free) s (sum self.now.space.free) }
+        ensures lost { (s : State) → Serves D.Disk self.now s
+            → IsRoom (length self.now.space.free) s (sum self.now.space.free + lost_blocks (D.content self.now.disk) s.graph) }
     {
         let _disk = &self.disk;
-    }
-
-    /// A session leaves, and its grants are dropped. A core that stopped is left as well.
-    pub fn leave(&mut self, who: Session) -> Result<(), Halt>
-        ensures event { (s : State) → StandsFor D.Disk self.old s
-            → Happens D.Disk self.old self.new s (events.Leave who (halted result)) }
-        ensures stop { self.new.stop ≡ self.old.stop }
-        ensures disk { self.new.disk ≡ self.old.disk }
-        ensures space { self.new.space ≡ self.old.space }
-        ensures words { self.new.words ≡ self.old.words }
-        ensures left { IsOk result }
-    {
-        table_follows_the_model();
-        self.grants.drop_session(who);
-        Ok(())
     }
 
     /// The disk's clock.
@@ -176,15 +162,12 @@ impl<D: Disk> Core<D> {
 
 impl<D: Disk> Asker for Core<D> {
     ghost use Rattle.cfs_core.specs.StandsFor.{StandsFor, front_of};
-    ghost use Rattle.cfs_core.specs.Calls as calls;
 
     ghost stands = { λ k s. StandsFor D.Disk k s };
 
     ghost seed = { λ k. k.words.seed };
 
     ghost words = { λ k. k.words.drawn };
-
-    ghost serves = { calls.serves };
 
     ghost counted = { λ k s stands. (front_of D.Disk k s stands).drawn };
 

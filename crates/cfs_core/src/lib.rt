@@ -4,13 +4,20 @@
 
 mod asking;
 mod changing;
+mod closing;
+mod collecting;
 mod creating;
+mod drafting;
 mod granting;
 mod kernel;
 mod looking;
 mod opening;
 mod reading;
+mod rescuing;
+mod seats;
 mod way;
+mod writing;
 
+pub use collecting::{CollectFault, Step};
 pub use kernel::{Core, Halt, Status, Stop};
 pub use opening::OpenFault;

@@ -12,10 +12,11 @@ ghost use Rattle.ufs_model.specs.Word.{word};
 ghost use Rattle.vol_format.specs.Fresh.{IsFormatted, MayBeFresh};
 ghost use Rattle.vol_image.specs.Sound.{IsSound, IsSoundAs};
 
+use crate::collecting::Collections;
 use crate::kernel::Core;
+use crate::seats::Seats;
 use cfs_base::{Damage, Disk, Failed, code};
 use cfs_recover::{RecoverFault, Recovered, recover};
-use open_table::Grants;
 use puid_space::{Draw, root_word};
 use std::alloc::Global;
 use vol_format::format_volume;
@@ -56,8 +57,9 @@ impl<D: Disk> Core<D> {
     pub fn open(alloc: Global, disk: D, seed: u64) -> Result<Core<D>, OpenFault<D>>
         ensures opened { IsTrue (D.honest disk) → (graph : Graph) → IsSoundAs (D.content disk) graph
             → IfOk result (IsOpened D.Disk graph seed) }
-        // Whatever disk it is, no word is drawn, and the core hasn't stopped.
+        // Whatever disk it is, no word is drawn, the core hasn't stopped, and no collection was called for.
         ensures begins { IfOk result (λ core. (core.words ≡ record { seed = seed; drawn = 0 }) × (core.stop ≡ None)) }
+        ensures idle { IfOk result (λ core. core.collections ≡ record { collector = None; called = 0; finished = 0 }) }
         // A volume that isn't sound is refused for what is wrong with it, and a sound one for nothing of the kind.
         ensures sound { IsTrue (D.honest disk) → IfOk result (λ core. IsSound (D.content disk)) }
         ensures refused { IsTrue (D.honest disk) → IfErr result (λ e. IsOpenFault (D.content disk) e.why) }
@@ -93,7 +95,8 @@ impl<D: Disk> Core<D> {
                     names: recovered.names,
                     space: recovered.space,
                     words: Draw::new(seed),
-                    grants: Grants::new(alloc),
+                    seats: Seats::new(alloc),
+                    collections: Collections::new(),
                     stop: None,
                 })
             }

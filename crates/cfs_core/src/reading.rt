@@ -1,10 +1,12 @@
 //! Requests that read a file.
-ghost use Rattle.std.specs.Prelude.{◌≡◌, ◌+◌, ◌<◌, ◌≤◌, IfOk, length};
+ghost use Rattle.std.specs.Prelude.{◌≡◌, ◌+◌, ◌<◌, ◌≤◌, IfOk, None, length};
 ghost use Rattle.cfs_core.specs.Calls.{Tries};
 ghost use Rattle.cfs_core.specs.Looks.{IsCalm, Knows, content_of, measured};
+ghost use Rattle.cfs_core.specs.StandsFor.{Serves};
 ghost use Rattle.normal_files.specs.Touched.{leaves_touched, nodes_touched};
 ghost use Rattle.ufs_model.specs.Plain.{IsPlainReply};
 ghost use Rattle.ufs_model.specs.Refusal as refusal;
+ghost use Rattle.ufs_model.specs.State.{State, draft_of};
 ghost use Rattle.ufs_model.specs.declared.asked.Request.TheVariants as asks;
 ghost use Rattle.ufs_model.specs.declared.object.File.{File};
 ghost use Rattle.ufs_model.specs.declared.object.Object.TheVariants as objects;
@@ -87,6 +89,24 @@ impl<D: Disk> Core<D> {
     ) -> Result<Reply, Refused>
         ensures { Tries D.Disk self.old self.new who (asks.Read to offset count) result }
     {
+        match self.drafted(who, to) {
+            Some(grant) => self.read_draft(alloc, who, grant, offset, count),
+            None => self.read_object(alloc, who, to, offset, count),
+        }
+    }
+
+    /// The same where the reference has no draft.
+    fn read_object(
+        &mut self,
+        alloc: Global,
+        who: Session,
+        to: Ref,
+        offset: u64,
+        count: u64,
+    ) -> Result<Reply, Refused>
+        requires bare { (s : State) → Serves D.Disk self.old s → draft_of s who to ≡ None }
+        ensures { Tries D.Disk self.old self.new who (asks.Read to offset count) result }
+    {
         let way = Way {
             to,
             also: None,
@@ -101,6 +121,17 @@ impl<D: Disk> Core<D> {
 
     /// The size of a file in bytes.
     pub(crate) fn size(&mut self, who: Session, to: Ref) -> Result<Reply, Refused>
+        ensures { Tries D.Disk self.old self.new who (asks.Size to) result }
+    {
+        match self.drafted(who, to) {
+            Some(grant) => Ok(self.size_of_draft(who, grant)),
+            None => self.size_of_object(who, to),
+        }
+    }
+
+    /// The same where the reference has no draft.
+    fn size_of_object(&mut self, who: Session, to: Ref) -> Result<Reply, Refused>
+        requires bare { (s : State) → Serves D.Disk self.old s → draft_of s who to ≡ None }
         ensures { Tries D.Disk self.old self.new who (asks.Size to) result }
     {
         let way = Way {

@@ -10,7 +10,6 @@ ghost use Rattle.puid_space.specs.Directory.{kind_in};
 ghost use Rattle.ufs_model.specs.Graph.{object_at};
 ghost use Rattle.ufs_model.specs.Refusal.{goes_through_reading, meets_a_grant};
 ghost use Rattle.ufs_model.specs.State.{State, draft_of, named};
-ghost use Rattle.ufs_model.specs.declared.asked.Ref as refs;
 ghost use Rattle.ufs_model.specs.declared.asked.Request.{Request};
 ghost use Rattle.ufs_model.specs.declared.asked.Wanted.TheVariants.{AFile, AnIndex};
 ghost use Rattle.ufs_model.specs.declared.object.File.{File};
@@ -52,6 +51,7 @@ impl<D: Disk> Core<D> {
     /// The file that a request of a session goes to, and its kind, or its refusal on the way there. It has no draft. Its root
     /// block is one of the disk's, and not block 0.
     pub(crate) fn file_at(&self, who: Session, way: Way) -> Result<(Puid, FileKind), Reply>
+        requires bare { (s : State) → Serves D.Disk self.now s → draft_of s who way.to ≡ None }
         ensures refused { IfErr result (λ reply. (request : Request) → GoesBy request AFile way
             → Tries D.Disk self.now self.now who request (Ok reply)) }
         ensures reached { IfOk result (λ two. (request : Request) → GoesBy request AFile way
@@ -61,7 +61,7 @@ impl<D: Disk> Core<D> {
         ensures on_disk { IfOk result (λ two. two.0.block < D.blocks self.now.disk) }
         ensures some { IfOk result (λ two. two.0.block ≢ 0) }
     {
-        self.has_no_draft();
+        self.shuts(who, way);
         match self.object_at(who, way, Wanted::AFile) {
             Ok((id, Kind::Normal)) => Ok((id, FileKind::Normal)),
             Ok((id, Kind::Special)) => Ok((id, FileKind::Special)),
@@ -70,13 +70,13 @@ impl<D: Disk> Core<D> {
         }
     }
 
-    /// No grant has a draft yet. This does nothing: it is a law.
-    fn has_no_draft(&self)
-        ensures bare { (s : State) (who : ℕ) (to : refs.Ref) → Serves D.Disk self.now s → draft_of s who to ≡ None }
-        ensures shut { (s : State) (id : Puid) → Serves D.Disk self.now s
+    /// Of what a reference goes to that has no draft, and meets no grant, no grant has a draft. This does nothing: it is a law.
+    fn shuts(&self, who: Session, way: Way)
+        ensures { (s : State) (id : Puid) → Serves D.Disk self.now s → named s who way.to ≡ Some id
+            → draft_of s who way.to ≡ None → meets_a_grant s way.changes way.to ≡ false
             → drafts_of (drafts_of_seats self.now.seats s.grants) id ≡ [] }
     {
-        let _grants = &self.grants;
+        self.seats.len();
     }
 
     /// The object that a request of a session goes to, and its kind, which is wanted there, or its refusal on the way there.
@@ -85,6 +85,8 @@ impl<D: Disk> Core<D> {
             → Tries D.Disk self.now self.now who request (Ok reply)) }
         ensures arrived { IfOk result (λ two. (request : Request) → GoesBy request wants way
             → (s : State) → Serves D.Disk self.now s → (o : Object) × Arrives s who request two.0 o) }
+        ensures free { IfOk result (λ two. (s : State) → Serves D.Disk self.now s
+            → meets_a_grant s way.changes way.to ≡ false) }
         ensures kind { IfOk result (λ two. kind_in self.now.names.named two.0 ≡ Some two.1) }
         ensures wanted { IfOk result (λ two. unfit_of wants (Some two.1) ≡ None) }
         ensures on_disk { IfOk result (λ two. two.0.block < D.blocks self.now.disk) }
@@ -112,13 +114,13 @@ impl<D: Disk> Core<D> {
     }
 
     /// What a reference of a session goes to, if it goes anywhere.
-    fn goes_to(&self, who: Session, to: Ref) -> Option<Puid>
+    pub(crate) fn goes_to(&self, who: Session, to: Ref) -> Option<Puid>
         ensures { (s : State) → Serves D.Disk self.now s → result ≡ named s who to }
     {
         table_follows_the_model();
         match to {
             Ref::Direct(id) => Some(id),
-            Ref::Through(grant) => match self.grants.find(who, grant) {
+            Ref::Through(grant) => match self.seats.find(who, grant) {
                 Some(grant) => Some(grant.id),
                 None => None,
             },
@@ -154,7 +156,7 @@ impl<D: Disk> Core<D> {
         table_follows_the_model();
         match to {
             Ref::Direct(_) => false,
-            Ref::Through(grant) => reads(self.grants.find(who, grant)),
+            Ref::Through(grant) => reads(self.seats.find(who, grant)),
         }
     }
 
@@ -164,9 +166,9 @@ impl<D: Disk> Core<D> {
         ensures { (s : State) → Serves D.Disk self.now s → result ≡ meets_a_grant s alone to }
     {
         table_follows_the_model();
-        self.grants.len();
+        self.seats.len();
         match to {
-            Ref::Direct(id) => bars(alone, self.grants.mode_on(id)),
+            Ref::Direct(id) => bars(alone, self.seats.mode_on(id)),
             Ref::Through(_) => false,
         }
     }

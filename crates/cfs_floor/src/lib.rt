@@ -7,5 +7,5 @@ mod rest;
 mod workers;
 
 pub use floor::Floor;
-pub use rest::make_turns_left;
+pub use rest::{make_all_turns, make_turns_left};
 pub use workers::{Share, run_workers, shares_of};

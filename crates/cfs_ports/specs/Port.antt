@@ -2,18 +2,17 @@
 use Rattle.std.specs.Prelude.{◌≡◌, ℕ, Bool, true, false, not, List, ◌∷◌, Option}
 use Rattle.cfs_base.specs.declared.identifier.Puid.{Puid}
 use Rattle.cfs_base.specs.Outside.{Intake}
-use Rattle.cfs_script.specs.Language.{built_forms}
 use Rattle.cfs_script.specs.NameTable.{NameTable, names_of}
 use Rattle.cfs_streams.specs.Writing.{Wrote, WroteSome}
 use Rattle.ufs_model.specs.declared.asked.Reply.{Reply}
 use Rattle.ufs_model.specs.declared.asked.Unread.{Unread}
 use Rattle.ufs_model.specs.Names.{no_names}
 use Rattle.ufs_model.specs.Script.{words_of}
-use Rattle.ufs_model.specs.Spoken.{reading_of, name_spoken}
+use Rattle.ufs_model.specs.Spoken.{all_forms, reading_of, name_spoken}
 use Rattle.ufs_model.specs.Turns.{names_after_reply}
 use Rattle.ufs_model.specs.Printed.{reply_line, unread_line}
 use Rattle.cfs_ports.specs.declared.hearing.Heard.{Heard}
-use Rattle.cfs_ports.specs.Heard.{CanBind, Hears, IsBuilt}
+use Rattle.cfs_ports.specs.Heard.{CanBind, Hears}
 
 -- the request lines that are left, the names, what is known of the sink, whether it failed, and whether the session has left
 pub record Reading : Type 0 where
@@ -33,10 +32,9 @@ pub record IsNew (root : Puid) (p : Reading) : Type 0 where
 pub record TakesLine (old new : Reading) (heard : Heard) : Type 0 where
   pub line : List ℕ
   pub taken : old.lines ≡ line ∷ new.lines
-  pub hears : Hears (reading_of built_forms (names_of old.names) line) (name_spoken built_forms (words_of line)) heard
+  pub hears : Hears (reading_of all_forms (names_of old.names) line) (name_spoken all_forms (words_of line)) heard
   pub names : names_of new.names ≡ names_of old.names
   pub room : CanBind heard new.names.room
-  pub built : IsBuilt heard
   pub sink : new.sink ≡ old.sink
   pub failed : new.failed ≡ old.failed
   pub stays : new.has_left ≡ old.has_left

@@ -1,12 +1,11 @@
 //! What a session hears of a line.
 ghost use Rattle.std.specs.Prelude.{◌≡◌};
-ghost use Rattle.cfs_script.specs.Language.{built_forms};
 ghost use Rattle.cfs_script.specs.NameTable.{names_of};
-ghost use Rattle.cfs_ports.specs.Heard.{CanBind, Hears, IsBuilt};
+ghost use Rattle.cfs_ports.specs.Heard.{CanBind, Hears};
 ghost use Rattle.ufs_model.specs.Script.{words_of};
-ghost use Rattle.ufs_model.specs.Spoken.{reading_of, name_spoken};
+ghost use Rattle.ufs_model.specs.Spoken.{all_forms, reading_of, name_spoken};
 
-use cfs_script::{Name, Names, ScriptFault, Spoken, built_verbs, read_line};
+use cfs_script::{Name, Names, ScriptFault, Spoken, all_verbs, read_line};
 use std::alloc::Global;
 use ufs_model::{Request, Unread};
 
@@ -23,12 +22,11 @@ pub enum Heard {
 
 /// Reads a line, and makes room for the name that it may bind.
 pub(crate) fn hear(alloc: Global, line: &[u8], names: &mut Names) -> Heard
-    ensures heard { Hears (reading_of built_forms (names_of names.old) line.now) (name_spoken built_forms (words_of line.now)) result }
+    ensures heard { Hears (reading_of all_forms (names_of names.old) line.now) (name_spoken all_forms (words_of line.now)) result }
     ensures names { names_of names.new ≡ names_of names.old }
     ensures room { CanBind result names.new.room }
-    ensures built { IsBuilt result }
 {
-    let Spoken { request, name } = match read_line(alloc, &built_verbs(), line, names) {
+    let Spoken { request, name } = match read_line(alloc, &all_verbs(), line, names) {
         Ok(spoken) => spoken,
         Err(ScriptFault::Syntax) => return Heard::Not(Unread::Syntax),
         Err(ScriptFault::NoName) => return Heard::Not(Unread::NoName),

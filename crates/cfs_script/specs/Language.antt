@@ -1,5 +1,5 @@
 -- The forms of lines that are read, by their verbs.
-use Rattle.std.specs.Prelude.{List, [], ◌∷◌, map}
+use Rattle.std.specs.Prelude.{List, map}
 use Rattle.ufs_model.specs.Spoken.{Form, create_file_form, create_index_form, retain_form, retrieve_form, delete_form, slots_form}
 use Rattle.ufs_model.specs.Spoken.{open_form, close_form, read_form, write_form, size_form, resize_form}
 use Rattle.cfs_script.specs.declared.verb.Verb.{Verb}
@@ -23,7 +23,3 @@ form_of_verb verbs.Resize = resize_form
 -- a language: the forms of these verbs
 abbrev pub forms_of : List Verb → List Form
 forms_of language = map form_of_verb language
-
--- the language of the program: the lines that are served
-abbrev pub built_forms : List Form
-built_forms = create_index_form ∷ retain_form ∷ retrieve_form ∷ delete_form ∷ slots_form ∷ []

@@ -20,7 +20,7 @@ pub use name::{Name, is_name};
 pub use names::Names;
 pub use reply::{REPLY_ROOM, print_reply, print_unread};
 pub use spoken::{Spoken, read_line};
-pub use verb::{Verb, all_verbs, built_verbs};
+pub use verb::{Verb, all_verbs};
 pub use word::number_of;
 
 #[cfg(test)]

@@ -1,4 +1,4 @@
-use crate::{Name, Names, ScriptFault, Spoken, all_verbs, built_verbs, read_line};
+use crate::{Name, Names, ScriptFault, Spoken, Verb, all_verbs, read_line};
 use cfs_base::{FileKind, Mode, Puid, Tuid};
 use std::alloc::Global;
 use std::process::Abort;
@@ -139,11 +139,16 @@ fn each_form_on_files_is_read(rt: HostRuntime) -> Result<(), Fail> {
 #[test]
 fn lines_out_of_the_language_are_syntax(rt: HostRuntime) -> Result<(), Fail> {
     let names = some_names(rt.alloc())?;
-    let lines: [&[u8]; 4] = [b"size g", b"read g 0 1", b"resize g 4", b"close g abort"];
+    let language = [Verb::Slots, Verb::Read];
+    let lines: [&[u8]; 3] = [b"open w a write", b"size g", b"close g abort"];
     for line in lines {
-        let built = read_line(rt.alloc(), &built_verbs(), line, &names);
-        assert!(rt; matches!(built, Err(ScriptFault::Syntax)));
+        let read = read_line(rt.alloc(), &language, line, &names);
+        assert!(rt; matches!(read, Err(ScriptFault::Syntax)));
         assert!(rt; ask(rt.alloc(), &names, line).is_ok());
+    }
+    let lines: [&[u8]; 2] = [b"slots a", b"read g 0 1"];
+    for line in lines {
+        assert!(rt; read_line(rt.alloc(), &language, line, &names).is_ok());
     }
     Ok(())
 }

@@ -2,7 +2,7 @@
 ghost use Rattle.std.specs.Prelude.{◌≡◌, map};
 ghost use Rattle.std.specs.Option.{option_map};
 ghost use Rattle.ufs_model.specs.Spoken.{all_forms, form_of};
-ghost use Rattle.cfs_script.specs.Language.{built_forms, form_of_verb, forms_of};
+ghost use Rattle.cfs_script.specs.Language.{form_of_verb, forms_of};
 
 /// What a request line begins with.
 #[derive(Clone, Copy, Debug, PartialEq, Eq)]
@@ -19,19 +19,6 @@ pub enum Verb {
     Write,
     Size,
     Resize,
-}
-
-/// The verbs of the lines that the program serves.
-pub fn built_verbs() -> [Verb; 5]
-    ensures { forms_of result ≡ built_forms }
-{
-    [
-        Verb::CreateIndex,
-        Verb::Retain,
-        Verb::Retrieve,
-        Verb::Delete,
-        Verb::Slots,
-    ]
 }
 
 /// All verbs.

@@ -1,5 +1,7 @@
 //! What single words say.
-ghost use Rattle.std.specs.Prelude.{◌≡◌, MatchOption};
+ghost use Rattle.std.specs.Prelude.{◌≡◌, ◌*◌, Ok, IsErr, MatchOption, length, unwrap_or};
+ghost use Rattle.std.specs.Bool.{MatchBool};
+ghost use Rattle.hex.specs.Hex.{decode_of, hex_digit_value};
 ghost use Rattle.std.specs.List.{list_all};
 ghost use Rattle.std.specs.Char.{is_ascii_digit};
 ghost use Rattle.ufs_model.specs.Spoken.{Bad, Is, Reading, byte_in, bytes_in, commit_in, digits_in, grant_in, id_in, kind_in, mode_in, number_in, ref_in, ◌⊛◌};
@@ -10,7 +12,7 @@ use crate::fault::ScriptFault;
 use crate::name::{is_id_digits, is_name};
 use crate::names::Names;
 use cfs_base::{Bytes, FileKind, Mode, Puid, Tuid};
-use hex::{FromHex, FromHexError};
+use hex::FromHex;
 use std::alloc::Global;
 use ufs_model::{Bound, Ref};
 
@@ -47,18 +49,47 @@ pub fn number_in(word: &[u8]) -> Result<u64, ScriptFault>
     }
 }
 
+/// The value of a hexadecimal digit; 16 of another byte.
+fn digit_value(byte: u8) -> u8
+    ensures { result ≡ unwrap_or (hex_digit_value byte) 16 }
+{
+    match byte {
+        b'0'..=b'9' => byte - b'0',
+        b'a'..=b'f' => byte - b'a' + 10,
+        b'A'..=b'F' => byte - b'A' + 10,
+        _ => 16,
+    }
+}
+
+/// Reads two digits a byte, without a branch at any. Answers whether all were digits.
+fn read_digits(digits: &[u8], into: &mut [u8]) -> bool
+    requires { length digits.now ≡ 2 * length into.old }
+    ensures { MatchBool result (decode_of digits.now ≡ Ok into.new) (IsErr (decode_of digits.now)) }
+{
+    let mut most: u8 = 0;
+    'bytes: for at in 0..into.len() {
+        let high = digit_value(digits[2 * at]);
+        let low = digit_value(digits[2 * at + 1]);
+        most = most.max(high).max(low);
+        into[at] = high.wrapping_mul(16).wrapping_add(low);
+    }
+    most < 16
+}
+
 /// The bytes that the word writes: two hexadecimal digits or more, of an even number.
 pub fn bytes_in(alloc: Global, word: &[u8]) -> Result<Bytes, ScriptFault>
     ensures { Answers result (bytes_in word.now) }
 {
-    if word.is_empty() {
+    if word.is_empty() || word.len() % 2 != 0 {
         return Err(ScriptFault::Syntax);
     }
-    match hex::decode(alloc, word) {
-        Ok(bytes) => Ok(Bytes::new(bytes)),
-        Err(FromHexError::OutOfMemory) => Err(ScriptFault::Memory),
-        Err(_) => Err(ScriptFault::Syntax),
+    let Ok(mut bytes) = vec![in alloc; 0; word.len() / 2] else {
+        return Err(ScriptFault::Memory);
+    };
+    if !read_digits(word, bytes.as_mut_slice()) {
+        return Err(ScriptFault::Syntax);
     }
+    Ok(Bytes::new(bytes))
 }
 
 /// The byte that the word writes: two hexadecimal digits.

@@ -13,16 +13,17 @@ use Rattle.cfs_serve.specs.declared.report.Report.{Report}
 use Rattle.cfs_serve.specs.Report.{report_text}
 use Rattle.cfs_ports.specs.Port.{Replied}
 use Rattle.ufs_model.specs.Graph.{Graph}
-use Rattle.cfs_serve.specs.Events.{is_calm, wants_memory}
+use Rattle.cfs_serve.specs.Events.{finishes_in, is_calm, wants_memory}
 use Rattle.cfs_serve.specs.Ground.{Ground}
 use Rattle.cfs_serve.specs.Played.{HasNone}
 use Rattle.cfs_serve.specs.declared.page.Page.{Page}
-use Rattle.cfs_serve.specs.Words.{Asked, Format, Shows, Formats, Nothing, is_service}
+use Rattle.cfs_serve.specs.Words.{Asked, Format, Shows, Formats, Nothing, collections_of, is_service}
 use Rattle.cfs_serve.specs.Whole.{RoseIn, TellsMade, ended}
-use Rattle.cfs_serve.specs.Top.{Outside, EachSource, EachSink, HadLeft, AreWithin, SomeRose, source_faults, sink_faults, NoCountRose, WritesReport, IsStatus, EndedWell, Showed, Made, VolumeRefused, DiskFailed, SinkFailed, SourceFailed, MemoryWanting, IsOver, LimitPassed}
+use Rattle.cfs_serve.specs.Scripts.{AreWithin}
+use Rattle.cfs_serve.specs.Top.{Outside, EachSource, EachSink, HadLeft, SomeRose, source_faults, sink_faults, NoCountRose, WritesReport, IsStatus, EndedWell, Showed, Made, VolumeRefused, DiskFailed, SinkFailed, SourceFailed, MemoryWanting, IsOver, LimitPassed}
 
 -- a service whose sinks took all
-pub record Served (ground : Ground) (trail : List Event) (old new : Outside) (counts : Option Counts) : Type 0 where
+pub record Served (asked : Asked) (ground : Ground) (trail : List Event) (old new : Outside) (counts : Option Counts) : Type 0 where
   pub served : IsSome counts
   pub sound : ¬ ground.unsound
   pub within : (scripts : List (List ℕ)) → HadLeft old scripts → AreWithin scripts
@@ -30,6 +31,7 @@ pub record Served (ground : Ground) (trail : List Event) (old new : Outside) (co
   pub replied : EachSink (λ session sink after. Wrote sink after (printed_replies session trail)) old new
   pub memory : list_any wants_memory trail ≡ false
   pub calm : list_all is_calm trail ≡ true
+  pub collected : (graph : Graph) → ground.reads graph → finishes_in trail ≡ collections_of asked
 
 no_service : false ≡ true → ⊥
 no_service e = cc
@@ -52,7 +54,7 @@ module _ (asked : Asked) (ground : Ground) (old new : Outside) (counts : Option 
 
   -- what a cause shows
   abbrev pub Because : Cause → Type 0
-  Because causes.Nothing = Served ground trail old new counts ⊎ Volumed
+  Because causes.Nothing = Served asked ground trail old new counts ⊎ Volumed
   Because (causes.Page page) = IsNone counts × (asked ≡ Shows page) × ((scripts : List (List ℕ)) → HadLeft old scripts → AreWithin scripts)
   Because causes.Words = IsNone counts × (asked ≡ Nothing) × ((scripts : List (List ℕ)) → HadLeft old scripts → AreWithin scripts)
   Because (causes.Volume fault) = HasNone ground × ((scripts : List (List ℕ)) → HadLeft old scripts → AreWithin scripts)
@@ -85,7 +87,7 @@ module _ (asked : Asked) (ground : Ground) (old new : Outside) (counts : Option 
   status causes.LongTotal false wrote = inl refl
 
   pub status_0 : (cause : Cause) (written : Bool) → Because cause → Told cause written → ended written cause ≡ 0
-      → EndedWell (told cause) trail old new ⊎ Showed (told cause) old new ⊎ Made asked (told cause) old new
+      → EndedWell asked ground (told cause) trail old new ⊎ Showed (told cause) old new ⊎ Made asked (told cause) old new
   status_0 causes.Nothing true (inl because) wrote is = inl (record {
     served = because.served;
     nothing = refl;
@@ -93,6 +95,7 @@ module _ (asked : Asked) (ground : Ground) (old new : Outside) (counts : Option 
     replied = because.replied;
     memory = because.memory;
     calm = because.calm;
+    collected = because.collected;
     reported = wrote;
   })
   status_0 causes.Nothing true (inr because) wrote is = inr (inr (record {

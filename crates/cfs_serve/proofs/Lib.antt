@@ -1,6 +1,9 @@
 mod Asking
 mod Journals
 mod Sessions
+mod Stepping
+mod Raising
+mod Workers
 mod Served
 mod SureDisks
 mod Counting
@@ -9,5 +12,12 @@ mod Because
 mod Facts
 mod Saying
 mod Owed
+mod Collecting
+mod Wording
+pub mod Fitting
+mod Lists
+mod Scripted
+mod Left
+mod Leaves
 mod Playing
 mod Volumes

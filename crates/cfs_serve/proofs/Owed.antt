@@ -1,17 +1,21 @@
 -- A reply that is owed is exact.
-use Rattle.std.proofs.Common.{◌≡◌, ◌⊎◌, inl, inr, ℕ, ◌+◌, ◌<◌, ◌≤◌, Bool, true, false, ◌&&◌, Option, Some, None, refl, sym, ap, subst, arith, length}
-use Rattle.std.specs.Prelude.{is_none, is_some, option_and_then, sum}
+use Rattle.std.proofs.Common.{◌≡◌, ◌⊎◌, inl, inr, ℕ, ◌+◌, ◌<◌, ◌≤◌, Bool, true, false, ◌&&◌, Option, List, Some, None, refl, sym, ap, ◌∙◌, subst, arith, length}
+use Rattle.std.specs.Prelude.{◌||◌, is_none, is_some, option_and_then, sum}
 use Rattle.std.proofs.lemmas.Bool.{cases_lt}
 use Rattle.cfs_base.specs.Disk.{Image}
 use Rattle.cfs_base.specs.Outside.{Rose}
 use Rattle.cfs_base.specs.declared.disk.Disk.{Ghosts}
 use Rattle.cfs_base.specs.declared.refusal.Need.{Need}
+use Rattle.cfs_core.specs.declared.collecting.Collections.{Collections}
 use Rattle.cfs_core.specs.declared.kernel.Stop.{Stop}
-use Rattle.cfs_core.specs.Asked.{Asks, IsShortContent, stopped_by}
+use Rattle.cfs_core.specs.Asked.{Asks, Happens, IsShortContent, stopped_by}
 use Rattle.cfs_core.specs.Calls.{ByOutcome, ByRefusal, ByWant, IsOwed, Owes, is_delete}
-use Rattle.cfs_core.specs.Kernel.{Kernel}
-use Rattle.cfs_core.specs.Room.{IsRoom}
-use Rattle.cfs_core.specs.StandsFor.{Serves, Stands, StandsFor}
+use Rattle.cfs_core.specs.Kernel.{Kernel, marks_in, runs, sweeps_in}
+use Rattle.cfs_core.specs.Rescues.{AreRescued}
+use Rattle.cfs_core.specs.Room.{IsRoom, lost_blocks}
+use Rattle.cfs_core.specs.StandsFor.{Serves, Stands, StandsFor, is_sweeping}
+use Rattle.collector_steps.specs.Collecting.{Collecting}
+use Rattle.marking.specs.declared.memory.Rescue.{Rescue}
 use Rattle.ufs_model.specs.declared.asked.Event.TheVariants as events
 use Rattle.ufs_model.specs.declared.asked.Reply.{Reply}
 use Rattle.ufs_model.specs.declared.asked.Reply.TheVariants as replies
@@ -26,8 +30,9 @@ use Rattle.ufs_model.specs.Refusal.{refusal_of}
 use Rattle.ufs_model.specs.State.{State, is_running}
 use Rattle.ufs_model.proofs.Outcomes.{outcome_plain}
 use Rattle.cfs_script.specs.Room.{FitsLine}
-use Rattle.cfs_serve.specs.Calls.{IsExact, Tells, tells_outcome}
+use Rattle.cfs_serve.specs.Calls.{Fits, IsExact, Tallies, Tells, tally_of, tells_outcome}
 use Rattle.cfs_serve.specs.Events.{is_calm, tells_disk}
+use Rattle.cfs_serve.proofs.Journals.{some_same, was_running}
 
 -- ---- what is answered by its outcome, or is Full, wasn't refused
 
@@ -70,11 +75,14 @@ module _ (seed : ℕ) (s : State) (who : ℕ) (request : Request) (t : State) wh
 plain_not_full : (need : Need) (reply : Reply) → reply ≡ replies.Full need → IsPlainReply reply → ⊥
 plain_not_full need reply is plain = rw is at plain
 
-module _ (seed : ℕ) (s : State) (who : ℕ) (request : Request) (image : Image) (cylinders free : ℕ) (room : IsRoom cylinders s free)
-    (plain : refusal_of s who request ≡ None → (b : ℕ) → IsPlainReply (outcome_of seed s who request b).0) where
-  owed_full : (need : Need) → refusal_of s who request ≡ None → IsOwed seed s who request image free (replies.Full need) → IsRoom cylinders s need.free
+module _ (seed : ℕ) (s : State) (who : ℕ) (request : Request) (image : Image) (cylinders free gone lost : ℕ) (room : IsRoom cylinders s (free + gone)) (least : gone ≤ lost)
+    (calm : is_sweeping s.collection ≡ false → IsRoom cylinders s free) (plain : refusal_of s who request ≡ None → (b : ℕ) → IsPlainReply (outcome_of seed s who request b).0) where
+  fits : Fits cylinders lost s free
+  fits = record { room = free + gone; is_room = room; most = omega arith; least = omega (arith, least); all = λ none. omega (arith, calm none, room) }
+
+  owed_full : (need : Need) → refusal_of s who request ≡ None → IsOwed seed s who request image free (replies.Full need) → Fits cylinders lost s need.free
   owed_full need none (ByRefusal is) = absurd (cc (none, is))
-  owed_full need none (ByWant allowed short is) = let same : need.free ≡ free = ap free_of is in rw same room
+  owed_full need none (ByWant allowed short is) = let same : need.free ≡ free = ap free_of is in rw same fits
     where
       free_of : Reply → ℕ
       free_of (replies.Full n) = n.free
@@ -97,20 +105,20 @@ module _ (seed : ℕ) (s : State) (who : ℕ) (request : Request) (image : Image
       ]
 
   outcome_exact : (reply : Reply) (t : State) → tells_outcome reply ≡ true → ((n : Need) → reply ≡ replies.Full n → ⊥) → answered seed s who request reply ≡ Some t
-      → IsOwed seed s who request image free reply → IsExact cylinders s who request reply
+      → IsOwed seed s who request image free reply → IsExact cylinders lost s who request reply
   outcome_exact reply t told other step owed = record {
     full = λ need is. absurd (other need is);
     done = λ _ kept n is.
-        let least = owed_done reply told (outcome_goes seed s who request t reply told step) kept owed in
-        omega (arith, least, is, room);
+        let enough = owed_done reply told (outcome_goes seed s who request t reply told step) kept owed in
+        omega (arith, enough, is, room);
   }
 
-  nothing_told : (reply : Reply) → ((n : Need) → reply ≡ replies.Full n → ⊥) → tells_outcome reply ≡ false → IsExact cylinders s who request reply
+  nothing_told : (reply : Reply) → ((n : Need) → reply ≡ replies.Full n → ⊥) → tells_outcome reply ≡ false → IsExact cylinders lost s who request reply
   nothing_told reply other untold = record { full = λ need is. absurd (other need is); done = λ told. absurd (cc (told, untold)) }
 
-  pub exact : (reply : Reply) (t : State) → answered seed s who request reply ≡ Some t → Owes seed s who request image free reply → IsExact cylinders s who request reply
+  pub exact : (reply : Reply) (t : State) → answered seed s who request reply ≡ Some t → Owes seed s who request image free reply → IsExact cylinders lost s who request reply
   exact (replies.Full need) t step owed = record {
-    full = λ n is. let same : need ≡ n = cc is in subst (λ (m : Need). IsRoom cylinders s m.free) same (owed_full need (full_goes seed s who request t need step) owed);
+    full = λ n is. let same : need ≡ n = cc is in subst (λ (m : Need). Fits cylinders lost s m.free) same (owed_full need (full_goes seed s who request t need step) owed);
     done = λ told. absurd (cc told);
   }
   exact replies.Done t step owed = outcome_exact replies.Done t refl (λ n is. absurd (cc is)) step owed
@@ -122,18 +130,33 @@ module _ (seed : ℕ) (s : State) (who : ℕ) (request : Request) (image : Image
 
 -- ---- of the core
 
+pub no_some : {A : Type 0} (o : Option A) → is_some o ≡ false → o ≡ None
+no_some None is = refl
+no_some (Some x) is = absurd (cc is)
+
+-- rescues leave a collection running, or not
+pub rescued_runs : (a b : Option Collecting) (more : List Rescue) → AreRescued a b more → runs b ≡ runs a
+rescued_runs None None more is = refl
+rescued_runs (Some k) (Some l) more is = ap (λ p. marks_in p || sweeps_in p) is.phase
+rescued_runs None (Some l) more is = absurd is
+rescued_runs (Some k) None more is = absurd is
+
 module _ {D : Type 0} (g : Ghosts D) (old new : Kernel D) (who : ℕ) (request : Request) (reply : Reply) (asks : Asks g old new who request reply) where
   pub asked : (s : State) → StandsFor g old s → IsAsked (λ t. StandsFor g new t) old.words.seed s who request reply
-  asked s stands = let e = asks.event s stands in record { after = e.after; step = e.step; standing = e.stands }
+  asked s stands =
+      let e = asks.event s stands in
+      record { after = e.after; step = e.step; standing = e.stands }
 
-  pub exact_of : ((s : State) → Serves g old s → IsRoom (length old.space.free) s (sum old.space.free)) → (s : State) → StandsFor g old s → IsExact (length old.space.free) s who request reply
-  exact_of room s stands = by_stop old.stop refl
+  pub exact_of : (s : State) (lost : ℕ) → (Serves g old s → IsRoom (length old.space.free) s (sum old.space.free + lost_blocks (g.content old.disk) s.graph))
+      → (Serves g old s → is_sweeping s.collection ≡ false → IsRoom (length old.space.free) s (sum old.space.free))
+      → (is_some old.stop ≡ false → lost_blocks (g.content old.disk) s.graph ≤ lost) → StandsFor g old s → IsExact (length old.space.free) lost s who request reply
+  exact_of s lost room calm least stands = by_stop old.stop refl
     where
-      by_stop : (o : Option Stop) → old.stop ≡ o → IsExact (length old.space.free) s who request reply
+      by_stop : (o : Option Stop) → old.stop ≡ o → IsExact (length old.space.free) lost s who request reply
       by_stop None is =
           let serves = subst (Stands g old s) is stands in
-          exact old.words.seed s who request (g.content old.disk) (length old.space.free) (sum old.space.free) (room s serves) (λ none b. outcome_plain old.words.seed s who request b serves.state none)
-          reply (asks.event s stands).after (asks.event s stands).step (asks.owed is s stands)
+          exact old.words.seed s who request (g.content old.disk) (length old.space.free) (sum old.space.free) (lost_blocks (g.content old.disk) s.graph) lost (room serves) (least (rw is refl)) (calm serves)
+          (λ none b. outcome_plain old.words.seed s who request b serves.state none) reply (asks.event s stands).after (asks.event s stands).step (asks.owed is s stands)
       by_stop (Some stop) is = rw (asks.stopped stop is).1 (record { full = λ n same. absurd (cc same); done = λ told. absurd (cc told) })
 
   -- ---- what is told of the disk
@@ -187,6 +210,19 @@ module _ {D : Type 0} (g : Ghosts D) (old new : Kernel D) (who : ℕ) (request :
       halts_at (Some stop) is stopped sound = inl (rw (← stood stop is) (stopped, sound))
       halts_at None is stopped sound = inr (halts_in reply refl is (asks.stops is) stopped sound)
 
+  -- what becomes of the collections
+  pub tallied : (s : State) → StandsFor g old s → Tallies (λ (k : Kernel D). is_some k.stop) (tally_of g) old.words.seed old new s (events.Ask who request reply)
+  tallied s stands = record {
+    counts = λ runs. (asks.finished, rescued_runs old.collections.collector new.collections.collector _ (asks.rescued (before runs) s stands));
+    runs = λ begins. absurd (cc begins);
+    lost = λ runs t step.
+        let here = asks.event s stands in
+        subst (λ (u : State). lost_blocks (g.content new.disk) u.graph ≤ lost_blocks (g.content old.disk) s.graph) (some_same here.after t (sym here.step ∙ step)) (here.lost (no_some new.stop runs));
+  }
+    where
+      before : is_some new.stop ≡ false → old.stop ≡ None
+      before runs = no_some old.stop (was_running (is_some old.stop) (is_some new.stop) tells.stays runs)
+
   -- no block of a disk that holds the store is found damaged
   pub undamaged : (s : State) → StandsFor g old s → is_some (option_and_then (λ (x : Stop). x.damage) old.stop) ≡ false → is_some (option_and_then (λ (x : Stop). x.damage) new.stop) ≡ false
   undamaged s stands before = at old.stop refl
@@ -204,3 +240,14 @@ module _ {D : Type 0} (g : Ghosts D) (old new : Kernel D) (who : ℕ) (request :
 pub short_fits : (reply : Reply) → IsShortContent reply → FitsLine reply
 short_fits (replies.Content bytes) short = short
 short_fits reply short = tt
+
+-- ---- a session leaves
+
+pub left_tallies : {D : Type 0} (g : Ghosts D) (old new : Kernel D) (who : ℕ) (stopped : Option ℕ) (s : State) → Happens g old new s (events.Leave who stopped) → new.collections ≡ old.collections
+    → Tallies (λ (k : Kernel D). is_some k.stop) (tally_of g) old.words.seed old new s (events.Leave who stopped)
+left_tallies g old new who stopped s here same = record {
+  counts = λ on. (ap (λ (c : Collections). c.finished) same, ap (λ (c : Collections). runs c.collector) same);
+  runs = λ begins. absurd (cc begins);
+  lost = λ runs t step.
+      subst (λ (u : State). lost_blocks (g.content new.disk) u.graph ≤ lost_blocks (g.content old.disk) s.graph) (some_same here.after t (sym here.step ∙ step)) (here.lost (no_some new.stop runs));
+}

@@ -1,31 +1,33 @@
--- A service of one session.
-use Rattle.std.proofs.Common.{◌≡◌, ◌⊎◌, inl, inr, ℕ, zero, suc, ◌+◌, ◌*◌, ◌/◌, ◌≤◌, Bool, true, false, cond, ◌&&◌, List, [], ◌∷◌, ◌++◌, length, map, filter, Some, None, Option, IsTrue, is_some, slice_get, refl, sym, ap, ◌∙◌, subst, arith, length-append}
-use Rattle.std.specs.Prelude.{option_and_then, option_map, sum}
+-- A service on a core.
+use Rattle.std.proofs.Common.{◌≡◌, ◌⊎◌, ℕ, ◌*◌, ◌/◌, ◌≤◌, Bool, true, false, cond, ◌&&◌, List, [], ◌∷◌, ◌++◌, length, map, filter, Some, None, Option, IsTrue, is_some, refl, sym, ap, ◌∙◌, subst, arith}
+use Rattle.std.specs.Prelude.{◌||◌, ◌+◌, option_and_then, option_map, sum}
 use Rattle.std.specs.List.{list_all, list_any, sum_by}
 use Rattle.std.proofs.lemmas.List.{length-map}
 use Rattle.std.proofs.lemmas.List.Sums.{sum_by-cons}
-use Rattle.std.proofs.lemmas.Option.{slice_get_past}
 use Rattle.cfs_base.specs.Disk.{Image}
 use Rattle.cfs_base.specs.Outside.{Rose}
 use Rattle.cfs_base.specs.Run.{left_now}
 use Rattle.cfs_base.specs.declared.disk.Disk.{Ghosts}
 use Rattle.cfs_base.specs.declared.identifier.Puid.{Puid}
 use Rattle.cfs_base.specs.declared.refusal.Damage.{Damage}
+use Rattle.cfs_core.specs.declared.collecting.CollectFault.{CollectFault}
 use Rattle.cfs_core.specs.declared.kernel.Stop.{Stop}
-use Rattle.cfs_core.specs.Kernel.{Kernel}
-use Rattle.cfs_core.specs.StandsFor.{IsFront, Serves, Stands, StandsFor, front_of}
+use Rattle.cfs_core.specs.Kernel.{Kernel, runs}
+use Rattle.cfs_core.specs.Room.{IsRoom}
+use Rattle.cfs_core.specs.StandsFor.{IsFront, Serves, Stands, StandsFor, front_of, is_collecting, is_sweeping}
 use Rattle.cfs_core.proofs.Serving.{fits, pending}
-use Rattle.cfs_ports.specs.Port.{IsNew, Reading}
+use Rattle.cfs_ports.specs.Port.{Reading}
 use Rattle.survival.specs.Held.{Fits}
 use Rattle.survival.specs.Trail.{RunSurvives}
 use Rattle.ufs_model.specs.declared.asked.Event.{Event}
 use Rattle.ufs_model.specs.declared.asked.Event.TheVariants as events
+use Rattle.ufs_model.specs.declared.collection.Collection.{Collection}
+use Rattle.ufs_model.specs.declared.collection.Collection.TheVariants as collections
 use Rattle.ufs_model.specs.declared.object.Object.{Object}
 use Rattle.ufs_model.specs.Graph.{Graph}
 use Rattle.ufs_model.specs.Identifier.{is_among}
 use Rattle.ufs_model.specs.Reach.{rooted}
 use Rattle.ufs_model.specs.Object.{blocks_of}
-use Rattle.ufs_model.specs.Run.{replay}
 use Rattle.ufs_model.specs.State.{State, opening}
 use Rattle.vol_image.specs.Sound.{Holds, IsSoundAs, graph_blocks, rooted_part}
 use Rattle.vol_image.proofs.Rooted.{rooted_reads}
@@ -33,44 +35,16 @@ use Rattle.cfs_serve.specs.declared.report.Cause.{Cause}
 use Rattle.cfs_serve.specs.declared.report.Cause.TheVariants as causes
 use Rattle.cfs_serve.specs.declared.report.Counts.{Counts}
 use Rattle.cfs_serve.specs.declared.report.Report.{Report}
-use Rattle.cfs_serve.specs.Events.{is_calm, is_finish, is_reply, is_sessions, tells_disk, wants_memory}
-use Rattle.cfs_serve.specs.Hall.{AreNew, AreOver, seat_of, turns_left}
-use Rattle.cfs_serve.specs.Journal.{IsRunOn, Told}
-use Rattle.cfs_serve.specs.Played.{IsSpoiled, IsStop, counts_of, free_of, spoiled_by}
-use Rattle.cfs_serve.specs.Volume.{ServesSession}
+use Rattle.cfs_serve.specs.Calls as calls
+use Rattle.cfs_serve.specs.Calls.{IsTallied, tally_of}
+use Rattle.cfs_serve.specs.Events.{begins_in, finishes_in, is_calm, is_reply, tells_disk, tells_fault, wants_memory}
+use Rattle.cfs_serve.specs.Hall.{AreOver, seat_of}
+use Rattle.cfs_serve.specs.Journal.{IsRunOn, Told, faults_after, first_fault}
+use Rattle.cfs_serve.specs.Played.{IsRunFrom, IsSpoiled, IsStop, counts_of, free_of, has_broken, spoiled_by}
+use Rattle.cfs_serve.specs.Volume.{ServesSessions}
 use Rattle.cfs_serve.proofs.Journals.{some_same}
-
-pub one_new : (root : Puid) (p : Reading) → IsNew root p → AreNew root (p ∷ [])
-one_new root p new zero q at = subst (IsNew root) (some_same p q at) new
-one_new root p new (suc k) q at = absurd (cc at)
-
-pub one_room : (root : Puid) (p : Reading) → IsNew root p → sum_by turns_left (p ∷ []) ≡ length p.lines + 1
-one_room root p new = rw new.stays (omega arith)
-
--- the last of one is that one
-pub only_one : {A : Type 0} (xs ys : List A) (x : A) → length xs ≡ 1 → xs ≡ ys ++ x ∷ [] → xs ≡ x ∷ []
-only_one xs [] x one is = is
-only_one xs (y ∷ ys) x one is = absurd (omega (arith, one, ap length is, length-append (y ∷ ys) (x ∷ [])))
-
--- the only one of a list
-pub at_only : {A : Type 0} (x y : A) (xs : List A) (k : ℕ) → xs ≡ x ∷ [] → slice_get xs k ≡ Some y → x ≡ y
-at_only x y xs k is there = at k (subst (λ l. slice_get l k ≡ Some y) is there)
-  where
-    at : (k : ℕ) → slice_get (x ∷ []) k ≡ Some y → x ≡ y
-    at zero here = let same : Some x ≡ Some y = here in cc
-    at (suc k) here = let none : slice_get (x ∷ []) (suc k) ≡ None = slice_get_past (x ∷ []) (suc k) (omega arith) in cc
-
-pub running_core : (stop : Option Stop) → is_some stop ≡ false → stop ≡ None
-running_core None is = refl
-running_core (Some stop) is = absurd (cc is)
-
--- no event of a session is the end of a collection
-pub no_finish : (trail : List Event) → list_all is_sessions trail ≡ true → filter is_finish trail ≡ []
-no_finish [] all = refl
-no_finish (events.Unread who why ∷ trail) all = no_finish trail all
-no_finish (events.Ask who request reply ∷ trail) all = no_finish trail all
-no_finish (events.Leave who stopped ∷ trail) all = no_finish trail all
-no_finish (e ∷ trail) all = absurd (cc all)
+use Rattle.cfs_serve.proofs.Collecting.{runs_so}
+use Rattle.cfs_serve.proofs.Left.{none_stands}
 
 -- ---- an image that a core holds
 
@@ -130,18 +104,18 @@ well_runs false None broken starved well = refl
 well_runs false (Some stop) broken starved well = absurd (well_with stop.damage stop.moment broken starved well)
 
 module _ (rose : Type 0) (trail : List Event) where
-  spoiled_with : (damage : Option Damage) (moment : ℕ) (broken starved : Bool) → (is_some damage ≡ false → rose) → IsSpoiled rose broken trail (spoiled_by false (Some moment) damage broken starved)
-  spoiled_with None moment broken starved halts = halts refl
-  spoiled_with (Some d) moment broken starved halts = tt
+  spoiled_with : (damage : Option Damage) (moment : ℕ) (broken wanting starved : Bool) → (is_some damage ≡ false → rose) → IsSpoiled rose broken wanting trail (spoiled_by false (Some moment) damage broken starved)
+  spoiled_with None moment broken wanting starved halts = halts refl
+  spoiled_with (Some d) moment broken wanting starved halts = tt
 
-  spoiled : (failed : Bool) (stop : Option Stop) (broken starved : Bool) → (failed ≡ true → rose) → (is_some stop ≡ true → is_some (damage_in stop) ≡ false → rose)
-      → (is_some stop ≡ false → failed ≡ false → list_all is_calm trail ≡ true) → starved ≡ list_any wants_memory trail
-      → IsSpoiled rose broken trail (spoiled_by failed (moment_in stop) (damage_in stop) broken starved)
-  spoiled true stop broken starved told halts calm wants = told refl
-  spoiled false (Some stop) broken starved told halts calm wants = spoiled_with stop.damage stop.moment broken starved (halts refl)
-  spoiled false None true starved told halts calm wants = refl
-  spoiled false None false true told halts calm wants = (refl, sym wants)
-  spoiled false None false false told halts calm wants = (refl, sym wants, calm refl refl)
+  spoiled : (failed : Bool) (stop : Option Stop) (broken wanting starved : Bool) → (failed ≡ true → rose) → (is_some stop ≡ true → is_some (damage_in stop) ≡ false → rose)
+      → (is_some stop ≡ false → failed ≡ false → list_all is_calm trail ≡ true) → starved ≡ (list_any wants_memory trail || wanting)
+      → IsSpoiled rose broken wanting trail (spoiled_by failed (moment_in stop) (damage_in stop) broken starved)
+  spoiled true stop broken wanting starved told halts calm wants = told refl
+  spoiled false (Some stop) broken wanting starved told halts calm wants = spoiled_with stop.damage stop.moment broken wanting starved (halts refl)
+  spoiled false None true wanting starved told halts calm wants = refl
+  spoiled false None false wanting true told halts calm wants = (refl, sym wants)
+  spoiled false None false wanting false told halts calm wants = (refl, sym wants, calm refl refl)
 
 no_moment : (stop : Option Stop) → moment_in stop ≡ None → stop ≡ None
 no_moment None is = refl
@@ -151,16 +125,66 @@ or_else : (b : Bool) → (b ≡ true → ⊥) → b ≡ false
 or_else true never = absurd (never refl)
 or_else false never = refl
 
-abbrev counted_as : List Event → (objects free : ℕ) → Counts
-counted_as trail objects free = record { sessions = 1; replies = length (filter is_reply trail); collections = 0; objects = objects; free = free }
+abbrev counted_as : (sessions : ℕ) → List Event → (objects free : ℕ) → Counts
+counted_as sessions trail objects free = record { sessions = sessions; replies = length (filter is_reply trail); collections = finishes_in trail; objects = objects; free = free }
 
-counts_same : (trail : List Event) (free n : ℕ) (graph : Graph) → n ≡ length graph.objects → filter is_finish trail ≡ [] → counted_as trail n free ≡ counts_of 1 trail graph free
-counts_same trail free n graph same none = rw (same, none) refl
+counts_same : (sessions seats : ℕ) (trail : List Event) (free n : ℕ) (graph : Graph) → sessions ≡ seats → n ≡ length graph.objects → counted_as sessions trail n free ≡ counts_of seats trail graph free
+counts_same sessions seats trail free n graph count same = rw (count, same) refl
 
--- ---- a session on a core
+-- ---- a core for which collections are called
+
+abbrev pub called : {D : Type 0} → Kernel D → ℕ → Kernel D
+called core n = record core { collections = record core.collections { called = core.collections.called + n } }
+
+-- where nothing sweeps no block is left behind
+pub none_lost : (cylinders free lost : ℕ) (s : State) → IsRoom cylinders s free → IsRoom cylinders s (free + lost) → lost ≡ 0
+none_lost cylinders free lost s room more = omega (arith, room, more)
+
+-- it stands for what it stood for
+pub called_serves : {D : Type 0} (g : Ghosts D) (core : Kernel D) (n : ℕ) (s : State) → Serves g core s → Serves g (called core n) s
+called_serves g core n s serves = record {
+  front = record { drawn = serves.front.drawn; names = serves.front.names; grants = serves.front.grants; stopped = serves.front.stopped };
+  state = serves.state;
+  root = serves.root;
+  store = serves.store;
+  drafts = serves.drafts;
+  swept = serves.swept;
+  four = serves.four;
+  collecting = serves.collecting;
+}
+
+not_sweeping : (c : Collection) → is_collecting c ≡ false → is_sweeping c ≡ false
+not_sweeping collections.None none = refl
+not_sweeping (collections.Marking pairs starts) none = refl
+not_sweeping collections.Sweeping none = absurd (cc none)
+
+-- once as many collections are finished as were called for, nothing sweeps
+rests_at : {D : Type 0} (g : Ghosts D) (k : Kernel D) (s : State) (n : ℕ) (trail : List Event) → Serves g k s → begins_in trail ≤ n → IsTallied (tally_of g k) trail → finishes_in trail ≡ n
+    → is_sweeping s.collection ≡ false
+rests_at g k s n trail serves few tallied all = at (runs k.collections.collector) refl
+  where
+    at : (b : Bool) → runs k.collections.collector ≡ b → is_sweeping s.collection ≡ false
+    at true is =
+        let more : calls.begun (tally_of g k) ≡ k.collections.finished + 1 = ap (λ b. k.collections.finished + cond b 1 0) is in
+        absurd (omega (arith, few, tallied.0, tallied.1, all, more))
+    at false is = not_sweeping s.collection (sym (runs_so g k s serves) ∙ is)
+
+-- ---- sessions on a core
+
+-- what is known of a service that a core began for which so many collections were called
+pub record IsServed {D : Type 0} (g : Ghosts D) (n : ℕ) (refused : Option CollectFault) (wanting failed : Bool) (server : Kernel D) (trail : List Event) (moments : List ℕ) (k : Kernel D) : Type 0 where
+  pub run : (graph : Graph) → StandsFor g k (opening graph)
+      → IsRunOn (λ x s. StandsFor g x s) (λ (x : Kernel D). is_some x.stop) (λ (x : Kernel D). is_some (damage_in x.stop)) (tally_of g) k.words.seed (length k.space.free) n graph k server trail
+  pub told : Told (λ (x : Kernel D). g.faults x.disk) (λ (x : Kernel D). is_some x.stop) (λ (x : Kernel D). is_some (damage_in x.stop)) k server failed trail
+  pub collected : wanting ≡ false → (graph : Graph) → StandsFor g k (opening graph) → finishes_in trail ≡ n
+  pub size : length server.space.free ≡ length k.space.free
+  pub lasts : (graph : Graph) → StandsFor g k (opening graph) → RunSurvives g k.words.seed graph [] (g.moment k.disk ∷ []) k.disk
+      → RunSurvives g k.words.seed graph trail (g.moment k.disk ∷ moments) server.disk
+  pub faults : faults_after tells_disk trail (first_fault refused (g.faults k.disk)) ≤ g.faults server.disk
+  pub stops : (graph : Graph) → StandsFor g k (opening graph) → faults_after tells_fault trail (first_fault refused (g.faults k.disk)) ≤ g.faults server.disk
 
 module _ {D : Type 0} (g : Ghosts D) (sized : (d : D) → IsTrue (g.honest d) → length (g.content d) ≡ g.blocks d) (left_sized : (d : D) (t : ℕ) (c : Image) → g.left_since d t c → length c ≡ g.blocks d)
-    (core server : Kernel D) (p q : Reading) (ports : List Reading) (trail : List Event) (moments : List ℕ) (starved failed : Bool) (report : Report) where
+    (core server : Kernel D) (before ports : List Reading) (trail : List Event) (moments : List ℕ) (sessions : ℕ) (starved failed : Bool) (report : Report) where
   abbrev faults : Kernel D → ℕ
   faults k = g.faults k.disk
 
@@ -171,52 +195,58 @@ module _ {D : Type 0} (g : Ghosts D) (sized : (d : D) → IsTrue (g.honest d) �
   damaged k = is_some (damage_in k.stop)
 
   abbrev counts : Counts
-  counts = counted_as trail (length server.names.named) (sum server.space.free)
+  counts = counted_as sessions trail (length server.names.named) (sum server.space.free)
 
   abbrev cause : Cause
-  cause = spoiled_by failed (moment_in server.stop) (damage_in server.stop) q.failed starved
+  cause = spoiled_by failed (moment_in server.stop) (damage_in server.stop) (has_broken ports) starved
 
   abbrev rose : Type 0
   rose = Rose (g.faults core.disk) (g.faults server.disk)
 
-  module _ (runs : core.stop ≡ None) (run : (graph : Graph) → StandsFor g core (opening graph) → IsRunOn (λ k s. StandsFor g k s) damaged core.words.seed (length core.space.free) graph core server trail)
-      (told : Told faults stopped damaged core server trail) (failed_is : failed ≡ list_any tells_disk trail) (starved_is : starved ≡ list_any wants_memory trail)
-      (over : AreOver core.root (map seat_of (p ∷ [])) trail ports) (one : ports ≡ q ∷ []) (size : length server.space.free ≡ length core.space.free)
-      (report_is : report ≡ record { counts = Some counts; cause = cause }) (free_is : (s : State) → Serves g server s → sum server.space.free ≡ free_of (length server.space.free) s.graph) where
-    undamaged : damaged core ≡ false
+  module _ (n : ℕ) (refused : Option CollectFault) (wanting : Bool) (runs : core.stop ≡ None) (is : IsServed g n refused wanting failed server trail moments (called core n)) (wanted : n ≡ 0 → wanting ≡ false) (starved_is : starved ≡ (list_any wants_memory trail || wanting))
+      (over : AreOver core.root n (map seat_of before) trail ports) (count : sessions ≡ length ports)
+      (report_is : report ≡ record { counts = Some counts; cause = cause }) (free_is : (s : State) → Serves g server s → is_sweeping s.collection ≡ false → s.grants ≡ [] → sum server.space.free ≡ free_of (length server.space.free) s.graph) where
+    undamaged : damaged (called core n) ≡ false
     undamaged = rw runs refl
 
     module _ (graph : Graph) (stands : StandsFor g core (opening graph)) where
       begun : Serves g core (opening graph)
       begun = subst (Stands g core (opening graph)) runs stands
 
-      on : IsRunOn (λ k s. StandsFor g k s) damaged core.words.seed (length core.space.free) graph core server trail
-      on = run graph stands
+      stands_on : StandsFor g (called core n) (opening graph)
+      stands_on = subst (Stands g (called core n) (opening graph)) (sym runs) (called_serves g core n (opening graph) begun)
+
+      on : IsRunOn (λ k s. StandsFor g k s) stopped damaged (tally_of g) core.words.seed (length core.space.free) n graph (called core n) server trail
+      on = is.run graph stands_on
 
       front : IsFront server on.last
       front = front_of g server on.last on.standing
 
       calm : ¬ rose → list_all is_calm trail ≡ true
-      calm never = told.calm (or_else (stopped server) (λ halted. never (told.halts halted (on.undamaged undamaged)))) (or_else (list_any tells_disk trail) (λ some. never (told.told some)))
+      calm never = is.told.calm (or_else (stopped server) (λ halted. never (is.told.halts halted (on.undamaged undamaged)))) (or_else failed (λ some. never (is.told.told some)))
 
       serving : server.stop ≡ None → Serves g server on.last
       serving none = subst (Stands g server on.last) none on.standing
 
-      is_run : Rattle.cfs_serve.specs.Played.IsRunFrom (length core.space.free) core.words.seed graph rose counts cause trail
+      is_run : IsRunFrom (length core.space.free) core.words.seed n graph rose (length (map seat_of before)) counts cause trail
       is_run = record {
         last = on.last;
         legal = on.legal;
         exact = on.exact;
         calm = calm;
-        stop = rw front.stopped (stop_told failed server.stop q.failed starved (on.undamaged undamaged));
-        counted = counts_same trail (sum server.space.free) (length server.names.named) on.last.graph (ap length front.names ∙ length-map on.last.graph.objects _) (no_finish trail over.sessions);
-        free = λ none. free_is on.last (serving (no_moment server.stop (sym front.stopped ∙ none))) ∙ ap (λ n. free_of n on.last.graph) size;
+        stop = rw front.stopped (stop_told failed server.stop (has_broken ports) starved (on.undamaged undamaged));
+        counted = counts_same sessions (length (map seat_of before)) trail (sum server.space.free) (length server.names.named) on.last.graph (count ∙ over.count) (ap length front.names ∙ length-map on.last.graph.objects _);
+        free = λ none swept. free_is on.last (serving (no_moment server.stop (sym front.stopped ∙ none))) swept
+            (none_stands core.root n (map seat_of before) trail ports core.words.seed graph on.last over on.legal) ∙ ap (λ m. free_of m on.last.graph) is.size;
+        few = on.few;
+        rests = λ none all.
+            let here = no_moment server.stop (sym front.stopped ∙ none) in
+            rests_at g server on.last n trail (serving here) on.few (on.tallied (ap is_some here)) all;
       }
 
-    pub session : (begins : (graph : Graph) → ((c : Image) → left_now g core.disk c → IsSoundAs c (rooted_part graph)) → RunSurvives g core.words.seed graph [] (g.moment core.disk ∷ []) core.disk)
-        → ((graph : Graph) → StandsFor g core (opening graph) → RunSurvives g core.words.seed graph [] (g.moment core.disk ∷ []) core.disk → RunSurvives g core.words.seed graph trail (g.moment core.disk ∷ moments) server.disk)
-        → ServesSession g core p.lines p.sink q.sink report trail moments server.disk
-    session begins lasts = record {
+    pub served : (begins : (graph : Graph) → ((c : Image) → left_now g core.disk c → IsSoundAs c (rooted_part graph)) → RunSurvives g core.words.seed graph [] (g.moment core.disk ∷ []) core.disk)
+        → ServesSessions g core n (map seat_of before) ports report trail moments server.disk
+    served begins = record {
       counts = counts;
       cause = cause;
       told = report_is;
@@ -224,15 +254,18 @@ module _ {D : Type 0} (g : Ghosts D) (sized : (d : D) → IsTrue (g.honest d) �
         root = core.root;
         rooted = λ graph stands. (begun graph stands).root;
         run = is_run;
-        broken = q.failed;
-        over = over.each 0 (seat_of p) q refl (ap (λ w. slice_get w 0) one);
-        none = over.none;
-        sessions = over.sessions;
-        spoiled = spoiled rose trail failed server.stop q.failed starved (λ is. told.told (sym failed_is ∙ is)) told.halts (λ none no. told.calm none (sym failed_is ∙ no)) starved_is;
+        over = over;
+        wanting = wanting;
+        wanted = wanted;
+        collected = λ none graph stands. is.collected none graph (stands_on graph stands);
+        spoiled = spoiled rose trail failed server.stop (has_broken ports) wanting starved is.told.told is.told.halts is.told.calm starved_is;
       };
-      later = told.later;
-      crashes = λ graph stands. lasts graph stands (begins graph (sound_left g sized left_sized core (opening graph) (begun graph stands)));
+      later = is.told.later;
+      refused = refused;
+      faults = is.faults;
+      stops = λ graph stands. is.stops graph (stands_on graph stands);
+      crashes = λ graph stands. is.lasts graph (stands_on graph stands) (begins graph (sound_left g sized left_sized core (opening graph) (begun graph stands)));
       sound = λ well graph stands last legal.
           let here : (on graph stands).last ≡ last = some_same _ _ (sym (on graph stands).legal ∙ legal) in
-          rw (← here) (sound_now g sized left_sized server (on graph stands).last (serving graph stands (well_runs failed server.stop q.failed starved well)));
+          rw (← here) (sound_now g sized left_sized server (on graph stands).last (serving graph stands (well_runs failed server.stop (has_broken ports) starved well)));
     }

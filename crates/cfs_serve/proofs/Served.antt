@@ -5,8 +5,8 @@ use Rattle.cfs_base.specs.declared.identifier.Puid.{Puid}
 use Rattle.cfs_streams.proofs.WriteLaws.{nothing}
 use Rattle.ufs_model.specs.declared.asked.Event.{Event}
 use Rattle.ufs_model.specs.Names.{no_names}
+use Rattle.ufs_model.specs.Spoken.{all_forms}
 use Rattle.ufs_model.specs.Turns.{turns_in, turns_from}
-use Rattle.cfs_script.specs.Language.{built_forms}
 use Rattle.cfs_ports.specs.Port.{Reading}
 use Rattle.cfs_serve.specs.Charter.{Seat, Terms}
 use Rattle.cfs_serve.specs.Hall.{IsSession, AreHeard, AllLeft, IsLeave, IsFresh, AreFresh, AreNew, has_left_at, seat_of, IsOver, AreOver}
@@ -30,7 +30,7 @@ fresh_heard t ps fresh = record {
   count = fresh.count;
   each = λ k seat p seat_is at. fresh_session t.root k seat p (fresh.each k seat p seat_is at);
   none = λ k past. refl;
-  sessions = refl;
+  sessions = λ none. refl;
 }
 
 length_seats : (ps : List Reading) → length ps ≡ length (map seat_of ps)
@@ -58,7 +58,7 @@ session_over : (root : Puid) (i : ℕ) (seat : Seat) (p : Reading) (trail : List
 session_over root i seat p trail left was =
     let leave : IsLeave i true was.leaves = subst (λ b. IsLeave i b was.leaves) left was.left in
     record {
-      turns = sym (ap (λ es. turns_from built_forms i (no_names root) seat.lines es) (sym (append-nil (turns_in i trail))) ∙ was.turned [] ∙ append-nil (turns_in i trail));
+      turns = sym (ap (λ es. turns_from all_forms i (no_names root) seat.lines es) (sym (append-nil (turns_in i trail))) ∙ was.turned [] ∙ append-nil (turns_in i trail));
       answered = λ goes. omega (arith, was.counted, ap length (was.ended left goes));
       stopped = leave.0;
       leaves = was.split ∙ ap (λ w. turns_in i trail ++ w) leave.1;
@@ -67,7 +67,7 @@ session_over root i seat p trail left was =
     }
 
 -- where each session has left
-pub all_over : {A : Type 0} (t : Terms A) (trail : List Event) (ps : List Reading) → AreHeard t trail ps → AllLeft ps → AreOver t.root t.seats trail ps
+pub all_over : {A : Type 0} (t : Terms A) (trail : List Event) (ps : List Reading) → AreHeard t trail ps → AllLeft ps → AreOver t.root t.collections t.seats trail ps
 all_over t trail ps was left = record {
   count = was.count;
   each = λ k seat p seat_is at. session_over t.root k seat p trail (sym (ap has_left_at at) ∙ left k) (was.each k seat p seat_is at);

@@ -1,5 +1,5 @@
 -- An event keeps what the hall keeps of its sessions.
-use Rattle.std.proofs.Common.{◌≡◌, ◌≢◌, ◌⊎◌, inl, inr, ℕ, zero, suc, ◌+◌, ◌<◌, ◌≤◌, ◌==◌, Bool, true, false, not, cond, List, [], ◌∷◌, ◌++◌, length, filter, set, get_or, Option, Some, None, slice_get, refl, sym, ap, ◌∙◌, subst, arith, append_assoc, length-append, length-set}
+use Rattle.std.proofs.Common.{◌≡◌, ◌≢◌, ◌⊎◌, inl, inr, ℕ, ◌+◌, ◌<◌, ◌≤◌, ◌==◌, Bool, true, false, not, cond, List, [], ◌∷◌, ◌++◌, length, filter, set, get_or, Option, Some, None, slice_get, refl, sym, ap, ◌∙◌, subst, arith, append_assoc, length-append, length-set}
 use Rattle.std.specs.List.{sum_by}
 use Rattle.std.proofs.lemmas.List.{append-nil}
 use Rattle.std.proofs.lemmas.List.Sums.{sum_by-set}
@@ -17,19 +17,21 @@ use Rattle.ufs_model.specs.declared.asked.Unread.{Unread}
 use Rattle.ufs_model.specs.declared.asked.Unread.TheVariants as unread
 use Rattle.ufs_model.specs.Names.{Names, no_names}
 use Rattle.ufs_model.specs.Script.{words_of}
-use Rattle.ufs_model.specs.Spoken.{Reading, reading_of, name_spoken}
+use Rattle.ufs_model.specs.State.{State}
+use Rattle.ufs_model.specs.Spoken.{Reading, all_forms, reading_of, name_spoken}
 use Rattle.ufs_model.specs.Turns.{is_turn_of, turns_in, turn_of, turns_from, names_after, names_after_reply}
 use Rattle.ufs_model.specs.Printed.{printed, printed_replies}
-use Rattle.cfs_script.specs.Language.{built_forms}
 use Rattle.cfs_script.specs.NameTable.{names_of}
 use Rattle.cfs_ports.specs.declared.hearing.Heard.TheVariants as heard
 use Rattle.cfs_ports.specs.Heard.{Hears}
 use Rattle.cfs_ports.specs.Port.{Replied, TakesLine, Answers, Tells}
 use Rattle.cfs_ports.specs.Port as ports
 use Rattle.cfs_serve.specs.Charter.{Seat, Terms}
-use Rattle.cfs_serve.specs.Events.{is_of, is_sessions}
-use Rattle.cfs_serve.proofs.Journals.{all-push}
-use Rattle.cfs_serve.specs.Hall.{IsLeave, IsSession, AreHeard, Turned, Departs, Turns, turns_left, turns_left_at, has_left_at}
+use Rattle.cfs_serve.specs.Events.{is_finish, is_of, is_sessions}
+use Rattle.cfs_serve.specs.Journal.{AreCollected}
+use Rattle.cfs_serve.proofs.Journals.{all-push, push_out, some_same}
+use Rattle.cfs_serve.proofs.Lists.{get-set_other, get-set_same}
+use Rattle.cfs_serve.specs.Hall.{IsLeave, IsSession, AreHeard, Hearing, IsSessionTurn, Turned, Departs, turns_left, turns_left_at, has_left_at}
 
 -- ---- numbers and lists
 
@@ -38,21 +40,6 @@ test_refl n = grind (arith, nat_tests)
 
 pub test_apart : (i k : ℕ) → k ≢ i → (i == k) ≡ false
 test_apart i k h = grind (arith, nat_tests)
-
-get-set_same : {A : Type 0} (xs : List A) (i : ℕ) (y x : A) → slice_get xs i ≡ Some x → slice_get (set xs i y) i ≡ Some y
-get-set_same [] i y x h = absurd (cc)
-get-set_same (z ∷ xs) zero y x h = refl
-get-set_same (z ∷ xs) (suc i) y x h = get-set_same xs i y x h
-
-get-set_other : {A : Type 0} (xs : List A) (i k : ℕ) (y : A) → k ≢ i → slice_get (set xs i y) k ≡ slice_get xs k
-get-set_other [] i k y h = refl
-get-set_other (z ∷ xs) zero zero y h = absurd (h refl)
-get-set_other (z ∷ xs) zero (suc k) y h = refl
-get-set_other (z ∷ xs) (suc i) zero y h = refl
-get-set_other (z ∷ xs) (suc i) (suc k) y h = get-set_other xs i k y (λ e. h (ap (λ n. suc n) e))
-
-some_same : {A : Type 0} (a b : A) → Some a ≡ Some b → a ≡ b
-some_same a b e = cc
 
 pub filter_in : (test : Event → Bool) (es : List Event) (e : Event) → test e ≡ true → filter test (es ++ e ∷ []) ≡ filter test es ++ e ∷ []
 filter_in test [] e is = rw is refl
@@ -152,15 +139,15 @@ module _ (root : Puid) (i : ℕ) (seat : Seat) (p : ports.Reading) (trail : List
         };
       }
     where
-      on : (more : List Event) → turns_from built_forms i (no_names root) (seat.lines) ((turns_in i trail ++ e ∷ []) ++ more)
-          ≡ (turns_in i trail ++ e ∷ []) ++ turns_from built_forms i (names_of q.names) q.lines more
+      on : (more : List Event) → turns_from all_forms i (no_names root) (seat.lines) ((turns_in i trail ++ e ∷ []) ++ more)
+          ≡ (turns_in i trail ++ e ∷ []) ++ turns_from all_forms i (names_of q.names) q.lines more
       on more =
-          ap (λ es. turns_from built_forms i (no_names root) (seat.lines) es) (append_assoc (turns_in i trail) (e ∷ []) more)
+          ap (λ es. turns_from all_forms i (no_names root) (seat.lines) es) (append_assoc (turns_in i trail) (e ∷ []) more)
           ∙ was.turned (e ∷ more)
-          ∙ ap (λ lines. turns_in i trail ++ turns_from built_forms i (names_of p.names) lines (e ∷ more)) turn.taken
-          ∙ ap (λ x. turns_in i trail ++ x ∷ turns_from built_forms i (names_after built_forms (names_of p.names) turn.line e) q.lines more) turn.turn
-          ∙ sym (append_assoc (turns_in i trail) (e ∷ []) (turns_from built_forms i (names_after built_forms (names_of p.names) turn.line e) q.lines more))
-          ∙ ap (λ names. (turns_in i trail ++ e ∷ []) ++ turns_from built_forms i names q.lines more) (sym turn.names)
+          ∙ ap (λ lines. turns_in i trail ++ turns_from all_forms i (names_of p.names) lines (e ∷ more)) turn.taken
+          ∙ ap (λ x. turns_in i trail ++ x ∷ turns_from all_forms i (names_after all_forms (names_of p.names) turn.line e) q.lines more) turn.turn
+          ∙ sym (append_assoc (turns_in i trail) (e ∷ []) (turns_from all_forms i (names_after all_forms (names_of p.names) turn.line e) q.lines more))
+          ∙ ap (λ names. (turns_in i trail ++ e ∷ []) ++ turns_from all_forms i names q.lines more) (sym turn.names)
 
       so_far : Wrote seat.sink p.sink (printed_replies i trail)
       so_far = subst (λ b. Replied seat.sink p.sink (printed_replies i trail) (not b)) turn.goes was.replied
@@ -211,7 +198,7 @@ module _ {A : Type 0} (t : Terms A) (trail : List Event) (ps : List ports.Readin
         let long = length-set ps i q in
         let apart : k ≢ i = (λ same. absurd (omega (arith, past, within, long, same))) in
         filter_out (is_of k) trail e (others k (test_apart i k apart)) ∙ was.none k (omega (arith, past, long));
-    sessions = all-push is_sessions trail e was.sessions (elim kind [
+    sessions = λ none. all-push is_sessions trail e (was.sessions none) (elim kind [
       | inl turn ↦ of_session i e turn.whole
       | inr leave ↦ rw leave.is refl
     ]);
@@ -233,6 +220,15 @@ module _ {A : Type 0} (t : Terms A) (trail : List Event) (ps : List ports.Readin
           let apart : k ≢ i = grind (arith, nat_tests) in
           session_other t.root k seat x trail (was.each k seat x seat_is (sym (get-set_other ps i k q apart) ∙ here)) e (others k (test_apart i k apart))
 
+  -- after an event of no session, where collections are called for
+  pub heard_beside : (e : Event) → ((k : ℕ) → is_of k e ≡ false) → (t.collections ≡ 0 → ⊥) → AreHeard t (trail ++ e ∷ []) ps
+  heard_beside e nobody some = record {
+    count = was.count;
+    each = λ k seat x seat_is here. session_other t.root k seat x trail (was.each k seat x seat_is here) e (nobody k);
+    none = λ k past. filter_out (is_of k) trail e (nobody k) ∙ was.none k past;
+    sessions = λ none. absurd (some none);
+  }
+
 -- ---- what a port did is such a turn
 
 memory_binds_nothing : (names : Names) (name : Option (List ℕ)) → names_after_reply names name replies.Memory ≡ names
@@ -245,8 +241,8 @@ turned_unread i p r q why stays goes took told = record {
   taken = took.taken ∙ ap (λ w. took.line ∷ w) (sym told.lines);
   mine = test_refl i;
   whole = test_refl i;
-  turn = by_why why (reading_of built_forms (names_of p.names) took.line) (name_spoken built_forms (words_of took.line)) took.hears;
-  names = ap names_of told.names ∙ took.names ∙ sym (memory_binds_nothing (names_of p.names) (name_spoken built_forms (words_of took.line)));
+  turn = by_why why (reading_of all_forms (names_of p.names) took.line) (name_spoken all_forms (words_of took.line)) took.hears;
+  names = ap names_of told.names ∙ took.names ∙ sym (memory_binds_nothing (names_of p.names) (name_spoken all_forms (words_of took.line)));
   stays = stays;
   stays_on = told.stays ∙ took.stays ∙ stays;
   goes = goes;
@@ -287,11 +283,16 @@ work_on ps i p q e at kind =
     let less : turns_left q + 1 ≤ turns_left p = one_less i p q e kind in
     omega (arith, sum_by-set turns_left ps i q p (slice_get_within ps i p at), ap turns_left (get_or_from_slice_get ps i p p at), less)
 
+-- what one session has left is part of it
+pub part_of_work : (ps : List ports.Reading) (i : ℕ) (p : ports.Reading) → slice_get ps i ≡ Some p → turns_left p ≤ sum_by turns_left ps
+part_of_work ps i p at =
+    omega (arith, sum_by-set turns_left ps i (record p { has_left = true }) p (slice_get_within ps i p at), ap turns_left (get_or_from_slice_get ps i p p at))
+
 -- a session that stays has a turn left
 pub some_work : (ps : List ports.Reading) (i : ℕ) (p : ports.Reading) → slice_get ps i ≡ Some p → p.has_left ≡ false → 0 < sum_by turns_left ps
 some_work ps i p at stays =
     let one : 0 < turns_left p = rw stays (omega arith) in
-    omega (arith, sum_by-set turns_left ps i (record p { has_left = true }) p (slice_get_within ps i p at), ap turns_left (get_or_from_slice_get ps i p p at), one)
+    omega (arith, part_of_work ps i p at, one)
 
 -- the port that the code took
 pub found : (ps now : List ports.Reading) (i : ℕ) (p : ports.Reading) → ps ≡ now → i < length now → has_left_at (slice_get now i) ≡ false → p ≡ get_or ps i p → (slice_get ps i ≡ Some p) × (p.has_left ≡ false)
@@ -299,11 +300,41 @@ found ps now i p same within stays is =
     let at : slice_get ps i ≡ Some p = slice_get-get_or ps i p (rw same within) ∙ ap (λ x. Some x) (sym is) in
     (at, sym (ap has_left_at at) ∙ ap (λ w. has_left_at (slice_get w i)) same ∙ stays)
 
--- what a turn leaves to do, and the other ports
-pub turns_of_port : (ps : List ports.Reading) (i : ℕ) (p q : ports.Reading) (e : Event) → slice_get ps i ≡ Some p → Turned i p q e ⊎ Departs i p q e → Turns i ps (set ps i q)
-turns_of_port ps i p q e at kind = record {
-  fewer = let less : turns_left q + 1 ≤ turns_left p = one_less i p q e kind in
-      omega (arith, ap turns_left_at (get-set_same ps i q p at), ap turns_left_at at, less);
-  others = λ k apart. get-set_other ps i k q (λ same. absurd (cc (apart, ap (λ n. n == i) same, test_refl i)));
-  count = length-set ps i q;
-}
+-- what a turn leaves to do, and the other sessions
+pub less_left : {A : Type 0} (clock : A → ℕ) (i : ℕ) (old new : Hearing A) → IsSessionTurn clock i old new
+    → turns_left_at (slice_get new.ports i) < turns_left_at (slice_get old.ports i)
+less_left clock i old new turn =
+    let less : turns_left turn.after + 1 ≤ turns_left turn.before = one_less i turn.before turn.after turn.moves.event turn.moves.kind in
+    rw turn.ports (omega (arith, ap turns_left_at (get-set_same old.ports i turn.after turn.before turn.at), ap turns_left_at turn.at, less))
+
+pub others_stay : {A : Type 0} (clock : A → ℕ) (i : ℕ) (old new : Hearing A) → IsSessionTurn clock i old new → (w : ℕ) → w ≢ i
+    → has_left_at (slice_get new.ports w) ≡ has_left_at (slice_get old.ports w)
+others_stay clock i old new turn w apart = rw turn.ports (ap has_left_at (get-set_other old.ports i w turn.after apart))
+
+pub as_many : {A : Type 0} (clock : A → ℕ) (i : ℕ) (old new : Hearing A) → IsSessionTurn clock i old new → length new.ports ≡ length old.ports
+as_many clock i old new turn = rw turn.ports (length-set old.ports i turn.after)
+
+-- a session that stays has its lines left, and its leave
+pub left_of_stay : (ps now : List ports.Reading) (i : ℕ) (p : ports.Reading) → ps ≡ now → i < length now → has_left_at (slice_get now i) ≡ false
+    → p ≡ get_or ps i p → (turns_left_at (slice_get now i) ≡ length p.lines + 1) × (length p.lines + 1 ≤ sum_by turns_left ps)
+left_of_stay ps now i p same within stays is =
+    let at = found ps now i p same within stays is in
+    let one : turns_left p ≡ length p.lines + 1 = rw at.1 refl in
+    (rw (← same) (ap turns_left_at at.0 ∙ one), omega (arith, one, part_of_work ps i p at.0))
+
+-- ---- collections that are finished
+
+-- no event of a session is the end of a collection
+no_finish : (i : ℕ) (e : Event) → is_of i e ≡ true → is_finish e ≡ false
+no_finish i (events.Unread who why) mine = refl
+no_finish i (events.Ask who request reply) mine = refl
+no_finish i (events.Leave who stopped) mine = refl
+no_finish i e mine = absurd (cc mine)
+
+no_end : (i : ℕ) (p q : ports.Reading) (e : Event) → Turned i p q e ⊎ Departs i p q e → is_finish e ≡ false
+no_end i p q e (inl turned) = no_finish i e turned.whole
+no_end i p q e (inr departs) = rw departs.is refl
+
+pub collected_by : {A : Type 0} (stands : A → State → Type 0) (t : Terms A) (trail : List Event) (i : ℕ) (p q : ports.Reading) (e : Event) → Turned i p q e ⊎ Departs i p q e
+    → AreCollected stands t trail → AreCollected stands t (trail ++ e ∷ [])
+collected_by stands t trail i p q e kind all = λ begun graph is standing. push_out is_finish trail e (no_end i p q e kind) ∙ all begun graph is standing

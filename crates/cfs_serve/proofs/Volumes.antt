@@ -1,6 +1,6 @@
--- A volume that was opened, and what a session comes to on it.
+-- A volume that was opened, and what a service comes to on it.
 use Rattle.std.proofs.Common.{◌≡◌, ◌⊎◌, inl, inr, ℕ, ◌*◌, ◌/◌, ◌≤◌, Bool, List, [], ◌∷◌, Option, Some, None, Result, Ok, Err, IfOk, IsTrue, refl, sym, ap, ◌∙◌, subst, arith, length}
-use Rattle.std.specs.Prelude.{IfErr, IfSome, IsSome, option_map}
+use Rattle.std.specs.Prelude.{IfSome, option_map}
 use Rattle.std.specs.Result.{result_ok}
 use Rattle.cfs_base.specs.Outside.{Intake, Rose, Supply}
 use Rattle.cfs_base.specs.declared.disk.Disk.{Ghosts}
@@ -13,7 +13,6 @@ use Rattle.cfs_recover.specs.Recovered.{LeavesSinceBarrier}
 use Rattle.cfs_recover.specs.Refusals.{IsCaused}
 use Rattle.ufs_model.specs.declared.asked.Event.{Event}
 use Rattle.ufs_model.specs.Graph.{Graph}
-use Rattle.ufs_model.specs.Script.{request_lines}
 use Rattle.ufs_model.specs.State.{opening}
 use Rattle.vol_image.specs.Sound.{IsSound, IsSoundAs}
 use Rattle.cfs_serve.specs.declared.report.Cause.{Cause}
@@ -21,26 +20,35 @@ use Rattle.cfs_serve.specs.declared.report.Cause.TheVariants as causes
 use Rattle.cfs_serve.specs.declared.report.Counts.{Counts}
 use Rattle.cfs_serve.specs.declared.report.Report.{Report}
 use Rattle.cfs_serve.specs.Disks.{ServesVolume}
-use Rattle.cfs_serve.specs.Ground.{Ground, ground_on, new_ground, opened}
+use Rattle.cfs_serve.specs.Ground.{Ground, ground_on, opened}
 use Rattle.cfs_serve.specs.Opening.{IsRefusal, told_of}
-use Rattle.cfs_serve.specs.Played.{HasScript, IsCause, IsPlayed, IsRunFrom, IsRunOf, IsSourceCause, IsSpoiled, ServesNothing}
-use Rattle.cfs_serve.specs.Volume.{IsNewCore, ServesScript, ServesSession, ground_at}
+use Rattle.cfs_ports.specs.Port.{Reading}
+use Rattle.cfs_serve.specs.Charter.{Seat}
+use Rattle.cfs_serve.specs.Played.{IsCause, IsPlayed, IsRunFrom, IsRunOf, IsSpoiled, has_broken}
+use Rattle.cfs_serve.specs.Scripts.{HaveScripts, IsSourceCause}
+use Rattle.cfs_serve.specs.Volume.{IsNewCore, ServesScripts, ground_at}
+use Rattle.cfs_serve.specs.Whole.{AsksSessions, Places, RoseIn}
 
 pub both_some : {A E : Type 0} (P Q R : A → Type 0) (r : Result A E) → IfOk r P → IfOk r Q → ((x : A) → P x → Q x → R x) → IfSome (result_ok r) R
 both_some P Q R (Ok x) p q both = both x p q
 both_some P Q R (Err e) p q both = tt
 
+pub both_ok : {A E : Type 0} (P Q : A → Type 0) (r : Result A E) → IfOk r P → IfOk r Q → IfOk r (λ x. P x × Q x)
+both_ok P Q (Ok x) p q = (p, q)
+both_ok P Q (Err e) p q = tt
+
 none_mapped : {A B : Type 0} (f : A → B) (o : Option A) → None ≡ option_map f o → o ≡ None
 none_mapped f None is = refl
 none_mapped f (Some x) is = absurd (cc is)
 
-pub new_core : {D : Type 0} (g : Ghosts D) (cylinders seed : ℕ) (k : Kernel D) → 1 ≤ cylinders → IsOpened g (opened seed) seed k → 64 * cylinders ≡ 64 * length k.space.free → IsNewCore g cylinders seed k
-new_core g cylinders seed k some is size = record {
+pub new_core : {D : Type 0} (g : Ghosts D) (cylinders seed : ℕ) (k : Kernel D) → 1 ≤ cylinders → IsOpened g (opened seed) seed k → k.collections ≡ record { collector = None; called = 0; finished = 0 } → 64 * cylinders ≡ 64 * length k.space.free → IsNewCore g cylinders seed k
+new_core g cylinders seed k some is idle size = record {
   stands = is.stands;
   words = is.words;
   some = some;
   size = omega (arith, size);
   runs = none_mapped (λ stop. stop.moment) k.stop (front_of g k (opening (opened seed)) is.stands).stopped;
+  idle = idle;
 }
 
 pub never_rose : Rose 0 0 → ⊥
@@ -48,21 +56,22 @@ never_rose rose = absurd (omega (arith, rose))
 
 -- ---- a session, by what its volume may read as
 
-spoiled_on : (rose wide : Type 0) (broken : Bool) (trail : List Event) → (rose → wide) → (cause : Cause) → IsSpoiled rose broken trail cause → IsSpoiled wide broken trail cause
-spoiled_on rose wide broken trail to causes.Nothing is = is
-spoiled_on rose wide broken trail to (causes.Disk moment) is = to is
-spoiled_on rose wide broken trail to (causes.Volume fault) is = tt
-spoiled_on rose wide broken trail to causes.Sink is = is
-spoiled_on rose wide broken trail to causes.Memory is = is
-spoiled_on rose wide broken trail to (causes.Page page) is = is
-spoiled_on rose wide broken trail to causes.Words is = is
-spoiled_on rose wide broken trail to (causes.Source i) is = is
-spoiled_on rose wide broken trail to (causes.Long i) is = is
-spoiled_on rose wide broken trail to causes.LongTotal is = is
+spoiled_on : (rose wide : Type 0) (broken wanting : Bool) (trail : List Event) → (rose → wide) → (cause : Cause) → IsSpoiled rose broken wanting trail cause → IsSpoiled wide broken wanting trail cause
+spoiled_on rose wide broken wanting trail to causes.Nothing is = is
+spoiled_on rose wide broken wanting trail to (causes.Disk moment) is = to is
+spoiled_on rose wide broken wanting trail to (causes.Volume fault) is = tt
+spoiled_on rose wide broken wanting trail to causes.Sink is = is
+spoiled_on rose wide broken wanting trail to causes.Memory is = is
+spoiled_on rose wide broken wanting trail to (causes.Page page) is = is
+spoiled_on rose wide broken wanting trail to causes.Words is = is
+spoiled_on rose wide broken wanting trail to (causes.Source i) is = is
+spoiled_on rose wide broken wanting trail to (causes.Long i) is = is
+spoiled_on rose wide broken wanting trail to causes.LongTotal is = is
 
-module _ (a b : Ground) (seed : ℕ) (rose wide : Type 0) (cylinders : a.cylinders ≡ b.cylinders) (reads : (graph : Graph) → b.reads graph → a.reads graph) (to : rose → wide) where
-  run_on : (graph : Graph) (counts : Counts) (cause : Cause) (trail : List Event) → IsRunFrom a.cylinders seed graph rose counts cause trail → IsRunFrom b.cylinders seed graph wide counts cause trail
-  run_on graph counts cause trail run = subst (λ n. IsRunFrom n seed graph wide counts cause trail) cylinders (record {
+module _ (a b : Ground) (seed collections : ℕ) (rose wide : Type 0) (cylinders : a.cylinders ≡ b.cylinders) (reads : (graph : Graph) → b.reads graph → a.reads graph) (to : rose → wide) where
+  run_on : (graph : Graph) (sessions : ℕ) (counts : Counts) (cause : Cause) (trail : List Event) → IsRunFrom a.cylinders seed collections graph rose sessions counts cause trail
+      → IsRunFrom b.cylinders seed collections graph wide sessions counts cause trail
+  run_on graph sessions counts cause trail run = subst (λ n. IsRunFrom n seed collections graph wide sessions counts cause trail) cylinders (record {
     last = run.last;
     legal = run.legal;
     exact = run.exact;
@@ -70,43 +79,60 @@ module _ (a b : Ground) (seed : ℕ) (rose wide : Type 0) (cylinders : a.cylinde
     stop = run.stop;
     counted = run.counted;
     free = run.free;
+    few = run.few;
+    rests = run.rests;
   })
 
-  pub played_on : (lines : List (List ℕ)) (sink after : Intake) (counts : Counts) (cause : Cause) (trail : List Event) → IsPlayed a seed rose lines sink after counts cause trail → IsPlayed b seed wide lines sink after counts cause trail
-  played_on lines sink after counts cause trail played = record {
+  pub played_on : (seats : List Seat) (ports : List Reading) (counts : Counts) (cause : Cause) (trail : List Event) → IsPlayed a seed collections rose seats ports counts cause trail
+      → IsPlayed b seed collections wide seats ports counts cause trail
+  played_on seats ports counts cause trail played = record {
     root = played.root;
     rooted = λ graph is. played.rooted graph (reads graph is);
-    run = λ graph is. run_on graph counts cause trail (played.run graph (reads graph is));
-    broken = played.broken;
+    run = λ graph is. run_on graph (length seats) counts cause trail (played.run graph (reads graph is));
     over = played.over;
-    none = played.none;
-    sessions = played.sessions;
-    spoiled = spoiled_on rose wide played.broken trail to cause played.spoiled;
+    wanting = played.wanting;
+    wanted = played.wanted;
+    collected = λ none graph is. played.collected none graph (reads graph is);
+    spoiled = spoiled_on rose wide (has_broken ports) played.wanting trail to cause played.spoiled;
   }
 
--- a script that was served on a core, or memory was wanting
-module _ {D : Type 0} (g : Ghosts D) (core : Kernel D) (script : List ℕ) (source source_after : Supply) (sink after : Intake) (report : Report) (trail : List Event) (moments : List ℕ) (disk : D)
-    (ground : Ground) (seed : ℕ) (wide : Type 0) (has : HasScript source script) (sound : ¬ ground.unsound) (words : core.words.seed ≡ seed) (cylinders : length core.space.free ≡ ground.cylinders)
-    (reads : (graph : Graph) → ground.reads graph → StandsFor g core (opening graph)) (to : Rose (g.faults core.disk) (g.faults disk) → wide) where
-  pub script_run : ServesScript g core script sink after report trail moments disk → IsRunOf ground seed wide source source_after sink after report trail
+-- scripts that were served on a core, or memory was wanting
+module _ {D : Type 0} (g : Ghosts D) (core : Kernel D) (scripts : List (List ℕ)) (sources sources_after : List Supply) (sinks after : List Intake) (report : Report) (trail : List Event)
+    (moments : List ℕ) (disk : D) (ground : Ground) (seed collections : ℕ) (wide : Type 0) (have : HaveScripts sources scripts) (sound : ¬ ground.unsound) (words : core.words.seed ≡ seed)
+    (cylinders : length core.space.free ≡ ground.cylinders) (reads : (graph : Graph) → ground.reads graph → StandsFor g core (opening graph)) (to : Rose (g.faults core.disk) (g.faults disk) → wide) where
+  pub script_run : ServesScripts g core collections scripts sinks after report trail moments disk → IsRunOf ground seed collections wide sources sources_after sinks after report trail
   script_run (inl s) = inl (record {
-    script = script;
-    has = has;
+    scripts = scripts;
+    have = have;
     sound = sound;
-    counts = s.counts;
-    cause = s.cause;
-    told = s.told;
-    played = played_on (ground_at g core) ground seed (Rose (g.faults core.disk) (g.faults disk)) wide cylinders reads to (request_lines script) sink after s.counts s.cause trail
-        (subst (λ w. IsPlayed (ground_at g core) w (Rose (g.faults core.disk) (g.faults disk)) (request_lines script) sink after s.counts s.cause trail) words s.played);
+    counts = s.serves.counts;
+    cause = s.serves.cause;
+    told = s.serves.told;
+    seats = s.seats;
+    ports = s.ports;
+    seated = s.seated;
+    played = played_on (ground_at g core) ground seed collections (Rose (g.faults core.disk) (g.faults disk)) wide cylinders reads to s.seats s.ports s.serves.counts s.serves.cause trail
+        (subst (λ w. IsPlayed (ground_at g core) w collections (Rose (g.faults core.disk) (g.faults disk)) s.seats s.ports s.serves.counts s.serves.cause trail) words s.serves.played);
   })
   script_run (inr n) = inr (record { cause = causes.Memory; is = tt; nothing = n.0 })
 
 -- nothing was served
-pub none_run : (ground : Ground) (seed : ℕ) (wide : Type 0) (source source_after : Supply) (sink after : Intake) (report : Report) (trail : List Event) (cause : Cause)
-    → IsCause ground wide source source_after cause → after ≡ sink → report ≡ record { counts = None; cause = cause } → trail ≡ [] → IsRunOf ground seed wide source source_after sink after report trail
-none_run ground seed wide source source_after sink after report trail cause is same told none = inr (record { cause = cause; is = is; nothing = record { no_event = none; untouched = same; told = told } })
+none_run : (ground : Ground) (seed collections : ℕ) (wide : Type 0) (sources sources_after : List Supply) (sinks after : List Intake) (report : Report) (trail : List Event) (cause : Cause)
+    → IsCause ground wide sources sources_after cause → after ≡ sinks → report ≡ record { counts = None; cause = cause } → trail ≡ []
+    → IsRunOf ground seed collections wide sources sources_after sinks after report trail
+none_run ground seed collections wide sources sources_after sinks after report trail cause is same told none =
+    inr (record { cause = cause; is = is; nothing = record { no_event = none; untouched = same; told = told } })
 
-pub source_cause : (ground : Ground) (wide : Type 0) (source after : Supply) (cause : Cause) → IsSourceCause source after cause → IsCause ground wide source after cause
+pub none_asks : (ground : Ground) (seed collections : ℕ) (old new : Places) (report : Report) (trail : List Event) (cause : Cause) → length new.sources ≡ length old.sources
+    → IsCause ground (RoseIn old.disk new.disk) old.sources new.sources cause → new.sinks ≡ old.sinks → report ≡ record { counts = None; cause = cause } → trail ≡ []
+    → AsksSessions ground seed collections old new report trail
+none_asks ground seed collections old new report trail cause count is same told none = record {
+  sources = count;
+  sinks = ap length same;
+  run = none_run ground seed collections (RoseIn old.disk new.disk) old.sources new.sources old.sinks new.sinks report trail cause is same told none;
+}
+
+pub source_cause : (ground : Ground) (wide : Type 0) (source after : List Supply) (cause : Cause) → IsSourceCause source after cause → IsCause ground wide source after cause
 source_cause ground wide source after (causes.Volume fault) is = absurd is
 source_cause ground wide source after (causes.Disk moment) is = absurd is
 source_cause ground wide source after causes.Nothing is = is
@@ -118,14 +144,14 @@ source_cause ground wide source after (causes.Source i) is = is
 source_cause ground wide source after (causes.Long i) is = is
 source_cause ground wide source after causes.LongTotal is = is
 
-pub source_ill : (source after : Supply) (cause : Cause) → IsSourceCause source after cause → ¬ (cause ≡ causes.Nothing)
+pub source_ill : (source after : List Supply) (cause : Cause) → IsSourceCause source after cause → ¬ (cause ≡ causes.Nothing)
 source_ill source after cause is well = absurd (rw well at is)
 
 -- ---- a volume on a disk
 
 module _ {D : Type 0} (g : Ghosts D) (old : D) (seed : ℕ) where
   -- it was refused
-  pub refusal_cause : (new : D) (source after : Supply) (script : List ℕ) → HasScript source script → (cause : Cause) → IsRefusal g old new cause
+  pub refusal_cause : (new : D) (source after : List Supply) (script : List (List ℕ)) → HaveScripts source script → (cause : Cause) → IsRefusal g old new cause
       → IsCause (ground_on g old) (Rose (g.faults old) (g.faults new)) source after cause
   refusal_cause new source after script has (causes.Volume fault) is = ((λ graph reads. is reads.0 (graph, reads.1)), (script, has))
   refusal_cause new source after script has (causes.Disk moment) is = (is.0, is.1, (script, has))
@@ -147,24 +173,30 @@ module _ {D : Type 0} (g : Ghosts D) (old : D) (seed : ℕ) where
     unserved = λ none. refl;
     crashes = λ served. absurd (cc (rw told at served));
     sound = λ well. absurd (ill (sym (ap (λ (r : Report). r.cause) told) ∙ well));
+    refused = None;
+    faults = λ served. absurd (cc (rw told at served));
+    stops = λ served. absurd (cc (rw told at served));
   }
 
-  -- a script was
-  pub served : (core : Kernel D) (script : List ℕ) (sink after : Intake) (report : Report) (trail : List Event) (moments : List ℕ) (new : D) → core.words.seed ≡ seed
+  -- scripts were
+  pub served : (core : Kernel D) (collections : ℕ) (scripts : List (List ℕ)) (sinks after : List Intake) (report : Report) (trail : List Event) (moments : List ℕ) (new : D) → core.words.seed ≡ seed
       → (IsTrue (g.honest old) → (graph : Graph) → IsSoundAs (g.content old) graph → StandsFor g core (opening graph))
       → (IsTrue (g.honest old) → (graph : Graph) → IsSoundAs (g.content old) graph → LeavesSinceBarrier g old core.disk (λ c. IsSoundAs c graph))
-      → ServesScript g core script sink after report trail moments new → ServesVolume g seed report trail moments old new
-  served core script sink after report trail moments new words stands images (inl s) = record {
+      → ServesScripts g core collections scripts sinks after report trail moments new → ServesVolume g seed report trail moments old new
+  served core collections scripts sinks after report trail moments new words stands images (inl s) = record {
     opened = core.disk;
     opening = λ honest graph sound. inr (images honest graph sound);
-    unserved = λ none. absurd (some_none (sym (ap (λ (r : Report). r.counts) s.told) ∙ none));
-    crashes = λ some honest graph sound. rw (← words) (s.crashes graph (stands honest graph sound));
-    sound = λ well honest graph sound last legal. s.sound (sym (ap (λ (r : Report). r.cause) s.told) ∙ well) graph (stands honest graph sound) last (rw words legal);
+    unserved = λ none. absurd (some_none (sym (ap (λ (r : Report). r.counts) s.serves.told) ∙ none));
+    crashes = λ some honest graph sound. rw (← words) (s.serves.crashes graph (stands honest graph sound));
+    sound = λ well honest graph sound last legal. s.serves.sound (sym (ap (λ (r : Report). r.cause) s.serves.told) ∙ well) graph (stands honest graph sound) last (rw words legal);
+    refused = s.serves.refused;
+    faults = λ some. s.serves.faults;
+    stops = λ some honest graph sound. s.serves.stops graph (stands honest graph sound);
   }
     where
       some_none : {x : Counts} → Some x ≡ None → ⊥
       some_none e = cc
-  served core script sink after report trail moments new words stands images (inr n) = rw n.1 (unserved core.disk report trail moments causes.Memory n.0.told (λ e. cc) (λ honest graph sound. inr (images honest graph sound)))
+  served core collections scripts sinks after report trail moments new words stands images (inr n) = rw n.1 (unserved core.disk report trail moments causes.Memory n.0.told (λ e. cc) (λ honest graph sound. inr (images honest graph sound)))
 
 -- what is told of a refusal
 pub refusal_of : {D : Type 0} (g : Ghosts D) (old new : D) (why : RecoverFault) → (IsTrue (g.honest old) → IsSound (g.content old) → (why ≡ whys.Disk) ⊎ (why ≡ whys.Memory)) → IsCaused g old new why

@@ -1,9 +1,17 @@
--- What a server's calls make: one event each, and how exact a reply is.
-use Rattle.std.specs.Prelude.{◌≡◌, ◌⊎◌, ℕ, ◌+◌, ◌≤◌, Bool, true, false, List, [], ◌∷◌, ◌++◌, Some}
+-- What a server's calls make: one event each, or none; how exact a reply is; and what becomes of the collections.
+use Rattle.std.specs.Prelude.{◌≡◌, ◌⊎◌, ℕ, ◌+◌, ◌-◌, ◌≤◌, ◌<◌, Bool, true, false, if◌then◌else◌, List, [], ◌∷◌, ◌++◌, Option, Some, None, Result, Ok, Err}
+use Rattle.std.specs.Option.{option_map_or}
 use Rattle.cfs_base.specs.Outside.{Rose}
+use Rattle.cfs_base.specs.declared.disk.Disk.{Ghosts}
 use Rattle.cfs_base.specs.declared.refusal.Need.{Need}
 use Rattle.cfs_core.specs.Calls.{is_delete}
-use Rattle.cfs_core.specs.Room.{IsRoom}
+use Rattle.cfs_core.specs.Collect.{event_of}
+use Rattle.cfs_core.specs.Kernel.{Kernel, runs}
+use Rattle.cfs_core.specs.Room.{IsRoom, lost_blocks}
+use Rattle.cfs_core.specs.StandsFor.{is_sweeping}
+use Rattle.cfs_core.specs.declared.collecting.CollectFault.{CollectFault}
+use Rattle.cfs_core.specs.declared.collecting.CollectFault.TheVariants as faults
+use Rattle.cfs_core.specs.declared.collecting.Step.{Step}
 use Rattle.ufs_model.specs.declared.asked.Event.{Event}
 use Rattle.ufs_model.specs.declared.asked.Event.TheVariants as events
 use Rattle.ufs_model.specs.declared.asked.Reply.{Reply}
@@ -15,7 +23,8 @@ use Rattle.ufs_model.specs.Need.{need_of}
 use Rattle.ufs_model.specs.Next.{next}
 use Rattle.ufs_model.specs.Run.{replay}
 use Rattle.ufs_model.specs.State.{State}
-use Rattle.cfs_serve.specs.Events.{is_calm, tells_disk}
+use Rattle.vol_image.specs.Sound.{graph_blocks}
+use Rattle.cfs_serve.specs.Events.{begins_in, finishes_in, is_begin, is_calm, tells_disk, tells_stop}
 
 -- ---- an answer
 
@@ -27,19 +36,39 @@ tells_outcome (replies.Number n) = true
 tells_outcome (replies.Content bytes) = true
 tells_outcome reply = false
 
--- A Full names the room. A request that was done, other than a delete, left four blocks of the room beside its need.
-pub record IsExact (cylinders : ℕ) (s : State) (who : ℕ) (request : Request) (reply : Reply) : Type 0 where
-  pub full : (need : Need) → reply ≡ replies.Full need → IsRoom cylinders s need.free
+-- So many blocks are Free in this state: its room; but while a collection sweeps less than that by as many at most as the objects
+-- had that are gone.
+pub record Fits (cylinders lost : ℕ) (s : State) (free : ℕ) : Type 0 where
+  pub room : ℕ
+  pub is_room : IsRoom cylinders s room
+  pub most : free ≤ room
+  pub least : room ≤ free + lost
+  pub all : is_sweeping s.collection ≡ false → free ≡ room
+
+-- A Full names what is Free. A request that was done, other than a delete, left four blocks of the room beside its need.
+pub record IsExact (cylinders lost : ℕ) (s : State) (who : ℕ) (request : Request) (reply : Reply) : Type 0 where
+  pub full : (need : Need) → reply ≡ replies.Full need → Fits cylinders lost s need.free
   pub done : tells_outcome reply ≡ true → is_delete request ≡ false → (free : ℕ) → IsRoom cylinders s free → need_of s who request + reserve ≤ free
 
-abbrev pub IsExactEvent : ℕ → State → Event → Type 0
-IsExactEvent cylinders s (events.Ask who request reply) = IsExact cylinders s who request reply
-IsExactEvent cylinders s event = Unit {0}
+abbrev pub IsExactEvent : (cylinders lost : ℕ) → State → Event → Type 0
+IsExactEvent cylinders lost s (events.Ask who request reply) = IsExact cylinders lost s who request reply
+IsExactEvent cylinders lost s event = Unit {0}
+
+-- the blocks of the objects that vanished last, after one event more
+abbrev pub lost_by : Event → State → State → ℕ → ℕ
+lost_by (events.Vanish ids) s t lost = graph_blocks s.graph - graph_blocks t.graph
+lost_by e s t lost = lost
+
+-- and after a run from this state
+abbrev pub lost_in : (seed lost : ℕ) → State → List Event → ℕ
+lost_in seed lost s [] = lost
+lost_in seed lost s (e ∷ trail) = option_map_or (λ t. lost_in seed (lost_by e s t lost) t trail) (next seed s e) 0
 
 -- the answers of a run from this state are exact
-abbrev pub AreExact : ℕ → (seed : ℕ) → State → List Event → Type 0
-AreExact cylinders seed s [] = Unit {0}
-AreExact cylinders seed s (e ∷ trail) = IsExactEvent cylinders s e × ((t : State) → next seed s e ≡ Some t → AreExact cylinders seed t trail)
+abbrev pub AreExact : (cylinders seed lost : ℕ) → State → List Event → Type 0
+AreExact cylinders seed lost s [] = Unit {0}
+AreExact cylinders seed lost s (e ∷ trail) =
+    IsExactEvent cylinders lost s e × ((t : State) → next seed s e ≡ Some t → AreExact cylinders seed (lost_by e s t lost) t trail)
 
 -- ---- one event
 
@@ -54,12 +83,111 @@ abbrev pub GoesOn : {A : Type 0} → (A → State → Type 0) → (A → ℕ) �
 GoesOn stands clock lasts seed old new e = (graph : Graph) (trail : List Event) (marks : List ℕ) (s : State) → replay seed graph trail ≡ Some s → stands old s
     → lasts old seed graph trail marks → lasts new seed graph (trail ++ e ∷ []) (marks ++ clock new ∷ [])
 
--- What an event tells of the disk, on any disk: a failed call that is told was one, and so was one by which the server
--- stopped, unless a block was damaged. Of a server that runs no other trouble is told; one that stopped stays so.
-pub record Tells {A : Type 0} (faults : A → ℕ) (has_stopped is_damaged : A → Bool) (old new : A) (e : Event) : Type 0 where
+-- What a call tells of the disk, on any disk: a failed call that is told was one, and so was one by which the server stopped,
+-- unless a block was damaged. Of a server that runs no other trouble is told; one that stopped stays so.
+pub record TellsSo {A : Type 0} (faults : A → ℕ) (has_stopped is_damaged : A → Bool) (old new : A) (fails calms : Bool) : Type 0 where
   pub later : faults old ≤ faults new
-  pub told : tells_disk e ≡ true → Rose (faults old) (faults new)
+  pub told : fails ≡ true → Rose (faults old) (faults new)
   pub stays : has_stopped old ≡ true → has_stopped new ≡ true
-  pub calm : has_stopped new ≡ false → tells_disk e ≡ false → is_calm e ≡ true
+  pub calm : has_stopped new ≡ false → fails ≡ false → calms ≡ true
   pub halts : has_stopped new ≡ true → is_damaged new ≡ false
       → ((has_stopped old ≡ true) × (is_damaged old ≡ false)) ⊎ Rose (faults old) (faults new)
+
+-- and so an event does
+abbrev pub Tells : {A : Type 0} → (A → ℕ) → (has_stopped is_damaged : A → Bool) → A → A → Event → Type 0
+Tells faults has_stopped is_damaged old new e = TellsSo faults has_stopped is_damaged old new (tells_disk e) (is_calm e)
+
+-- ---- one step of the collector
+
+-- its event, if it is one: a step at which the server stopped is one too
+abbrev pub event_by : Result Step CollectFault → Option Event
+event_by (Ok step) = event_of step
+event_by (Err faults.Memory) = None
+event_by (Err (faults.Disk None)) = None
+event_by (Err (faults.Disk (Some moment))) = Some (events.Halted moment)
+event_by (Err (faults.Damaged damage moment)) = Some (events.Halted moment)
+event_by (Err (faults.Stopped moment)) = None
+
+-- at which the server stopped
+abbrev pub tells_stop_at : Option Event → Bool
+tells_stop_at None = false
+tells_stop_at (Some e) = tells_stop e
+
+-- a call of the disk failed in it
+abbrev pub fails : Result Step CollectFault → Bool
+fails (Ok step) = false
+fails (Err faults.Memory) = false
+fails (Err (faults.Disk doubt)) = true
+fails (Err (faults.Damaged damage moment)) = false
+fails (Err (faults.Stopped moment)) = false
+
+abbrev pub is_calm_step : Option Event → Bool
+is_calm_step None = true
+is_calm_step (Some e) = is_calm e
+
+abbrev pub TellsStep : {A : Type 0} → (A → ℕ) → (has_stopped is_damaged : A → Bool) → A → A → Result Step CollectFault → Type 0
+TellsStep faults has_stopped is_damaged old new result = TellsSo faults has_stopped is_damaged old new (fails result) (is_calm_step (event_by result))
+
+-- the event may come, or the server stands for the state on
+abbrev pub MayMake : (State → Type 0) → (seed : ℕ) → State → Option Event → Type 0
+MayMake stands seed s None = stands s
+MayMake stands seed s (Some e) = Makes stands seed s e
+
+-- and what is known of crashes goes on
+abbrev pub MayGoOn : {A : Type 0} → (A → State → Type 0) → (A → ℕ) → (A → ℕ → Graph → List Event → List ℕ → Type 0) → (seed : ℕ) → A → A → Option Event → Type 0
+MayGoOn stands clock lasts seed old new None = (graph : Graph) (trail : List Event) (marks : List ℕ) (s : State) → replay seed graph trail ≡ Some s → stands old s
+    → lasts old seed graph trail marks → lasts new seed graph trail marks
+MayGoOn stands clock lasts seed old new (Some e) = GoesOn stands clock lasts seed old new e
+
+-- ---- collections
+
+-- How many collections were called for and how many of them are finished; whether one runs; and how many blocks objects have still
+-- that are gone from a graph.
+pub record Tally : Type 0 where
+  pub called : ℕ
+  pub finished : ℕ
+  pub running : Bool
+  pub lost : Graph → ℕ
+
+-- those of a core
+abbrev pub tally_of : {D : Type 0} → Ghosts D → Kernel D → Tally
+tally_of g k = record {
+  called = k.collections.called;
+  finished = k.collections.finished;
+  running = runs k.collections.collector;
+  lost = λ graph. lost_blocks (g.content k.disk) graph;
+}
+
+-- how many began
+abbrev pub begun : Tally → ℕ
+begun c = c.finished + (if c.running then 1 else 0)
+
+abbrev pub AsBefore : Tally → Tally → Type 0
+AsBefore c d = (d.finished ≡ c.finished) × (d.running ≡ c.running)
+
+-- what an event does to the counts of a server that runs on: a collection begins where none runs and more were called for
+abbrev pub Counts : Event → Tally → Tally → Type 0
+Counts events.Began c d = (c.finished < c.called) × (c.running ≡ false) × (d.finished ≡ c.finished) × (d.running ≡ true)
+Counts events.Finished c d = (c.running ≡ true) × (d.finished ≡ c.finished + 1) × (d.running ≡ false)
+Counts (events.Halted moment) c d = ⊥
+Counts e c d = AsBefore c d
+
+-- and to the blocks of what is gone
+pub record Tallies {A : Type 0} (has_stopped : A → Bool) (tally : A → Tally) (seed : ℕ) (old new : A) (s : State) (e : Event) : Type 0 where
+  pub counts : has_stopped new ≡ false → Counts e (tally old) (tally new)
+  pub runs : is_begin e ≡ true → has_stopped new ≡ false
+  pub lost : has_stopped new ≡ false → (t : State) → next seed s e ≡ Some t
+      → (tally new).lost t.graph ≤ lost_by e s t ((tally old).lost s.graph)
+
+-- no event leaves the counts, and no more such blocks than before
+pub record Rests {A : Type 0} (has_stopped : A → Bool) (tally : A → Tally) (old new : A) (s : State) : Type 0 where
+  pub counts : AsBefore (tally old) (tally new)
+  pub lost : has_stopped new ≡ false → (tally new).lost s.graph ≤ (tally old).lost s.graph
+
+abbrev pub MayTally : {A : Type 0} → (has_stopped : A → Bool) → (tally : A → Tally) → (seed : ℕ) → A → A → State → Option Event → Type 0
+MayTally has_stopped tally seed old new s None = Rests has_stopped tally old new s
+MayTally has_stopped tally seed old new s (Some e) = Tallies has_stopped tally seed old new s e
+
+-- the trail has as many beginnings and ends of collections as are counted
+abbrev pub IsTallied : Tally → List Event → Type 0
+IsTallied c trail = (begins_in trail ≡ begun c) × (finishes_in trail ≡ c.finished)

@@ -1,8 +1,9 @@
 -- What a run does to the disk of its volume.
-use Rattle.std.specs.Prelude.{◌≡◌, ◌⊎◌, ℕ, ◌+◌, IsTrue, List, ◌∷◌, Option, Some, None, IsSome}
+use Rattle.std.specs.Prelude.{◌≡◌, ◌⊎◌, ℕ, ◌+◌, ◌≤◌, IsTrue, List, ◌∷◌, Option, Some, None, IsSome}
 use Rattle.cfs_base.specs.Calls.{MakesAtMost}
 use Rattle.cfs_base.specs.Run.{Leaves}
 use Rattle.cfs_base.specs.declared.disk.Disk.{Ghosts}
+use Rattle.cfs_core.specs.declared.collecting.CollectFault.{CollectFault}
 use Rattle.cfs_recover.specs.Recovered.{LeavesSinceBarrier}
 use Rattle.survival.specs.Trail.{RunSurvives}
 use Rattle.ufs_model.specs.declared.asked.Event.{Event}
@@ -15,6 +16,8 @@ use Rattle.vol_image.specs.Sound.{IsSoundAs, rooted_part}
 use Rattle.cfs_serve.specs.declared.report.Cause.{Cause}
 use Rattle.cfs_serve.specs.declared.report.Cause.TheVariants as causes
 use Rattle.cfs_serve.specs.declared.report.Report.{Report}
+use Rattle.cfs_serve.specs.Events.{tells_disk, tells_fault}
+use Rattle.cfs_serve.specs.Journal.{faults_after, first_fault}
 use Rattle.cfs_serve.specs.Words.{Asked, Format, Formats, InFile, InMemory, Nothing, Place, Serves, Shows}
 
 -- A volume was made on a disk, or the disk failed.
@@ -41,6 +44,12 @@ pub record ServesVolume {D : Type 0} (g : Ghosts D) (seed : ℕ) (told : Report)
   -- where all went well the disk that is handed back is sound, and reads as what is rooted after the last event
   pub sound : told.cause ≡ causes.Nothing → IsTrue (g.honest old) → (graph : Graph) → IsSoundAs (g.content old) graph
       → (last : State) → replay seed graph trail ≡ Some last → IsSoundAs (g.content new) (rooted_part last.graph)
+  -- The count of failed calls rose since the opening by the Disk replies of the trail at least, and by one for a step of the
+  -- collector that was refused for one without a doubt; of an honest disk that held a sound volume by its stops besides.
+  pub refused : Option CollectFault
+  pub faults : IsSome told.counts → faults_after tells_disk trail (first_fault refused (g.faults opened)) ≤ g.faults new
+  pub stops : IsSome told.counts → IsTrue (g.honest old) → (graph : Graph) → IsSoundAs (g.content old) graph
+      → faults_after tells_fault trail (first_fault refused (g.faults opened)) ≤ g.faults new
 
 abbrev MakesOn : {D : Type 0} → Ghosts D → Format → Cause → Option D → Option D → Type 0
 MakesOn g format cause (Some old) (Some new) = MakesVolume g format cause old new

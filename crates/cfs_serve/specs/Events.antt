@@ -1,5 +1,5 @@
 -- What events tell of memory and of the disk, and whose they are.
-use Rattle.std.specs.Prelude.{◌≡◌, ℕ, ◌==◌, Bool, true, false, List, [], ◌∷◌, ◌++◌, filter, Some, None}
+use Rattle.std.specs.Prelude.{◌||◌, ◌≡◌, ℕ, ◌==◌, Bool, true, false, List, [], ◌∷◌, ◌++◌, filter, length, Some, None}
 use Rattle.cfs_base.specs.Outside.{Intake}
 use Rattle.cfs_streams.specs.Writing.{Wrote, WroteSome}
 use Rattle.ufs_model.specs.declared.asked.Reply.{Reply}
@@ -20,6 +20,15 @@ abbrev pub tells_disk : Event → Bool
 tells_disk (events.Ask who request (replies.Disk doubt)) = true
 tells_disk event = false
 
+-- it tells that the server stopped in it
+abbrev pub tells_stop : Event → Bool
+tells_stop (events.Leave who (Some moment)) = true
+tells_stop (events.Halted moment) = true
+tells_stop event = false
+
+abbrev pub tells_fault : Event → Bool
+tells_fault event = tells_disk event || tells_stop event
+
 abbrev pub is_calm_reply : Reply → Bool
 is_calm_reply (replies.Stopped moment) = false
 is_calm_reply (replies.Disk doubt) = false
@@ -36,6 +45,16 @@ is_calm events.Began = true
 is_calm (events.Vanish ids) = true
 is_calm events.Finished = true
 is_calm (events.Halted moment) = false
+
+-- a collection began
+abbrev pub is_begin : Event → Bool
+is_begin (events.Unread who why) = false
+is_begin (events.Ask who request reply) = false
+is_begin (events.Leave who stopped) = false
+is_begin events.Began = true
+is_begin (events.Vanish ids) = false
+is_begin events.Finished = false
+is_begin (events.Halted moment) = false
 
 -- a turn of this session, or its leave
 abbrev pub is_of : ℕ → Event → Bool
@@ -74,6 +93,13 @@ is_finish events.Began = false
 is_finish (events.Vanish ids) = false
 is_finish events.Finished = true
 is_finish (events.Halted moment) = false
+
+-- how many collections began, and how many are finished
+abbrev pub begins_in : List Event → ℕ
+begins_in trail = length (filter is_begin trail)
+
+abbrev pub finishes_in : List Event → ℕ
+finishes_in trail = length (filter is_finish trail)
 
 abbrev pub events_of : ℕ → List Event → List Event
 events_of session trail = filter (is_of session) trail

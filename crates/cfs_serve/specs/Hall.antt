@@ -1,24 +1,31 @@
 -- The hall: a journal and the sessions' ports, and what is kept of each session.
-use Rattle.std.specs.Prelude.{◌≡◌, ◌⊎◌, map, ℕ, ◌+◌, ◌≤◌, ◌==◌, Bool, true, false, not, List, [], ◌∷◌, ◌++◌, length, Option, Some, None, slice_get, if◌then◌else◌}
+use Rattle.std.specs.Prelude.{◌≡◌, ◌⊎◌, map, ℕ, zero, suc, refl, set, ◌+◌, ◌≤◌, ◌<◌, ◌==◌, Bool, true, false, not, List, [], ◌∷◌, ◌++◌, length, Option, Some, None, slice_get, if◌then◌else◌}
 use Rattle.std.specs.List.{list_all}
+use Rattle.std.proofs.Math.Nat.{not-suc-le-zero, le_of_suc-le-suc}
 use Rattle.cfs_base.specs.declared.identifier.Puid.{Puid}
 use Rattle.cfs_base.specs.Outside.{Intake}
 use Rattle.ufs_model.specs.declared.asked.Event.{Event}
 use Rattle.ufs_model.specs.declared.asked.Event.TheVariants as events
 use Rattle.ufs_model.specs.Names.{no_names}
-use Rattle.ufs_model.specs.Spoken.{reading_of}
+use Rattle.ufs_model.specs.Spoken.{all_forms, reading_of}
 use Rattle.ufs_model.specs.Turns.{is_turn_of, turns_in, turn_of, turns_from, names_after}
 use Rattle.ufs_model.specs.Printed.{printed, printed_replies}
-use Rattle.cfs_script.specs.Language.{built_forms}
 use Rattle.cfs_script.specs.NameTable.{names_of}
 use Rattle.cfs_ports.specs.Port.{Reading, IsNew, Replied}
 use Rattle.cfs_serve.specs.Charter.{Seat, Terms}
 use Rattle.cfs_serve.specs.Events.{BreaksOff, events_of, is_of, is_sessions}
-use Rattle.cfs_serve.specs.Journal.{Kept}
+use Rattle.cfs_core.specs.declared.collecting.CollectFault.{CollectFault}
+use Rattle.cfs_serve.specs.Journal.{IsStamped, Kept, Steps}
+use Rattle.cfs_serve.specs.declared.journal.Progress.{Progress}
 
 pub record Hearing (A : Type 0) : Type 0 where
   pub journal : Kept A
   pub ports : List Reading
+  -- the turns that the collector has left, and how many events of it there is room for
+  pub turns : ℕ
+  pub events : ℕ
+  -- the refusal at which it was done
+  pub refused : Option CollectFault
 
 -- ---- what is kept of a session
 
@@ -34,19 +41,23 @@ pub record IsSession (root : Puid) (i : ℕ) (seat : Seat) (p : Reading) (trail 
   pub leaves : List Event
   pub split : events_of i trail ≡ turns_in i trail ++ leaves
   pub left : IsLeave i p.has_left leaves
-  pub turned : (more : List Event) → turns_from built_forms i (no_names root) seat.lines (turns_in i trail ++ more)
-      ≡ turns_in i trail ++ turns_from built_forms i (names_of p.names) p.lines more
+  pub turned : (more : List Event) → turns_from all_forms i (no_names root) seat.lines (turns_in i trail ++ more)
+      ≡ turns_in i trail ++ turns_from all_forms i (names_of p.names) p.lines more
   pub counted : length (turns_in i trail) + length p.lines ≡ length seat.lines
   pub ended : p.has_left ≡ true → p.failed ≡ false → p.lines ≡ []
   pub replied : Replied seat.sink p.sink (printed_replies i trail) (not p.failed)
   pub broken : p.failed ≡ true → BreaksOff i seat.sink p.sink (turns_in i trail)
 
--- so it is with each session, and no event is of a session without a script
+-- So it is with each session, and no event is of a session without a script; where no collection is called for, each is of one.
 pub record AreHeard {A : Type 0} (t : Terms A) (trail : List Event) (ports : List Reading) : Type 0 where
   pub count : length ports ≡ length t.seats
   pub each : (k : ℕ) (seat : Seat) (p : Reading) → slice_get t.seats k ≡ Some seat → slice_get ports k ≡ Some p → IsSession t.root k seat p trail
   pub none : (k : ℕ) → length ports ≤ k → events_of k trail ≡ []
-  pub sessions : list_all is_sessions trail ≡ true
+  pub sessions : t.collections ≡ 0 → list_all is_sessions trail ≡ true
+
+-- where no collection is called for, the collector has no turn and was refused none
+abbrev pub HasNoCollector : {A : Type 0} → Terms A → (turns : ℕ) → Option CollectFault → Type 0
+HasNoCollector t turns refused = t.collections ≡ 0 → (turns ≡ 0) × (refused ≡ None)
 
 -- ---- the turns that are left
 
@@ -72,8 +83,8 @@ pub record Turned (i : ℕ) (p q : Reading) (e : Event) : Type 0 where
   pub taken : p.lines ≡ line ∷ q.lines
   pub mine : is_turn_of i e ≡ true
   pub whole : is_of i e ≡ true
-  pub turn : turn_of i (reading_of built_forms (names_of p.names) line) e ≡ e
-  pub names : names_of q.names ≡ names_after built_forms (names_of p.names) line e
+  pub turn : turn_of i (reading_of all_forms (names_of p.names) line) e ≡ e
+  pub names : names_of q.names ≡ names_after all_forms (names_of p.names) line e
   pub stays : p.has_left ≡ false
   pub stays_on : q.has_left ≡ false
   pub goes : p.failed ≡ false
@@ -95,11 +106,56 @@ pub record Moves {A : Type 0} (i : ℕ) (old new : Kept A) (p q : Reading) : Typ
   pub others : (k : ℕ) → (i == k) ≡ false → is_of k event ≡ false
   pub kind : Turned i p q event ⊎ Departs i p q event
 
--- a turn of session i, as the hall sees it: there is less to do, and the other ports stay
-pub record Turns (i : ℕ) (old new : List Reading) : Type 0 where
-  pub fewer : turns_left_at (slice_get new i) + 1 ≤ turns_left_at (slice_get old i)
-  pub others : (k : ℕ) → (k == i) ≡ false → slice_get new k ≡ slice_get old k
-  pub count : length new ≡ length old
+-- A turn of session i, which stayed: its port made one event, recorded with the disk's moment as the turn returned, and the other
+-- ports are as they were.
+pub record IsSessionTurn {A : Type 0} (clock : A → ℕ) (i : ℕ) (old new : Hearing A) : Type 0 where
+  pub before : Reading
+  pub after : Reading
+  pub at : slice_get old.ports i ≡ Some before
+  pub ports : new.ports ≡ set old.ports i after
+  pub moves : Moves i old.journal new.journal before after
+  pub stamped : IsStamped clock old.journal new.journal
+  pub collector : (new.turns ≡ old.turns) × (new.events ≡ old.events) × (new.refused ≡ old.refused)
+
+-- A turn of the collector, which wasn't done: a step, and one turn less at least; the ports are as they were.
+pub record IsStep {A : Type 0} (clock : A → ℕ) (old new : Hearing A) : Type 0 where
+  pub progress : Progress
+  pub steps : Steps clock old.journal new.journal progress
+  pub ports : new.ports ≡ old.ports
+  pub turns : new.turns < old.turns
+
+-- A turn of a worker: past the sessions it is the collector.
+abbrev pub IsTurn : {A : Type 0} → (A → ℕ) → (worker : ℕ) → Hearing A → Hearing A → Type 0
+IsTurn clock worker old new = IsSessionTurn clock worker old new ⊎ ((worker ≡ length old.ports) × IsStep clock old new)
+
+-- ---- the workers
+
+-- Worker w is the session of that number, or past them the collector, which has so many turns left; is it done?
+abbrev pub is_done_in : List Reading → (turns w : ℕ) → Bool
+is_done_in [] turns zero = turns == 0
+is_done_in [] turns (suc w) = true
+is_done_in (p ∷ ports) turns zero = p.has_left
+is_done_in (p ∷ ports) turns (suc w) = is_done_in ports turns w
+
+-- and how many turns has it left?
+abbrev pub left_in : List Reading → (turns w : ℕ) → ℕ
+left_in [] turns zero = turns
+left_in [] turns (suc w) = 0
+left_in (p ∷ ports) turns zero = turns_left p
+left_in (p ∷ ports) turns (suc w) = left_in ports turns w
+
+-- there is no worker beyond the collector
+pub done_beyond : (ports : List Reading) (turns w : ℕ) → suc (length ports) ≤ w → is_done_in ports turns w ≡ true
+done_beyond [] turns zero beyond = absurd (not-suc-le-zero beyond)
+done_beyond [] turns (suc w) beyond = refl
+done_beyond (p ∷ ports) turns zero beyond = absurd (not-suc-le-zero beyond)
+done_beyond (p ∷ ports) turns (suc w) beyond = done_beyond ports turns w (le_of_suc-le-suc beyond)
+
+pub none_beyond : (ports : List Reading) (turns w : ℕ) → suc (length ports) ≤ w → left_in ports turns w ≡ 0
+none_beyond [] turns zero beyond = absurd (not-suc-le-zero beyond)
+none_beyond [] turns (suc w) beyond = refl
+none_beyond (p ∷ ports) turns zero beyond = absurd (not-suc-le-zero beyond)
+none_beyond (p ∷ ports) turns (suc w) beyond = none_beyond ports turns w (le_of_suc-le-suc beyond)
 
 -- ---- as a service is made
 
@@ -120,25 +176,25 @@ abbrev pub seat_of : Reading → Seat
 seat_of p = record { lines = p.lines; sink = p.sink }
 
 -- the charter of a service by this server and these ports
-abbrev pub charter_of : {A : Type 0} → A → (seed cylinders : ℕ) → Puid → List Reading → Terms A
-charter_of server seed cylinders root ports =
-    record { began = Some server; seed = seed; cylinders = cylinders; root = root; seats = map seat_of ports }
+abbrev pub charter_of : {A : Type 0} → A → (seed cylinders : ℕ) → Puid → (collections : ℕ) → List Reading → Terms A
+charter_of server seed cylinders root collections ports =
+    record { began = Some server; seed = seed; cylinders = cylinders; root = root; collections = collections; seats = map seat_of ports }
 
 -- ---- what it comes to
 
 -- A session that has left: its events are turns of its script, all of them or else its sink failed, and then its leave; its
 -- sink has taken the replies.
 pub record IsOver (root : Puid) (trail : List Event) (i : ℕ) (seat : Seat) (after : Intake) (failed : Bool) : Type 0 where
-  pub turns : turns_in i trail ≡ turns_from built_forms i (no_names root) seat.lines (turns_in i trail)
+  pub turns : turns_in i trail ≡ turns_from all_forms i (no_names root) seat.lines (turns_in i trail)
   pub answered : failed ≡ false → length (turns_in i trail) ≡ length seat.lines
   pub stopped : Option ℕ
   pub leaves : events_of i trail ≡ turns_in i trail ++ events.Leave i stopped ∷ []
   pub replied : Replied seat.sink after (printed_replies i trail) (not failed)
   pub broken : failed ≡ true → BreaksOff i seat.sink after (turns_in i trail)
 
--- so it is with each of them, and no event is of anybody else
-pub record AreOver (root : Puid) (seats : List Seat) (trail : List Event) (ports : List Reading) : Type 0 where
+-- So it is with each of them, and no event is of another session; where no collection is called for, of nobody else.
+pub record AreOver (root : Puid) (collections : ℕ) (seats : List Seat) (trail : List Event) (ports : List Reading) : Type 0 where
   pub count : length ports ≡ length seats
   pub each : (k : ℕ) (seat : Seat) (p : Reading) → slice_get seats k ≡ Some seat → slice_get ports k ≡ Some p → IsOver root trail k seat p.sink p.failed
   pub none : (k : ℕ) → length seats ≤ k → events_of k trail ≡ []
-  pub sessions : list_all is_sessions trail ≡ true
+  pub sessions : collections ≡ 0 → list_all is_sessions trail ≡ true

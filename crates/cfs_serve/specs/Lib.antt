@@ -10,6 +10,7 @@ pub mod Journal
 pub mod Hall
 pub mod SureDisk
 pub mod Ground
+pub mod Scripts
 pub mod Played
 pub mod Opening
 pub mod Volume

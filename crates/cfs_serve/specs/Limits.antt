@@ -16,3 +16,11 @@ most_script = 16777216
 -- the request lines of all files together
 abbrev pub most_lines : ℕ
 most_lines = 500000
+
+-- the sessions of a service
+abbrev pub most_sessions : ℕ
+most_sessions = 64
+
+-- the collections that a service may be called for
+abbrev pub most_collections : ℕ
+most_collections = 1000

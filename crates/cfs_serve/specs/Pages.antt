@@ -5,13 +5,13 @@ use Rattle.cfs_serve.specs.declared.page.Page.TheVariants as pages
 
 abbrev pub page_text : Page → List ℕ
 page_text pages.Help =
-    codes "cfs play CYLINDERS SEED 0 IN OUT\n"
-    ++ codes "    serve the request lines of IN on a new volume in memory: replies to OUT, a report to standard output;\n"
-    ++ codes "    IN and OUT are files, or - for the standard streams\n"
+    codes "cfs play CYLINDERS SEED COLLECTIONS IN OUT ..\n"
+    ++ codes "    serve 1 to 64 sessions on a new volume in memory, one for each pair IN OUT: the request lines of IN, replies to OUT;\n"
+    ++ codes "    a report to standard output; IN and OUT are files, and one IN and one OUT may be - for a standard stream\n"
     ++ codes "cfs format VOLUME CYLINDERS SEED\n"
     ++ codes "    make a volume in the file VOLUME, which must not be there yet\n"
-    ++ codes "cfs serve VOLUME SEED 0 IN OUT\n"
-    ++ codes "    serve the request lines of IN on the volume in the file VOLUME\n"
+    ++ codes "cfs serve VOLUME SEED COLLECTIONS IN OUT ..\n"
+    ++ codes "    serve the sessions on the volume in the file VOLUME\n"
     ++ codes "cfs --help\n"
     ++ codes "    print this page\n"
     ++ codes "cfs --version\n"

@@ -1,7 +1,7 @@
--- A service of one session: what it comes to, by what it begins on, its source, its sink, the report and the trail.
-use Rattle.std.specs.Prelude.{◌≡◌, ℕ, ◌-◌, ◌*◌, ◌<◌, ◌≤◌, ◌⊎◌, Bool, true, false, List, [], length, filter, Option, Some, None}
+-- A service: what it comes to, by what it begins on, its sources, its sinks, the report and the trail.
+use Rattle.std.specs.Prelude.{◌≡◌, ℕ, ◌-◌, ◌*◌, ◌<◌, ◌≤◌, ◌⊎◌, ◌||◌, Bool, true, false, List, [], length, map, filter, Option, Some, None}
 use Rattle.std.specs.List.{list_any, list_all}
-use Rattle.cfs_base.specs.Outside.{Intake, Supply, Rose}
+use Rattle.cfs_base.specs.Outside.{Intake, Supply}
 use Rattle.cfs_base.specs.declared.identifier.Puid.{Puid}
 use Rattle.cfs_base.specs.declared.refusal.Damage.{Damage}
 use Rattle.ufs_model.specs.declared.asked.Event.{Event}
@@ -10,11 +10,14 @@ use Rattle.ufs_model.specs.State.{State, opening}
 use Rattle.ufs_model.specs.Run.{replay}
 use Rattle.ufs_model.specs.Script.{request_lines}
 use Rattle.vol_image.specs.Sound.{graph_blocks}
+use Rattle.cfs_core.specs.StandsFor.{is_sweeping}
 use Rattle.cfs_serve.specs.Calls.{AreExact}
-use Rattle.cfs_serve.specs.Events.{events_of, is_calm, is_finish, is_reply, is_sessions, wants_memory}
+use Rattle.cfs_ports.specs.Port.{Reading}
+use Rattle.cfs_serve.specs.Charter.{Seat}
+use Rattle.cfs_serve.specs.Events.{begins_in, finishes_in, is_calm, is_reply, wants_memory}
 use Rattle.cfs_serve.specs.Ground.{Ground}
-use Rattle.cfs_serve.specs.Hall.{IsOver}
-use Rattle.cfs_serve.specs.Limits.{most_script, most_lines}
+use Rattle.cfs_serve.specs.Hall.{AreOver}
+use Rattle.cfs_serve.specs.Scripts.{HaveScripts, IsSourceCause}
 use Rattle.cfs_serve.specs.declared.report.Counts.{Counts}
 use Rattle.cfs_serve.specs.declared.report.Cause.{Cause}
 use Rattle.cfs_serve.specs.declared.report.Cause.TheVariants as causes
@@ -28,7 +31,7 @@ abbrev pub counts_of : (sessions : ℕ) → List Event → Graph → (free : ℕ
 counts_of sessions trail graph free = record {
   sessions = sessions;
   replies = length (filter is_reply trail);
-  collections = length (filter is_finish trail);
+  collections = finishes_in trail;
   objects = length graph.objects;
   free = free;
 }
@@ -47,18 +50,18 @@ spoiled_by false None None true starved = causes.Sink
 spoiled_by false None None false true = causes.Memory
 spoiled_by false None None false false = causes.Nothing
 
--- what is told shows of the service, where the sink failed or didn't
-abbrev pub IsSpoiled : (rose : Type 0) (broken : Bool) → List Event → Cause → Type 0
-IsSpoiled rose broken trail causes.Nothing = (broken ≡ false) × (list_any wants_memory trail ≡ false) × (list_all is_calm trail ≡ true)
-IsSpoiled rose broken trail (causes.Disk moment) = rose
-IsSpoiled rose broken trail (causes.Volume fault) = Unit {0}
-IsSpoiled rose broken trail causes.Sink = broken ≡ true
-IsSpoiled rose broken trail causes.Memory = (broken ≡ false) × (list_any wants_memory trail ≡ true)
-IsSpoiled rose broken trail (causes.Page page) = ⊥
-IsSpoiled rose broken trail causes.Words = ⊥
-IsSpoiled rose broken trail (causes.Source i) = ⊥
-IsSpoiled rose broken trail (causes.Long i) = ⊥
-IsSpoiled rose broken trail causes.LongTotal = ⊥
+-- what is told shows of the service, where the sink failed or didn't, and a step of the collector was refused or none was
+abbrev pub IsSpoiled : (rose : Type 0) (broken wanting : Bool) → List Event → Cause → Type 0
+IsSpoiled rose broken wanting trail causes.Nothing = (broken ≡ false) × ((list_any wants_memory trail || wanting) ≡ false) × (list_all is_calm trail ≡ true)
+IsSpoiled rose broken wanting trail (causes.Disk moment) = rose
+IsSpoiled rose broken wanting trail (causes.Volume fault) = Unit {0}
+IsSpoiled rose broken wanting trail causes.Sink = broken ≡ true
+IsSpoiled rose broken wanting trail causes.Memory = (broken ≡ false) × ((list_any wants_memory trail || wanting) ≡ true)
+IsSpoiled rose broken wanting trail (causes.Page page) = ⊥
+IsSpoiled rose broken wanting trail causes.Words = ⊥
+IsSpoiled rose broken wanting trail (causes.Source i) = ⊥
+IsSpoiled rose broken wanting trail (causes.Long i) = ⊥
+IsSpoiled rose broken wanting trail causes.LongTotal = ⊥
 
 -- Of a sound volume: the server stopped at the moment that is told of the disk, and else not, and no block is damaged.
 abbrev pub IsStop : Cause → (stopped : Option ℕ) → Type 0
@@ -66,83 +69,83 @@ IsStop (causes.Disk moment) stopped = moment ≡ stopped
 IsStop (causes.Volume fault) stopped = ⊥
 IsStop cause stopped = stopped ≡ None
 
--- ---- a session that was served
+-- ---- sessions that were served
 
--- From this graph the trail is a legal run, and each reply exact; where no call of the disk failed, none is behind an event.
-pub record IsRunFrom (cylinders seed : ℕ) (graph : Graph) (rose : Type 0) (counts : Counts) (cause : Cause) (trail : List Event) : Type 0 where
+-- From this graph the trail is a legal run, and each reply exact; where no call of the disk failed, none is behind an event. No more
+-- collections began than were called for.
+pub record IsRunFrom (cylinders seed collections : ℕ) (graph : Graph) (rose : Type 0) (sessions : ℕ) (counts : Counts) (cause : Cause) (trail : List Event) : Type 0 where
   pub last : State
   pub legal : replay seed graph trail ≡ Some last
-  pub exact : 0 < cylinders → AreExact cylinders seed (opening graph) trail
+  pub exact : 0 < cylinders → AreExact cylinders seed 0 (opening graph) trail
   pub calm : ¬ rose → list_all is_calm trail ≡ true
   pub stop : IsStop cause last.stopped
-  pub counted : counts ≡ counts_of 1 trail last.graph counts.free
-  pub free : last.stopped ≡ None → counts.free ≡ free_of cylinders last.graph
+  pub counted : counts ≡ counts_of sessions trail last.graph counts.free
+  pub free : last.stopped ≡ None → is_sweeping last.collection ≡ false → counts.free ≡ free_of cylinders last.graph
+  pub few : begins_in trail ≤ collections
+  -- and once all those are finished, nothing sweeps
+  pub rests : last.stopped ≡ None → finishes_in trail ≡ collections → is_sweeping last.collection ≡ false
 
--- A session of these request lines was served, and left.
-pub record IsPlayed (ground : Ground) (seed : ℕ) (rose : Type 0) (lines : List (List ℕ)) (sink after : Intake) (counts : Counts) (cause : Cause) (trail : List Event) : Type 0 where
+-- the sink of one of them failed
+abbrev pub has_broken : List Reading → Bool
+has_broken ports = list_any (λ p. p.failed) ports
+
+-- The sessions of these seats were served, and left their ports so.
+pub record IsPlayed (ground : Ground) (seed collections : ℕ) (rose : Type 0) (seats : List Seat) (ports : List Reading) (counts : Counts) (cause : Cause) (trail : List Event) : Type 0 where
   -- the root index is that of each graph that the volume may read as
   pub root : Puid
   pub rooted : (graph : Graph) → ground.reads graph → graph.root ≡ root
-  pub run : (graph : Graph) → ground.reads graph → IsRunFrom ground.cylinders seed graph rose counts cause trail
-  -- all events are the session's; its sink failed, or not
-  pub broken : Bool
-  pub over : IsOver root trail 0 (record { lines = lines; sink = sink }) after broken
-  pub none : (k : ℕ) → 1 ≤ k → events_of k trail ≡ []
-  pub sessions : list_all is_sessions trail ≡ true
-  pub spoiled : IsSpoiled rose broken trail cause
+  pub run : (graph : Graph) → ground.reads graph → IsRunFrom ground.cylinders seed collections graph rose (length seats) counts cause trail
+  -- all events of sessions are theirs
+  pub over : AreOver root collections seats trail ports
+  -- a step of the collector was refused; where none was, as many collections are finished as were called for
+  pub wanting : Bool
+  pub wanted : collections ≡ 0 → wanting ≡ false
+  pub collected : wanting ≡ false → (graph : Graph) → ground.reads graph → finishes_in trail ≡ collections
+  pub spoiled : IsSpoiled rose (has_broken ports) wanting trail cause
 
--- nothing was served: no event, and the sink took no byte
-pub record ServesNothing (sink after : Intake) (report : Report) (trail : List Event) (cause : Cause) : Type 0 where
+-- The sessions of these scripts and sinks have these seats, and their sinks are so as they have left.
+pub record AreSeated (scripts : List (List ℕ)) (sinks after : List Intake) (seats : List Seat) (ports : List Reading) : Type 0 where
+  pub lines : map (λ s. s.lines) seats ≡ map request_lines scripts
+  pub begun : map (λ s. s.sink) seats ≡ sinks
+  pub left : map (λ p. p.sink) ports ≡ after
+
+-- nothing was served: no event, and no sink took a byte
+pub record ServesNothing (sinks after : List Intake) (report : Report) (trail : List Event) (cause : Cause) : Type 0 where
   pub no_event : trail ≡ []
-  pub untouched : after ≡ sink
+  pub untouched : after ≡ sinks
   pub told : report ≡ record { counts = None; cause = cause }
 
--- ---- from the source on
-
--- what the source had left, where it told that
-abbrev pub IsScript : Supply → List ℕ → Type 0
-IsScript source script = (left : List ℕ) → source.left ≡ Some left → script ≡ left
-
--- why a source's script isn't served
-abbrev pub IsSourceCause : (source after : Supply) → Cause → Type 0
-IsSourceCause source after (causes.Source i) = (i ≡ 0) × Rose source.faults after.faults
-IsSourceCause source after (causes.Long i) = (i ≡ 0) × ((left : List ℕ) → source.left ≡ Some left → most_script < length left)
-IsSourceCause source after causes.LongTotal = (left : List ℕ) → source.left ≡ Some left → (length left ≤ most_script) × (most_lines < length (request_lines left))
-IsSourceCause source after causes.Memory = Unit {0}
-IsSourceCause source after cause = ⊥
-
--- the script that was read of a source, within the limits
-pub record HasScript (source : Supply) (script : List ℕ) : Type 0 where
-  pub whole : IsScript source script
-  pub short : length script ≤ most_script
-  pub few : length (request_lines script) ≤ most_lines
+-- ---- from the sources on
 
 -- the volume may read as no graph
 abbrev pub HasNone : Ground → Type 0
 HasNone ground = (graph : Graph) → ¬ ground.reads graph
 
 -- why nothing was served
-abbrev pub IsCause : Ground → (rose : Type 0) → (source after : Supply) → Cause → Type 0
-IsCause ground rose source after (causes.Volume fault) = HasNone ground × ((script : List ℕ) × HasScript source script)
-IsCause ground rose source after (causes.Disk moment) = (moment ≡ None) × rose × ((script : List ℕ) × HasScript source script)
-IsCause ground rose source after cause = IsSourceCause source after cause
+abbrev pub IsCause : Ground → (rose : Type 0) → (sources after : List Supply) → Cause → Type 0
+IsCause ground rose sources after (causes.Volume fault) = HasNone ground × ((scripts : List (List ℕ)) × HaveScripts sources scripts)
+IsCause ground rose sources after (causes.Disk moment) = (moment ≡ None) × rose × ((scripts : List (List ℕ)) × HaveScripts sources scripts)
+IsCause ground rose sources after cause = IsSourceCause sources after cause
 
--- the source was read and its script served, within the limits
-pub record ServesSource (ground : Ground) (seed : ℕ) (rose : Type 0) (source : Supply) (sink after : Intake) (report : Report) (trail : List Event) : Type 0 where
-  pub script : List ℕ
-  pub has : HasScript source script
+-- the sources were read and their scripts served, within the limits
+pub record ServesSources (ground : Ground) (seed collections : ℕ) (rose : Type 0) (sources : List Supply) (sinks after : List Intake) (report : Report) (trail : List Event) : Type 0 where
+  pub scripts : List (List ℕ)
+  pub have : HaveScripts sources scripts
   pub sound : ¬ ground.unsound
   pub counts : Counts
   pub cause : Cause
   pub told : report ≡ record { counts = Some counts; cause = cause }
-  pub played : IsPlayed ground seed rose (request_lines script) sink after counts cause trail
+  pub seats : List Seat
+  pub ports : List Reading
+  pub seated : AreSeated scripts sinks after seats ports
+  pub played : IsPlayed ground seed collections rose seats ports counts cause trail
 
 -- nothing was served, for this cause
-pub record ServesNone (ground : Ground) (rose : Type 0) (source source_after : Supply) (sink after : Intake) (report : Report) (trail : List Event) : Type 0 where
+pub record ServesNone (ground : Ground) (rose : Type 0) (sources sources_after : List Supply) (sinks after : List Intake) (report : Report) (trail : List Event) : Type 0 where
   pub cause : Cause
-  pub is : IsCause ground rose source source_after cause
-  pub nothing : ServesNothing sink after report trail cause
+  pub is : IsCause ground rose sources sources_after cause
+  pub nothing : ServesNothing sinks after report trail cause
 
-abbrev pub IsRunOf : Ground → (seed : ℕ) → (rose : Type 0) → Supply → Supply → Intake → Intake → Report → List Event → Type 0
-IsRunOf ground seed rose source source_after sink after report trail =
-    ServesSource ground seed rose source sink after report trail ⊎ ServesNone ground rose source source_after sink after report trail
+abbrev pub IsRunOf : Ground → (seed collections : ℕ) → (rose : Type 0) → (sources sources_after : List Supply) → (sinks after : List Intake) → Report → List Event → Type 0
+IsRunOf ground seed collections rose sources sources_after sinks after report trail =
+    ServesSources ground seed collections rose sources sinks after report trail ⊎ ServesNone ground rose sources sources_after sinks after report trail

@@ -1,9 +1,9 @@
 -- What a whole run comes to, for whoever started it: the trail, the sinks, what is told, and what the status says.
-use Rattle.std.specs.Prelude.{◌≡◌, ◌↔◌, ℕ, ◌+◌, ◌<◌, ◌≤◌, ◌⊎◌, Bool, true, false, List, [], ◌∷◌, ◌++◌, map, length, get_or, All, sum_by, slice_index_or, Option, Some, None, IfSome, IsSome, IsNone, option_map}
+use Rattle.std.specs.Prelude.{◌≡◌, ◌↔◌, ℕ, ◌+◌, ◌<◌, ◌≤◌, ◌⊎◌, ◌||◌, Bool, true, false, List, [], ◌∷◌, ◌++◌, map, length, get_or, slice_index_or, Option, Some, None, IfSome, IsSome, IsNone, option_map}
 use Rattle.std.specs.List.{list_any, list_all}
 use Rattle.cfs_base.specs.Outside.{Intake, Supply, Rose}
+use Rattle.cfs_core.specs.StandsFor.{is_sweeping}
 use Rattle.cfs_ports.specs.Port.{Replied}
-use Rattle.cfs_script.specs.Language.{built_forms}
 use Rattle.cfs_streams.specs.Writing.{Wrote, WroteSome}
 use Rattle.ufs_model.specs.declared.asked.Event.{Event}
 use Rattle.ufs_model.specs.declared.asked.Event.TheVariants as events
@@ -11,6 +11,7 @@ use Rattle.ufs_model.specs.Graph.{Graph}
 use Rattle.ufs_model.specs.State.{State, opening}
 use Rattle.ufs_model.specs.Run.{replay}
 use Rattle.ufs_model.specs.Script.{request_lines}
+use Rattle.ufs_model.specs.Spoken.{all_forms}
 use Rattle.ufs_model.specs.Turns.{AreTurns, turns_in}
 use Rattle.ufs_model.specs.Printed.{printed_replies}
 use Rattle.cfs_serve.specs.Limits.{most_script, most_lines}
@@ -25,11 +26,12 @@ use Rattle.cfs_serve.specs.declared.page.Page.{Page}
 use Rattle.cfs_serve.specs.Pages.{page_text}
 use Rattle.cfs_serve.specs.Report.{report_text, status_of}
 use Rattle.cfs_serve.specs.Calls.{AreExact}
-use Rattle.cfs_serve.specs.Events.{BreaksOff, events_of, is_calm, is_sessions, wants_memory}
+use Rattle.cfs_serve.specs.Events.{BreaksOff, begins_in, events_of, finishes_in, is_calm, is_sessions, wants_memory}
 use Rattle.cfs_serve.specs.Ground.{Ground}
 use Rattle.cfs_serve.specs.Played.{HasNone, IsStop, counts_of, free_of}
+use Rattle.cfs_serve.specs.Scripts.{AreShort, AreWithin, Had, faults_of, lines_in}
 use Rattle.cfs_serve.specs.Whole.{HasPlaces, RoseIn, TellsMade}
-use Rattle.cfs_serve.specs.Words.{Asked, Format, Service, Formats, Shows, Nothing, IfServes, is_format, is_service}
+use Rattle.cfs_serve.specs.Words.{Asked, Format, Service, Formats, Shows, Nothing, IfServes, collections_of, is_format, is_service}
 
 -- ---- what is outside
 
@@ -68,7 +70,7 @@ SomeRose (before ∷ befores) (now ∷ nows) = Rose before now ⊎ SomeRose befo
 SomeRose befores nows = ⊥
 
 abbrev pub source_faults : Outside → List ℕ
-source_faults o = map (λ s. s.faults) o.sources
+source_faults o = faults_of o.sources
 
 abbrev pub sink_faults : Outside → List ℕ
 sink_faults o = map (λ s. s.faults) o.sinks
@@ -84,16 +86,7 @@ pub record NoCountRose (old new : Outside) : Type 0 where
 
 -- all that each source had left, where each tells it
 abbrev pub HadLeft : Outside → List (List ℕ) → Type 0
-HadLeft o scripts = map (λ s. s.left) o.sources ≡ map Some scripts
-
-abbrev pub AreShort : List (List ℕ) → Type 0
-AreShort scripts = All (λ script. length script ≤ most_script) scripts
-
-abbrev pub lines_in : List (List ℕ) → ℕ
-lines_in scripts = sum_by (λ script. length (request_lines script)) scripts
-
-abbrev pub AreWithin : List (List ℕ) → Type 0
-AreWithin scripts = AreShort scripts × (lines_in scripts ≤ most_lines)
+HadLeft o scripts = Had o.sources scripts
 
 -- ---- the trail
 
@@ -104,7 +97,7 @@ pub record IsServedFrom (root : Puid) (trail : List Event) (all : Bool) (session
   pub short : length script ≤ most_script
   pub few : length (request_lines script) ≤ most_lines
   -- its events are the turns of the script: one for each request line, if the sinks took all
-  pub turns : AreTurns built_forms session root script trail
+  pub turns : AreTurns all_forms session root script trail
   pub answered : all ≡ true → length (turns_in session trail) ≡ length (request_lines script)
 
 -- ---- what is told
@@ -148,7 +141,7 @@ abbrev pub IsStatus : ℕ → Cause → Outside → Outside → Type 0
 IsStatus status cause old new = (status ≡ status_of cause) ⊎ ((status ≡ 5) × SpoilsReport cause old new)
 
 -- 0: a run that ended well
-pub record EndedWell (told : Report) (trail : List Event) (old new : Outside) : Type 0 where
+pub record EndedWell (asked : Asked) (ground : Ground) (told : Report) (trail : List Event) (old new : Outside) : Type 0 where
   pub served : WasServed told
   pub nothing : told.cause ≡ causes.Nothing
   -- each script was read to its end, and each of its request lines has one reply
@@ -158,6 +151,8 @@ pub record EndedWell (told : Report) (trail : List Event) (old new : Outside) : 
   pub memory : list_any wants_memory trail ≡ false
   -- no failed call of the disk, no damage and no stop is behind an event
   pub calm : list_all is_calm trail ≡ true
+  -- as many collections are finished as were called for
+  pub collected : (graph : Graph) → ground.reads graph → finishes_in trail ≡ collections_of asked
   pub reported : Wrote old.report new.report (report_text told)
 
 -- or a page was asked for, and its text is written whole
@@ -218,15 +213,19 @@ LimitPassed told old = IsNone told.counts × IsOver told.cause old
 pub record DidOn (service : Service) (ground : Ground) (graph : Graph) (old new : Outside) (told : Report) (trail : List Event) : Type 0 where
   pub last : State
   pub legal : replay service.seed graph trail ≡ Some last
-  -- each Full names the room of the state before it, and each request that was done left four blocks of it beside its need
-  pub exact : 0 < ground.cylinders → AreExact ground.cylinders service.seed (opening graph) trail
+  -- each Full names the room of the state before it, but for blocks not yet swept of objects that are gone; and each request that
+  -- was done left four blocks of the room beside its need
+  pub exact : 0 < ground.cylinders → AreExact ground.cylinders service.seed 0 (opening graph) trail
   -- where no call of the disk failed, none is behind an event, and no stop
   pub calm : ¬ (RoseIn old.disk new.disk) → list_all is_calm trail ≡ true
   -- the moment that is told of a disk is that of the stop; with another cause there was none, and no block was damaged
   pub stop : WasServed told → IsStop told.cause last.stopped
-  -- the counts are those of the trail and of the last graph; of what is Free, where there was no stop
+  -- the counts are those of the trail and of the last graph; of what is Free, where there was no stop and nothing sweeps
   pub counted : IfSome told.counts (λ counts. (counts ≡ counts_of (length old.sources) trail last.graph counts.free)
-      × (last.stopped ≡ None → counts.free ≡ free_of ground.cylinders last.graph))
+      × (last.stopped ≡ None → is_sweeping last.collection ≡ false → counts.free ≡ free_of ground.cylinders last.graph))
+  -- no more collections began than were called for; and once so many are finished, nothing sweeps
+  pub few : begins_in trail ≤ service.collections
+  pub rests : last.stopped ≡ None → finishes_in trail ≡ service.collections → is_sweeping last.collection ≡ false
 
 -- What a run does and tells: by what its words ask for, what its volume is, what is outside before and after, what is told,
 -- and the trail.
@@ -238,7 +237,7 @@ pub record Did (asked : Asked) (ground : Ground) (old new : Outside) (told : Rep
   pub unasked : is_service asked ≡ false → IsNone told.counts
   pub leaves : WasServed told → EachSource (λ session _ _. (stopped : Option ℕ)
       × (events_of session trail ≡ turns_in session trail ++ events.Leave session stopped ∷ [])) old new
-  pub sessions : list_all is_sessions trail ≡ true
+  pub sessions : collections_of asked ≡ 0 → list_all is_sessions trail ≡ true
   pub others : (k : ℕ) → length old.sources ≤ k → events_of k trail ≡ []
   -- from each graph that the volume may read as, the events are a legal run
   pub on : IfServes asked (λ service. (graph : Graph) → ground.reads graph → DidOn service ground graph old new told trail)
@@ -260,8 +259,10 @@ pub record Did (asked : Asked) (ground : Ground) (old new : Outside) (told : Rep
   -- where nothing was served it is told why, unless a volume was to be made: of that only a failed disk is told
   pub cause : IsNone told.counts → is_format asked ≡ false → ¬ (told.cause ≡ causes.Nothing)
   pub made : is_format asked ≡ true → TellsMade told.cause old.disk new.disk
-  -- a service that tells nothing worse tells want of memory exactly where a reply told it
-  pub memory : WasServed told → is_mild told.cause ≡ true → ((told.cause ≡ causes.Memory) ↔ (list_any wants_memory trail ≡ true))
+  -- a service that tells nothing worse tells want of memory exactly where a reply told it, or a step of the collector was refused
+  pub wanting : Bool
+  pub wanted : collections_of asked ≡ 0 → wanting ≡ false
+  pub memory : WasServed told → is_mild told.cause ≡ true → ((told.cause ≡ causes.Memory) ↔ ((list_any wants_memory trail || wanting) ≡ true))
 
 -- What `top` says: all this, and what the status says.
 pub record Said (asked : Asked) (ground : Ground) (old new : Outside) (told : Report) (status : ℕ) (trail : List Event) : Type 0 where
@@ -270,7 +271,7 @@ pub record Said (asked : Asked) (ground : Ground) (old new : Outside) (told : Re
   pub reported : WritesReport told old new
   -- the status is that of the cause, or 5 for a report that failed; and what each status says
   pub is_status : IsStatus status told.cause old new
-  pub status_0 : status ≡ 0 → EndedWell told trail old new ⊎ Showed told old new ⊎ Made asked told old new
+  pub status_0 : status ≡ 0 → EndedWell asked ground told trail old new ⊎ Showed told old new ⊎ Made asked told old new
   pub status_2 : (status ≡ 2) ↔ (asked ≡ Nothing)
   pub status_3 : status ≡ 3 → VolumeRefused ground told
   pub status_4 : status ≡ 4 → DiskFailed told old new

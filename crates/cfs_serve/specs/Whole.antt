@@ -1,5 +1,5 @@
 -- A whole run, step by step: the words, the sources and the sinks, the report and the status. What `top` says follows from it.
-use Rattle.std.specs.Prelude.{◌≡◌, ℕ, ◌*◌, ◌≤◌, ◌⊎◌, Bool, true, false, List, [], ◌∷◌, Option, Some, None, IsSome}
+use Rattle.std.specs.Prelude.{◌≡◌, ℕ, ◌*◌, ◌≤◌, ◌⊎◌, Bool, true, false, List, [], length, Option, Some, None, IsSome}
 use Rattle.cfs_base.specs.Outside.{Intake, Supply, Rose}
 use Rattle.cfs_ports.specs.Port.{Replied}
 use Rattle.ufs_model.specs.declared.asked.Event.{Event}
@@ -54,9 +54,9 @@ HasDisk (Serves service) blocks = HasPlaceDisk service.volume blocks
 HasDisk (Shows page) blocks = blocks ≡ None
 HasDisk Nothing blocks = blocks ≡ None
 
--- a source and a sink for one session, or none
+-- a source and a sink for each session, or none
 abbrev pub HasPlaces : Asked → (sources sinks : ℕ) → Type 0
-HasPlaces (Serves service) sources sinks = (sources ≡ 1) × (sinks ≡ 1)
+HasPlaces (Serves service) sources sinks = (sources ≡ length service.sessions) × (sinks ≡ length service.sessions)
 HasPlaces (Formats format) sources sinks = (sources ≡ 0) × (sinks ≡ 0)
 HasPlaces (Shows page) sources sinks = (sources ≡ 0) × (sinks ≡ 0)
 HasPlaces Nothing sources sinks = (sources ≡ 0) × (sinks ≡ 0)
@@ -78,18 +78,14 @@ RoseIn None new = ⊥
 abbrev pub TellsMade : Cause → (old new : Option ℕ) → Type 0
 TellsMade cause old new = (cause ≡ causes.Nothing) ⊎ ((cause ≡ causes.Disk None) × RoseIn old new)
 
--- one session was asked for, and so it went
-pub record AsksOne (ground : Ground) (seed : ℕ) (old new : Places) (report : Report) (trail : List Event) : Type 0 where
-  pub source : Supply
-  pub source_after : Supply
-  pub sink : Intake
-  pub sink_after : Intake
-  pub sources : (old.sources ≡ source ∷ []) × (new.sources ≡ source_after ∷ [])
-  pub sinks : (old.sinks ≡ sink ∷ []) × (new.sinks ≡ sink_after ∷ [])
-  pub run : IsRunOf ground seed (RoseIn old.disk new.disk) source source_after sink sink_after report trail
+-- sessions were asked for, and so it went
+pub record AsksSessions (ground : Ground) (seed collections : ℕ) (old new : Places) (report : Report) (trail : List Event) : Type 0 where
+  pub sources : length new.sources ≡ length old.sources
+  pub sinks : length new.sinks ≡ length old.sinks
+  pub run : IsRunOf ground seed collections (RoseIn old.disk new.disk) old.sources new.sources old.sinks new.sinks report trail
 
 abbrev pub Asks : Asked → Ground → (old new : Places) → Report → List Event → Type 0
-Asks (Serves service) ground old new report trail = AsksOne ground service.seed old new report trail
+Asks (Serves service) ground old new report trail = AsksSessions ground service.seed service.collections old new report trail
 Asks (Formats format) ground old new report trail = AsksNone report.cause old new report trail × TellsMade report.cause old.disk new.disk
 Asks (Shows page) ground old new report trail = AsksNone (causes.Page page) old new report trail
 Asks Nothing ground old new report trail = AsksNone causes.Words old new report trail

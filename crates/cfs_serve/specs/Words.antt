@@ -1,24 +1,30 @@
 -- What the words of a command ask for.
-use Rattle.std.specs.Prelude.{ℕ, Bool, true, false, ◌&&◌, ◌==◌, not, nat_lt, nat_le, if◌then◌else◌, List, [], ◌∷◌, length, map, String, string_bytes, Option, Some, None, codes}
+use Rattle.std.specs.Prelude.{ℕ, ◌*◌, ◌%◌, Bool, true, false, ◌&&◌, ◌==◌, not, nat_lt, nat_le, if◌then◌else◌, List, [], ◌∷◌, length, filter, map, String, string_bytes, Option, Some, None, codes}
+use Rattle.std.specs.List.{list_all}
 use Rattle.std.specs.Str.{bytes_eq}
 use Rattle.cfs_base.specs.declared.identifier.Puid.{Puid}
 use Rattle.ufs_model.specs.Spoken.{Reading, Is, Unbound, Bad, number_in}
 use Rattle.ufs_model.specs.Word.{word}
 use Rattle.cfs_serve.specs.declared.page.Page.{Page}
 use Rattle.cfs_serve.specs.declared.page.Page.TheVariants as pages
-use Rattle.cfs_serve.specs.Limits.{most_cylinders, most_file_cylinders}
+use Rattle.cfs_serve.specs.Limits.{most_collections, most_cylinders, most_file_cylinders, most_sessions}
 
 -- where the volume of a service is: a new one in memory, of so many cylinders, or one in a file
 pub data Place : Type 0 where
   InMemory : (cylinders : ℕ) → Place
   InFile : (path : List ℕ) → Place
 
--- a service of one session: its volume, its seed, and where the session's requests come from and where its replies go
+-- the files of a session: where its requests come from, and where its replies go
+pub record Files : Type 0 where
+  pub input : List ℕ
+  pub output : List ℕ
+
+-- a service: its volume, its seed, how many collections are called for, and the files of its sessions
 pub record Service : Type 0 where
   pub volume : Place
   pub seed : ℕ
-  pub input : List ℕ
-  pub output : List ℕ
+  pub collections : ℕ
+  pub sessions : List Files
 
 -- a volume that is made: its file, its size and its seed
 pub record Format : Type 0 where
@@ -32,44 +38,69 @@ read_or_none (Is x) = Some x
 read_or_none Unbound = None
 read_or_none Bad = None
 
-abbrev is_file_word : List ℕ → Bool
+abbrev pub is_file_word : List ℕ → Bool
 is_file_word w = nat_lt 0 (length w)
 
-abbrev play_of : (cylinders seed collections : ℕ) (input output : List ℕ) → Option Service
-play_of cylinders seed collections input output =
-    if nat_lt 0 cylinders && nat_le cylinders most_cylinders && (collections == 0) && is_file_word input && is_file_word output
-    then Some (record { volume = InMemory cylinders; seed = seed; input = input; output = output }) else None
+abbrev pub is_stream : List ℕ → Bool
+is_stream w = bytes_eq w (codes "-")
 
-abbrev numbered : Option ℕ → Option ℕ → Option ℕ → List ℕ → List ℕ → Option Service
-numbered (Some cylinders) (Some seed) (Some collections) input output = play_of cylinders seed collections input output
-numbered (Some cylinders) (Some seed) None input output = None
-numbered (Some cylinders) None collections input output = None
-numbered None seed collections input output = None
+-- words, two and two
+abbrev pub files_in : List (List ℕ) → List Files
+files_in [] = []
+files_in (word ∷ []) = []
+files_in (input ∷ output ∷ words) = record { input = input; output = output } ∷ files_in words
+
+abbrev pub inputs_in : List (List ℕ) → List (List ℕ)
+inputs_in words = map (λ f. f.input) (files_in words)
+
+abbrev pub outputs_in : List (List ℕ) → List (List ℕ)
+outputs_in words = map (λ f. f.output) (files_in words)
+
+-- how many standard streams are among them
+abbrev pub streams_in : List (List ℕ) → ℕ
+streams_in words = length (filter is_stream words)
+
+-- They are 1 to 64 pairs of file words, and at most one input and one output is a standard stream.
+abbrev pub are_files : List (List ℕ) → Bool
+are_files words =
+    (length words % 2 == 0) && nat_lt 0 (length words) && nat_le (length words) (2 * most_sessions) && list_all is_file_word words
+    && nat_le (streams_in (inputs_in words)) 1 && nat_le (streams_in (outputs_in words)) 1
+
+abbrev play_of : (cylinders seed collections : ℕ) (files : List (List ℕ)) → Option Service
+play_of cylinders seed collections files =
+    if nat_lt 0 cylinders && nat_le cylinders most_cylinders && nat_le collections most_collections && are_files files
+    then Some (record { volume = InMemory cylinders; seed = seed; collections = collections; sessions = files_in files }) else None
+
+abbrev numbered : Option ℕ → Option ℕ → Option ℕ → List (List ℕ) → Option Service
+numbered (Some cylinders) (Some seed) (Some collections) files = play_of cylinders seed collections files
+numbered (Some cylinders) (Some seed) None files = None
+numbered (Some cylinders) None collections files = None
+numbered None seed collections files = None
 
 -- a standard stream is no volume
 abbrev is_volume_word : List ℕ → Bool
-is_volume_word w = is_file_word w && not (bytes_eq w (codes "-"))
+is_volume_word w = is_file_word w && not (is_stream w)
 
-abbrev serve_of : (volume : List ℕ) (seed collections : ℕ) (input output : List ℕ) → Option Service
-serve_of volume seed collections input output =
-    if is_volume_word volume && (collections == 0) && is_file_word input && is_file_word output
-    then Some (record { volume = InFile volume; seed = seed; input = input; output = output }) else None
+abbrev serve_of : (volume : List ℕ) (seed collections : ℕ) (files : List (List ℕ)) → Option Service
+serve_of volume seed collections files =
+    if is_volume_word volume && nat_le collections most_collections && are_files files
+    then Some (record { volume = InFile volume; seed = seed; collections = collections; sessions = files_in files }) else None
 
-abbrev seeded : List ℕ → Option ℕ → Option ℕ → List ℕ → List ℕ → Option Service
-seeded volume (Some seed) (Some collections) input output = serve_of volume seed collections input output
-seeded volume (Some seed) None input output = None
-seeded volume None collections input output = None
+abbrev seeded : List ℕ → Option ℕ → Option ℕ → List (List ℕ) → Option Service
+seeded volume (Some seed) (Some collections) files = serve_of volume seed collections files
+seeded volume (Some seed) None files = None
+seeded volume None collections files = None
 
--- `serve VOLUME SEED 0 IN OUT`
+-- `serve VOLUME SEED COLLECTIONS`, and then the pairs `IN OUT`
 abbrev pub serve_in : List (List ℕ) → Option Service
-serve_in (verb ∷ volume ∷ seed ∷ collections ∷ input ∷ output ∷ []) =
-    if bytes_eq verb (codes "serve") then seeded volume (read_or_none (number_in seed)) (read_or_none (number_in collections)) input output else None
+serve_in (verb ∷ volume ∷ seed ∷ collections ∷ files) =
+    if bytes_eq verb (codes "serve") then seeded volume (read_or_none (number_in seed)) (read_or_none (number_in collections)) files else None
 serve_in words = None
 
--- `play CYLINDERS SEED 0 IN OUT`
+-- `play CYLINDERS SEED COLLECTIONS`, and then the pairs `IN OUT`
 abbrev pub play_in : List (List ℕ) → Option Service
-play_in (verb ∷ cylinders ∷ seed ∷ collections ∷ input ∷ output ∷ []) =
-    if bytes_eq verb (codes "play") then numbered (read_or_none (number_in cylinders)) (read_or_none (number_in seed)) (read_or_none (number_in collections)) input output else None
+play_in (verb ∷ cylinders ∷ seed ∷ collections ∷ files) =
+    if bytes_eq verb (codes "play") then numbered (read_or_none (number_in cylinders)) (read_or_none (number_in seed)) (read_or_none (number_in collections)) files else None
 play_in words = None
 
 abbrev format_of : (volume : List ℕ) (cylinders seed : ℕ) → Option Format
@@ -125,6 +156,13 @@ is_service (Shows page) = false
 is_service (Formats format) = false
 is_service (Serves service) = true
 is_service Nothing = false
+
+-- how many collections are called for
+abbrev pub collections_of : Asked → ℕ
+collections_of (Shows page) = 0
+collections_of (Formats format) = 0
+collections_of (Serves service) = service.collections
+collections_of Nothing = 0
 
 abbrev pub is_format : Asked → Bool
 is_format (Shows page) = false

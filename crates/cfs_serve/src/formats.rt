@@ -1,15 +1,27 @@
 //! Volumes made on disks in memory.
-ghost use Rattle.cfs_serve.specs.Whole.{HasDisk, HasPlaces};
+ghost use Rattle.cfs_serve.specs.Whole.{FitsVolume, HasDisk, HasPlaces};
 ghost use Rattle.cfs_serve.specs.Words.{asked_by};
-ghost use Rattle.std.specs.Prelude.{Some};
+ghost use Rattle.std.specs.Prelude.{◌≡◌, Some, true};
 
 use crate::{Bay, Ended, Volume, names, top};
 use cfs_fakes::{MemoryDisk, MemorySink, MemorySource, OpenGate};
 use std::alloc::Global;
 use std::process::Abort;
+use std::sync::Wait;
 use std::test::Fail;
+use std::thread::Threads;
 
 type Made = Ended<MemoryDisk, MemorySource, MemorySink>;
+
+/// Whether this is a volume of one cylinder that is to be made.
+fn is_of_one(volume: &Option<Volume>) -> bool
+    ensures { result ≡ true → FitsVolume volume.now (Some 64) }
+{
+    match volume {
+        Some(Volume::Fresh { path: _, cylinders }) => *cylinders == 1,
+        _ => false,
+    }
+}
 
 /// The words name a volume of one cylinder that is to be made, and no other file.
 fn expect_volume(rt: &impl Abort, alloc: Global, words: &[String])
@@ -18,12 +30,10 @@ fn expect_volume(rt: &impl Abort, alloc: Global, words: &[String])
 {
     match names(alloc, words) {
         Ok(named) => {
-            match &named.volume {
-                Some(Volume::Fresh { path, cylinders }) => {
-                    assert_eq!(rt; path.as_str(), "volume");
-                    assert_eq!(rt; *cylinders, 1);
-                }
-                _ => panic!(rt; "a volume"),
+            let one = is_of_one(&named.volume);
+            assert!(rt; one);
+            if let Some(Volume::Fresh { path, cylinders: _ }) = &named.volume {
+                assert_eq!(rt; path.as_str(), "volume");
             }
             assert_eq!(rt; named.sources.as_slice().len(), 0);
             assert_eq!(rt; named.sinks.as_slice().len(), 0);
@@ -34,7 +44,7 @@ fn expect_volume(rt: &impl Abort, alloc: Global, words: &[String])
 
 /// Makes a volume on this disk of one cylinder.
 fn make(
-    rt: &impl Abort,
+    rt: &(impl Abort + Threads + Wait + Sync),
     alloc: Global,
     disk_fails: &[u64],
     report_fails: &[u64],
@@ -43,17 +53,19 @@ fn make(
     for text in &["format", "volume", "1", "0"] {
         words.push(String::from_str(alloc, text)?)?;
     }
-    expect_volume(rt, alloc, words.as_slice());
-    let disk = MemoryDisk::failing(alloc, 64, Vec::from_slice(alloc, disk_fails)?)
-        .ok()
-        .ok_or("memory")?;
+    let words = words.as_slice();
+    expect_volume(rt, alloc, words);
+    let fails = Vec::from_slice(alloc, disk_fails)?;
+    let Ok(disk) = MemoryDisk::failing(alloc, 64, fails) else {
+        return Err(Fail::from("memory"));
+    };
     let bay = Bay {
         disk: Some(disk),
         sources: Vec::new(alloc),
         sinks: Vec::new(alloc),
         report: MemorySink::new(alloc, Vec::from_slice(alloc, report_fails)?),
     };
-    Ok(top(alloc, words.as_slice(), bay, &OpenGate))
+    Ok(top(rt, alloc, words, bay, &OpenGate))
 }
 
 #[test]

@@ -1,15 +1,18 @@
 //! A server and its trail.
-ghost use Rattle.std.specs.Prelude.{◌≡◌, ◌+◌, ◌<◌, [], ◌∷◌, ◌++◌, ◌||◌, false, true, length, Option, ℕ};
+ghost use Rattle.std.specs.Prelude.{◌≡◌, ◌+◌, ◌<◌, [], ◌∷◌, ◌++◌, ◌||◌, Err, Ok, None, false, true, length, Option, ℕ};
 ghost use Rattle.std.specs.List.{list_any};
 ghost use Rattle.ufs_model.specs.declared.asked.Event.TheVariants as events;
 ghost use Rattle.ufs_model.specs.declared.asked.Request as requests;
-ghost use Rattle.cfs_ports.specs.Heard.{HasRoom, is_built};
+ghost use Rattle.cfs_ports.specs.Heard.{HasRoom};
+ghost use Rattle.cfs_base.specs.Outside.{Rose};
 ghost use Rattle.cfs_serve.specs.Charter.{Terms};
 ghost use Rattle.cfs_serve.specs.Events.{tells_disk, wants_memory};
-ghost use Rattle.cfs_serve.specs.Journal.{IsRun, IsStamped, IsTold, Lasts, Serves};
+ghost use Rattle.cfs_serve.specs.Calls.{event_by, fails};
+ghost use Rattle.cfs_serve.specs.Journal.{AreCollected, IsRun, IsStamped, IsTold, Lasts, Raises, Serves, Steps, is_quiet, is_recorded, recorded, stamps};
 
 use crate::server::Server;
 use cfs_base::{Session, Sink};
+use cfs_core::{CollectFault, Step};
 use cfs_ports::Port;
 use cfs_script::Name;
 use cfs_trail::Trail;
@@ -37,9 +40,24 @@ impl<A> Charter<A> for Brand {
 pub struct Journal<A: Server, J: Charter<A>> {
     server: A,
     trail: Trail,
+    /// Want of memory was told.
     starved: bool,
+    /// A call of the disk failed, in a request or in a step of the collector.
     failed: bool,
     of: PhantomData<J>,
+}
+
+/// How far a step of the collector came.
+#[derive(Clone, Copy, Debug, PartialEq, Eq)]
+pub enum Progress {
+    /// Nothing is left to do.
+    Idle,
+    /// It made no event.
+    Quiet,
+    /// It was recorded.
+    Recorded,
+    /// It was refused.
+    Refused(CollectFault),
 }
 
 impl<A: Server, J: Charter<A>> Model for Journal<A, J> {
@@ -52,25 +70,28 @@ impl<A: Server, J: Charter<A>> Model for Journal<A, J> {
 
     ghost view = { λ j. record { server = j.server; events = j.trail.events; moments = j.trail.moments; room = j.trail.room; starved = j.starved; failed = j.failed } };
 
-    ghost invariant = { λ j. IsRun A.stands A.is_damaged J.charter j.server j.trail.events
+    ghost invariant = { λ j. IsRun A.stands A.has_stopped A.is_damaged A.tally J.charter j.server j.trail.events
         × (A.seed j.server ≡ J.charter.seed) × (A.cylinders j.server ≡ J.charter.cylinders)
         × (A.words j.server ≤ length j.trail.events) × (j.starved ≡ list_any wants_memory j.trail.events)
         × Lasts A.stands A.clock A.lasts J.charter j.server j.trail.events j.trail.moments
-        × IsTold A.faults A.has_stopped A.is_damaged J.charter j.server j.trail.events × (j.failed ≡ list_any tells_disk j.trail.events) };
+        × IsTold A.faults A.has_stopped A.is_damaged J.charter j.server j.failed j.trail.events
+        × ((A.tally j.server).called ≡ J.charter.collections) };
 }
 
 impl<A: Server, J: Charter<A>> Journal<A, J> {
     /// Nothing happened yet.
     pub fn new(server: A, trail: Trail) -> Journal<A, J>
         requires no_event { trail.events ≡ [] }
-        requires opens { IsRun A.stands A.is_damaged J.charter server [] }
+        requires opens { IsRun A.stands A.has_stopped A.is_damaged A.tally J.charter server [] }
         requires lasts { Lasts A.stands A.clock A.lasts J.charter server [] [] }
-        requires told { IsTold A.faults A.has_stopped A.is_damaged J.charter server [] }
+        requires told { IsTold A.faults A.has_stopped A.is_damaged J.charter server false [] }
         requires runs { A.has_stopped server ≡ false }
         requires seed { A.seed server ≡ J.charter.seed }
         requires size { A.cylinders server ≡ J.charter.cylinders }
         requires words { A.words server ≡ 0 }
+        requires called { (A.tally server).called ≡ J.charter.collections }
         ensures events { result.events ≡ [] }
+        ensures server { result.server ≡ server }
         ensures room { result.room ≡ trail.room }
     {
         trail.len();
@@ -88,6 +109,7 @@ impl<A: Server, J: Charter<A>> Journal<A, J> {
         requires { 0 < self.old.room }
         ensures events { self.new.events ≡ self.old.events ++ events.Unread session why ∷ [] }
         ensures stamped { IsStamped A.clock self.old self.new }
+        ensures raised { Raises A.faults A.stands J.charter self.old self.new }
         ensures room { self.new.room + 1 ≡ self.old.room }
     {
         self.starved = starved_at(why, self.starved);
@@ -106,10 +128,10 @@ impl<A: Server, J: Charter<A>> Journal<A, J> {
     )
         requires room { 0 < self.old.room }
         requires few { length self.old.events < 4294967295 }
-        requires built { is_built request ≡ true }
         requires name { HasRoom name port.old.names.room }
         ensures serves { Serves self.old self.new session request name port.old port.new }
         ensures stamped { IsStamped A.clock self.old self.new }
+        ensures raised { Raises A.faults A.stands J.charter self.old self.new }
     {
         let reply = self.server.answer(alloc, session, &request);
         self.starved = starved_by(&reply, self.starved);
@@ -131,6 +153,7 @@ impl<A: Server, J: Charter<A>> Journal<A, J> {
         requires { 0 < self.old.room }
         ensures events { (stopped : Option ℕ) × (self.new.events ≡ self.old.events ++ events.Leave session stopped ∷ []) }
         ensures stamped { IsStamped A.clock self.old self.new }
+        ensures raised { Raises A.faults A.stands J.charter self.old self.new }
         ensures room { self.new.room + 1 ≡ self.old.room }
     {
         let stopped = self.server.leave(session);
@@ -138,16 +161,33 @@ impl<A: Server, J: Charter<A>> Journal<A, J> {
         self.trail.push(Event::Leave { session, stopped }, moment);
     }
 
-    /// The server, the trail, whether want of memory was told, and whether a failed call of the disk was.
+    /// A step of the collector, recorded where it is an event.
+    pub fn collect(&mut self, alloc: Global) -> Progress
+        requires { 0 < self.old.room }
+        ensures steps { Steps A.clock self.old self.new result }
+        ensures raised { Raises A.faults A.stands J.charter self.old self.new }
+        ensures quiet { is_quiet result ≡ true
+            → Rose (A.faults self.old.server) (A.faults self.new.server) × (self.new.events ≡ self.old.events) }
+        // Nothing is left to do once as many collections are finished as were called for.
+        ensures idle { result ≡ Progress.Idle → AreCollected A.stands J.charter self.new.events }
+    {
+        let made = self.server.collect(alloc);
+        let moment = self.server.moment();
+        self.failed = failed_in(&made, self.failed);
+        let (event, progress) = told_of(made);
+        push_some(&mut self.trail, event, moment);
+        progress
+    }
+
+    /// The server, the trail, whether want of memory was told, and whether a call of the disk failed.
     pub fn into_parts(self) -> (A, Trail, bool, bool)
         ensures server { result.0 ≡ self.server }
         ensures events { result.1.events ≡ self.events }
         ensures starved { result.2 ≡ list_any wants_memory self.events }
-        ensures failed { result.3 ≡ list_any tells_disk self.events }
         ensures size { A.cylinders self.server ≡ J.charter.cylinders }
-        ensures run { IsRun A.stands A.is_damaged J.charter self.server self.events }
+        ensures run { IsRun A.stands A.has_stopped A.is_damaged A.tally J.charter self.server self.events }
         ensures lasts { Lasts A.stands A.clock A.lasts J.charter self.server self.events result.1.moments }
-        ensures told { IsTold A.faults A.has_stopped A.is_damaged J.charter self.server self.events }
+        ensures told { IsTold A.faults A.has_stopped A.is_damaged J.charter self.server result.3 self.events }
     {
         let Journal {
             server,
@@ -187,5 +227,58 @@ fn starved_at(why: Unread, before: bool) -> bool
     match why {
         Unread::Memory => true,
         _ => before,
+    }
+}
+
+/// Whether a call of the disk failed in this step of the collector, or before.
+fn failed_in(made: &Result<Step, CollectFault>, before: bool) -> bool
+    ensures { result ≡ (fails made.now || before) }
+{
+    match made {
+        Err(CollectFault::Disk { .. }) => true,
+        _ => before,
+    }
+}
+
+/// The event of a step of the collector, if it is one, and how far it came.
+fn told_of(made: Result<Step, CollectFault>) -> (Option<Event>, Progress)
+    ensures event { result.0 ≡ event_by made }
+    ensures none { is_recorded result.1 ≡ false → event_by made ≡ None }
+    ensures idle { result.1 ≡ Progress.Idle → made ≡ Ok Step.Idle }
+    ensures quiet { is_quiet result.1 ≡ true → made ≡ Err (CollectFault.Disk None) }
+{
+    match made {
+        Ok(Step::Idle) => (None, Progress::Idle),
+        Ok(Step::Took | Step::Scanned | Step::Swept) => (None, Progress::Quiet),
+        Ok(Step::Began) => (Some(Event::Began), Progress::Recorded),
+        Ok(Step::Condemned { ids }) => (Some(Event::Vanish { ids }), Progress::Recorded),
+        Ok(Step::Finished) => (Some(Event::Finished), Progress::Recorded),
+        Err(fault) => (halt_of(fault), Progress::Refused(fault)),
+    }
+}
+
+/// The event of a refusal, where the server stopped.
+fn halt_of(fault: CollectFault) -> Option<Event>
+    ensures { result ≡ event_by (Err fault) }
+{
+    match fault {
+        CollectFault::Disk {
+            doubt: Some(moment),
+        } => Some(Event::Halted { moment }),
+        CollectFault::Damaged { moment, .. } => Some(Event::Halted { moment }),
+        CollectFault::Disk { doubt: None } | CollectFault::Memory | CollectFault::Stopped { .. } =>
+            None,
+    }
+}
+
+/// Records an event with the disk's moment, where there is one.
+fn push_some(trail: &mut Trail, event: Option<Event>, moment: u64)
+    requires { 0 < trail.old.room }
+    ensures events { trail.new.events ≡ trail.old.events ++ recorded event }
+    ensures moments { trail.new.moments ≡ trail.old.moments ++ stamps event moment }
+    ensures room { trail.new.room + length (recorded event) ≡ trail.old.room }
+{
+    if let Some(event) = event {
+        trail.push(event, moment);
     }
 }

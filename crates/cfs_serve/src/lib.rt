@@ -1,6 +1,6 @@
-//! A whole run: words are read; a volume is made on a disk, or a source is read whole and a session is served, on a volume in
+//! A whole run: words are read; a volume is made on a disk, or sources are read whole and their sessions served, on a volume in
 //! memory or on a disk; and a report is written. The program above
-//! uses one contract, that of `top`. Below it, `serve` serves any number of sessions on whatever server.
+//! uses one contract, that of `top`. Below it, `serve` serves any number of sessions, and a collector, on whatever server.
 #![tactic(auto)]
 
 mod hall;
@@ -11,13 +11,18 @@ mod paths;
 mod play;
 mod report;
 mod run;
+mod script;
+mod scripts;
+mod seats;
 mod server;
 mod sure_disk;
 mod volume;
 mod words;
 
 pub use hall::{Parts, serve};
-pub use limits::{MOST_CYLINDERS, MOST_FILE_CYLINDERS, MOST_LINES, MOST_SCRIPT};
+pub use limits::{
+    MOST_COLLECTIONS, MOST_CYLINDERS, MOST_FILE_CYLINDERS, MOST_LINES, MOST_SCRIPT, MOST_SESSIONS,
+};
 pub use page::Page;
 pub use paths::{Names, Path, Paths, Volume, WordsFault};
 pub use report::{Cause, Counts, Report, VolumeFault};
@@ -28,8 +33,12 @@ pub use words::names;
 #[cfg(test)]
 mod beside;
 #[cfg(test)]
+mod collections;
+#[cfg(test)]
 mod formats;
 #[cfg(test)]
 mod serves;
+#[cfg(test)]
+mod several;
 #[cfg(test)]
 mod tests;

@@ -11,3 +11,12 @@ pub const MOST_SCRIPT: usize = 16_777_216;
 
 /// The request lines of all files together.
 pub const MOST_LINES: u64 = 500_000;
+
+/// The sessions of a service.
+pub const MOST_SESSIONS: usize = 64;
+
+/// The collections that a service may be called for.
+pub const MOST_COLLECTIONS: u64 = 1_000;
+
+/// More steps than a collection takes: no volume has as many blocks, with all request lines and two sweeps of each cylinder.
+pub const MOST_STEPS: u64 = 8_589_934_592;

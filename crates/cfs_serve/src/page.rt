@@ -17,13 +17,13 @@ impl Page {
     {
         match self {
             Page::Help => {
-                b"cfs play CYLINDERS SEED 0 IN OUT
-    serve the request lines of IN on a new volume in memory: replies to OUT, a report to standard output;
-    IN and OUT are files, or - for the standard streams
+                b"cfs play CYLINDERS SEED COLLECTIONS IN OUT ..
+    serve 1 to 64 sessions on a new volume in memory, one for each pair IN OUT: the request lines of IN, replies to OUT;
+    a report to standard output; IN and OUT are files, and one IN and one OUT may be - for a standard stream
 cfs format VOLUME CYLINDERS SEED
     make a volume in the file VOLUME, which must not be there yet
-cfs serve VOLUME SEED 0 IN OUT
-    serve the request lines of IN on the volume in the file VOLUME
+cfs serve VOLUME SEED COLLECTIONS IN OUT ..
+    serve the sessions on the volume in the file VOLUME
 cfs --help
     print this page
 cfs --version

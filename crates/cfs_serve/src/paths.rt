@@ -1,5 +1,6 @@
 //! The files that a command names.
-ghost use Rattle.std.specs.Prelude.{◌≡◌, [], ◌∷◌, IfOk};
+ghost use Rattle.std.specs.Prelude.{◌≡◌, [], IfOk, map, string_bytes};
+ghost use Rattle.cfs_serve.specs.Words.{inputs_in, outputs_in};
 
 use std::alloc::{AllocError, Global};
 use std::marker::Model;
@@ -82,12 +83,19 @@ pub(crate) fn path_of(alloc: Global, text: &str) -> Result<Path, AllocError>
     })
 }
 
-pub(crate) fn one_path(alloc: Global, text: &str) -> Result<Paths, AllocError>
-    ensures { IfOk result (λ p. p ≡ text.now ∷ []) }
+/// The files that these words name, two and two: where the requests of each session come from, and where its replies go.
+pub(crate) fn session_paths(alloc: Global, words: &[String]) -> Result<(Paths, Paths), AllocError>
+    ensures { IfOk result (λ p. (p.0 ≡ inputs_in (map string_bytes words.now)) × (p.1 ≡ outputs_in (map string_bytes words.now))) }
 {
-    let mut paths = Vec::new(alloc);
-    paths.push(path_of(alloc, text)?)?;
-    Ok(Paths { paths })
+    let mut inputs = Vec::new(alloc);
+    let mut outputs = Vec::new(alloc);
+    let mut rest = words;
+    'files: while let [input, output, others @ ..] = rest {
+        inputs.push(path_of(alloc, input.as_str())?)?;
+        outputs.push(path_of(alloc, output.as_str())?)?;
+        rest = others;
+    }
+    Ok((Paths { paths: inputs }, Paths { paths: outputs }))
 }
 
 /// No names. Takes no memory.

@@ -1,28 +1,31 @@
-//! The service of one session.
-ghost use Rattle.std.specs.Prelude.{◌≡◌, ◌+◌, ◌≤◌, ℕ, [], None, Some, IfErr, IfOk, filter, length, option_map, option_and_then, sum, vec_capacity};
-ghost use Rattle.cfs_base.specs.Outside.{Rose};
-ghost use Rattle.cfs_core.specs.StandsFor.{Serves};
-ghost use Rattle.ufs_model.specs.Script.{request_lines};
+//! A service.
+ghost use Rattle.std.specs.Prelude.{◌≡◌, ◌||◌, ◌<◌, ◌≤◌, ◌+◌, ◌*◌, ℕ, [], None, Some, false, filter, is_some, length, map, option_map, option_and_then, sum};
+ghost use Rattle.std.specs.List.{sum_by};
+ghost use Rattle.cfs_core.specs.StandsFor.{Serves, is_sweeping};
 ghost use Rattle.ufs_model.specs.State.{State};
-ghost use Rattle.cfs_ports.specs.Port.{IsNew};
 ghost use Rattle.cfs_serve.specs.Disks.{ServesVolume};
 ghost use Rattle.cfs_serve.specs.Events as spec;
 ghost use Rattle.cfs_serve.specs.Ground.{ground_on, new_ground};
+ghost use Rattle.cfs_serve.specs.Hall.{AreNew, seat_of, turns_left};
 ghost use Rattle.cfs_serve.specs.Played as played;
-ghost use Rattle.cfs_serve.specs.Played.{HasScript, IsRunOf, IsSourceCause, free_of};
-ghost use Rattle.cfs_serve.specs.Volume.{ServesScript, ServesSession};
+ghost use Rattle.cfs_serve.specs.Played.{free_of};
+ghost use Rattle.cfs_serve.specs.Scripts.{lines_in};
+ghost use Rattle.cfs_serve.specs.Volume.{ServesScripts, ServesSessions};
+ghost use Rattle.cfs_serve.specs.Whole.{AsksSessions};
 
 use crate::hall::{Parts, serve};
-use crate::limits::{MOST_LINES, MOST_SCRIPT};
 use crate::report::{Cause, Counts, Report, VolumeFault};
+use crate::scripts::{Scripts, read_scripts};
+use crate::seats::{make_ports, take_sinks};
+use crate::server::images_are_whole;
 use crate::volume::{Refused, new_volume, open_volume};
-use cfs_base::{Damage, Disk, Sink, Source};
-use cfs_core::Core;
+use cfs_base::{Damage, Disk, Gate, Sink, Source};
+use cfs_core::{CollectFault, Core};
 use cfs_ports::Port;
-use cfs_script::next_line;
-use cfs_streams::{ReadFault, read_whole};
 use cfs_trail::Trail;
 use std::alloc::Global;
+use std::sync::Wait;
+use std::thread::Threads;
 use survival::runs_survive;
 use ufs_model::Event;
 
@@ -33,24 +36,39 @@ pub(crate) struct Played {
     pub trail: Trail,
 }
 
-/// How many request lines a script has.
-pub(crate) fn count_lines(script: &[u8]) -> u64
-    ensures { result ≡ length (request_lines script.now) }
-{
-    let mut rest = script;
-    let mut count = 0;
-    'lines: while let Some(next) = next_line(rest) {
-        count += 1;
-        rest = &rest[next.taken..];
-    }
-    count
-}
-
 /// Whether this is a reply to a request line.
 fn is_reply(event: &Event) -> bool
     ensures { result ≡ spec.is_reply event.now }
 {
     matches!(event, Event::Unread { .. } | Event::Ask { .. })
+}
+
+/// Whether a collection is finished by this event.
+fn is_finish(event: &Event) -> bool
+    ensures { result ≡ spec.is_finish event.now }
+{
+    matches!(event, Event::Finished)
+}
+
+/// How many collections are finished in a trail.
+fn count_finished(trail: &Trail) -> u64
+    ensures { result ≡ length (filter spec.is_finish trail.now.events) }
+{
+    let mut count = 0;
+    'events: for at in 0..trail.len() {
+        if is_finish(trail.event(at)) {
+            count += 1;
+        }
+    }
+    count
+}
+
+/// Whether memory was wanting, in a reply or in a step of the collector. A step that was refused for another cause has it told: that is
+/// worse.
+fn is_short(starved: bool, refused: Option<CollectFault>) -> bool
+    ensures { result ≡ (starved || is_some refused) }
+{
+    starved || refused.is_some()
 }
 
 /// How many replies a trail has.
@@ -108,34 +126,43 @@ fn spoiled_by(
     }
 }
 
-/// The report on a session that was served.
+/// Whether the sink of one of these failed.
+fn has_broken<K: Sink>(ports: &[Port<K>]) -> bool
+    ensures { result ≡ played.has_broken ports.now }
+{
+    ports.iter().any(|port| port.has_failed())
+}
+
+/// The report on sessions that were served.
 fn report_on<D: Disk>(
     core: &Core<D>,
     trail: &Trail,
+    sessions: u64,
     failed: bool,
     broken: bool,
     starved: bool,
 ) -> Report
     ensures told { result ≡ record {
       counts = Some (record {
-        sessions = 1;
+        sessions = sessions;
         replies = length (filter spec.is_reply trail.now.events);
-        collections = 0;
+        collections = length (filter spec.is_finish trail.now.events);
         objects = length core.now.names.named;
         free = sum core.now.space.free;
       });
       cause = played.spoiled_by failed (option_map (λ stop. stop.moment) core.now.stop)
           (option_and_then (λ stop. stop.damage) core.now.stop) broken starved;
     } }
-    ensures free { (s : State) → Serves D.Disk core.now s → sum core.now.space.free ≡ free_of (length core.now.space.free) s.graph }
+    ensures free { (s : State) → Serves D.Disk core.now s → is_sweeping s.collection ≡ false → s.grants ≡ []
+        → sum core.now.space.free ≡ free_of (length core.now.space.free) s.graph }
 {
     let status = core.status();
     core.has_room();
     Report {
         counts: Some(Counts {
-            sessions: 1,
+            sessions,
             replies: count_replies(trail),
-            collections: 0,
+            collections: count_finished(trail),
             objects: u64::from(status.objects),
             free: u64::from(status.free),
         }),
@@ -143,143 +170,145 @@ fn report_on<D: Disk>(
     }
 }
 
-/// Serves the session of this port. Its sink comes back, and the disk.
-fn serve_port<D: Disk, K: Sink>(
+/// Serves the sessions of these ports, which come back, and calls for so many collections. The disk comes back.
+fn serve_ports<D: Disk + Send, K: Sink + Send, G: Gate + Sync, R: Threads + Wait + Sync>(
+    rt: &R,
     alloc: Global,
-    core: Core<D>,
+    gate: &G,
+    mut core: Core<D>,
     trail: Trail,
-    port: Port<K>,
-    mut ports: Vec<Port<K>>,
-) -> (Played, K, D)
-    requires none { ports.items ≡ [] }
-    requires one { 1 ≤ vec_capacity ports }
+    ports: Vec<Port<K>>,
+    collections: u32,
+) -> (Played, Vec<Port<K>>, D)
     requires no_event { trail.events ≡ [] }
-    requires room { length port.lines + 1 ≤ trail.room }
-    requires few { length port.lines ≤ 500000 }
-    requires new { IsNew core.root port }
+    requires room { sum_by turns_left ports.items + 3 * collections + 1 ≤ trail.room }
+    requires few { sum_by turns_left ports.items + 3 * collections + 1 < 4294967295 }
+    requires sessions { length ports.items ≤ 64 }
+    requires most { collections ≤ 1000 }
+    requires new { AreNew core.root ports.items }
     requires runs { core.stop ≡ None }
     requires words { core.words.drawn ≡ 0 }
-    ensures { ServesSession D.Disk core port.lines port.sink (K.intake result.1) result.0.report result.0.trail.events result.0.trail.moments result.2 }
+    requires idle { core.collections ≡ record { collector = None; called = 0; finished = 0 } }
+    ensures { ServesSessions D.Disk core collections (map seat_of ports.items) result.1.items result.0.report result.0.trail.events result.0.trail.moments result.2 }
 {
     let root = core.root();
+    core.call_for(collections);
+    core.has_room();
     runs_survive::<D>();
-    ports.push_reserved(port);
+    images_are_whole::<D>();
     let Parts {
         server,
         trail,
-        mut ports,
+        ports,
         starved,
         failed,
-    } = serve(alloc, core, trail, root, ports);
-    let port = ports.take_last();
-    ports.destroy_empty();
-    let report = report_on(&server, &trail, failed, port.has_failed(), starved);
-    (
-        Played { report, trail },
-        port.into_sink(),
-        server.into_disk(),
-    )
+        refused,
+    } = serve(rt, alloc, gate, core, trail, root, ports, collections);
+    let broken = has_broken(ports.as_slice());
+    let short = is_short(starved, refused);
+    let report = report_on(&server, &trail, ports.len() as u64, failed, broken, short);
+    (Played { report, trail }, ports, server.into_disk())
 }
 
-/// Serves a script of so many request lines. The sink comes back, and the disk.
-fn serve_script<D: Disk, K: Sink>(
+/// Serves these scripts, with a sink for each, and calls for so many collections. The disk comes back.
+fn serve_scripts<D: Disk + Send, K: Sink + Send, G: Gate + Sync, R: Threads + Wait + Sync>(
+    rt: &R,
     alloc: Global,
+    gate: &G,
     core: Core<D>,
-    script: Vec<u8>,
-    lines: u64,
-    sink: K,
-) -> (Played, K, D)
-    requires count { lines ≡ length (request_lines script.items) }
-    requires fits { lines ≤ 500000 }
+    scripts: Scripts,
+    sinks: &mut Vec<K>,
+    collections: u32,
+) -> (Played, D)
+    requires count { length scripts.scripts.items ≡ length sinks.old.items }
+    requires sessions { length sinks.old.items ≤ 64 }
+    requires lines { scripts.lines ≡ lines_in scripts.scripts.items }
+    requires fits { scripts.lines ≤ 500000 }
     requires runs { core.stop ≡ None }
     requires words { core.words.drawn ≡ 0 }
-    ensures { ServesScript D.Disk core script.items (K.intake sink) (K.intake result.1) result.0.report result.0.trail.events result.0.trail.moments result.2 }
+    requires idle { core.collections ≡ record { collector = None; called = 0; finished = 0 } }
+    requires most { collections ≤ 1000 }
+    ensures served { ServesScripts D.Disk core collections scripts.scripts.items (map K.intake sinks.old.items) (map K.intake sinks.new.items)
+        result.0.report result.0.trail.events result.0.trail.moments result.1 }
+    ensures count { length sinks.new.items ≡ length sinks.old.items }
 {
     let mut trail = Trail::new(alloc);
-    if let Err(_) = trail.reserve(lines + 1) {
-        return (nothing(alloc, Cause::Memory), sink, core.into_disk());
+    let events = scripts.lines + sinks.len() as u64 + 3 * u64::from(collections) + 1;
+    if let Err(_) = trail.reserve(events) {
+        return (nothing(alloc, Cause::Memory), core.into_disk());
     }
-    let Ok(ports) = Vec::with_capacity(alloc, 1) else {
-        return (nothing(alloc, Cause::Memory), sink, core.into_disk());
+    let Some(ports) = make_ports(alloc, core.root(), scripts.scripts, sinks) else {
+        return (nothing(alloc, Cause::Memory), core.into_disk());
     };
-    match Port::new(alloc, core.root(), script, lines, sink) {
-        Ok(port) => serve_port(alloc, core, trail, port, ports),
-        Err(fault) => {
-            ports.destroy_empty();
-            (nothing(alloc, Cause::Memory), fault.sink, core.into_disk())
-        }
-    }
+    let (played, ports, disk) = serve_ports(rt, alloc, gate, core, trail, ports, collections);
+    take_sinks(ports, sinks);
+    (played, disk)
 }
 
-/// A script, and how many request lines it has.
-#[derive(Drop)]
-struct Script {
-    bytes: Vec<u8>,
-    lines: u64,
-}
-
-/// Reads the source whole. What is to be told where its script is not served.
-fn read_script<S: Source>(alloc: Global, source: &mut S) -> Result<Script, Cause>
-    ensures script { IfOk result (λ s. HasScript (S.supply source.old) s.bytes.items) }
-    ensures cause { IfErr result (IsSourceCause (S.supply source.old) (S.supply source.new)) }
-    ensures lines { IfOk result (λ s. s.lines ≡ length (request_lines s.bytes.items)) }
-{
-    let bytes = match read_whole(alloc, source, MOST_SCRIPT) {
-        Ok(bytes) => bytes,
-        Err(ReadFault::Failed) => return Err(Cause::Source(0)),
-        Err(ReadFault::Long) => return Err(Cause::Long(0)),
-        Err(ReadFault::Memory) => return Err(Cause::Memory),
-    };
-    let lines = count_lines(bytes.as_slice());
-    if lines > MOST_LINES {
-        return Err(Cause::LongTotal);
-    }
-    Ok(Script { bytes, lines })
-}
-
-/// Reads the source whole, and serves it as the script of one session on a new volume in memory. The sink comes back.
-pub(crate) fn play<S: Source, K: Sink>(
+/// Reads the sources, and serves their scripts on a new volume in memory, where it calls for so many collections.
+pub(crate) fn play<S: Source, K: Sink + Send, G: Gate + Sync, R: Threads + Wait + Sync>(
+    rt: &R,
     alloc: Global,
+    gate: &G,
     cylinders: u32,
     seed: u64,
-    source: &mut S,
-    sink: K,
-) -> (Played, K)
+    collections: u32,
+    sources: &mut Vec<S>,
+    sinks: &mut Vec<K>,
+) -> Played
     requires some { 1 ≤ cylinders }
     requires most { cylinders ≤ 1024 }
-    ensures { IsRunOf (new_ground cylinders seed) seed ⊥ (S.supply source.old) (S.supply source.new) (K.intake sink) (K.intake result.1)
-        result.0.report result.0.trail.events }
+    requires few { collections ≤ 1000 }
+    requires count { length sources.old.items ≡ length sinks.old.items }
+    requires sessions { length sinks.old.items ≤ 64 }
+    ensures { AsksSessions (new_ground cylinders seed) seed collections
+        (record { disk = None; sources = map S.supply sources.old.items; sinks = map K.intake sinks.old.items })
+        (record { disk = None; sources = map S.supply sources.new.items; sinks = map K.intake sinks.new.items })
+        result.report result.trail.events }
 {
-    let script = match read_script(alloc, source) {
-        Ok(script) => script,
-        Err(cause) => return (nothing(alloc, cause), sink),
+    let scripts = match read_scripts(alloc, sources) {
+        Ok(scripts) => scripts,
+        Err(cause) => return nothing(alloc, cause),
     };
     let Some(core) = new_volume(alloc, cylinders, seed) else {
-        return (nothing(alloc, Cause::Memory), sink);
+        return nothing(alloc, Cause::Memory);
     };
-    let (played, sink, _) = serve_script(alloc, core, script.bytes, script.lines, sink);
-    (played, sink)
+    let (played, _) = serve_scripts(rt, alloc, gate, core, scripts, sinks, collections);
+    played
 }
 
-/// Reads the source whole, and serves it as the script of one session on the volume of this disk. The sink comes back, and the
-/// disk.
-pub(crate) fn serve_volume<D: Disk, S: Source, K: Sink>(
+/// Reads the sources, and serves their scripts on the volume of this disk, which comes back; so many collections are called for.
+pub(crate) fn serve_volume<
+    D: Disk + Send,
+    S: Source,
+    K: Sink + Send,
+    G: Gate + Sync,
+    R: Threads + Wait + Sync,
+>(
+    rt: &R,
     alloc: Global,
+    gate: &G,
     seed: u64,
+    collections: u32,
     disk: D,
-    source: &mut S,
-    sink: K,
-) -> (Played, K, D)
-    ensures run { IsRunOf (ground_on D.Disk disk) seed (Rose (D.faults disk) (D.faults result.2)) (S.supply source.old) (S.supply source.new)
-        (K.intake sink) (K.intake result.1) result.0.report result.0.trail.events }
-    ensures volume { ServesVolume D.Disk seed result.0.report result.0.trail.events result.0.trail.moments disk result.2 }
+    sources: &mut Vec<S>,
+    sinks: &mut Vec<K>,
+) -> (Played, D)
+    requires count { length sources.old.items ≡ length sinks.old.items }
+    requires sessions { length sinks.old.items ≤ 64 }
+    requires few { collections ≤ 1000 }
+    ensures asks { AsksSessions (ground_on D.Disk disk) seed collections
+        (record { disk = Some (D.faults disk); sources = map S.supply sources.old.items; sinks = map K.intake sinks.old.items })
+        (record { disk = Some (D.faults result.1); sources = map S.supply sources.new.items; sinks = map K.intake sinks.new.items })
+        result.0.report result.0.trail.events }
+    ensures volume { ServesVolume D.Disk seed result.0.report result.0.trail.events result.0.trail.moments disk result.1 }
 {
-    let script = match read_script(alloc, source) {
-        Ok(script) => script,
-        Err(cause) => return (nothing(alloc, cause), sink, disk),
+    let scripts = match read_scripts(alloc, sources) {
+        Ok(scripts) => scripts,
+        Err(cause) => return (nothing(alloc, cause), disk),
     };
     match open_volume(alloc, disk, seed) {
-        Ok(core) => serve_script(alloc, core, script.bytes, script.lines, sink),
-        Err(Refused { cause, disk }) => (nothing(alloc, cause), sink, disk),
+        Ok(core) => serve_scripts(rt, alloc, gate, core, scripts, sinks, collections),
+        Err(Refused { cause, disk }) => (nothing(alloc, cause), disk),
     }
 }

@@ -2,9 +2,9 @@
 ghost use Rattle.std.specs.Prelude.{◌≡◌, ◌⊎◌, ◌%◌, ◌*◌, ◌≤◌, None, Some, string_bytes, map, length, option_map};
 ghost use Rattle.cfs_base.specs.Outside.{Rose};
 ghost use Rattle.cfs_serve.specs.Words.{Format, asked_by, format_in, page_in};
-ghost use Rattle.cfs_serve.specs.Whole.{Asks, AsksOne, HasDisk, HasPlaces, IsWhole, ended};
-ghost use Rattle.cfs_serve.specs.Disks.{MakesVolume, OnDisk, ServesVolume};
-ghost use Rattle.cfs_serve.specs.Ground.{ground_of, ground_on, new_ground};
+ghost use Rattle.cfs_serve.specs.Whole.{Asks, HasDisk, HasPlaces, IsWhole, ended};
+ghost use Rattle.cfs_serve.specs.Disks.{MakesVolume, OnDisk};
+ghost use Rattle.cfs_serve.specs.Ground.{ground_of};
 ghost use Rattle.cfs_serve.specs.Top.{Said, before, after};
 
 use crate::play::{Played, nothing, play, serve_volume};
@@ -14,6 +14,8 @@ use cfs_base::{Disk, Failed, Gate, Sink, Source};
 use cfs_core::Core;
 use cfs_trail::Trail;
 use std::alloc::Global;
+use std::sync::Wait;
+use std::thread::Threads;
 
 /// What is outside a run: its volume, and where bytes come from and go.
 #[derive(Drop)]
@@ -65,51 +67,6 @@ fn make_volume<D: Disk>(disk: &mut D, seed: u64) -> Cause
     }
 }
 
-/// Serves the session on the volume of this disk, which comes back. Answers what is to be told, and the trail.
-fn serve_disk<D: Disk, S: Source, K: Sink>(
-    alloc: Global,
-    seed: u64,
-    disk: D,
-    sources: &mut Vec<S>,
-    sinks: &mut Vec<K>,
-) -> (Played, D)
-    requires sources { length sources.old.items ≡ 1 }
-    requires sinks { length sinks.old.items ≡ 1 }
-    ensures volume { ServesVolume D.Disk seed result.0.report result.0.trail.events result.0.trail.moments disk result.1 }
-    ensures asks { AsksOne (ground_on D.Disk disk) seed
-        (record { disk = Some (D.faults disk); sources = map S.supply sources.old.items; sinks = map K.intake sinks.old.items })
-        (record { disk = Some (D.faults result.1); sources = map S.supply sources.new.items; sinks = map K.intake sinks.new.items })
-        result.0.report result.0.trail.events }
-{
-    let sink = sinks.take_last();
-    let (played, sink, disk) = serve_volume(alloc, seed, disk, &mut sources[0], sink);
-    sinks.push_reserved(sink);
-    (played, disk)
-}
-
-/// Serves the session on a new volume in memory. Answers what is to be told, and the trail.
-fn play_memory<S: Source, K: Sink>(
-    alloc: Global,
-    cylinders: u32,
-    seed: u64,
-    sources: &mut Vec<S>,
-    sinks: &mut Vec<K>,
-) -> Played
-    requires some { 1 ≤ cylinders }
-    requires most { cylinders ≤ 1024 }
-    requires sources { length sources.old.items ≡ 1 }
-    requires sinks { length sinks.old.items ≡ 1 }
-    ensures { AsksOne (new_ground cylinders seed) seed
-        (record { disk = None; sources = map S.supply sources.old.items; sinks = map K.intake sinks.old.items })
-        (record { disk = None; sources = map S.supply sources.new.items; sinks = map K.intake sinks.new.items })
-        result.report result.trail.events }
-{
-    let sink = sinks.take_last();
-    let (played, sink) = play(alloc, cylinders, seed, &mut sources[0], sink);
-    sinks.push_reserved(sink);
-    played
-}
-
 /// What a run did, and the disk of its volume.
 #[derive(Drop)]
 struct Done<D> {
@@ -117,9 +74,17 @@ struct Done<D> {
     disk: Option<D>,
 }
 
-/// Serves the session that is asked for on the volume of the disk, where there is one; nothing where the words are of no form.
-fn serve_asked_on<D: Disk, S: Source, K: Sink>(
+/// Serves the sessions that are asked for on the volume of the disk, where there is one; nothing where the words are of no form.
+fn serve_asked_on<
+    D: Disk + Send,
+    S: Source,
+    K: Sink + Send,
+    G: Gate + Sync,
+    R: Threads + Wait + Sync,
+>(
+    rt: &R,
     alloc: Global,
+    gate: &G,
     words: &[String],
     disk: Option<D>,
     sources: &mut Vec<S>,
@@ -136,12 +101,30 @@ fn serve_asked_on<D: Disk, S: Source, K: Sink>(
         result.played.report result.played.trail.events }
 {
     if let Some(asked) = play_asked(words) {
-        let played = play_memory(alloc, asked.cylinders as u32, asked.seed, sources, sinks);
+        let played = play(
+            rt,
+            alloc,
+            gate,
+            asked.cylinders as u32,
+            asked.seed,
+            asked.collections as u32,
+            sources,
+            sinks,
+        );
         return Done { played, disk };
     }
     match (serve_asked(words), disk) {
         (Some(served), Some(disk)) => {
-            let (played, disk) = serve_disk(alloc, served.seed, disk, sources, sinks);
+            let (played, disk) = serve_volume(
+                rt,
+                alloc,
+                gate,
+                served.seed,
+                served.collections as u32,
+                disk,
+                sources,
+                sinks,
+            );
             Done {
                 played,
                 disk: Some(disk),
@@ -154,9 +137,11 @@ fn serve_asked_on<D: Disk, S: Source, K: Sink>(
     }
 }
 
-/// Shows the page, makes the volume or serves the session that is asked for.
-fn do_asked<D: Disk, S: Source, K: Sink>(
+/// Shows the page, makes the volume or serves the sessions, as is asked for.
+fn do_asked<D: Disk + Send, S: Source, K: Sink + Send, G: Gate + Sync, R: Threads + Wait + Sync>(
+    rt: &R,
     alloc: Global,
+    gate: &G,
     words: &[String],
     disk: Option<D>,
     sources: &mut Vec<S>,
@@ -177,7 +162,7 @@ fn do_asked<D: Disk, S: Source, K: Sink>(
         };
     }
     let Some(format) = format_asked(words) else {
-        return serve_asked_on(alloc, words, disk, sources, sinks);
+        return serve_asked_on(rt, alloc, gate, words, disk, sources, sinks);
     };
     match disk {
         Some(mut disk) => Done {
@@ -189,8 +174,10 @@ fn do_asked<D: Disk, S: Source, K: Sink>(
 }
 
 /// Does what the words ask, and writes the report.
-fn run<D: Disk, S: Source, K: Sink>(
+fn run<D: Disk + Send, S: Source, K: Sink + Send, G: Gate + Sync, R: Threads + Wait + Sync>(
+    rt: &R,
     alloc: Global,
+    gate: &G,
     words: &[String],
     bay: Bay<D, S, K>,
 ) -> Ended<D, S, K>
@@ -208,7 +195,7 @@ fn run<D: Disk, S: Source, K: Sink>(
         mut sinks,
         mut report,
     } = bay;
-    let Done { played, disk } = do_asked(alloc, words, disk, &mut sources, &mut sinks);
+    let Done { played, disk } = do_asked(rt, alloc, gate, words, disk, &mut sources, &mut sinks);
     let Played {
         report: told,
         trail,
@@ -226,7 +213,8 @@ fn run<D: Disk, S: Source, K: Sink>(
 }
 
 /// Does what the words ask: shows a page, makes a volume, or serves the sessions; and writes the report.
-pub fn top<D: Disk, S: Source, K: Sink, G: Gate>(
+pub fn top<D: Disk + Send, S: Source, K: Sink + Send, G: Gate + Sync, R: Threads + Wait + Sync>(
+    rt: &R,
     alloc: Global,
     words: &[String],
     bay: Bay<D, S, K>,
@@ -238,5 +226,5 @@ pub fn top<D: Disk, S: Source, K: Sink, G: Gate>(
     ensures said { Said (asked_by words.now) (ground_of D.Disk (asked_by words.now) bay.disk)
         (before D.faults S.supply K.intake bay) (after D.faults S.supply K.intake result) result.told result.status result.trail.events }
 {
-    run(alloc, words, bay)
+    run(rt, alloc, gate, words, bay)
 }

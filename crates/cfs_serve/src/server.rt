@@ -1,22 +1,23 @@
 //! What a service stands on: a server that sessions ask and leave.
-ghost use Rattle.std.specs.Prelude.{◌≡◌, ◌+◌, ◌<◌, ◌≤◌, ℕ, Bool, List, true, false};
-ghost use Rattle.cfs_ports.specs.Heard.{is_built};
+ghost use Rattle.std.specs.Prelude.{◌≡◌, ◌+◌, ◌<◌, ◌≤◌, ℕ, Bool, List, Ok, true, false, IsSome, IsTrue, length};
+ghost use Rattle.cfs_base.specs.Disk.{Image};
+ghost use Rattle.cfs_base.specs.Outside.{Rose};
 ghost use Rattle.cfs_script.specs.Room.{FitsLine};
 ghost use Rattle.ufs_model.specs.declared.asked.Event.TheVariants as events;
 ghost use Rattle.ufs_model.specs.Asks.{IsAsked};
 ghost use Rattle.ufs_model.specs.State.{State};
-ghost use Rattle.cfs_serve.specs.Calls.{GoesOn, IsExact, Makes, Tells};
+ghost use Rattle.cfs_serve.specs.Calls.{GoesOn, IsExact, Makes, MayGoOn, MayMake, MayTally, Tallies, Tally, Tells, TellsStep, event_by, tells_stop_at};
 ghost use Rattle.ufs_model.specs.Graph.{Graph};
 ghost use Rattle.ufs_model.specs.declared.asked.Event.{Event};
 ghost use Rattle.ufs_model.specs.declared.asked.Unread.{Unread};
 
 use cfs_base::{Disk, Session};
-use cfs_core::Core;
+use cfs_core::{CollectFault, Core, Step};
 use std::alloc::Global;
 use survival::runs_survive;
 use ufs_model::{Asker, Plain, Reply, Request};
 
-/// An asker that sessions leave, and that tells of its disk how often a call failed.
+/// An asker that sessions leave and that collects, and that tells of its disk how often a call failed.
 pub trait Server: Asker {
     /// How many calls of its disk failed.
     ghost faults: { Self → ℕ };
@@ -32,17 +33,23 @@ pub trait Server: Asker {
     /// The clock of its disk; 0 where it has none.
     ghost clock: { Self → ℕ };
 
+    /// Its collections, and the blocks that objects have still which are gone.
+    ghost tally: { Self → Tally };
+
     /// What is known, for a seed and a graph, of the crashes of a run with these events and the moments of its marks.
     ghost lasts: { Self → ℕ → Graph → List Event → List ℕ → Type 0 };
 
     /// The answer to a request of the language, as `ask` gives it, with all that is known of it on a disk.
     fn answer(&mut self, alloc: Global, who: Session, request: &Request) -> Reply
-        requires built { is_built request.now ≡ true }
         requires words { Self.words self.old < 4294967295 }
         ensures event { (s : State) → Self.stands self.old s
             → IsAsked (Self.stands self.new) (Self.seed self.old) s who request.now result }
         ensures exact { (s : State) → Self.stands self.old s → 0 < cylinders self.old
-            → IsExact (cylinders self.old) s who request.now result }
+            → (lost : ℕ) → (has_stopped self.old ≡ false → (tally self.old).lost s.graph ≤ lost)
+            → IsExact (cylinders self.old) lost s who request.now result }
+        ensures tallies { (s : State) → Self.stands self.old s
+            → Tallies has_stopped tally (Self.seed self.old) self.old self.new s (events.Ask who request.now result) }
+        ensures called { (tally self.new).called ≡ (tally self.old).called }
         ensures lasts { GoesOn Self.stands clock lasts (Self.seed self.old) self.old self.new (events.Ask who request.now result) }
         ensures tells { Tells faults has_stopped is_damaged self.old self.new (events.Ask who request.now result) }
         ensures undamaged { (s : State) → Self.stands self.old s → is_damaged self.old ≡ false → is_damaged self.new ≡ false }
@@ -55,9 +62,29 @@ pub trait Server: Asker {
     fn leave(&mut self, who: Session) -> Option<u64>
         ensures event { (s : State) → Self.stands self.old s
             → Makes (Self.stands self.new) (Self.seed self.old) s (events.Leave who result) }
+        ensures tallies { (s : State) → Self.stands self.old s
+            → Tallies has_stopped tally (Self.seed self.old) self.old self.new s (events.Leave who result) }
+        ensures halts { (s : State) → Self.stands self.old s → IsSome result → Rose (faults self.old) (faults self.new) }
+        ensures called { (tally self.new).called ≡ (tally self.old).called }
         ensures lasts { GoesOn Self.stands clock lasts (Self.seed self.old) self.old self.new (events.Leave who result) }
         ensures tells { Tells faults has_stopped is_damaged self.old self.new (events.Leave who result) }
         ensures undamaged { (s : State) → Self.stands self.old s → is_damaged self.old ≡ false → is_damaged self.new ≡ false }
+        ensures size { cylinders self.new ≡ cylinders self.old }
+        ensures seed { Self.seed self.new ≡ Self.seed self.old }
+        ensures drawn { Self.words self.new ≤ Self.words self.old };
+
+    /// One step of the collector, the first that is due: an event or none.
+    fn collect(&mut self, alloc: Global) -> Result<Step, CollectFault>
+        ensures event { (s : State) → Self.stands self.old s
+            → MayMake (Self.stands self.new) (Self.seed self.old) s (event_by result) }
+        ensures lasts { MayGoOn Self.stands clock lasts (Self.seed self.old) self.old self.new (event_by result) }
+        ensures tells { TellsStep faults has_stopped is_damaged self.old self.new result }
+        ensures undamaged { (s : State) → Self.stands self.old s → is_damaged self.old ≡ false → is_damaged self.new ≡ false }
+        ensures tallies { (s : State) → Self.stands self.old s
+            → MayTally has_stopped tally (Self.seed self.old) self.old self.new s (event_by result) }
+        ensures halts { (s : State) → Self.stands self.old s → tells_stop_at (event_by result) ≡ true → Rose (faults self.old) (faults self.new) }
+        ensures called { (tally self.new).called ≡ (tally self.old).called }
+        ensures idle { result ≡ Ok Step.Idle → (has_stopped self.new ≡ false) × ((tally self.new).finished ≡ (tally self.new).called) }
         ensures size { cylinders self.new ≡ cylinders self.old }
         ensures seed { Self.seed self.new ≡ Self.seed self.old }
         ensures drawn { Self.words self.new ≤ Self.words self.old };
@@ -68,7 +95,7 @@ pub trait Server: Asker {
         ensures lasts { (who : ℕ) (why : Unread) → GoesOn Self.stands clock lasts (Self.seed self.now) self.now self.now (events.Unread who why) };
 }
 
-/// The slow server has no disk.
+/// The slow server has no disk, and no collection is called for.
 impl Server for Plain {
     ghost use Rattle.std.specs.Prelude.{false};
 
@@ -82,6 +109,8 @@ impl Server for Plain {
 
     ghost clock = { λ p. 0 };
 
+    ghost tally = { λ p. record { called = 0; finished = 0; running = false; lost = λ graph. 0 } };
+
     ghost lasts = { λ p seed graph trail marks. Unit {0} };
 
     fn answer(&mut self, alloc: Global, who: Session, request: &Request) -> Reply {
@@ -93,13 +122,25 @@ impl Server for Plain {
         None
     }
 
+    fn collect(&mut self, _alloc: Global) -> Result<Step, CollectFault> {
+        Ok(Step::Idle)
+    }
+
     fn moment(&self) -> u64 {
         0
     }
 }
 
+/// The content of an honest disk, and each image that a crash may leave, has as many blocks as the disk. This does nothing: it is a
+/// law.
+pub(crate) fn images_are_whole<D: Disk>()
+    ensures sized { (d : D) → IsTrue (D.honest d) → length (D.content d) ≡ D.blocks d }
+    ensures left_sized { (d : D) (t : ℕ) (c : Image) → D.left_since d t c → length c ≡ D.blocks d }
+{}
+
 impl<D: Disk> Server for Core<D> {
     ghost use Rattle.std.specs.Prelude.{is_some, length, option_and_then};
+    ghost use Rattle.cfs_serve.specs.Calls.{tally_of};
     ghost use Rattle.survival.specs.Trail.{RunSurvives};
 
     ghost faults = { λ k. D.faults k.disk };
@@ -112,6 +153,8 @@ impl<D: Disk> Server for Core<D> {
 
     ghost clock = { λ k. D.moment k.disk };
 
+    ghost tally = { λ k. tally_of D.Disk k };
+
     ghost lasts = { λ k seed graph trail marks. RunSurvives D.Disk seed graph trail marks k.disk };
 
     fn answer(&mut self, alloc: Global, who: Session, request: &Request) -> Reply {
@@ -123,11 +166,22 @@ impl<D: Disk> Server for Core<D> {
     }
 
     fn leave(&mut self, who: Session) -> Option<u64> {
+        self.has_room();
         runs_survive::<D>();
-        match Core::leave(self, who) {
+        let left = Core::leave(self, who);
+        self.has_room();
+        match left {
             Ok(()) => None,
             Err(halt) => Some(halt.moment),
         }
+    }
+
+    fn collect(&mut self, alloc: Global) -> Result<Step, CollectFault> {
+        self.has_room();
+        runs_survive::<D>();
+        let step = Core::collect(self, alloc);
+        self.has_room();
+        step
     }
 
     fn moment(&self) -> u64 {

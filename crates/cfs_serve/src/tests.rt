@@ -9,7 +9,9 @@ use cfs_fakes::{MemoryDisk, MemorySink, MemorySource, OpenGate};
 use itoa::Buffer;
 use std::alloc::{AllocError, Global};
 use std::process::Abort;
+use std::sync::Wait;
 use std::test::Fail;
+use std::thread::Threads;
 use ufs_model::Event;
 
 const STORED: &[u8] =
@@ -47,8 +49,8 @@ fn expect_places(rt: &impl Abort, alloc: Global, words: &[String], count: usize)
 }
 
 /// Serves one session. Its words are of a form.
-fn serve<K: Sink + Drop>(
-    rt: &impl Abort,
+fn serve<K: Sink + Send + Drop>(
+    rt: &(impl Abort + Threads + Wait + Sync),
     alloc: Global,
     source: MemorySource,
     sink: K,
@@ -66,12 +68,12 @@ fn serve<K: Sink + Drop>(
         sinks,
         report,
     };
-    Ok(top(alloc, words.as_slice(), bay, &OpenGate))
+    Ok(top(rt, alloc, words.as_slice(), bay, &OpenGate))
 }
 
 /// Serves this script. The listed calls of the source, the sink and the report's sink fail.
 fn run(
-    rt: &impl Abort,
+    rt: &(impl Abort + Threads + Wait + Sync),
     alloc: Global,
     script: &[u8],
     source_fails: &[u64],
@@ -118,7 +120,7 @@ fn each_line_is_answered_by_name(rt: HostRuntime) -> Result<(), Fail> {
     let script =
         b"frobnicate\n\n  \t\n# slots root\nslots\nretain q 0 root\nretain 0000000000000001 0 root\nread root 0 1\ndelete root 0\ncreate-index a 0 root 64\ncreate-index a 0 root 0\nslots\troot\n\xff\x00\nslots root\r\nslots root";
     let replies =
-        b"no syntax\nno syntax\nno name\nno object\nno syntax\nno empty\nno slot\nno range\nok 64\nno syntax\nok 64\nok 64\n";
+        b"no syntax\nno syntax\nno name\nno object\nno not-file\nno empty\nno slot\nno range\nok 64\nno syntax\nok 64\nok 64\n";
     let ended = run(&rt, rt.alloc(), script, &[], &[], &[])?;
     assert_eq!(rt; taken(&ended), replies.as_slice());
     assert_eq!(rt; ended.status, 0);
@@ -176,7 +178,7 @@ fn words_of_no_form_serve_nothing(rt: HostRuntime) -> Result<(), Fail> {
         sinks: Vec::new(alloc),
         report: MemorySink::new(alloc, Vec::new(alloc)),
     };
-    let ended = top(alloc, words.as_slice(), bay, &OpenGate);
+    let ended = top(&rt, alloc, words.as_slice(), bay, &OpenGate);
     assert_eq!(rt; ended.report.bytes(), b"words\nstatus 2\n".as_slice());
     assert_eq!(rt; ended.status, 2);
     Ok(())
@@ -287,7 +289,7 @@ fn make_slow(alloc: Global, fails_at: u64) -> Slow {
 
 /// Serves the stored script. That call of the sink fails; the replies, the report and the status.
 fn run_slowly(
-    rt: &impl Abort,
+    rt: &(impl Abort + Threads + Wait + Sync),
     alloc: Global,
     fails_at: u64,
     replies: &[u8],
@@ -324,7 +326,7 @@ fn a_page_is_printed_alone(rt: HostRuntime) -> Result<(), Fail> {
         report: MemorySink::new(alloc, Vec::new(alloc)),
     };
     expect_places(&rt, alloc, words.as_slice(), 0);
-    let ended = top(alloc, words.as_slice(), bay, &OpenGate);
+    let ended = top(&rt, alloc, words.as_slice(), bay, &OpenGate);
     assert_eq!(rt; ended.report.bytes(), b"cfs 0.1.0\n".as_slice());
     assert_eq!(rt; ended.status, 0);
     assert_eq!(rt; ended.told.cause, Cause::Page(Page::Version));

@@ -51,6 +51,7 @@ fn told_by(why: RecoverFault) -> Cause
 pub(crate) fn open_volume<D: Disk>(alloc: Global, disk: D, seed: u64) -> Result<Core<D>, Refused<D>>
     ensures opened { IsTrue (D.honest disk) → (graph : Graph) → IsSoundAs (D.content disk) graph → IfOk result (IsOpened D.Disk graph seed) }
     ensures begins { IfOk result (λ core. (core.words ≡ record { seed = seed; drawn = 0 }) × (core.stop ≡ None)) }
+    ensures idle { IfOk result (λ core. core.collections ≡ record { collector = None; called = 0; finished = 0 }) }
     ensures sound { IsTrue (D.honest disk) → IfOk result (λ core. IsSound (D.content disk)) }
     ensures size { IfOk result (λ core. D.blocks disk ≡ 64 * length core.space.free) }
     // Where it is refused, this is told: a failed call only where one failed, a fault of the volume only where it isn't sound.

@@ -1,31 +1,33 @@
 //! The words of a command.
-ghost use Rattle.std.specs.Prelude.{◌≡◌, ◌↔◌, ◌≤◌, List, ℕ, [], ◌∷◌, length, map, Some, None, IsNone, IfSome, IfErr, IfOk, Err, string_bytes};
+ghost use Rattle.std.specs.Prelude.{◌≡◌, ◌↔◌, ◌≤◌, List, ℕ, [], ◌∷◌, length, map, Some, None, IsNone, IfSome, IfErr, IfOk, Err, string_bytes, true};
+ghost use Rattle.std.specs.List.{list_all};
 ghost use Rattle.ufs_model.specs.Spoken.{number_in};
 ghost use Rattle.cfs_serve.specs.Whole.{HasCylinders, HasPlaces, NamesVolume};
-ghost use Rattle.cfs_serve.specs.Words.{read_or_none, InFile, InMemory, Service, Serves, Nothing, asked_in, format_in, page_in, play_in, serve_in};
+ghost use Rattle.cfs_serve.specs.Words as spec;
+ghost use Rattle.cfs_serve.specs.Words.{read_or_none, InFile, InMemory, Service, Serves, Nothing, asked_in, files_in, format_in, inputs_in, is_file_word, outputs_in, page_in, play_in, serve_in, streams_in};
 
-use crate::limits::{MOST_CYLINDERS, MOST_FILE_CYLINDERS};
+use crate::limits::{MOST_COLLECTIONS, MOST_CYLINDERS, MOST_FILE_CYLINDERS, MOST_SESSIONS};
 use crate::page::Page;
-use crate::paths::{Names, Volume, WordsFault, no_paths, one_path, path_of};
+use crate::paths::{Names, Volume, WordsFault, no_paths, path_of, session_paths};
 use cfs_script::number_of;
 use std::alloc::Global;
 
-/// A service of one session on a new volume in memory.
+/// A service on a new volume in memory. The files of its sessions are named two and two.
 #[derive(Clone, Copy, Debug)]
 pub(crate) struct Played<'a> {
     pub cylinders: u64,
     pub seed: u64,
-    pub input: &'a str,
-    pub output: &'a str,
+    pub collections: u64,
+    pub files: &'a [String],
 }
 
-/// A service of one session on a volume in a file.
+/// A service on a volume in a file. The files of its sessions are named two and two.
 #[derive(Clone, Copy, Debug)]
 pub(crate) struct Served<'a> {
     pub volume: &'a str,
     pub seed: u64,
-    pub input: &'a str,
-    pub output: &'a str,
+    pub collections: u64,
+    pub files: &'a [String],
 }
 
 /// A volume that is to be made.
@@ -43,19 +45,69 @@ fn number(word: &str) -> Option<u64>
     number_of(word.as_bytes())
 }
 
-/// What six words ask for.
-fn six_words<'a>(
+/// Whether a word names a standard stream.
+fn is_stream(word: &str) -> bool
+    ensures { result ≡ spec.is_stream word.now }
+{
+    word == "-"
+}
+
+/// Whether each word names a file.
+fn name_files(words: &[String]) -> bool
+    ensures { result ≡ list_all is_file_word (map string_bytes words.now) }
+{
+    words.iter().all(|word| !word.is_empty())
+}
+
+/// How many of the inputs are standard streams, and how many of the outputs.
+fn count_streams(words: &[String]) -> (usize, usize)
+    ensures inputs { result.0 ≡ streams_in (inputs_in (map string_bytes words.now)) }
+    ensures outputs { result.1 ≡ streams_in (outputs_in (map string_bytes words.now)) }
+{
+    let mut inputs = 0;
+    let mut outputs = 0;
+    let mut rest = words;
+    'files: while let [input, output, others @ ..] = rest {
+        if is_stream(input.as_str()) {
+            inputs += 1;
+        }
+        if is_stream(output.as_str()) {
+            outputs += 1;
+        }
+        rest = others;
+    }
+    (inputs, outputs)
+}
+
+/// Whether these are 1 to 64 pairs of file words, of which one input and one output at most is a standard stream.
+fn are_files(words: &[String]) -> bool
+    ensures are { result ≡ spec.are_files (map string_bytes words.now) }
+    ensures few { result ≡ true → length (files_in (map string_bytes words.now)) ≤ 64 }
+{
+    if words.len() % 2 != 0 || words.is_empty() || words.len() > 2 * MOST_SESSIONS {
+        return false;
+    }
+    if !name_files(words) {
+        return false;
+    }
+    let (inputs, outputs) = count_streams(words);
+    inputs <= 1 && outputs <= 1
+}
+
+/// What words ask for that begin with these.
+fn play_words<'a>(
     verb: &str,
     cylinders: &str,
     seed: &str,
     collections: &str,
-    input: &'a str,
-    output: &'a str,
+    files: &'a [String],
 ) -> Option<Played<'a>>
-    ensures none { IsNone result ↔ (play_in (verb.now ∷ cylinders.now ∷ seed.now ∷ collections.now ∷ input.now ∷ output.now ∷ []) ≡ None) }
-    ensures some { IfSome result (λ a. play_in (verb.now ∷ cylinders.now ∷ seed.now ∷ collections.now ∷ input.now ∷ output.now ∷ [])
-        ≡ Some (record { volume = InMemory a.cylinders; seed = a.seed; input = a.input.now; output = a.output.now })) }
+    ensures none { IsNone result ↔ (play_in (verb.now ∷ cylinders.now ∷ seed.now ∷ collections.now ∷ map string_bytes files.now) ≡ None) }
+    ensures some { IfSome result (λ a. play_in (verb.now ∷ cylinders.now ∷ seed.now ∷ collections.now ∷ map string_bytes files.now)
+        ≡ Some (record { volume = InMemory a.cylinders; seed = a.seed; collections = a.collections; sessions = files_in (map string_bytes a.files.now) })) }
+    ensures few { IfSome result (λ a. length (files_in (map string_bytes a.files.now)) ≤ 64) }
     ensures sized { IfSome result (λ a. (1 ≤ a.cylinders) × (a.cylinders ≤ 1024)) }
+    ensures most { IfSome result (λ a. a.collections ≤ 1000) }
 {
     if verb != "play" {
         return None;
@@ -63,17 +115,17 @@ fn six_words<'a>(
     let cylinders = number(cylinders)?;
     let seed = number(seed)?;
     let collections = number(collections)?;
-    if cylinders == 0 || cylinders > MOST_CYLINDERS || collections != 0 {
+    if cylinders == 0 || cylinders > MOST_CYLINDERS || collections > MOST_COLLECTIONS {
         return None;
     }
-    if input.is_empty() || output.is_empty() {
+    if !are_files(files) {
         return None;
     }
     Some(Played {
         cylinders,
         seed,
-        input,
-        output,
+        collections,
+        files,
     })
 }
 
@@ -81,51 +133,53 @@ fn six_words<'a>(
 pub(crate) fn play_asked(words: &[String]) -> Option<Played<'_>>
     ensures none { IsNone result ↔ (play_in (map string_bytes words.now) ≡ None) }
     ensures some { IfSome result (λ a. play_in (map string_bytes words.now)
-        ≡ Some (record { volume = InMemory a.cylinders; seed = a.seed; input = a.input.now; output = a.output.now })) }
+        ≡ Some (record { volume = InMemory a.cylinders; seed = a.seed; collections = a.collections; sessions = files_in (map string_bytes a.files.now) })) }
+    ensures few { IfSome result (λ a. length (files_in (map string_bytes a.files.now)) ≤ 64) }
     ensures sized { IfSome result (λ a. (1 ≤ a.cylinders) × (a.cylinders ≤ 1024)) }
+    ensures most { IfSome result (λ a. a.collections ≤ 1000) }
 {
-    let [verb, cylinders, seed, collections, input, output] = words else {
+    let [verb, cylinders, seed, collections, files @ ..] = words else {
         return None;
     };
-    six_words(
+    play_words(
         verb.as_str(),
         cylinders.as_str(),
         seed.as_str(),
         collections.as_str(),
-        input.as_str(),
-        output.as_str(),
+        files,
     )
 }
 
-/// What six words ask for that name a volume.
+/// What words ask for that begin with these, of which the second names a volume.
 fn volume_words<'a>(
     verb: &str,
     volume: &'a str,
     seed: &str,
     collections: &str,
-    input: &'a str,
-    output: &'a str,
+    files: &'a [String],
 ) -> Option<Served<'a>>
-    ensures none { IsNone result ↔ (serve_in (verb.now ∷ volume.now ∷ seed.now ∷ collections.now ∷ input.now ∷ output.now ∷ []) ≡ None) }
-    ensures some { IfSome result (λ a. serve_in (verb.now ∷ volume.now ∷ seed.now ∷ collections.now ∷ input.now ∷ output.now ∷ [])
-        ≡ Some (record { volume = InFile a.volume.now; seed = a.seed; input = a.input.now; output = a.output.now })) }
+    ensures none { IsNone result ↔ (serve_in (verb.now ∷ volume.now ∷ seed.now ∷ collections.now ∷ map string_bytes files.now) ≡ None) }
+    ensures some { IfSome result (λ a. serve_in (verb.now ∷ volume.now ∷ seed.now ∷ collections.now ∷ map string_bytes files.now)
+        ≡ Some (record { volume = InFile a.volume.now; seed = a.seed; collections = a.collections; sessions = files_in (map string_bytes a.files.now) })) }
+    ensures few { IfSome result (λ a. length (files_in (map string_bytes a.files.now)) ≤ 64) }
+    ensures most { IfSome result (λ a. a.collections ≤ 1000) }
 {
     if verb != "serve" {
         return None;
     }
     let seed = number(seed)?;
     let collections = number(collections)?;
-    if volume.is_empty() || volume == "-" || collections != 0 {
+    if volume.is_empty() || is_stream(volume) || collections > MOST_COLLECTIONS {
         return None;
     }
-    if input.is_empty() || output.is_empty() {
+    if !are_files(files) {
         return None;
     }
     Some(Served {
         volume,
         seed,
-        input,
-        output,
+        collections,
+        files,
     })
 }
 
@@ -133,9 +187,11 @@ fn volume_words<'a>(
 pub(crate) fn serve_asked(words: &[String]) -> Option<Served<'_>>
     ensures none { IsNone result ↔ (serve_in (map string_bytes words.now) ≡ None) }
     ensures some { IfSome result (λ a. serve_in (map string_bytes words.now)
-        ≡ Some (record { volume = InFile a.volume.now; seed = a.seed; input = a.input.now; output = a.output.now })) }
+        ≡ Some (record { volume = InFile a.volume.now; seed = a.seed; collections = a.collections; sessions = files_in (map string_bytes a.files.now) })) }
+    ensures few { IfSome result (λ a. length (files_in (map string_bytes a.files.now)) ≤ 64) }
+    ensures most { IfSome result (λ a. a.collections ≤ 1000) }
 {
-    let [verb, volume, seed, collections, input, output] = words else {
+    let [verb, volume, seed, collections, files @ ..] = words else {
         return None;
     };
     volume_words(
@@ -143,8 +199,7 @@ pub(crate) fn serve_asked(words: &[String]) -> Option<Served<'_>>
         volume.as_str(),
         seed.as_str(),
         collections.as_str(),
-        input.as_str(),
-        output.as_str(),
+        files,
     )
 }
 
@@ -160,7 +215,7 @@ fn four_words<'a>(verb: &str, volume: &'a str, cylinders: &str, seed: &str) -> O
     }
     let cylinders = number(cylinders)?;
     let seed = number(seed)?;
-    if volume.is_empty() || volume == "-" {
+    if volume.is_empty() || is_stream(volume) {
         return None;
     }
     if cylinders == 0 || cylinders > MOST_FILE_CYLINDERS {
@@ -227,21 +282,18 @@ fn volume_names(alloc: Global, volume: &str, cylinders: u64) -> Result<Names, Wo
     })
 }
 
-/// The request file and the reply file of a session, beside a volume.
+/// The request files and the reply files of sessions, beside a volume.
 fn session_names(
     alloc: Global,
     volume: Option<Volume>,
-    input: &str,
-    output: &str,
+    files: &[String],
 ) -> Result<Names, WordsFault>
     ensures fault { IfErr result (λ e. e ≡ WordsFault.Memory) }
     ensures volume { IfOk result (λ n. n.volume ≡ volume) }
-    ensures places { IfOk result (λ n. (n.sources ≡ input.now ∷ []) × (n.sinks ≡ output.now ∷ [])) }
+    ensures sources { IfOk result (λ n. n.sources ≡ inputs_in (map string_bytes files.now)) }
+    ensures sinks { IfOk result (λ n. n.sinks ≡ outputs_in (map string_bytes files.now)) }
 {
-    let Ok(sources) = one_path(alloc, input) else {
-        return Err(WordsFault::Memory);
-    };
-    let Ok(sinks) = one_path(alloc, output) else {
+    let Ok((sources, sinks)) = session_paths(alloc, files) else {
         return Err(WordsFault::Memory);
     };
     Ok(Names {
@@ -251,16 +303,17 @@ fn session_names(
     })
 }
 
-/// The volume that is to be served, and the files of its session.
-fn served_names(alloc: Global, volume: &str, input: &str, output: &str) -> Result<Names, WordsFault>
+/// The volume that is to be served, and the files of its sessions.
+fn served_names(alloc: Global, volume: &str, files: &[String]) -> Result<Names, WordsFault>
     ensures fault { IfErr result (λ e. e ≡ WordsFault.Memory) }
     ensures volume { IfOk result (λ n. n.volume ≡ Some (Volume.Existing volume.now)) }
-    ensures places { IfOk result (λ n. (n.sources ≡ input.now ∷ []) × (n.sinks ≡ output.now ∷ [])) }
+    ensures sources { IfOk result (λ n. n.sources ≡ inputs_in (map string_bytes files.now)) }
+    ensures sinks { IfOk result (λ n. n.sinks ≡ outputs_in (map string_bytes files.now)) }
 {
     let Ok(path) = path_of(alloc, volume) else {
         return Err(WordsFault::Memory);
     };
-    session_names(alloc, Some(Volume::Existing { path }), input, output)
+    session_names(alloc, Some(Volume::Existing { path }), files)
 }
 
 /// What the words of a command name: nothing for a page. `Words` comes exactly where they are of no form.
@@ -269,8 +322,8 @@ pub fn names(alloc: Global, words: &[String]) -> Result<Names, WordsFault>
     ensures volume { IfOk result (λ n. NamesVolume (asked_in (map string_bytes words.now)) n.volume) }
     ensures sized { IfOk result (λ n. IfSome n.volume HasCylinders) }
     ensures places { IfOk result (λ n. HasPlaces (asked_in (map string_bytes words.now)) (length n.sources) (length n.sinks)) }
-    ensures sources { IfOk result (λ n. (s : Service) → asked_in (map string_bytes words.now) ≡ Serves s → n.sources ≡ s.input ∷ []) }
-    ensures sinks { IfOk result (λ n. (s : Service) → asked_in (map string_bytes words.now) ≡ Serves s → n.sinks ≡ s.output ∷ []) }
+    ensures sources { IfOk result (λ n. (s : Service) → asked_in (map string_bytes words.now) ≡ Serves s → n.sources ≡ map (λ f. f.input) s.sessions) }
+    ensures sinks { IfOk result (λ n. (s : Service) → asked_in (map string_bytes words.now) ≡ Serves s → n.sinks ≡ map (λ f. f.output) s.sessions) }
 {
     if page_asked(words).is_some() {
         return Ok(Names {
@@ -283,10 +336,10 @@ pub fn names(alloc: Global, words: &[String]) -> Result<Names, WordsFault>
         return volume_names(alloc, format.volume, format.cylinders);
     }
     if let Some(play) = play_asked(words) {
-        return session_names(alloc, None, play.input, play.output);
+        return session_names(alloc, None, play.files);
     }
     match serve_asked(words) {
-        Some(served) => served_names(alloc, served.volume, served.input, served.output),
+        Some(served) => served_names(alloc, served.volume, served.files),
         None => Err(WordsFault::Words),
     }
 }

@@ -1,11 +1,9 @@
 //! The collector tried on small graphs: each interleaving of its steps with a request or two, beside the definitions
-//! written plainly. Nothing stands above this crate; its use is its tests.
+//! written plainly. Its use is its tests; those of the core take from it what may vanish.
 #![tactic(auto)]
 
-#[cfg(test)]
-mod graph;
-#[cfg(test)]
-mod judge;
+pub mod graph;
+pub mod judge;
 #[cfg(test)]
 mod run;
 #[cfg(test)]

@@ -156,6 +156,7 @@ module _ {D : Type 0} (g : Ghosts D) (at floor : ℕ) (change : Change) (d0 : D)
     leaves = λ graph ds id f may. wider g d0 d1 Nothing _ reads.images (λ c none. absurd none);
     room = λ graph ds id f may. tt;
     full = λ graph ds id f may is. (let no : true ≡ false = sym is ∙ spare in cc);
+    begun = λ graph ds id f may is. inr (wider g d0 d1 Nothing _ reads.images (λ c none. absurd none));
     sound = sound;
     refused = why;
     untried = λ is. (kept, reads_within g d0 d1 n 31093 few reads);
@@ -215,6 +216,7 @@ module _ {D : Type 0} (g : Ghosts D) (at floor : ℕ) (change : Change) (d0 d1 :
         two.0 ∙ ap (λ (n : ℕ). refused.Full (record { free = n; need = need_beside change (begun f) was })) free_same ∙ ap (λ (n : ℕ). refused.Full (record { free = sum k0.free; need = n })) (need_is f),
         omega (arith, two.1, free_same, need_is f),
       );
+      begun = λ graph ds id f may is. inr (images _ graph (drafts graph ds id f may).leaves (λ c h. h));
       sound = λ graph ds id f may. (drafts graph ds id f may).sound;
       refused = from_refusal g at floor change d0 k0 d2 k2 e why;
       untried = by e ends.untried why spared;
@@ -306,6 +308,7 @@ module _ {D : Type 0} (g : Ghosts D) (at floor : ℕ) (change : Change) (d0 d1 :
             leaves = left (Ok tt) cs;
             room = λ graph ds id f may. omega (arith, (drafts graph ds id f may).room, free_same, need_is f);
             full = λ graph ds id f may. tt;
+            begun = λ graph ds id f may. tt;
             sound = λ graph ds id f may. tt;
             refused = tt;
             untried = tt;
@@ -318,6 +321,7 @@ module _ {D : Type 0} (g : Ghosts D) (at floor : ℕ) (change : Change) (d0 d1 :
             leaves = left (Err x) cs;
             room = λ graph ds id f may. tt;
             full = λ graph ds id f may is. absurd (not_full x cs.refusal is);
+            begun = λ graph ds id f may is. inl (omega (arith, (drafts graph ds id f may).room, free_same, need_is f));
             sound = λ graph ds id f may. let m = drafts graph ds id f may in cs.sound graph _ id (objects.File f) (changed_draft change (begun f)) m.becomes.steps.store may.has.there m.becomes.is_open none_created (left_one graph ds id f may);
             refused = from_commit g at floor change d0 k0 d2 d3 k2 k3 31093 15486 wrote x first (why cs.refusal);
             untried = untried_commit g at floor change d0 k0 d2 d3 k2 k3 31093 15486 wrote x first (why cs.refusal) cs.untried;

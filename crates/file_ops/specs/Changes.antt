@@ -153,6 +153,9 @@ pub record ChangesFile {D : Type 0} (g : Ghosts D) (at : ℕ) (kind : FileKind) 
   pub room : (graph : Graph) (ds : List Opened) (id : Puid) (f : File) → MayChange g at kind change graph ds id f old before → OnOk result (need_for kind change f + floor ≤ sum before.free)
   pub full : (graph : Graph) (ds : List Opened) (id : Puid) (f : File) → MayChange g at kind change graph ds id f old before → IfErr result (λ e. is_full e ≡ true →
       (e ≡ refusals.Full (record { free = sum before.free; need = need_for kind change f })) × (sum before.free < need_for kind change f + floor))
+  -- where a write was tried they were, or the file stayed as it was
+  pub begun : (graph : Graph) (ds : List Opened) (id : Puid) (f : File) → MayChange g at kind change graph ds id f old before → IfErr result (λ e. e ≡ refusals.Disk true →
+      (need_for kind change f + floor ≤ sum before.free) ⊎ Leaves g old new (λ c. Holds c graph))
   -- no damage where the disk holds the file
   pub sound : (graph : Graph) (ds : List Opened) (id : Puid) (f : File) → MayChange g at kind change graph ds id f old before → IfErr result (λ e. is_damaged e ≡ false)
   pub refused : IfErr result (IsFileRefusal g at kind floor change old new after)

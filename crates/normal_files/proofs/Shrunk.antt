@@ -1,5 +1,6 @@
 -- A file that was set to less: what its root no longer leads to becomes Free, and then the store has the file.
 use Rattle.std.proofs.Common.{◌≡◌, ◌≢◌, ◌⊎◌, inl, inr, ℕ, ◌+◌, ◌*◌, ◌<◌, ◌≤◌, Bool, true, false, cond, List, [], length, set, get_or, Some, refl, sym, ◌∙◌, ap, subst, get_or-set_other, arith}
+use Rattle.std.specs.Prelude.{nat_lt}
 use Rattle.std.proofs.Math.ListN.{length-set}
 use Rattle.std.proofs.lemmas.Bool.{both_ways, cases_eq, cases_lt}
 use Rattle.std.proofs.lemmas.List.{get_or_past}
@@ -23,6 +24,7 @@ use Rattle.ufs_model.specs.declared.object.Object.TheVariants as objects
 use Rattle.ufs_model.specs.Graph.{Graph, object_at, with_object}
 use Rattle.ufs_model.specs.Identifier.{same_puid}
 use Rattle.ufs_model.specs.Object.{leaves_in, resized}
+use Rattle.ufs_model.proofs.Rising.{filter-rises}
 use Rattle.ufs_model.proofs.Graphs.{object_at-with_object, rises-with_object}
 use Rattle.ufs_model.proofs.Reached.{same_puid_is, same_puid_itself}
 use Rattle.vol_image.specs.Frame.{Frames, IsBlockOf, IsLoose}
@@ -42,16 +44,17 @@ use Rattle.vol_owners.proofs.Entries.{free_unowned}
 use Rattle.vol_owners.proofs.Steps.{object_changes_on}
 use Rattle.normal_files.specs.Cuts.{IsCutRoot, IsEnd, IsReadEnd, MayTrim, Shrinks, first_gone, last_node, put_at, trimmed}
 use Rattle.normal_files.specs.Frees.{Drops, FreedLeaf, FreedNode, IsDropped, IsFreed, IsFreeing, TakesNone}
-use Rattle.normal_files.specs.Laid.{IsRooted, leaf_of, node_of}
+use Rattle.normal_files.specs.Laid.{IsRooted, leaf_of, leaves_of, node_of}
 use Rattle.normal_files.specs.Nodes.{leaves_at}
 use Rattle.normal_files.specs.Standing.{BecomesFile, IsPartly}
 use Rattle.normal_files.specs.declared.cut.End.{End}
 use Rattle.normal_files.proofs.Among.{places_differ}
 use Rattle.normal_files.proofs.Ended.{either_e, either_left, gone_stays, is_trimmed, put_none, put_some, stay_before, x_own, y_own}
 use Rattle.normal_files.proofs.Laid.{tree_of_laid}
+use Rattle.normal_files.proofs.Partly.{held_rises}
 use Rattle.normal_files.proofs.Owned.{IsOwn, all_there, block_from_own, own_from_block}
 use Rattle.normal_files.proofs.Trees.{near, same_leaves, zeros}
-use Rattle.normal_files.proofs.Trimmed.{IsEitherWay, IsLed, IsTrimmed, KeepsEntries, either_partly, entries_begin, led, set_content, shrunk_holds, shrunk_own, shrunk_partly, shrunk_parts, shrunk_rooted}
+use Rattle.normal_files.proofs.Trimmed.{IsEitherWay, IsLed, IsTrimmed, KeepsEntries, either_partly, entries_begin, gives, led, set_content, shrunk_holds, shrunk_own, shrunk_partly, shrunk_parts, shrunk_rooted}
 use Rattle.normal_files.proofs.Places.{one_leaf, one_node}
 
 module _ {D : Type 0} (g : Ghosts D) (graph : Graph) (ds : List Opened) (id : Puid) (f : File) (root : roots.Root) (at size : ℕ) (start : D) (kept : Kept) (is : Shrinks g graph ds id f root at size start kept) (blocks : ℕ) (end : End) (read : IsReadEnd blocks root size end)
@@ -108,7 +111,12 @@ module _ {D : Type 0} (g : Ghosts D) (graph : Graph) (ds : List Opened) (id : Pu
 
   -- and once it is
   pub framed_partly : (c : Image) → Frames b after c → IsPartly c graph id f new_file
-  framed_partly c frames = (new_file, frames_hold b c after b_holds frames, record { kind = refl; fill = refl; size = inr refl; leaves = λ l. inr refl })
+  framed_partly c frames = record {
+    file = new_file;
+    holds = frames_hold b c after b_holds frames;
+    between = record { kind = refl; fill = refl; size = inr refl; leaves = λ l. inr refl };
+    either = record { rising = filter-rises (λ leaf. nat_lt leaf (leaves_in size)) f.held (held_rises root (leaves_of a root) f (gives g graph id f root start is.starts)); each = λ leaf has. inr has };
+  }
 
   -- ---- what it no longer leads to
 

@@ -1,5 +1,5 @@
 -- A file as it stands on a disk.
-use Rattle.std.specs.Prelude.{ℕ, List, length}
+use Rattle.std.specs.Prelude.{◌≡◌, ◌⊎◌, ℕ, true, List, length}
 use Rattle.cfs_base.specs.Disk.{Image, block_at}
 use Rattle.cfs_base.specs.declared.disk.Disk.{Ghosts}
 use Rattle.cfs_base.specs.declared.identifier.Puid.{Puid}
@@ -9,6 +9,7 @@ use Rattle.intentions.specs.Store.{StoreHas}
 use Rattle.ufs_model.specs.declared.object.File.{File}
 use Rattle.ufs_model.specs.declared.object.Object.TheVariants as objects
 use Rattle.ufs_model.specs.Graph.{Graph, with_object}
+use Rattle.ufs_model.specs.Numbers.{has_number, numbers_rise}
 use Rattle.vol_image.specs.Reading.{IsTree}
 use Rattle.vol_image.specs.Seen.{tree_in}
 use Rattle.vol_image.specs.Sound.{Holds}
@@ -27,6 +28,14 @@ pub record BecomesFile {D : Type 0} (g : Ghosts D) (graph : Graph) (ds : List Op
   pub store : StoreHas g (with_object graph id (objects.File f)) ds new space
   pub only : ChangesOnly (λ entry. of_owner id.block entry) (g.content old) (g.content new)
 
+-- the file holds no leaf but such as the old one or the new one holds
+pub record HoldsOfEither (old new f : File) : Type 0 where
+  pub rising : numbers_rise f.held ≡ true
+  pub each : (leaf : ℕ) → has_number leaf f.held ≡ true → (has_number leaf old.held ≡ true) ⊎ (has_number leaf new.held ≡ true)
+
 -- the image holds all other objects, and of this file each leaf and the size are old or new
-abbrev pub IsPartly : Image → Graph → Puid → (old new : File) → Type 0
-IsPartly image graph id old new = (f : File) × Holds image (with_object graph id (objects.File f)) × IsBetween old new f
+pub record IsPartly (image : Image) (graph : Graph) (id : Puid) (old new : File) : Type 0 where
+  pub file : File
+  pub holds : Holds image (with_object graph id (objects.File file))
+  pub between : IsBetween old new file
+  pub either : HoldsOfEither old new file

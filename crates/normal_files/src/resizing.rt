@@ -3,6 +3,7 @@ ghost use Rattle.std.specs.Prelude.{◌≡◌, ◌+◌, ◌*◌, ◌<◌, ◌≤
 ghost use Rattle.cfs_base.specs.Calls.{MakesAtMost, OnlyReads};
 ghost use Rattle.cfs_base.specs.Run.{IsSettled, Leaves as LeavesOf};
 ghost use Rattle.cfs_base.specs.declared.identifier.Puid.{Puid};
+ghost use Rattle.cfs_base.specs.declared.refusal.Refused.TheVariants as refusals;
 ghost use Rattle.intentions.specs.Store.{StoreHas};
 ghost use Rattle.normal_files.specs.Ends.{is_damaged};
 ghost use Rattle.normal_files.specs.Frees.{IsResizeRefusal, TakesNone};
@@ -54,6 +55,8 @@ pub fn resize<D: Disk>(
     // Full exactly where fewer blocks are Free than the floor: a resize needs none.
     ensures room { OnOk result (floor ≤ sum space.old.free) }
     ensures full { IfErr result (TellsNeed 0) }
+    // Where a write was tried so many were Free.
+    ensures begun { IfErr result (λ e. e ≡ refusals.Disk true → floor ≤ sum space.old.free) }
     ensures refused { IfErr result (IsResizeRefusal D.Disk at.0 floor disk.old disk.new space.old) }
     // Where nothing was tried, all is as it was.
     ensures untried { IfErr result (λ e. is_untried e ≡ true → (space.new ≡ space.old) × OnlyReads D.Disk 3 disk.old disk.new) }

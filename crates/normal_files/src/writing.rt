@@ -226,6 +226,11 @@ pub fn write<D: Disk>(
         → object_at graph id ≡ Some (objects.File f) → drafts_of ds id ≡ [] → id.block ≡ at.0
         → offset + length bytes.now ≤ length f.bytes
         → IfErr result (TellsNeed (needs f offset (length bytes.now))) }
+    // Where a write was tried so many were Free.
+    ensures begun { (graph : Graph) (ds : List Opened) (id : Puid) (f : files.File) → StoreHas D.Disk graph ds disk.old space.old
+        → object_at graph id ≡ Some (objects.File f) → drafts_of ds id ≡ [] → id.block ≡ at.0
+        → offset + length bytes.now ≤ length f.bytes
+        → IfErr result (λ e. e ≡ refusals.Disk true → needs f offset (length bytes.now) + floor ≤ sum space.old.free) }
     ensures refused { IfErr result (IsWriteRefusal D.Disk at.0 floor disk.old disk.new space.old space.new) }
     // Where nothing was tried, all is as it was.
     ensures untried { IfErr result (λ e. is_untried e ≡ true → (space.new ≡ space.old) × OnlyReads D.Disk 73 disk.old disk.new) }

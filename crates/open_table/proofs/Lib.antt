@@ -3,4 +3,5 @@ pub mod Lists
 pub mod Collide
 pub mod Tied
 pub mod Without
+mod Faults
 mod Models

@@ -81,16 +81,26 @@ impl Grants {
         ensures fault { IfErr result (λ fault. fault_of self.old.grants grant ≡ Some fault) }
         ensures err { OnErr result (self.new ≡ self.old) }
     {
-        if let Some(mode) = self.standing_against(grant) {
-            return Err(AcquireFault::Locked { mode });
-        }
-        if self.sessions.of(grant.session).len() >= MOST_GRANTS as usize {
-            return Err(AcquireFault::Grants);
+        if let Some(fault) = self.fault(grant) {
+            return Err(fault);
         }
         self.grants.push_reserved(grant);
         self.sessions.add(grant);
         self.objects.open(grant.id, grant.mode);
         Ok(())
+    }
+
+    /// Why a grant can't be acquired, if it can't.
+    pub fn fault(&self, grant: Grant) -> Option<AcquireFault>
+        ensures { result ≡ fault_of self.now.grants grant }
+    {
+        if let Some(mode) = self.standing_against(grant) {
+            return Some(AcquireFault::Locked { mode });
+        }
+        if self.sessions.of(grant.session).len() >= MOST_GRANTS as usize {
+            return Some(AcquireFault::Grants);
+        }
+        None
     }
 
     /// The mode of those that stand on the object and conflict with this grant.

@@ -309,6 +309,14 @@ finish_apart g at old new kept (Err (trouble.Damaged damage)) is = λ same. cc
 pub far_trouble : {D : Type 0} (g : Ghosts D) (at : ℕ) (d : D) (kept : Kept) (t : Trouble) → t ≡ far_root at → IsTrouble g at d d kept t
 far_trouble g at d kept t is = subst (IsTrouble g at d d kept) (sym is) (FarRoot refl refl)
 
+-- ---- a call that failed had tried a write or a barrier
+
+pub far_apart : (at : ℕ) (t : Trouble) → t ≡ far_root at → t ≢ trouble.Disk false
+far_apart at t is = λ same. let both : far_root at ≡ trouble.Disk false = sym is ∙ same in cc
+
+pub known_apart : (t : Trouble) → t ≡ trouble.Disk true → t ≢ trouble.Disk false
+known_apart t is = λ same. let both : trouble.Disk true ≡ trouble.Disk false = sym is ∙ same in cc
+
 -- a shadow root is a block of the image
 pub shadow_below : {D : Type 0} (g : Ghosts D) (graph : Graph) (ds : List Opened) (id : Puid) (o : Object) (d0 : D) (k0 : Kept) (drafting : Drafting) (m : models.Draft) (s : ℕ) → StoreHas g graph ds d0 k0 → object_at graph id ≡ Some o → IsOpen ds id drafting m → drafting.shadow ≡ Some s → s < length (g.content d0)
 shadow_below g graph ds id o d0 k0 drafting m s store at opened stood =

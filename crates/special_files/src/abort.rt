@@ -1,9 +1,10 @@
 //! A draft given up.
-ghost use Rattle.std.specs.Prelude.{◌≡◌, ◌<◌, ◌+◌, ◌*◌, ℕ, List, false, length, option_to_list, Some, IfErr, OnOk};
+ghost use Rattle.std.specs.Prelude.{◌≡◌, ◌≢◌, ◌<◌, ◌+◌, ◌*◌, ℕ, List, false, length, option_to_list, Some, IfErr, OnOk};
 ghost use Rattle.std.specs.List.{All};
 ghost use Rattle.cfs_base.specs.Calls.{HasTried, MakesAtMost};
 ghost use Rattle.cfs_base.specs.Run.{Leaves};
 ghost use Rattle.cfs_base.specs.declared.identifier.Puid.{Puid};
+ghost use Rattle.cfs_base.specs.declared.refusal.Trouble.TheVariants as troubles;
 ghost use Rattle.intentions.specs.Store.{StoreHas};
 ghost use Rattle.special_files.specs.Changed.{AreTaken};
 ghost use Rattle.special_files.specs.Committing as spec;
@@ -107,6 +108,7 @@ fn abort_parts<D: Disk>(
         → spec.AreParts was at.0 (number_of shadow) own.now root.now (number_of created)
         → spec.AbortEnds D.Disk graph ds id was.created disk.old disk.new space.new result }
     ensures refused { IfErr result (IsTrouble D.Disk at.0 disk.old disk.new space.new) }
+    ensures tried { IfErr result (λ t. t ≢ troubles.Disk false) }
     ensures made { OnOk result (HasTried D.Disk disk.old disk.new) }
     ensures cylinders { length space.new.free ≡ length space.old.free }
     ensures calls { MakesAtMost D.Disk 31205 15483 disk.old disk.new }
@@ -149,6 +151,8 @@ impl Draft {
             → StoreHas D.Disk graph ds disk.old space.old → object_at graph id ≡ Some o → IsOpen ds id self d
             → IfErr result (λ t. is_damage t ≡ false) }
         ensures refused { IfErr result (IsTrouble D.Disk self.at disk.old disk.new space.new) }
+        // Where a call of the disk failed a write or a barrier was tried.
+        ensures tried { IfErr result (λ t. t ≢ troubles.Disk false) }
         ensures made { OnOk result (HasTried D.Disk disk.old disk.new) }
         ensures cylinders { length space.new.free ≡ length space.old.free }
         ensures calls { MakesAtMost D.Disk 31205 15483 disk.old disk.new }

@@ -77,6 +77,7 @@ fn commit_parts<D: Disk>(
         → spec.CommitEnds D.Disk graph ds id d.object made disk.old disk.new space.new result }
     ensures refused { IfErr result (IsTrouble D.Disk at.0 disk.old disk.new space.new) }
     ensures made { OnOk result (HasTried D.Disk disk.old disk.new) }
+    ensures tried { number_of shadow ≢ None → IfErr result (λ t. t ≢ troubles.Disk false) }
     ensures untried { IfErr result (λ t. t ≡ troubles.Disk false → (space.new ≡ space.old) × OnlyReads D.Disk 241 disk.old disk.new) }
     ensures cylinders { length space.new.free ≡ length space.old.free }
     ensures calls { MakesAtMost D.Disk 93138 46452 disk.old disk.new }
@@ -130,6 +131,8 @@ impl Draft {
             → IfErr result (λ t. is_damage t ≡ false) }
         ensures refused { IfErr result (IsTrouble D.Disk self.at disk.old disk.new space.new) }
         ensures made { OnOk result (HasTried D.Disk disk.old disk.new) }
+        // Of a draft that has a shadow root, where a call of the disk failed a write or a barrier was tried.
+        ensures tried { self.shadow ≢ None → IfErr result (λ t. t ≢ troubles.Disk false) }
         // Where a device call failed before the first try, only reads were made.
         ensures untried { IfErr result (λ t. t ≡ troubles.Disk false
             → (space.new ≡ space.old) × OnlyReads D.Disk 241 disk.old disk.new) }

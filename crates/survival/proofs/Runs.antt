@@ -108,6 +108,7 @@ module _ {D : Type 0} (G : Ghosts D) (seed : ℕ) (g : Graph) where
   run_begins d reads = record {
     count = refl;
     past = λ k lt. omega (arith, ap (λ (i : ℕ). get_or (G.moment d ∷ []) i 0) (first k lt));
+    rising = λ k lt. absurd (alone k lt);
     each = λ k le c left. let is = first k (omega (arith, le)) in record {
       events = 0;
       more = omega (arith, is);
@@ -119,6 +120,9 @@ module _ {D : Type 0} (G : Ghosts D) (seed : ℕ) (g : Graph) where
     where
       first : (k : ℕ) → k < 1 → k ≡ 0
       first k lt = omega (arith, lt)
+
+      alone : (k : ℕ) → k + 1 < 1 → ⊥
+      alone k lt = absurd (omega (arith, lt))
 
       opened : (c : Image) → left_now G d c → Survives c seed g [] 0
       opened c left = record { graph = g; may = Whole _ refl; reads = reads c left }
@@ -134,6 +138,15 @@ module _ {D : Type 0} (G : Ghosts D) (seed : ℕ) (g : Graph) where
       past = λ k lt. elim (cases_lt k (length marks)) [
         | inl less ↦ let was = run.past k less in omega (arith, get_or-append marks (G.moment new ∷ []) 0 k less)
         | inr last ↦ omega (arith, mark k (omega (arith, last, length-append marks (G.moment new ∷ []))))
+      ];
+      rising = λ k lt. elim (cases_lt (k + 1) (length marks)) [
+        | inl less ↦
+            let was = run.rising k less in
+            omega (arith, was, get_or-append marks (G.moment new ∷ []) 0 k (omega (arith, less)), get_or-append marks (G.moment new ∷ []) 0 (k + 1) less)
+        | inr last ↦
+            let here : k + 1 ≡ length marks = omega (arith, last, lt, length-append marks (G.moment new ∷ [])) in
+            let was = run.past k (omega (arith, here)) in
+            omega (arith, was, later, get_or-append marks (G.moment new ∷ []) 0 k (omega (arith, here)), mark (k + 1) here)
       ];
       each = λ k le c left. elim (cases_lt k (length marks)) [
         | inl less ↦ earlier k less c (subst (λ (t : ℕ). G.left_since new t c) (get_or-append marks (G.moment new ∷ []) 0 k less) left)
@@ -177,6 +190,7 @@ module _ {D : Type 0} (G : Ghosts D) (seed : ℕ) (g : Graph) where
     run_stays call = record {
       count = run.count;
       past = λ k lt. let was = run.past k lt in omega (arith, call.crashes.later);
+      rising = run.rising;
       each = λ k le c left. ⊎_elim (run.each k le c) (λ reads. record { events = length trail; more = le; most = omega arith; survives = as_now c reads })
           (call.crashes.since (get_or marks k 0) c (run.past k (omega (arith, run.count))) left);
       now = λ c left. ⊎_elim (run.now c) (as_now c) (call.crashes.now c left);

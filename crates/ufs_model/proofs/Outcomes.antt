@@ -1,5 +1,5 @@
 -- What an outcome leaves of a state, and what it answers.
-use Rattle.std.proofs.Common.{◌≡◌, ℕ, ◌+◌, ◌<◌, ◌≤◌, length, refl, sym, ap, ◌∙◌, subst, length-drop, Bool, true, false, ◌&&◌, Some, None, Option, arith}
+use Rattle.std.proofs.Common.{List, ◌≡◌, ℕ, ◌+◌, ◌<◌, ◌≤◌, length, refl, sym, ap, ◌∙◌, subst, length-drop, Bool, true, false, ◌&&◌, Some, None, Option, arith}
 use Rattle.std.specs.Prelude.{◌==◌, nat_lt, nat_le, option_and_then}
 use Rattle.std.proofs.lemmas.List.{length-take}
 use Rattle.std.proofs.lemmas.Bool.{and_parts, not-false, leb-true}
@@ -53,22 +53,35 @@ no_draft s who request h none wants =
 
 -- ---- what a request leaves
 
--- the same collection, as many words drawn, and no root block lost
+-- a test that tells a collection's part alone: none, marking or sweeping
+abbrev pub IsOfPart : (Collection → Bool) → Type 0
+IsOfPart test = (a b : List (Puid × Puid)) (c d : List Puid) → test (collections.Marking a c) ≡ test (collections.Marking b d)
+
+-- the same part of a collection, as many words drawn, and no root block lost
 pub record Leaves (s t : State) (drawn : ℕ) : Type 0 where
-  pub collection : s.collection ≡ collections.None → t.collection ≡ collections.None
+  pub part : (test : Collection → Bool) → IsOfPart test → test t.collection ≡ test s.collection
   pub words : t.drawn ≡ drawn
   pub blocks : (b : ℕ) → has_block s.graph.objects b ≡ true → has_block t.graph.objects b ≡ true
 
 put_leaves : (s : State) (who : ℕ) (ref : Ref) (d : Draft) → Goes s who ref → Leaves s (put s who ref d) s.drawn
 put_leaves s who ref d (ToObject id o name none at) =
     subst (λ t. Leaves s t s.drawn) (sym (put_object-at s who ref id d name none))
-    (record { collection = λ none. none; words = refl; blocks = λ b has. has_block-still b id d.object s.graph.objects has })
+    (record { part = λ test tells. refl; words = refl; blocks = λ b has. has_block-still b id d.object s.graph.objects has })
 put_leaves s who ref d (ToDraft t g old found has) =
-    subst (λ t. Leaves s t s.drawn) (sym (put_draft-at s who t g old d found has)) (record { collection = λ none. none; words = refl; blocks = λ b has. has })
+    subst (λ t. Leaves s t s.drawn) (sym (put_draft-at s who t g old d found has)) (record { part = λ test tells. refl; words = refl; blocks = λ b has. has })
 
-quiet_edge : (index : Option Puid) (x : Puid) (c : Collection) → c ≡ collections.None → with_edge index x c ≡ c
-quiet_edge None x c none = rw none refl
-quiet_edge (Some index) x c none = rw none refl
+pub edge_stays : (test : Collection → Bool) → IsOfPart test → (index : Option Puid) (x : Puid) (c : Collection) → test (with_edge index x c) ≡ test c
+edge_stays test tells (Some index) x (collections.Marking edges starts) = tells _ _ _ _
+edge_stays test tells None x (collections.Marking edges starts) = refl
+edge_stays test tells (Some index) x collections.None = refl
+edge_stays test tells None x collections.None = refl
+edge_stays test tells (Some index) x collections.Sweeping = refl
+edge_stays test tells None x collections.Sweeping = refl
+
+pub start_stays : (test : Collection → Bool) → IsOfPart test → (x : Puid) (c : Collection) → test (with_start x c) ≡ test c
+start_stays test tells x (collections.Marking edges starts) = tells _ _ _ _
+start_stays test tells x collections.None = refl
+start_stays test tells x collections.Sweeping = refl
 
 module _ (seed : ℕ) (s : State) (who : ℕ) (index : Ref) (slot : ℕ) (o : Object) (b : ℕ) (to : Goes s who index) (free : is_free_root s.graph b ≡ true) where
   abbrev made : Puid
@@ -79,7 +92,7 @@ module _ (seed : ℕ) (s : State) (who : ℕ) (index : Ref) (slot : ℕ) (o : Ob
 
   created_leaves : Leaves s (created seed s who index slot o b).1 (s.drawn + 1)
   created_leaves = record {
-    collection = λ none. quiet_edge (named s who index) made s.collection none ∙ none;
+    part = λ test tells. edge_stays test tells (named s who index) made s.collection;
     words = filled.words;
     blocks = λ c has. filled.blocks c (has_block-still c made o s.graph.objects has);
   }
@@ -88,11 +101,11 @@ module _ (seed : ℕ) (s : State) (who : ℕ) (index : Ref) (slot : ℕ) (o : Ob
   created_has = filled.blocks b (has_block-new made o s.graph.objects)
 
 same_leaves : (s : State) → Leaves s s s.drawn
-same_leaves s = record { collection = λ none. none; words = refl; blocks = λ b has. has }
+same_leaves s = record { part = λ test tells. refl; words = refl; blocks = λ b has. has }
 
 closed_leaves : (s : State) (who : ℕ) (t : Tuid) (commit : Bool) → Leaves s (closed s who t commit) s.drawn
-closed_leaves s who t false = record { collection = λ none. none; words = refl; blocks = λ b has. has }
-closed_leaves s who t true = record { collection = λ none. none; words = refl; blocks = λ b has. still b (grant_of s who t) has }
+closed_leaves s who t false = record { part = λ test tells. refl; words = refl; blocks = λ b has. has }
+closed_leaves s who t true = record { part = λ test tells. refl; words = refl; blocks = λ b has. still b (grant_of s who t) has }
   where
     still : (b : ℕ) (g : Option Grant) → has_block s.graph.objects b ≡ true → has_block (committed g s.graph).objects b ≡ true
     still b None has = has
@@ -108,14 +121,11 @@ module _ (seed : ℕ) (s : State) (who : ℕ) (h : IsState s) where
   outcome_leaves (asks.CreateIndex slots index slot) b none free = created_leaves seed s who index slot _ b (to s who (asks.CreateIndex slots index slot) h none) (free refl)
   outcome_leaves (asks.Retain index slot id) b none free =
       let is = put_leaves s who index (changed_draft (Fill slot (Some id)) (seen s who index)) (to s who (asks.Retain index slot id) h none) in
-      record { collection = λ none. quiet_edge (named s who index) id s.collection none ∙ none; words = is.words ∙ (omega arith); blocks = is.blocks }
+      record { part = λ test tells. edge_stays test tells (named s who index) id s.collection; words = is.words ∙ (omega arith); blocks = is.blocks }
   outcome_leaves (asks.Retrieve index slot) b none free = subst (Leaves s s) ((omega arith)) (same_leaves s)
   outcome_leaves (asks.Delete index slot) b none free = subst (Leaves s _) ((omega arith)) (put_leaves s who index _ (to s who (asks.Delete index slot) h none))
   outcome_leaves (asks.Slots index) b none free = subst (Leaves s s) ((omega arith)) (same_leaves s)
-  outcome_leaves (asks.OpenFor id mode) b none free = record { collection = λ none. quiet_start id s.collection none ∙ none; words = refl; blocks = λ b has. has }
-    where
-      quiet_start : (x : Puid) (c : Collection) → c ≡ collections.None → with_start x c ≡ c
-      quiet_start x c none = rw none refl
+  outcome_leaves (asks.OpenFor id mode) b none free = record { part = λ test tells. start_stays test tells id s.collection; words = refl; blocks = λ b has. has }
   outcome_leaves (asks.Close grant commit) b none free = subst (Leaves s _) ((omega arith)) (closed_leaves s who grant commit)
   outcome_leaves (asks.Read file offset count) b none free = subst (Leaves s s) ((omega arith)) (same_leaves s)
   outcome_leaves (asks.Write file offset bytes) b none free = subst (Leaves s _) ((omega arith)) (put_leaves s who file _ (to s who (asks.Write file offset bytes) h none))

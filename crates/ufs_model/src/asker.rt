@@ -1,6 +1,5 @@
 //! Whoever answers requests as the definitions say: a server in memory, or one that has its objects on a disk.
-ghost use Rattle.std.specs.Prelude.{◌≡◌, ◌+◌, ◌<◌, ◌≤◌, ℕ, Bool, true};
-ghost use Rattle.ufs_model.specs.declared.asked.Request.{Request};
+ghost use Rattle.std.specs.Prelude.{◌≡◌, ◌+◌, ◌<◌, ◌≤◌, ℕ};
 ghost use Rattle.ufs_model.specs.Asks.{IsAsked};
 ghost use Rattle.ufs_model.specs.Outcome.{draws};
 ghost use Rattle.ufs_model.specs.State.{State};
@@ -22,14 +21,10 @@ pub trait Asker {
     /// How many words were drawn, whatever state it stands for.
     ghost words: { Self → ℕ };
 
-    /// Whether it serves such a request.
-    ghost serves: { Request → Bool };
-
     ghost counted: { (a : Self) → (s : State) → stands a s → s.drawn ≡ words a };
 
     /// The answer to a request of a session.
     fn ask(&mut self, alloc: Global, who: Session, request: &Request) -> Reply
-        requires served { serves request.now ≡ true }
         requires words { words self.old < 4294967295 }
         ensures event { (s : State) → stands self.old s → IsAsked (stands self.new) (seed self.old) s who request.now result }
         ensures seed { seed self.new ≡ seed self.old }
@@ -42,7 +37,7 @@ pub trait Asker {
 }
 
 impl Asker for Plain {
-    ghost use Rattle.std.specs.Prelude.{◌≡◌, true};
+    ghost use Rattle.std.specs.Prelude.{◌≡◌};
     ghost use Rattle.std.proofs.Common.{ap};
     ghost use Rattle.ufs_model.specs.State.{State};
 
@@ -51,8 +46,6 @@ impl Asker for Plain {
     ghost seed = { λ p. p.seed };
 
     ghost words = { λ p. p.state.drawn };
-
-    ghost serves = { λ request. true };
 
     ghost counted = { λ p s is. ap (λ (t : State). t.drawn) is };
 

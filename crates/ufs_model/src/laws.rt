@@ -94,6 +94,7 @@ pub fn may_vanish_is()
         → IsKept s x → object_at t.graph x ≡ object_at s.graph x }
 {}
 
-fn are_bytes(bytes: &[u8])
+/// A byte is below 256.
+pub fn are_bytes(bytes: &[u8])
     ensures { list_all (λ byte. nat_lt byte 256) bytes.now ≡ true }
 {}

@@ -1,12 +1,27 @@
-use Rattle.std.proofs.Common.{ap}
+use Rattle.std.proofs.Common.{ap, map, refl, None}
 use Rattle.cfs_serve.specs.Ground.{new_ground}
-use Rattle.cfs_serve.proofs.Volumes.{never_rose, script_run}
+use Rattle.cfs_serve.proofs.Lists.{map_count}
+use Rattle.cfs_serve.proofs.Volumes.{never_rose, none_asks, script_run, source_cause}
 use Rattle.cfs_serve.proofs.play.play.Goals as goal
+
+pub returns-in-Err : goal.returns-in-Err
+returns-in-Err g c =
+    let old = map g.S.Source.supply c.args.sources.now.items in
+    let new = map g.S.Source.supply c.read_scripts.new.sources.items in
+    let sinks = map g.K.Sink.intake c.args.sinks.now.items in
+    none_asks (new_ground c.args.cylinders c.args.seed) c.args.seed c.args.collections (record { disk = None; sources = old; sinks = sinks }) (record { disk = None; sources = new; sinks = sinks })
+    c.nothing.result.report c.nothing.result.trail.events c.in-Err.cause (map_count g.S.Source.supply c.read_scripts.new.sources.items c.args.sources.now.items c.read_scripts.ensures.count)
+    (source_cause (new_ground c.args.cylinders c.args.seed) ⊥ old new c.in-Err.cause c.in-Err.ensures.cause) refl c.nothing.ensures.report c.nothing.ensures.trail
 
 pub returns : goal.returns
 returns g c =
     let new = c.in-Some.ensures in
-    let result = c.serve_script-played.result in
-    script_run _ c.in-Some.core c.in-Ok.script.bytes.items (g.S.Source.supply c.args.source.now) (g.S.Source.supply c.read_script.new.source) (g.K.Sink.intake c.args.sink) (g.K.Sink.intake result.1)
-    result.0.report result.0.trail.events result.0.trail.moments result.2 (new_ground c.args.cylinders c.args.seed) c.args.seed ⊥ c.in-Ok.ensures.script (λ u. u) (ap (λ w. w.seed) new.words) new.size
-    (λ graph is. rw is new.stands) never_rose c.serve_script-played.ensures
+    let result = c.serve_scripts-played.result in
+    record {
+      sources = map_count g.S.Source.supply c.read_scripts.new.sources.items c.args.sources.now.items c.read_scripts.ensures.count;
+      sinks = map_count g.K.Sink.intake c.serve_scripts-played.new.sinks.items c.args.sinks.now.items c.serve_scripts-played.ensures.count;
+      run = script_run _ c.in-Some.core c.in-Ok.scripts.scripts.items (map g.S.Source.supply c.args.sources.now.items) (map g.S.Source.supply c.read_scripts.new.sources.items)
+          (map g.K.Sink.intake c.args.sinks.now.items) (map g.K.Sink.intake c.serve_scripts-played.new.sinks.items)
+          result.0.report result.0.trail.events result.0.trail.moments result.1 (new_ground c.args.cylinders c.args.seed) c.args.seed c.args.collections ⊥ c.in-Ok.ensures.scripts (λ u. u) (ap (λ w. w.seed) new.words) new.size
+          (λ graph is. rw is new.stands) never_rose c.serve_scripts-played.ensures.served;
+    }

@@ -1,8 +1,9 @@
-use Rattle.std.proofs.Common.{◌≡◌, ◌-◌, ◌*◌, length, arith}
-use Rattle.cfs_core.specs.StandsFor.{is_sweeping}
-use Rattle.std.proofs.Common.{ap}
+use Rattle.std.proofs.Common.{◌≡◌, ◌-◌, ◌*◌, ap, arith}
+use Rattle.std.specs.List.{sum_by}
+use Rattle.cfs_core.specs.Room.{draft_blocks}
 use Rattle.cfs_serve.proofs.play.report_on.Goals as goal
 
 pub returns-clause-free : goal.returns-clause-free
-returns-clause-free g c = λ s serves.
-    omega (arith, c.has_room.ensures.room s serves (ap is_sweeping (c.has_room.ensures.idle s serves)), c.has_room.ensures.undrafted s serves)
+returns-clause-free g c = λ s serves calm none.
+    let undrafted : sum_by draft_blocks s.grants ≡ 0 = ap (sum_by draft_blocks) none in
+    omega (arith, c.has_room.ensures.room s serves calm, undrafted)

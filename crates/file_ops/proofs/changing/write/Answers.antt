@@ -17,6 +17,7 @@ returns-in-Ok g c =
       leaves = λ graph ds id f may. e.images graph ds id f may.has.store may.has.there may.has.shut may.has.root may.inside;
       room = λ graph ds id f may. e.room graph ds id f may.has.store may.has.there may.has.shut may.has.root may.inside;
       full = λ graph ds id f may. tt;
+      begun = λ graph ds id f may. tt;
       sound = λ graph ds id f may. tt;
       refused = tt;
       untried = tt;
@@ -34,6 +35,7 @@ returns-in-Err g c =
       room = λ graph ds id f may. tt;
       full = λ graph ds id f may. place_full g.D.Disk _ c.args.at.0 c.args.floor (Overwrite c.args.offset c.args.bytes.now) c.args.disk.now c.write.new.disk c.args.space.now c.write.new.space (needs f c.args.offset (length c.args.bytes.now)) c.in-Err.error e.refused
           (e.full graph ds id f may.has.store may.has.there may.has.shut may.has.root may.inside);
+      begun = λ graph ds id f may is. inl (e.begun graph ds id f may.has.store may.has.there may.has.shut may.has.root may.inside is);
       sound = λ graph ds id f may. same_damaged c.in-Err.error ∙ e.sound graph ds id f may.has.store may.has.there may.has.shut may.has.root may.inside;
       refused = place_refusal g.D.Disk _ c.args.at.0 c.args.floor (Overwrite c.args.offset c.args.bytes.now) c.args.disk.now c.write.new.disk c.args.space.now c.write.new.space (λ damage is. elim is [ inl file ↦ OfFile file | inr claims ↦ OfClaims claims ]) c.in-Err.error e.refused;
       untried = λ un. let two = e.untried un in (two.0, reads_within g.D.Disk c.args.disk.now c.write.new.disk 73 31093 (omega arith) two.1);

@@ -1,5 +1,9 @@
-use Rattle.std.proofs.Common.{◌∙◌, length, refl, ap, sym, subst, arith}
+use Rattle.std.proofs.Common.{◌≡◌, ◌∙◌, length, true, false, refl, ap, sym, subst, arith}
 use Rattle.cfs_base.specs.Disk.{Image}
+use Rattle.cfs_base.specs.Refusals.{had_tried, refused_by, trouble_had_tried}
+use Rattle.cfs_base.specs.declared.refusal.Refused.TheVariants as refusals
+use Rattle.cfs_base.specs.declared.refusal.Trouble.{Trouble}
+use Rattle.cfs_base.specs.declared.refusal.Trouble.TheVariants as trouble
 use Rattle.cfs_base.proofs.Calls.{makes_then, reads_make, reads_then, reads_within}
 use Rattle.ufs_model.specs.Object.{written}
 use Rattle.claims.specs.Claims.{AreClaimed}
@@ -10,6 +14,10 @@ use Rattle.normal_files.proofs.Come.{makes_within}
 use Rattle.normal_files.proofs.FileCalls.{becomes_on, damage_same, file_of, images_on, images_read, parts_refused, parts_tell, parts_untried, read_refused, room_refused, room_tells, stop_on, trouble_tells, writes_on}
 use Rattle.normal_files.proofs.NeedOf.{parts_need}
 use Rattle.normal_files.proofs.writing.write.Goals as goal
+
+never : (t : Trouble) → trouble_had_tried t ≡ false → refused_by t ≡ refusals.Disk true → ⊥
+never (trouble.Disk tried) none is = (let no : false ≡ true = sym none ∙ ap had_tried is in cc)
+never (trouble.Damaged damage) none is = cc
 
 pub returns-in-Err-clause-images : goal.returns-in-Err-clause-images
 returns-in-Err-clause-images g c = λ graph ds id f store there no_draft here inside. images_read g.D.Disk c.args.disk.now c.read.new.disk c.in-Err.ensures.reads _
@@ -91,3 +99,15 @@ returns-in-Ok-write_parts-clause-room g c = λ graph ds id f store there no_draf
 
 pub returns-in-Err-write_parts-clause-full : goal.returns-in-Err-write_parts-clause-full
 returns-in-Err-write_parts-clause-full g c = λ graph ds id f store there no_draft here inside. parts_tell g.D.Disk (needs f c.args.offset (length c.args.bytes.now)) c.read.new.disk c.write_parts.new.disk _ c.in-Err-write_parts.error c.in-Err-write_parts.ensures.refused
+
+pub returns-in-Err-write_parts-clause-begun : goal.returns-in-Err-write_parts-clause-begun
+returns-in-Err-write_parts-clause-begun g c = λ graph ds id f store there no_draft here inside is.
+    let w = (writes_on g.D.Disk c.args.disk.now c.read.new.disk c.in-Ok.ensures.reads graph ds id f c.args.space.now c.args.at.0 c.in-Ok.file.root store there no_draft here (g.met.D.Disk.of_blocks c.args.disk.now store.carries.tells.honest) (c.in-Ok.ensures.root store.carries.tells) c.args.offset c.args.bytes.now c.in-Ok.file.low c.in-Ok.file.high inside (c.in-Ok.ensures.low_is store.carries.tells) (c.in-Ok.ensures.high_is store.carries.tells)) in
+    let need = (parts_need (g.D.Disk.content c.read.new.disk) id f c.in-Ok.file.root w.starts.rooted w.starts.same _ c.args.offset (length c.args.bytes.now) c.in-Ok.file.low c.in-Ok.file.high c.in-Ok.ensures.low c.in-Ok.ensures.high w.low_is w.high_is c.in-Ok.ensures.first c.in-Ok.ensures.next c.in-Ok.ensures.last c.in-Ok.ensures.apart c.in-Ok.ensures.some c.requires.least) in
+    omega (arith, need, c.need-low.ensures.count, c.need-high.ensures.count, c.in-Ok-has_room.ensures.room)
+
+pub returns-in-Err-has_room-clause-begun : goal.returns-in-Err-has_room-clause-begun
+returns-in-Err-has_room-clause-begun g c = λ graph ds id f store there no_draft here inside is. let no = sym c.in-Err-has_room.ensures.full.0 ∙ is in cc
+
+pub returns-in-Err-clause-begun : goal.returns-in-Err-clause-begun
+returns-in-Err-clause-begun g c = λ graph ds id f store there no_draft here inside is. absurd (never c.in-Err.trouble c.in-Err.ensures.untried (sym c.from.ensures ∙ is))

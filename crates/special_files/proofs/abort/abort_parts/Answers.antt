@@ -1,7 +1,8 @@
-use Rattle.std.proofs.Common.{◌≡◌, ℕ, ◌+◌, ◌*◌, ◌<◌, false, length, refl, sym, ◌∙◌, ap, subst, arith}
+use Rattle.std.proofs.Common.{◌≡◌, ◌≢◌, ℕ, ◌+◌, ◌*◌, ◌<◌, false, length, refl, sym, ◌∙◌, ap, subst, arith}
 use Rattle.std.specs.List.{All}
 use Rattle.cfs_base.specs.Disk.{Image}
 use Rattle.cfs_base.specs.declared.refusal.Trouble.{Trouble}
+use Rattle.cfs_base.specs.declared.refusal.Trouble.TheVariants as troubles
 use Rattle.cfs_base.proofs.Calls.{makes_then, reads_make, tells_on, tried_then}
 use Rattle.cfs_base.proofs.Runs.{still_tells, then}
 use Rattle.intentions.proofs.Changes.{all_ok}
@@ -11,7 +12,7 @@ use Rattle.special_files.specs.Refusal.{IsTrouble, is_damage}
 use Rattle.special_files.proofs.Begun.{store_reads}
 use Rattle.special_files.proofs.CommitAbort.{abort_since, abort_stops, store_still}
 use Rattle.special_files.proofs.CommitDone.{makes_more}
-use Rattle.special_files.proofs.CommitDraft.{after_damage, below_all, far_trouble, finish_tried, nothing_made, shadow_below}
+use Rattle.special_files.proofs.CommitDraft.{after_damage, below_all, far_apart, far_trouble, finish_apart, finish_tried, known_apart, nothing_made, shadow_below, tried_apart}
 use Rattle.special_files.proofs.CommitStore.{made_below}
 use Rattle.special_files.proofs.Endings.{trouble_after_tried}
 use Rattle.special_files.proofs.abort.abort_parts.Goals as goal
@@ -24,6 +25,7 @@ returns-in-Err g c = record {
       let size = g.met.D.Disk.sized c.args.disk.now store.carries.tells.honest in
       absurd (omega (arith, below, size, far.far));
   refused = far_trouble g.D.Disk c.args.at.0 c.args.disk.now c.args.space.now c.in-Err.trouble c.in-Err.ensures.far.1;
+  tried = far_apart c.args.at.0 c.in-Err.trouble c.in-Err.ensures.far.1;
   made = tt;
   cylinders = refl;
   calls = nothing_made g.D.Disk c.args.disk.now 31205 15483;
@@ -37,6 +39,7 @@ returns-in-Err-part_on_disk g c = record {
       let size = g.met.D.Disk.sized c.args.disk.now store.carries.tells.honest in
       absurd (omega (arith, below, size, far.far));
   refused = far_trouble g.D.Disk c.args.at.0 c.args.disk.now c.args.space.now c.in-Err-part_on_disk.trouble c.in-Err-part_on_disk.ensures.far.1;
+  tried = far_apart c.args.at.0 c.in-Err-part_on_disk.trouble c.in-Err-part_on_disk.ensures.far.1;
   made = tt;
   cylinders = refl;
   calls = nothing_made g.D.Disk c.args.disk.now 31205 15483;
@@ -46,6 +49,7 @@ pub returns-in-Err-barrier : goal.returns-in-Err-barrier
 returns-in-Err-barrier g c = record {
   ends = λ graph ds id o was d store at opened parts. abort_stops g.D.Disk graph ds id was.created c.args.disk.now c.barrier.new.disk c.args.space.now c.in-Err-barrier.trouble c.barrier.ensures.images (ap is_damage c.in-Err-barrier.ensures.refused);
   refused = subst (IsTrouble g.D.Disk c.args.at.0 c.args.disk.now c.barrier.new.disk c.args.space.now) (sym c.in-Err-barrier.ensures.refused) c.in-Err-barrier.ensures.stopped;
+  tried = known_apart c.in-Err-barrier.trouble c.in-Err-barrier.ensures.refused;
   made = tt;
   cylinders = refl;
   calls = makes_more g.D.Disk c.args.disk.now c.barrier.new.disk 1 1 31205 15483 (omega arith) (omega arith) c.barrier.ensures.calls;
@@ -63,6 +67,7 @@ returns-in-Err-changed g c =
           (subst (λ (t : Trouble). is_damage t ≡ false) (sym c.after_try.ensures) (after_damage c.in-Err-changed.trouble (c.in-Err-changed.ensures.sound graph ds c.args.space.now id o was d (store_still g.D.Disk graph ds c.args.disk.now c.barrier.new.disk c.args.space.now store c.barrier.ensures.content c.barrier.ensures.told c.barrier.ensures.images c.barrier.ensures.calls.same) at opened parts.own_is parts.root_is)));
       refused = subst (λ (t : Trouble). IsTrouble g.D.Disk c.args.at.0 c.args.disk.now c.changed.new.disk c.args.space.now t) (sym c.after_try.ensures)
           (trouble_after_tried g.D.Disk c.args.at.0 0 c.args.disk.now c.barrier.new.disk c.changed.new.disk c.args.space.now 1 1 c.barrier.ensures.calls c.barrier.ensures.made c.barrier.ensures.told c.in-Err-changed.trouble (c.in-Err-changed.ensures.refused c.args.space.now));
+      tried = subst (λ (t : Trouble). t ≢ troubles.Disk false) (sym c.after_try.ensures) (tried_apart c.in-Err-changed.trouble);
       made = tt;
       cylinders = refl;
       calls = makes_then g.D.Disk c.args.disk.now c.barrier.new.disk c.changed.new.disk 1 240 31205 1 0 15483 c.barrier.ensures.calls (reads_make g.D.Disk c.barrier.new.disk c.changed.new.disk 240 reads) (omega arith) (omega arith);
@@ -95,6 +100,7 @@ returns g c =
           (c.give_up.ensures.ends graph ds id o was d (store_reads g.D.Disk graph ds c.barrier.new.disk c.changed.new.disk c.args.space.now 240 still reads) at opened parts.shadow_is parts.created_is
           (subst (λ (i : Image). AreTaken i id (opened_as id was d) c.as_slice.result.now) (sym reads.content) (subst (AreTaken (g.D.Disk.content c.barrier.new.disk) id (opened_as id was d)) (sym c.as_slice.ensures) lists)));
       refused = finish_tried g.D.Disk c.args.at.0 c.args.disk.now c.changed.new.disk c.give_up.new.disk c.give_up.new.space 241 1 (2 * nt + (2 + 2)) (nt + (1 + 1)) first (λ tells. tells_on g.D.Disk c.barrier.new.disk c.changed.new.disk c.give_up.new.disk 240 reads (still_tells g.D.Disk tells c.barrier.ensures.told c.barrier.ensures.calls.same)) c.give_up.ensures.calls all_tried c.give_up.result (c.give_up.ensures.fails c.args.at.0);
+      tried = finish_apart g.D.Disk c.args.at.0 c.changed.new.disk c.give_up.new.disk c.give_up.new.space c.give_up.result (c.give_up.ensures.fails c.args.at.0);
       made = all_ok c.give_up.result all_tried;
       cylinders = c.give_up.ensures.cylinders;
       calls = makes_then g.D.Disk c.args.disk.now c.changed.new.disk c.give_up.new.disk 241 (2 * nt + (2 + 2)) 31205 1 (nt + (1 + 1)) 15483 first c.give_up.ensures.calls (omega (arith, room.0, ap (length {A = ℕ}) c.as_slice.ensures)) (omega (arith, room.0, ap (length {A = ℕ}) c.as_slice.ensures));

@@ -3,7 +3,7 @@ use Rattle.cfs_base.specs.declared.identifier.BlockNo.{BlockNo}
 use Rattle.cfs_base.specs.declared.refusal.Trouble.TheVariants as troubles
 use Rattle.special_files.specs.Committing.{AreParts, far_root}
 use Rattle.special_files.specs.Drafting.{number_of}
-use Rattle.special_files.proofs.CommitDraft.{far_trouble, nothing_made, shadow_below}
+use Rattle.special_files.proofs.CommitDraft.{far_apart, far_trouble, nothing_made, shadow_below}
 use Rattle.special_files.proofs.CommitStore.{made_below}
 use Rattle.special_files.proofs.whole.commit_parts.Goals as goal
 
@@ -22,7 +22,8 @@ returns-in-Err g c = record {
       absurd (omega (arith, below, size, far.far));
   refused = far_trouble g.D.Disk c.args.at.0 c.args.disk.now c.args.space.now c.in-Err.trouble c.in-Err.ensures.far.1;
   made = tt;
-  untried = λ same. (let no : far_root c.args.at.0 ≡ troubles.Disk false = sym c.in-Err.ensures.far.1 ∙ same in cc);
+  tried = λ some. far_apart c.args.at.0 c.in-Err.trouble c.in-Err.ensures.far.1;
+  untried = λ same. absurd (far_apart c.args.at.0 c.in-Err.trouble c.in-Err.ensures.far.1 same);
   cylinders = refl;
   calls = nothing_made g.D.Disk c.args.disk.now 93138 46452;
 }
@@ -35,7 +36,8 @@ returns-in-Err-is_on_disk g c = record {
       absurd (omega (arith, below, size, c.in-Err-is_on_disk.ensures.far.0));
   refused = far_trouble g.D.Disk c.args.at.0 c.args.disk.now c.args.space.now c.in-Err-is_on_disk.trouble c.in-Err-is_on_disk.ensures.far.1;
   made = tt;
-  untried = λ same. (let no : far_root c.args.at.0 ≡ troubles.Disk false = sym c.in-Err-is_on_disk.ensures.far.1 ∙ same in cc);
+  tried = λ some. far_apart c.args.at.0 c.in-Err-is_on_disk.trouble c.in-Err-is_on_disk.ensures.far.1;
+  untried = λ same. absurd (far_apart c.args.at.0 c.in-Err-is_on_disk.trouble c.in-Err-is_on_disk.ensures.far.1 same);
   cylinders = refl;
   calls = nothing_made g.D.Disk c.args.disk.now 93138 46452;
 }
@@ -47,3 +49,6 @@ returns-in_default-clause-commits g c = λ graph ds id o was d made store at ope
 pub returns-in-Ok-is_on_disk-clause-commits : goal.returns-in-Ok-is_on_disk-clause-commits
 returns-in-Ok-is_on_disk-clause-commits g c = λ graph ds id o was d made store at opened parts makes. c.commit_begun.ensures.commits graph ds id o was d made store at opened
     (subst (λ (x : Option BlockNo). AreParts was c.args.at.0 (number_of x) c.args.own.now c.args.root.now (number_of c.args.created)) c.in-Some.is parts) makes
+
+pub returns-in_default-clause-tried : goal.returns-in_default-clause-tried
+returns-in_default-clause-tried g c = λ some. absurd (some (ap number_of c.in_default.is))

@@ -1,7 +1,7 @@
 use Rattle.std.proofs.Common.{◌≡◌, None, refl, sym, ◌∙◌, ap, subst}
 use Rattle.ufs_model.specs.declared.asked.Request.TheVariants as asks
 use Rattle.cfs_core.specs.Calls.{TriesOn, done_or}
-use Rattle.cfs_core.specs.Kernel.{Kernel, bare_seats}
+use Rattle.cfs_core.specs.Kernel.{Kernel}
 use Rattle.cfs_core.proofs.Putting.{tries_put}
 use Rattle.cfs_core.proofs.Refusing.{delete_out}
 use Rattle.cfs_core.proofs.kernel.Core.empty.Goals as goal
@@ -9,10 +9,10 @@ use Rattle.cfs_core.proofs.kernel.Core.empty.Goals.{in-Ok, in-Err}
 
 pub returns : goal.returns
 returns g c = λ to.
-    let k : Kernel _ = record { disk = c.self.inside.disk; root = c.self.inside.root; names = c.self.inside.names; space = c.self.inside.space; words = c.self.inside.words; seats = bare_seats c.self.inside.grants.grants; collecting = None; stop = c.self.inside.stop } in
+    let k : Kernel _ = record { disk = c.self.inside.disk; root = c.self.inside.root; names = c.self.inside.names; space = c.self.inside.space; words = c.self.inside.words; seats = c.self.inside.seats.seats; collections = c.self.inside.collections; stop = c.self.inside.stop } in
     let new : Kernel _ = record k { disk = c.delete.new.disk; space = c.delete.new.space } in
     let request = asks.Delete to c.args.slot in
-    let done = tries_put g.D.Disk g.met.D.Disk.left_sized g.met.D.Disk.sized k c.delete.new.disk c.delete.new.space refl c.args.index c.args.slot None request refl refl c.delete.result c.delete.ensures
+    let done = tries_put g.D.Disk g.met.D.Disk.left_sized g.met.D.Disk.sized k c.delete.new.disk c.delete.new.space c.args.index c.args.slot None request refl refl c.delete.result c.delete.ensures
     (λ s who i serves r. (refl, delete_out k.words.seed s who to c.args.index i c.args.slot r))
     (λ s who i serves r. ((λ short. let no = short.delete in cc), serves.four)) in
     let told : c.match-delete.result ≡ done_or c.delete.result = elim c.match-delete.branch [

@@ -1,6 +1,6 @@
-use Rattle.std.proofs.Common.{Some, ◌∙◌, ap, subst}
+use Rattle.std.proofs.Common.{Some, sym, ◌∙◌, ap, subst}
 use Rattle.cfs_base.specs.declared.kind.FileKind.TheVariants as file_kinds
-use Rattle.ufs_model.specs.Refusal.{target}
+use Rattle.ufs_model.specs.State.{draft_of, named}
 use Rattle.ufs_model.specs.declared.asked.Wanted.TheVariants.{AFile}
 use Rattle.ufs_model.specs.declared.object.Object.TheVariants as objects
 use Rattle.cfs_core.specs.Ways.{Arrives, unfit_of}
@@ -13,7 +13,7 @@ pub returns-in-Ok-default-Normal-clause-reached : goal.returns-in-Ok-default-Nor
 returns-in-Ok-default-Normal-clause-reached g c = λ request by s serves.
     let came = c.in-Ok-default-Normal.ensures.arrived request by s serves in
     let f = file_there came.0 (ap (λ x. unfit_of AFile (Some x)) (kind_is g.D.Disk c.args.self.now s serves c.in-Ok-default-Normal.id came.0 c.in-Ok-default-Normal.field-0-1 c.in-Ok-default-Normal.ensures.kind came.1.there) ∙ c.in-Ok-default-Normal.ensures.wanted) in
-    (f.0, reaches s c.args.who request c.in-Ok-default-Normal.id _ (subst (Arrives s c.args.who request c.in-Ok-default-Normal.id) f.1 came.1) (c.has_no_draft.ensures.bare s c.args.who (target request) serves), c.has_no_draft.ensures.shut s c.in-Ok-default-Normal.id serves)
+    (f.0, reaches s c.args.who request c.in-Ok-default-Normal.id _ (subst (Arrives s c.args.who request c.in-Ok-default-Normal.id) f.1 came.1) (ap (draft_of s c.args.who) by.to ∙ c.requires.bare s serves), c.shuts.ensures s c.in-Ok-default-Normal.id serves (sym (ap (named s c.args.who) by.to) ∙ came.1.name) (c.requires.bare s serves) (c.in-Ok-default-Normal.ensures.free s serves))
 
 pub returns-in-Ok-default-Normal-clause-kind : goal.returns-in-Ok-default-Normal-clause-kind
 returns-in-Ok-default-Normal-clause-kind g c = λ s f serves there.
@@ -23,7 +23,7 @@ pub returns-in-Ok-default-Special-clause-reached : goal.returns-in-Ok-default-Sp
 returns-in-Ok-default-Special-clause-reached g c = λ request by s serves.
     let came = c.in-Ok-default-Special.ensures.arrived request by s serves in
     let f = file_there came.0 (ap (λ x. unfit_of AFile (Some x)) (kind_is g.D.Disk c.args.self.now s serves c.in-Ok-default-Special.id came.0 c.in-Ok-default-Special.field-0-1 c.in-Ok-default-Special.ensures.kind came.1.there) ∙ c.in-Ok-default-Special.ensures.wanted) in
-    (f.0, reaches s c.args.who request c.in-Ok-default-Special.id _ (subst (Arrives s c.args.who request c.in-Ok-default-Special.id) f.1 came.1) (c.has_no_draft.ensures.bare s c.args.who (target request) serves), c.has_no_draft.ensures.shut s c.in-Ok-default-Special.id serves)
+    (f.0, reaches s c.args.who request c.in-Ok-default-Special.id _ (subst (Arrives s c.args.who request c.in-Ok-default-Special.id) f.1 came.1) (ap (draft_of s c.args.who) by.to ∙ c.requires.bare s serves), c.shuts.ensures s c.in-Ok-default-Special.id serves (sym (ap (named s c.args.who) by.to) ∙ came.1.name) (c.requires.bare s serves) (c.in-Ok-default-Special.ensures.free s serves))
 
 pub returns-in-Ok-default-Special-clause-kind : goal.returns-in-Ok-default-Special-clause-kind
 returns-in-Ok-default-Special-clause-kind g c = λ s f serves there.

@@ -2,16 +2,16 @@ use Rattle.std.proofs.Common.{sym, ◌∙◌, ap}
 use Rattle.std.specs.Prelude.{option_map}
 use Rattle.open_table.specs.Grants.{grant_in}
 use Rattle.ufs_model.specs.State.{grant_of, named}
-use Rattle.cfs_core.proofs.Serving.{table_is}
+use Rattle.cfs_core.specs.Kernel.{grants_in}
 use Rattle.cfs_core.proofs.Ways.{named_of}
 use Rattle.cfs_core.proofs.kernel.Core.goes_to.Goals as goal
 
 pub returns-in-Some : goal.returns-in-Some
 returns-in-Some g c = λ s serves.
-    let found = c.find.ensures ∙ ap (λ gs. grant_in gs c.args.who c.in-Through.grant) (sym (table_is c.args.self.now s serves.front c.self.inside.grants.grants (ap (λ k. k.seats) (sym c.self.view_is)))) ∙ c.table_follows_the_model.ensures.found s c.args.who c.in-Through.grant in
+    let found = c.find.ensures ∙ ap (λ gs. grant_in gs c.args.who c.in-Through.grant) (ap (λ k. grants_in k.seats) c.self.view_is ∙ serves.front.grants) ∙ c.table_follows_the_model.ensures.found s c.args.who c.in-Through.grant in
     ap (option_map (λ x. x.id)) (sym c.in-Some.is) ∙ named_of c.find.result (grant_of s c.args.who c.in-Through.grant) found ∙ ap (named s c.args.who) (sym c.in-Through.is)
 
 pub returns-in-None : goal.returns-in-None
 returns-in-None g c = λ s serves.
-    let found = c.find.ensures ∙ ap (λ gs. grant_in gs c.args.who c.in-Through.grant) (sym (table_is c.args.self.now s serves.front c.self.inside.grants.grants (ap (λ k. k.seats) (sym c.self.view_is)))) ∙ c.table_follows_the_model.ensures.found s c.args.who c.in-Through.grant in
+    let found = c.find.ensures ∙ ap (λ gs. grant_in gs c.args.who c.in-Through.grant) (ap (λ k. grants_in k.seats) c.self.view_is ∙ serves.front.grants) ∙ c.table_follows_the_model.ensures.found s c.args.who c.in-Through.grant in
     ap (option_map (λ x. x.id)) (sym c.in-None.is) ∙ named_of c.find.result (grant_of s c.args.who c.in-Through.grant) found ∙ ap (named s c.args.who) (sym c.in-Through.is)

@@ -2,7 +2,7 @@ use Rattle.std.proofs.Common.{sym, ◌∙◌, ap}
 use Rattle.open_table.specs.Grants.{grant_in}
 use Rattle.ufs_model.specs.Refusal.{goes_through_reading}
 use Rattle.ufs_model.specs.State.{grant_of}
-use Rattle.cfs_core.proofs.Serving.{table_is}
+use Rattle.cfs_core.specs.Kernel.{grants_in}
 use Rattle.cfs_core.proofs.Ways.{reads_of}
 use Rattle.cfs_core.proofs.kernel.Core.is_for_reading.Goals as goal
 
@@ -11,5 +11,5 @@ returns-in-Direct g c = λ s serves. ap (goes_through_reading s c.args.who) (sym
 
 pub returns-in-Through : goal.returns-in-Through
 returns-in-Through g c = λ s serves.
-    let found = c.find.ensures ∙ ap (λ gs. grant_in gs c.args.who c.in-Through.grant) (sym (table_is c.args.self.now s serves.front c.self.inside.grants.grants (ap (λ k. k.seats) (sym c.self.view_is)))) ∙ c.table_follows_the_model.ensures.found s c.args.who c.in-Through.grant in
+    let found = c.find.ensures ∙ ap (λ gs. grant_in gs c.args.who c.in-Through.grant) (ap (λ k. grants_in k.seats) c.self.view_is ∙ serves.front.grants) ∙ c.table_follows_the_model.ensures.found s c.args.who c.in-Through.grant in
     c.reads.ensures ∙ reads_of c.find.result (grant_of s c.args.who c.in-Through.grant) found ∙ ap (goes_through_reading s c.args.who) (sym c.in-Through.is)

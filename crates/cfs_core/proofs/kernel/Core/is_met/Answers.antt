@@ -8,7 +8,7 @@ use Rattle.open_table.specs.Model.{is_writing, table_of}
 use Rattle.ufs_model.specs.declared.asked.Ref.TheVariants.{Direct}
 use Rattle.ufs_model.specs.Refusal.{is_open, is_open_for_writing, meets_a_grant}
 use Rattle.ufs_model.specs.State.{State}
-use Rattle.cfs_core.proofs.Serving.{table_is}
+use Rattle.cfs_core.specs.Kernel.{grants_in}
 use Rattle.cfs_core.proofs.kernel.Core.is_met.Goals as goal
 
 met : (s : State) (id : Puid) (alone : Bool) (mode : Option Mode) → is_some mode ≡ is_open s id → is_writing mode ≡ is_open_for_writing s id → (if alone then is_some mode else is_writing mode) ≡ meets_a_grant s alone (Direct id)
@@ -24,7 +24,7 @@ held gs is = at (none_collide gs) (tuids_differ gs) (few_each gs) is
 
 pub returns-in-Direct : goal.returns-in-Direct
 returns-in-Direct g c = λ s serves.
-    let table = sym (table_is c.args.self.now s serves.front c.self.inside.grants.grants (ap (λ k. k.seats) (sym c.self.view_is))) in
+    let table = ap (λ k. grants_in k.seats) c.self.view_is ∙ serves.front.grants in
     let mode = c.mode_on.ensures ∙ ap (λ gs. mode_in gs c.in-Direct.id) table in
     let apart : none_collide (table_of s.grants) ≡ true = held (table_of s.grants) (subst (λ gs. IsTrue (is_held gs)) table c.len.ensures.held) in
     c.bars.ensures ∙ met s c.in-Direct.id c.args.alone c.mode_on.result (ap is_some mode ∙ c.table_follows_the_model.ensures.open s c.in-Direct.id) (ap is_writing mode ∙ c.table_follows_the_model.ensures.written s c.in-Direct.id apart) ∙ ap (meets_a_grant s c.args.alone) (sym c.in-Direct.is)

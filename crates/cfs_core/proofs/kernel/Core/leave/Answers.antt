@@ -1,28 +1,46 @@
-use Rattle.std.proofs.Common.{None, refl, sym, ◌∙◌, ap, subst}
-use Rattle.std.specs.Prelude.{nat_le, not, ◌==◌}
-use Rattle.std.specs.List.{list_all}
-use Rattle.open_table.specs.Grants.{without_session}
+use Rattle.std.proofs.Common.{◌≡◌, Some, refl, sym, ◌∙◌, ap, subst}
+use Rattle.std.specs.Prelude.{IsSome}
+use Rattle.open_table.specs.Grants.{first_of}
+use Rattle.open_table.proofs.Lists.{grant_in-first, grants_of-fewer}
 use Rattle.ufs_model.specs.declared.asked.Event.TheVariants as events
-use Rattle.cfs_core.specs.Asked.{Happens}
-use Rattle.cfs_core.specs.Kernel.{Kernel, bare_seats}
-use Rattle.cfs_core.specs.StandsFor.{StandsFor, front_of}
-use Rattle.cfs_core.proofs.Regranted.{all_filter, leaves_drop}
-use Rattle.cfs_core.proofs.Serving.{table_is}
+use Rattle.cfs_core.specs.Asked.{Happens, halted}
+use Rattle.cfs_core.specs.Kernel.{grants_in}
+use Rattle.cfs_core.specs.Leaving.{halt_of}
+use Rattle.cfs_core.proofs.Leaving.{has_left, sheds_none, sheds_then}
 use Rattle.cfs_core.proofs.kernel.Core.leave.Goals as goal
 
-pub invariant_of-self : goal.invariant_of-self
-invariant_of-self g c = record {
-  size = c.self.invariant.size;
-  room = c.self.invariant.room;
-  some = c.self.invariant.some;
-  drawn_all = ap (list_all (λ x. nat_le x.tuid.draw c.self.inside.words.drawn)) c.drop_session.ensures.grants
-      ∙ all_filter (λ x. nat_le x.tuid.draw c.self.inside.words.drawn) (λ x. not (x.session == c.args.who)) c.self.inside.grants.grants c.self.invariant.drawn_all;
-}
+pub loop-grant-init : goal.loop-grant-init
+loop-grant-init g c = sheds_none g.D.Disk c.args.who c.args.self.now
+
+pub loop-grant-preserved : goal.loop-grant-preserved
+loop-grant-preserved g c = sheds_then g.D.Disk c.args.who _ _ _ c.loop-grant.invariant c.drop_grant.ensures.sheds
+
+pub loop-grant-smaller : goal.loop-grant-smaller
+loop-grant-smaller g c =
+    let first : first_of (grants_in c.loop-grant.self.seats) c.args.who ≡ Some c.in-Some.grant = ap (λ x. first_of (grants_in x.seats) c.args.who) (sym c.self-in-loop-grant.view_is) ∙ sym c.next_of.ensures ∙ c.in-Some.is in
+    rw c.drop_grant.ensures.gone (grants_of-fewer (grants_in c.loop-grant.self.seats) c.args.who c.in-Some.grant first)
+
+pub drop_grant-requires : goal.drop_grant-requires
+drop_grant-requires g c =
+    let first : first_of (grants_in c.loop-grant.self.seats) c.args.who ≡ Some c.in-Some.grant = ap (λ x. first_of (grants_in x.seats) c.args.who) (sym c.self-in-loop-grant.view_is) ∙ sym c.next_of.ensures ∙ c.in-Some.is in
+    record { found = subst (λ o. IsSome o) (sym (grant_in-first (grants_in c.loop-grant.self.seats) c.args.who c.in-Some.grant first)) refl }
 
 pub returns-clause-event : goal.returns-clause-event
 returns-clause-event g c = λ s stands.
-    let k : Kernel _ = record { disk = c.self.inside.disk; root = c.self.inside.root; names = c.self.inside.names; space = c.self.inside.space; words = c.self.inside.words; seats = bare_seats c.self.inside.grants.grants; collecting = None; stop = c.self.inside.stop } in
-    let before = subst (λ x. StandsFor g.D.Disk x s) (sym c.self.view_is) stands in
-    let table = c.drop_session.ensures.grants ∙ ap (λ gs. without_session gs c.args.who) (sym (table_is k s (front_of g.D.Disk k s before) c.self.inside.grants.grants refl)) ∙ sym (c.table_follows_the_model.ensures.left s c.args.who) in
-    subst (λ x. Happens g.D.Disk x (record k { seats = bare_seats c.drop_session.new.self.grants }) s (events.Leave c.args.who None)) c.self.view_is
-    (leaves_drop g.D.Disk k s c.args.who c.self.inside.grants.grants c.drop_session.new.self.grants refl refl table before)
+    subst (λ r. Happens g.D.Disk c.args.self.now c.loop-grant.self s (events.Leave c.args.who (halted r))) (sym (c.halt_of.ensures ∙ ap (λ x. halt_of x.stop c.self-2.inside.stop) c.self.view_is ∙ ap (λ x. halt_of c.args.self.now.stop x.stop) c.self-2.view_is))
+    (has_left g.D.Disk c.args.who g.met.D.Disk.left_sized g.met.D.Disk.sized c.args.self.now c.loop-grant.self c.loop-grant.invariant (ap (λ x. first_of (grants_in x.seats) c.args.who) (sym c.self-in-loop-grant.view_is) ∙ sym c.next_of.ensures ∙ c.in_default.is) s stands)
+
+pub returns-clause-words : goal.returns-clause-words
+returns-clause-words g c = c.loop-grant.invariant.words
+
+pub returns-clause-size : goal.returns-clause-size
+returns-clause-size g c = c.loop-grant.invariant.size
+
+pub returns-clause-faults : goal.returns-clause-faults
+returns-clause-faults g c = c.loop-grant.invariant.faults
+
+pub returns-clause-collections : goal.returns-clause-collections
+returns-clause-collections g c = c.loop-grant.invariant.collections
+
+pub returns-clause-sound : goal.returns-clause-sound
+returns-clause-sound g c = c.loop-grant.invariant.sound

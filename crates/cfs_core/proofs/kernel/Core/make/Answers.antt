@@ -1,4 +1,4 @@
-use Rattle.std.proofs.Common.{◌≡◌, inl, inr, ℕ, None, Ok, Err, refl, sym, ◌∙◌, subst}
+use Rattle.std.proofs.Common.{◌≡◌, inl, inr, ℕ, Ok, Err, refl, sym, ◌∙◌, subst}
 use Rattle.std.specs.Prelude.{Result, sum}
 use Rattle.cfs_base.specs.declared.identifier.Puid.{Puid}
 use Rattle.cfs_base.specs.declared.refusal.Refused.{Refused}
@@ -8,7 +8,7 @@ use Rattle.cfs_base.specs.declared.kind.Kind.TheVariants as kinds
 use Rattle.index_ops.specs.Creates.{made_of}
 use Rattle.puid_space.specs.Kinds.{kind_of}
 use Rattle.ufs_model.specs.Object.{blocks_of}
-use Rattle.cfs_core.specs.Kernel.{Kernel, bare_seats}
+use Rattle.cfs_core.specs.Kernel.{Kernel}
 use Rattle.cfs_core.specs.Makes.{Names, TriesToMake}
 use Rattle.cfs_core.proofs.Placed.{tries_made, tries_short, tries_unmade}
 use Rattle.cfs_core.proofs.kernel.Core.make.Goals as goal
@@ -29,18 +29,18 @@ err_is (Err x) e f is same = cc
 
 pub returns-in-Ok : goal.returns-in-Ok
 returns-in-Ok g c =
-    let k : Kernel _ = record { disk = c.self.inside.disk; root = c.self.inside.root; names = c.self.inside.names; space = c.self.inside.space; words = c.self.inside.words; seats = bare_seats c.self.inside.grants.grants; collecting = None; stop = c.self.inside.stop } in
+    let k : Kernel _ = record { disk = c.self.inside.disk; root = c.self.inside.root; names = c.self.inside.names; space = c.self.inside.space; words = c.self.inside.words; seats = c.self.inside.seats.seats; collections = c.self.inside.collections; stop = c.self.inside.stop } in
     let o = made_of c.args.kind c.args.fill c.args.size in
     let done : TriesToMake g.D.Disk k c.name.new.self c.args.index c.args.slot o c.name.result = elim (cases_lt (sum k.space.free) 8) [
       | inl few ↦ (let full = (c.create.ensures.full few).0 in let no = sym full ∙ c.in-Ok.is in cc)
-      | inr enough ↦ tries_made g.D.Disk g.met.D.Disk.left_sized g.met.D.Disk.sized k c.create.new.disk c.create.new.space refl c.self.invariant.room c.args.index c.args.slot o (one_block c.args.kind c.args.fill c.args.size) c.ahead-word.result c.ahead-word.ensures
+      | inr enough ↦ tries_made g.D.Disk g.met.D.Disk.left_sized g.met.D.Disk.sized k c.create.new.disk c.create.new.space c.self.invariant.room c.args.index c.args.slot o (one_block c.args.kind c.args.fill c.args.size) c.ahead-word.result c.ahead-word.ensures
           c.create.result (c.create.ensures.makes enough) enough c.in-Ok.id c.in-Ok.is c.name.new.self c.name.result (subst (λ kind. Names (record k { disk = c.create.new.disk; space = c.create.new.space }) c.name.new.self c.in-Ok.id kind c.name.result) (sym (kind_is c.args.kind c.args.fill c.args.size)) c.name.ensures)
     ] in
     subst (λ x. TriesToMake g.D.Disk x c.name.new.self c.args.index c.args.slot o c.name.result) c.self.view_is done
 
 pub returns-in-Err : goal.returns-in-Err
 returns-in-Err g c =
-    let k : Kernel _ = record { disk = c.self.inside.disk; root = c.self.inside.root; names = c.self.inside.names; space = c.self.inside.space; words = c.self.inside.words; seats = bare_seats c.self.inside.grants.grants; collecting = None; stop = c.self.inside.stop } in
+    let k : Kernel _ = record { disk = c.self.inside.disk; root = c.self.inside.root; names = c.self.inside.names; space = c.self.inside.space; words = c.self.inside.words; seats = c.self.inside.seats.seats; collections = c.self.inside.collections; stop = c.self.inside.stop } in
     let o = made_of c.args.kind c.args.fill c.args.size in
     let new : Kernel _ = record k { disk = c.create.new.disk; space = c.create.new.space } in
     let done : TriesToMake g.D.Disk k new c.args.index c.args.slot o (Err c.in-Err.refused) = elim (cases_lt (sum k.space.free) 8) [
@@ -48,7 +48,7 @@ returns-in-Err g c =
           let full = c.create.ensures.full few in
           subst (λ e. TriesToMake g.D.Disk k new c.args.index c.args.slot o (Err e)) (err_is c.create.result c.in-Err.refused _ c.in-Err.is full.0)
           (tries_short g.D.Disk g.met.D.Disk.left_sized g.met.D.Disk.sized k c.create.new.disk c.create.new.space full.1 full.2 c.args.index c.args.slot o few)
-      | inr enough ↦ tries_unmade g.D.Disk g.met.D.Disk.left_sized g.met.D.Disk.sized k c.create.new.disk c.create.new.space refl c.self.invariant.room c.args.index c.args.slot o (one_block c.args.kind c.args.fill c.args.size) c.ahead-word.result c.ahead-word.ensures
+      | inr enough ↦ tries_unmade g.D.Disk g.met.D.Disk.left_sized g.met.D.Disk.sized k c.create.new.disk c.create.new.space c.self.invariant.room c.args.index c.args.slot o (one_block c.args.kind c.args.fill c.args.size) c.ahead-word.result c.ahead-word.ensures
           c.create.result (c.create.ensures.makes enough) enough c.in-Err.refused c.in-Err.is
     ] in
     subst (λ x. TriesToMake g.D.Disk x new c.args.index c.args.slot o (Err c.in-Err.refused)) c.self.view_is done

@@ -62,3 +62,6 @@ returns-clause-arrived g c = λ request by s serves.
       arrives s c.args.who c.args.wants c.args.way serves.state c.in-Some.id (sym c.in-Some.is ∙ c.goes_to.ensures s serves) (sym (c.lacks.ensures.gone s serves) ∙ c.if-lacks.false) o.0 o.1 o.2
           (sym (c.may_only_read.ensures s serves) ∙ c.if-may_only_read.false) (sym (c.is_met.ensures s serves) ∙ c.if-is_met.false) request by,
     )
+
+pub returns-clause-free : goal.returns-clause-free
+returns-clause-free g c = λ s serves. sym (c.is_met.ensures s serves) ∙ c.if-is_met.false

@@ -1,5 +1,5 @@
 use Rattle.std.proofs.Common.{[], None, sym, subst}
-use Rattle.cfs_core.specs.Kernel.{bare_seats}
+use Rattle.cfs_core.specs.declared.collecting.Collections.{Collections}
 use Rattle.cfs_core.specs.Opened.{IsOpened}
 use Rattle.cfs_core.proofs.Opened.{never, opened}
 use Rattle.cfs_core.proofs.kernel.Core.open.Goals as goal
@@ -19,6 +19,8 @@ returns-then-is_astray-clause-untouched g c = λ honest other.
 pub returns-else-is_astray-clause-opened : goal.returns-else-is_astray-clause-opened
 returns-else-is_astray-clause-opened g c = λ honest graph sound.
     let r = c.in-Ok.recovered in
-    subst (λ table. IsOpened g.D.Disk graph c.args.seed (record { disk = c.recover.new.disk; root = r.label.root; names = r.names; space = r.space; words = c.new.result; seats = bare_seats table.grants; collecting = None; stop = None })) (sym c.new-in-Ok.ensures)
-    (subst (λ words. IsOpened g.D.Disk graph c.args.seed (record { disk = c.recover.new.disk; root = r.label.root; names = r.names; space = r.space; words = words; seats = []; collecting = None; stop = None })) (sym c.new.ensures)
-    (opened g.D.Disk _ c.recover.new.disk _ _ _ (c.in-Ok.ensures.opened honest) c.args.seed (g.met.D.Disk.of_blocks c.args.disk honest) graph sound))
+    let none : Collections = record { collector = None; called = 0; finished = 0 } in
+    subst (λ kept. IsOpened g.D.Disk graph c.args.seed (record { disk = c.recover.new.disk; root = r.label.root; names = r.names; space = r.space; words = c.new.result; seats = c.new-in-Ok.result.seats; collections = kept; stop = None })) (sym c.new-in-Ok-2.ensures)
+    (subst (λ ss. IsOpened g.D.Disk graph c.args.seed (record { disk = c.recover.new.disk; root = r.label.root; names = r.names; space = r.space; words = c.new.result; seats = ss; collections = none; stop = None })) (sym c.new-in-Ok.ensures)
+    (subst (λ words. IsOpened g.D.Disk graph c.args.seed (record { disk = c.recover.new.disk; root = r.label.root; names = r.names; space = r.space; words = words; seats = []; collections = none; stop = None })) (sym c.new.ensures)
+    (opened g.D.Disk _ c.recover.new.disk _ _ _ (c.in-Ok.ensures.opened honest) c.args.seed (g.met.D.Disk.of_blocks c.args.disk honest) graph sound)))

@@ -1,8 +1,8 @@
-use Rattle.std.proofs.Common.{None, refl, sym, subst}
+use Rattle.std.proofs.Common.{refl, sym, subst}
 use Rattle.ufs_model.specs.declared.asked.Request.TheVariants as asks
 use Rattle.ufs_model.specs.declared.object.Object.TheVariants as objects
 use Rattle.cfs_core.specs.Calls.{Tries}
-use Rattle.cfs_core.specs.Kernel.{Kernel, bare_seats}
+use Rattle.cfs_core.specs.Kernel.{Kernel}
 use Rattle.cfs_core.specs.Looks.{ReachesAll, counted}
 use Rattle.cfs_core.proofs.Answering.{tries_seen}
 use Rattle.cfs_core.proofs.Refusing.{slots_seen}
@@ -13,7 +13,7 @@ returns-in-Err g c = c.in-Err.ensures.refused (asks.Slots c.args.to) (record { t
 
 pub returns : goal.returns
 returns g c =
-    let k : Kernel _ = record { disk = c.self.inside.disk; root = c.self.inside.root; names = c.self.inside.names; space = c.self.inside.space; words = c.self.inside.words; seats = bare_seats c.self.inside.grants.grants; collecting = None; stop = c.self.inside.stop } in
+    let k : Kernel _ = record { disk = c.self.inside.disk; root = c.self.inside.root; names = c.self.inside.names; space = c.self.inside.space; words = c.self.inside.words; seats = c.self.inside.seats.seats; collections = c.self.inside.collections; stop = c.self.inside.stop } in
     let request = asks.Slots c.args.to in
     let reach = subst (λ x. ReachesAll g.D.Disk objects.Index x c.args.who request c.in-Ok.index) (sym c.self.view_is) (c.in-Ok.ensures.reached request (record { to = refl; each = λ s who. refl })) in
     subst (λ x. Tries g.D.Disk x (record k { disk = c.count.new.disk }) c.args.who request c.count.result) c.self.view_is

@@ -19,7 +19,6 @@ returns-clause-taken g c =
       hears = search rules;
       names = search rules;
       room = search rules;
-      built = search rules;
       sink = refl;
       failed = refl;
       stays = refl;

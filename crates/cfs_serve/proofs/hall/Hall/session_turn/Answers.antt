@@ -1,5 +1,6 @@
-use Rattle.std.proofs.Common.{◌∷◌, [], arith, ap, length, length-set, length-append}
-use Rattle.cfs_serve.proofs.Sessions.{found, some_work, heard_by, turns_of_port, work_on}
+use Rattle.std.proofs.Common.{◌∷◌, [], arith, ap, length, length-set, length-append, ◌∙◌, refl}
+use Rattle.cfs_serve.proofs.Sessions.{collected_by, found, some_work, heard_by, work_on}
+use Rattle.cfs_serve.proofs.Raising.{counted_turn}
 use Rattle.cfs_serve.proofs.hall.Hall.session_turn.Goals as goal
 
 pub port_turn-requires-clause-room : goal.port_turn-requires-clause-room
@@ -28,13 +29,27 @@ invariant_of-self g c =
       omega (arith, less, k.1, moves.room),
       omega (arith, less, k.2, ap length moves.recorded, length-append c.self.inside.journal.events (moves.event ∷ [])),
       rw length-set k.3,
+      k.4,
+      k.5,
+      λ spent whole. rw moves.recorded (collected_by g.A.Asker.stands g.J.Charter.charter c.self.inside.journal.events c.args.session p q moves.event moves.kind (k.6 spent whole)),
+      k.7,
+      counted_turn g.A.Server.faults g.A.Asker.stands g.J.Charter.charter c.self.inside.journal c.port_turn.new.journal c.port_turn.ensures.raised _ k.8,
     )
 
-pub returns : goal.returns
-returns g c =
+pub returns-clause-turn : goal.returns-clause-turn
+returns-clause-turn g c =
     let p = c.index_mut-port.result.now in
-    let q = c.port_turn.new.port in
     let ps = c.self.inside.ports.items in
-    let moves = c.port_turn.ensures.moves in
     let at = (found ps c.args.self.now.ports c.args.session p (ap (λ x. x.ports) c.self.view_is) c.requires.at c.requires.stays c.index_mut-port.ensures.value).0 in
-    rw (← c.self.view_is) (turns_of_port ps c.args.session p q moves.event at moves.kind)
+    rw (← c.self.view_is) (record {
+      before = p;
+      after = c.port_turn.new.port;
+      at = at;
+      ports = refl;
+      moves = c.port_turn.ensures.moves;
+      stamped = c.port_turn.ensures.stamped;
+      collector = (refl, refl, refl);
+    })
+
+pub returns-clause-raised : goal.returns-clause-raised
+returns-clause-raised g c = rw (← c.self.view_is) c.port_turn.ensures.raised

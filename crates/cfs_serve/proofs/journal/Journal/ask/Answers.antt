@@ -1,9 +1,10 @@
 use Rattle.std.proofs.Common.{◌∷◌, [], ◌∙◌, ap, sym, length-append, arith}
 use Rattle.std.specs.Prelude.{◌||◌}
 use Rattle.ufs_model.specs.declared.asked.Event.TheVariants as events
-use Rattle.cfs_serve.specs.Events.{tells_disk, wants_memory}
+use Rattle.cfs_serve.specs.Events.{wants_memory}
 use Rattle.cfs_serve.proofs.Asking.{asked_makes}
 use Rattle.cfs_serve.proofs.Journals.{any-push, lasts_on, run_on, told_on}
+use Rattle.cfs_serve.proofs.Raising.{asked_raised}
 use Rattle.cfs_serve.proofs.journal.Journal.ask.Goals as goal
 
 pub invariant_of-self : goal.invariant_of-self
@@ -17,18 +18,23 @@ invariant_of-self g c =
     let answer = c.answer-reply.ensures in
     let kept = c.self.invariant in
     rw (c.push.ensures.events, c.push.ensures.moments, c.moment-moment.ensures.clock) (
-      run_on g.A.Asker.stands g.A.Server.is_damaged t trail old new e kept.0
+      run_on g.A.Asker.stands g.A.Server.has_stopped g.A.Server.is_damaged g.A.Server.tally t trail old new kept.0 answer.tells.stays answer.undamaged e
           (λ s standing. asked_makes (g.A.Asker.stands new) (g.A.Asker.seed old) t.seed kept.1 s c.args.session c.args.request reply (answer.event s standing))
-          (λ s standing some. rw (← kept.2) (answer.exact s standing (rw kept.2 some)))
-          answer.undamaged,
+          (λ s standing some lost least. rw (← kept.2) (answer.exact s standing (rw kept.2 some) lost least))
+          (λ s standing. rw (← kept.1) (answer.tallies s standing)) kept.7,
       answer.seed ∙ kept.1,
       answer.size ∙ kept.2,
       omega (arith, answer.drawn, kept.3, length-append trail (e ∷ [])),
       c.starved_by-self-inside.ensures c.args.session c.args.request ∙ ap (λ b. wants_memory e || b) kept.4 ∙ sym (any-push wants_memory trail e),
-      lasts_on g.A.Asker.stands g.A.Server.is_damaged g.A.Server.clock g.A.Server.lasts t trail c.self.inside.trail.moments old new e kept.0 kept.5 (rw (← kept.1) (answer.lasts)),
-      told_on g.A.Server.faults g.A.Server.has_stopped g.A.Server.is_damaged t trail old new e kept.6 answer.tells,
-      c.failed_by-self-inside.ensures c.args.session c.args.request ∙ ap (λ b. tells_disk e || b) kept.7 ∙ sym (any-push tells_disk trail e),
+      lasts_on g.A.Asker.stands g.A.Server.has_stopped g.A.Server.is_damaged g.A.Server.tally g.A.Server.clock g.A.Server.lasts t trail c.self.inside.trail.moments old new e kept.0 kept.5 (rw (← kept.1) (answer.lasts)),
+      rw (c.failed_by-self-inside.ensures c.args.session c.args.request) (told_on g.A.Server.faults g.A.Server.has_stopped g.A.Server.is_damaged t trail old new c.self.inside.failed e kept.6 answer.tells),
+      answer.called ∙ kept.7,
     )
 
 pub returns-clause-serves : goal.returns-clause-serves
 returns-clause-serves g c = rw (← c.self.view_is) (record { reply = c.answer-reply.result; answered = c.answer.ensures; events = c.push.ensures.events; room = c.push.ensures.room })
+
+pub returns-clause-raised : goal.returns-clause-raised
+returns-clause-raised g c =
+    let answer = c.answer-reply.ensures in
+    rw (← c.self.view_is) (asked_raised g.A.Server.faults g.A.Asker.stands g.J.Charter.charter _ _ c.args.session c.args.request c.answer-reply.result c.push.ensures.events answer.tells.later answer.tells.told)

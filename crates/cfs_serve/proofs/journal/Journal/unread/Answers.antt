@@ -1,8 +1,9 @@
 use Rattle.std.proofs.Common.{◌∷◌, [], ◌∙◌, ap, sym, refl, length-append, arith}
 use Rattle.std.specs.Prelude.{◌||◌}
 use Rattle.ufs_model.specs.declared.asked.Event.TheVariants as events
-use Rattle.cfs_serve.specs.Events.{tells_disk, wants_memory}
-use Rattle.cfs_serve.proofs.Journals.{any-push, lasts_on, run_on, told_on, unread_makes, unread_tells}
+use Rattle.cfs_serve.specs.Events.{wants_memory}
+use Rattle.cfs_serve.proofs.Journals.{any-push, lasts_on, run_on, told_on, unread_makes, unread_tallies, unread_tells}
+use Rattle.cfs_serve.proofs.Raising.{never_raised}
 use Rattle.cfs_serve.proofs.journal.Journal.unread.Goals as goal
 
 pub invariant_of-self : goal.invariant_of-self
@@ -13,12 +14,18 @@ invariant_of-self g c =
     let e = events.Unread c.args.session c.args.why in
     let kept = c.self.invariant in
     rw (c.push.ensures.events, c.push.ensures.moments, c.moment-moment.ensures.clock) (
-      run_on g.A.Asker.stands g.A.Server.is_damaged t trail server server e kept.0 (unread_makes g.A.Asker.stands t.seed server c.args.session c.args.why) (λ s standing some. tt) (λ s standing sound. sound),
+      run_on g.A.Asker.stands g.A.Server.has_stopped g.A.Server.is_damaged g.A.Server.tally t trail server server kept.0 (λ is. is) (λ s standing sound. sound) e
+          (unread_makes g.A.Asker.stands t.seed server c.args.session c.args.why) (λ s standing some lost least. tt) (λ s standing. unread_tallies g.A.Server.has_stopped g.A.Server.tally t.seed server s c.args.session c.args.why) kept.7,
       kept.1,
       kept.2,
       omega (arith, kept.3, length-append trail (e ∷ [])),
       c.starved_at-self-inside.ensures c.args.session ∙ ap (λ b. wants_memory e || b) kept.4 ∙ sym (any-push wants_memory trail e),
-      lasts_on g.A.Asker.stands g.A.Server.is_damaged g.A.Server.clock g.A.Server.lasts t trail c.self.inside.trail.moments server server e kept.0 kept.5 (rw (← kept.1) (c.moment-moment.ensures.lasts c.args.session c.args.why)),
-      told_on g.A.Server.faults g.A.Server.has_stopped g.A.Server.is_damaged t trail server server e kept.6 (unread_tells g.A.Server.faults g.A.Server.has_stopped g.A.Server.is_damaged server c.args.session c.args.why),
-      kept.7 ∙ sym (any-push tells_disk trail e),
+      lasts_on g.A.Asker.stands g.A.Server.has_stopped g.A.Server.is_damaged g.A.Server.tally g.A.Server.clock g.A.Server.lasts t trail c.self.inside.trail.moments server server e kept.0 kept.5
+          (rw (← kept.1) (c.moment-moment.ensures.lasts c.args.session c.args.why)),
+      told_on g.A.Server.faults g.A.Server.has_stopped g.A.Server.is_damaged t trail server server c.self.inside.failed e kept.6
+          (unread_tells g.A.Server.faults g.A.Server.has_stopped g.A.Server.is_damaged server c.args.session c.args.why),
+      kept.7,
     )
+
+pub returns-clause-raised : goal.returns-clause-raised
+returns-clause-raised g c = rw (← c.self.view_is) (never_raised g.A.Server.faults g.A.Asker.stands g.J.Charter.charter _ _ (events.Unread c.args.session c.args.why) c.push.ensures.events (omega arith) refl refl)

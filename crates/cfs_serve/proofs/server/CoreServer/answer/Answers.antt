@@ -1,6 +1,5 @@
-use Rattle.std.proofs.Common.{ap, arith}
-use Rattle.cfs_core.specs.StandsFor.{is_sweeping}
-use Rattle.cfs_serve.proofs.Owed.{asked, exact_of, short_fits, tells, undamaged}
+use Rattle.std.proofs.Common.{arith}
+use Rattle.cfs_serve.proofs.Owed.{asked, exact_of, short_fits, tallied, tells, undamaged}
 use Rattle.ufs_model.specs.declared.asked.Event.TheVariants as events
 use Rattle.cfs_serve.proofs.server.CoreServer.answer.Goals as goal
 
@@ -8,15 +7,18 @@ pub returns-clause-event : goal.returns-clause-event
 returns-clause-event g c = asked g.D.Disk c.args.self.now c.ask-reply.new.self c.args.who c.args.request.now c.ask-reply.result c.ask-reply.ensures
 
 pub returns-clause-exact : goal.returns-clause-exact
-returns-clause-exact g c = λ s stands some.
+returns-clause-exact g c = λ s stands some lost least.
     exact_of g.D.Disk c.args.self.now c.ask-reply.new.self c.args.who c.args.request.now c.ask-reply.result c.ask-reply.ensures
-    (λ t serves. c.has_room.ensures.room t serves (ap is_sweeping (c.has_room.ensures.idle t serves))) s stands
+    s lost (c.has_room.ensures.lost s) (c.has_room.ensures.room s) least stands
+
+pub returns-clause-tallies : goal.returns-clause-tallies
+returns-clause-tallies g c = λ s stands. tallied g.D.Disk c.args.self.now c.ask-reply.new.self c.args.who c.args.request.now c.ask-reply.result c.ask-reply.ensures s stands
 
 pub returns-clause-tells : goal.returns-clause-tells
 returns-clause-tells g c = tells g.D.Disk c.args.self.now c.ask-reply.new.self c.args.who c.args.request.now c.ask-reply.result c.ask-reply.ensures
 
 pub returns-clause-undamaged : goal.returns-clause-undamaged
-returns-clause-undamaged g c = undamaged g.D.Disk c.args.self.now c.ask-reply.new.self c.args.who c.args.request.now c.ask-reply.result c.ask-reply.ensures
+returns-clause-undamaged g c = λ s stands. undamaged g.D.Disk c.args.self.now c.ask-reply.new.self c.args.who c.args.request.now c.ask-reply.result c.ask-reply.ensures s stands
 
 pub returns-clause-size : goal.returns-clause-size
 returns-clause-size g c = omega (arith, c.has_room.ensures.size, c.has_room-2.ensures.size, c.ask-reply.ensures.size)

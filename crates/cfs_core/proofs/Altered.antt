@@ -1,0 +1,507 @@
+-- A file through a grant with a draft: when a request on it is refused, what it is told, and what a change makes of the state.
+use Rattle.std.proofs.Common.{◌≡◌, ◌⊎◌, inl, inr, ℕ, zero, suc, ◌+◌, ◌<◌, ◌≤◌, List, [], ◌∷◌, ◌++◌, length, get_or, Bool, true, false, cond, not, Option, Some, None, Ok, Err, IsTrue, refl, sym, ◌∙◌, ap, subst, arith}
+use Rattle.std.specs.Prelude.{IfErr, IfOk, Result, filter, find, map, nat_lt, option_and_then, option_to_list, sum}
+use Rattle.std.specs.List.{list_all, range_with_len, sum_by}
+use Rattle.std.proofs.lemmas.Bool.{and_parts}
+use Rattle.std.proofs.lemmas.List.Sums.{sum_by-cons}
+use Rattle.cfs_base.specs.Calls.{OnlyReads}
+use Rattle.cfs_base.specs.Disk.{Image}
+use Rattle.cfs_base.specs.Run.{Leaves}
+use Rattle.cfs_base.specs.declared.disk.Disk.{Ghosts}
+use Rattle.cfs_base.specs.declared.identifier.Puid.{Puid}
+use Rattle.cfs_base.specs.declared.identifier.Tuid.{Tuid}
+use Rattle.cfs_base.specs.declared.refusal.Need as needs
+use Rattle.cfs_base.specs.declared.refusal.Refused.{Refused}
+use Rattle.cfs_base.specs.declared.refusal.Refused.TheVariants as refusals
+use Rattle.cfs_base.proofs.Runs.{wider}
+use Rattle.cyl_alloc.specs.Space.{Kept}
+use Rattle.intentions.specs.Store.{StoreHas}
+use Rattle.leaf_changes.proofs.Given.{file_to_leaves}
+use Rattle.special_files.specs.Becomes.{Becomes}
+use Rattle.special_files.specs.Drafting.{Drafting, IsOpen, fresh_of, need_beside, opened_as, set_in, shadow_need}
+use Rattle.special_files.specs.Refusal.{IsRefusal, is_damaged}
+use Rattle.special_files.specs.Store.{replaced, without_draft}
+use Rattle.special_files.proofs.PutStore.{the_draft}
+use Rattle.ufs_model.specs.declared.asked.Event.TheVariants as events
+use Rattle.ufs_model.specs.declared.asked.Ref.TheVariants.{Through}
+use Rattle.ufs_model.specs.declared.asked.Reply.{Reply}
+use Rattle.ufs_model.specs.declared.asked.Reply.TheVariants as replies
+use Rattle.ufs_model.specs.declared.asked.Request.{Request}
+use Rattle.ufs_model.specs.declared.asked.Request.TheVariants as asks
+use Rattle.ufs_model.specs.declared.change.Change.{Change}
+use Rattle.ufs_model.specs.declared.change.Change.TheVariants.{Fill, Overwrite, SetSize}
+use Rattle.ufs_model.specs.declared.object.Draft.{Draft}
+use Rattle.ufs_model.specs.declared.object.File.{File}
+use Rattle.ufs_model.specs.declared.object.Grant.{Grant}
+use Rattle.ufs_model.specs.declared.object.Object.{Object}
+use Rattle.ufs_model.specs.declared.object.Object.TheVariants as objects
+use Rattle.ufs_model.specs.Graph.{Graph, object_at}
+use Rattle.ufs_model.specs.Identifier.{same_puid}
+use Rattle.ufs_model.specs.Need.{change_need, is_normal, need_of}
+use Rattle.ufs_model.specs.Next.{next}
+use Rattle.ufs_model.specs.Numbers.{first_level, has_number, merged, missing, next_levels, numbers_rise, shared, with_numbers, within}
+use Rattle.ufs_model.specs.Object.{changed_object, held_levels, written_anew}
+use Rattle.ufs_model.specs.Outcome.{changed}
+use Rattle.ufs_model.specs.Plain.{IsPlainReply}
+use Rattle.ufs_model.specs.Refusal.{is_range, is_reading, refusal_of, target}
+use Rattle.ufs_model.specs.State.{State, changed_draft, draft_of, grant_of, is_grant, seen, with_draft}
+use Rattle.ufs_model.specs.WellFormed.{is_draft_of, is_open_so}
+use Rattle.ufs_model.proofs.KeepsStates.{next_keeps}
+use Rattle.ufs_model.proofs.Legal.{outcome_legal}
+use Rattle.ufs_model.proofs.Rising.{filter-rises, here, in_filter, in_with, later, numbers-rise}
+use Rattle.ufs_model.proofs.WellStates.{put_draft-at, seen_draft}
+use Rattle.vol_image.specs.Sound.{Holds}
+use Rattle.vol_image.proofs.Reached.{same_puid_itself}
+use Rattle.vol_owners.specs.Account.{HasDraft, Opened}
+use Rattle.vol_owners.specs.Change.{of_draft}
+use Rattle.vol_owners.specs.Room.{blocks_taken, draft_blocks}
+use Rattle.cyl_map.specs.declared.entry.MapEntry.{MapEntry}
+use Rattle.cfs_core.specs.Calls.{Answers, ByOutcome, ByWant, EndsSo, IsCause, IsInDoubt, Tries, Undone, done_or}
+use Rattle.cfs_core.specs.Drafts.{ChangesDraft, KnowsDraft}
+use Rattle.cfs_core.specs.Kernel.{Kernel, Seat, is_ready}
+use Rattle.cfs_core.specs.Looks.{IsCalmCause, content_of, measured}
+use Rattle.cfs_core.specs.Seats.{drafting_at, is_drawn, with_drafting}
+use Rattle.cfs_core.specs.StandsFor.{HasDraftOf, Serves, bare, drafts_of_seats}
+use Rattle.cfs_core.proofs.Answering.{disk_failed, memory, owes, reads_none, seen as told, tries_so}
+use Rattle.cfs_core.proofs.Drafted.{changed_drafts, changed_have, drawn, has_draft, place_of, special, with_is, written}
+use Rattle.cfs_core.proofs.Ended as ended
+use Rattle.cfs_core.proofs.Ended.{alone_take, find_drawn, of_its_draft}
+use Rattle.cfs_core.proofs.Few.{few_more}
+use Rattle.cfs_core.proofs.Filed.{IsChanging}
+use Rattle.cfs_core.proofs.Readied.{ready_at, ready_for}
+use Rattle.cfs_core.proofs.Refusing.{IsSeen}
+use Rattle.cfs_core.proofs.Seated.{grants_with}
+use Rattle.cfs_core.proofs.Serving.{fits, running, stays}
+use Rattle.cfs_core.proofs.Moved.{HasStepped, IsStepped, four_left, makes_stepped}
+
+-- ---- how many blocks of a draft are fresh
+
+set_rises : (flags : List Bool) → numbers_rise (set_in flags) ≡ true
+unfolding set_in
+set_rises flags = filter-rises (λ n. get_or flags n false) (range_with_len 0 (length flags)) (numbers-rise 0 (length flags))
+
+all_rise : (levels : List (List ℕ)) → ((k : ℕ) → numbers_rise (get_or levels k []) ≡ true) → list_all numbers_rise levels ≡ true
+all_rise [] up = refl
+all_rise (ns ∷ levels) up = rw (up 0, all_rise levels (λ k. up (suc k))) refl
+
+no_longer : (P : ℕ → Bool) (ns : List ℕ) → length (filter P ns) ≤ length ns
+no_longer P [] = omega arith
+no_longer P (n ∷ ns) = elim (P n) as (λ b. length (cond b (n ∷ filter P ns) (filter P ns)) ≤ length (n ∷ ns)) [
+  | true ↦ omega (arith, no_longer P ns)
+  | false ↦ omega (arith, no_longer P ns)
+]
+
+within_less : (levels there : List (List ℕ)) → sum_by length (within levels there) ≤ sum_by length levels
+within_less [] there = omega arith
+within_less (ns ∷ levels) there =
+    omega (
+      arith,
+      sum_by-cons {X = List ℕ} length ns levels,
+      sum_by-cons {X = List ℕ} length (shared ns (first_level there)) (within levels (next_levels there)),
+      no_longer (λ n. has_number n (first_level there)) ns,
+      within_less levels (next_levels there),
+    )
+
+split_levels : (levels : List (List ℕ)) → sum_by length levels ≡ length (first_level levels) + sum_by length (next_levels levels)
+split_levels [] = refl
+split_levels (ns ∷ levels) = sum_by-cons {X = List ℕ} length ns levels
+
+in_both : (x : ℕ) (ns ms : List ℕ) → has_number x (with_numbers ns ms) ≡ true → (has_number x ms ≡ true) ⊎ (has_number x ns ≡ true)
+in_both x [] ms has = inl has
+in_both x (n ∷ ns) ms has = elim (in_with x n (with_numbers ns ms) has) [
+  | inl same ↦ inr (subst (λ (y : ℕ). has_number x (y ∷ ns) ≡ true) (sym same) (here x ns))
+  | inr rest ↦ elim (in_both x ns ms rest) [ inl old ↦ inl old | inr new ↦ inr (later x n ns new) ]
+]
+
+-- no more than there were, and what is written anew and wasn't fresh
+fresh_few : (anew fresh held : List (List ℕ)) → list_all numbers_rise (within (merged anew fresh) held) ≡ true → sum_by length (within (merged anew fresh) held) ≤ sum_by length fresh + missing anew fresh
+fresh_few [] fresh held up = omega (arith, within_less fresh held)
+fresh_few (ns ∷ anew) fresh held up =
+    let level = shared (with_numbers ns (first_level fresh)) (first_level held) in
+    let two = and_parts (numbers_rise level) (list_all numbers_rise (within (merged anew (next_levels fresh)) (next_levels held))) up in
+    omega (
+      arith,
+      sum_by-cons {X = List ℕ} length level (within (merged anew (next_levels fresh)) (next_levels held)),
+      split_levels fresh,
+      few_more level (first_level fresh) ns (first_level fresh) two.0
+          (λ x has. in_both x ns (first_level fresh) (in_filter (λ n. has_number n (first_level held)) x (with_numbers ns (first_level fresh)) has).1) (λ x has. has),
+      fresh_few anew (next_levels fresh) (next_levels held) two.1,
+    )
+
+-- ---- one draft for another
+
+without_replaced : (e : Opened) (ds : List Opened) → without_draft e.id (replaced e ds) ≡ without_draft e.id ds
+without_replaced e [] = refl
+without_replaced e (f ∷ ds) = elim (same_puid f.id e.id) as (λ b. same_puid f.id e.id ≡ b → without_draft e.id (cond b e f ∷ replaced e ds) ≡ cond (not b) (f ∷ without_draft e.id ds) (without_draft e.id ds)) [
+  | true ↦ λ same. rw (same_puid_itself e.id) (without_replaced e ds)
+  | false ↦ λ other. rw other (ap (λ es. f ∷ es) (without_replaced e ds))
+] refl
+
+bare_with : (who : ℕ) (t : Tuid) (d : Draft) (grants : List Grant) → map bare (with_draft who t d grants) ≡ map bare grants
+bare_with who t d [] = refl
+bare_with who t d (x ∷ grants) = elim (is_grant who t x) as (λ b. bare (cond b (record x { draft = Some d }) x) ∷ map bare (with_draft who t d grants) ≡ bare x ∷ map bare grants) [
+  | true ↦ ap (λ gs. bare x ∷ gs) (bare_with who t d grants)
+  | false ↦ ap (λ gs. bare x ∷ gs) (bare_with who t d grants)
+]
+
+-- ---- kinds
+
+file_in : (o d : Object) → is_draft_of o d ≡ true → ((f : File) × (o ≡ objects.File f)) × ((e : File) × (d ≡ objects.File e))
+file_in (objects.File f) (objects.File e) is = ((f, refl), (e, refl))
+file_in (objects.File f) (objects.Index i) is = cc
+file_in (objects.Index i) d is = cc
+
+still_special : (c : Change) (f : File) → is_normal (objects.File f) ≡ false → is_normal (changed_object c (objects.File f)) ≡ false
+still_special (Overwrite offset bytes) f is = is
+still_special (SetSize size) f is = is
+still_special (Fill slot what) f is = is
+
+-- ---- what is asked through a grant with a draft
+
+module _ (s : State) (who : ℕ) (t : Tuid) (x : Grant) (d : Draft) (f f0 : File) (found : grant_of s who t ≡ Some x) (has : x.draft ≡ Some d) (file_is : d.object ≡ objects.File f) (there : object_at s.graph x.id ≡ Some (objects.File f0)) where
+  size_by : (seed : ℕ) → IsSeen seed s who (asks.Size (Through t)) (measured f)
+  size_by seed = inr (rw (found, there) refl, λ b. rw (found, has, file_is) refl)
+
+  read_by : (seed offset count : ℕ) → IsSeen seed s who (asks.Read (Through t) offset count) (content_of f offset count)
+  read_by seed offset count = at (is_range (length f.bytes) offset count) refl
+    where
+      at : (b : Bool) → is_range (length f.bytes) offset count ≡ b → IsSeen seed s who (asks.Read (Through t) offset count) (content_of f offset count)
+      at true is = inr (rw (found, there, has, file_is, is) refl, λ b. rw (found, has, file_is, is) refl)
+      at false is = inl (rw (found, there, has, file_is, is) refl)
+
+  module _ (writes : is_reading x.mode ≡ false) where
+    write_by : (offset : ℕ) (bytes : List ℕ) → is_range (length f.bytes) offset (length bytes) ≡ true → refusal_of s who (asks.Write (Through t) offset bytes) ≡ None
+    write_by offset bytes is = rw (found, there, writes, has, file_is, is) refl
+
+    write_not_by : (offset : ℕ) (bytes : List ℕ) → is_range (length f.bytes) offset (length bytes) ≡ false → refusal_of s who (asks.Write (Through t) offset bytes) ≡ Some replies.Range
+    write_not_by offset bytes is = rw (found, there, writes, has, file_is, is) refl
+
+    resize_by : (size : ℕ) → nat_lt 7864320 size ≡ false → refusal_of s who (asks.Resize (Through t) size) ≡ None
+    resize_by size is = rw (found, there, writes, is) refl
+
+    resize_not_by : (size : ℕ) → nat_lt 7864320 size ≡ true → refusal_of s who (asks.Resize (Through t) size) ≡ Some replies.Range
+    resize_not_by size is = rw (found, there, writes, is) refl
+
+need_by : (s : State) (who : ℕ) (t : Tuid) (x : Grant) (d : Draft) (change : Change) → grant_of s who t ≡ Some x → x.draft ≡ Some d → is_normal d.object ≡ false
+    → change_need s who (Through t) change ≡ missing (written_anew change d.object d.fresh) d.fresh
+need_by s who t x d change found has normal = rw (found, has, normal) (omega arith)
+
+-- a draft that has its shadow root takes none
+none_needed : (was : Drafting) (n : ℕ) → was.shadow ≡ Some n → shadow_need was ≡ 0
+none_needed was n is = rw is refl
+
+-- ---- a grant with a draft, as the core has it
+
+module _ {D : Type 0} (g : Ghosts D) (k : Kernel D) (s : State) (serves : Serves g k s) (who : ℕ) (t : Tuid) (x : Grant) (found : grant_of s who t ≡ Some x)
+    (was : Drafting) (drafting : drafting_at k.seats t.draw ≡ Some was) where
+  abbrev pub ds : List Opened
+  ds = ended.ds g k s serves who t x found was drafting
+
+  abbrev pub id : Puid
+  id = ended.id g k s serves who t x found was drafting
+
+  abbrev seat : Seat
+  seat = ended.seat g k s serves who t x found was drafting
+
+  abbrev pub before : Draft
+  before = ended.before g k s serves who t x found was drafting
+
+  abbrev o : Object
+  o = (ended.object g k s serves who t x found was drafting).0
+
+  there : object_at s.graph id ≡ Some o
+  there = ended.there_at g k s serves who t x found was drafting
+
+  draft_was : x.draft ≡ Some before
+  draft_was = ended.draft_was g k s serves who t x found was drafting
+
+  open_in : IsOpen ds id was before
+  open_in = ended.open_in g k s serves who t x found was drafting
+
+  there_x : object_at s.graph x.id ≡ Some o
+  there_x = ap (object_at s.graph) (sym (ended.id_is g k s serves who t x found was drafting)) ∙ there
+
+  pub files : ((f : File) × (o ≡ objects.File f)) × ((e : File) × (before.object ≡ objects.File e))
+  files = file_in o before.object (subst (λ (y : Option Object). is_open_so y (Some before) ≡ true) there_x (subst (λ (y : Option Draft). is_open_so (object_at s.graph x.id) y ≡ true) draft_was (ended.so g k s serves who t x found was drafting)))
+
+  abbrev pub file : File
+  file = files.1.0
+
+  pub file_is : before.object ≡ objects.File file
+  file_is = files.1.1
+
+  is_file_there : object_at s.graph x.id ≡ Some (objects.File files.0.0)
+  is_file_there = there_x ∙ ap (λ (y : Object). Some y) files.0.1
+
+  pub knows : KnowsDraft g s.graph ds k.disk k.space id was before
+  knows = record { store = serves.store; object = o; there = there; is_open = open_in; file = file; is_file = file_is }
+
+  had : HasDraft (g.content k.disk) id (opened_as id was before)
+  had = the_draft (g.content k.disk) ds id was before open_in (serves.store.account.drafts id o there)
+
+  -- its size is in the root that the object is to get
+  pub size_is : was.root.size ≡ length file.bytes
+  size_is = sym (file_to_leaves was.root _ file (had.tree.object ∙ file_is)).size
+
+  written_in : is_reading seat.grant.mode ≡ false
+  written_in = written who t k.seats s.grants seat x (ended.place g k s serves who t x found was drafting) serves.drafts was before (ended.drafting_is g k s serves who t x found was drafting) draft_was
+
+  writes : is_reading x.mode ≡ false
+  writes = ap is_reading (sym (ap (λ e. e.mode) (ended.place g k s serves who t x found was drafting).here)) ∙ written_in
+
+  -- ---- what is asked of it
+
+  pub size_told : (seed : ℕ) → IsSeen seed s who (asks.Size (Through t)) (measured file)
+  size_told = size_by s who t x before file files.0.0 found draft_was file_is is_file_there
+
+  pub read_told : (seed offset count : ℕ) → IsSeen seed s who (asks.Read (Through t) offset count) (content_of file offset count)
+  read_told = read_by s who t x before file files.0.0 found draft_was file_is is_file_there
+
+  pub write_goes : (offset : ℕ) (bytes : List ℕ) → is_range (length file.bytes) offset (length bytes) ≡ true → refusal_of s who (asks.Write (Through t) offset bytes) ≡ None
+  write_goes = write_by s who t x before file files.0.0 found draft_was file_is is_file_there writes
+
+  pub write_range : (offset : ℕ) (bytes : List ℕ) → is_range (length file.bytes) offset (length bytes) ≡ false → refusal_of s who (asks.Write (Through t) offset bytes) ≡ Some replies.Range
+  write_range = write_not_by s who t x before file files.0.0 found draft_was file_is is_file_there writes
+
+  pub resize_goes : (size : ℕ) → nat_lt 7864320 size ≡ false → refusal_of s who (asks.Resize (Through t) size) ≡ None
+  resize_goes = resize_by s who t x before file files.0.0 found draft_was file_is is_file_there writes
+
+  pub resize_range : (size : ℕ) → nat_lt 7864320 size ≡ true → refusal_of s who (asks.Resize (Through t) size) ≡ Some replies.Range
+  resize_range = resize_not_by s who t x before file files.0.0 found draft_was file_is is_file_there writes
+
+  -- ---- it is changed
+
+  module _ (ready : list_all (is_ready k.names.room) k.seats ≡ true) (change : Change) (request : Request) (is : IsChanging request change) (goes_to : target request ≡ Through t) (goes : refusal_of s who request ≡ None) where
+    abbrev d : Draft
+    d = changed_draft change before
+
+    abbrev after : State
+    after = record s { grants = with_draft who t d s.grants }
+
+    changed_is : changed s who (target request) change ≡ after
+    changed_is = ap (λ to. changed s who to change) goes_to ∙ put_draft-at s who t x before (changed_draft change (seen s who (Through t))) found draft_was
+        ∙ ap (λ (e : Draft). record s { grants = with_draft who t (changed_draft change e) s.grants }) (seen_draft s who t x before found draft_was)
+
+    not_normal : is_normal before.object ≡ false
+    not_normal = special who t k.seats s.grants seat x (ended.place g k s serves who t x found was drafting) serves.drafts was before (ended.drafting_is g k s serves who t x found was drafting) draft_was
+
+    need_is : need_of s who request ≡ missing (written_anew change before.object before.fresh) before.fresh
+    need_is = is.need s who ∙ ap (λ to. change_need s who to change) goes_to ∙ need_by s who t x before change found draft_was not_normal
+
+    beside_is : need_beside change before was ≡ need_of s who request
+    beside_is =
+        let shadow = (ready_for k.names.room was (ready_at k.names.room t.draw k.seats ready was drafting)).shadow in
+        omega (arith, none_needed was shadow.0 shadow.1, need_is)
+
+    legal : k.stop ≡ None → next k.words.seed s (events.Ask who request replies.Done) ≡ Some after
+    legal none = subst (λ (p : Reply × State). next k.words.seed s (events.Ask who request p.0) ≡ Some p.1) (is.outcome k.words.seed s who 0 ∙ ap (λ (y : State). (replies.Done, y)) changed_is)
+        (outcome_legal k.words.seed s who request 0 (running g k s serves none) goes (λ made. let no : true ≡ false = sym made ∙ is.makes in cc))
+
+    module _ (now : Drafting) (disk : D) (space : Kept) where
+      abbrev new : Kernel D
+      new = record k { disk = disk; space = space; seats = with_drafting t.draw (Some now) k.seats }
+
+      abbrev it : Opened
+      it = opened_as id now d
+
+      abbrev es : List Opened
+      es = replaced it ds
+
+      abbrev T : Option MapEntry → Bool
+      T entry = of_draft id.block entry
+
+      stepped : IsStepped k new s after s.graph
+      stepped = record {
+        graph = refl;
+        rooted = refl;
+        stopped = refl;
+        sweeping = refl;
+        drawn = serves.front.drawn;
+        named = serves.front.names;
+        root = refl;
+        stop = refl;
+        table = grants_with t.draw (Some now) k.seats ∙ serves.front.grants ∙ sym (bare_with who t d s.grants);
+      }
+
+      module _ (becomes : Becomes g s.graph ds id d k.disk disk space now) (shadow : now.shadow ≡ was.shadow) (created : now.created ≡ was.created) (room : need_beside change before was + 4 ≤ sum k.space.free) where
+        has : HasStepped g k new s s.graph T es
+        has = record { store = becomes.steps.store; only = becomes.steps.only; these = of_its_draft s.graph id (ended.block g k s serves who t x found was drafting) }
+
+        rising : list_all numbers_rise d.fresh ≡ true
+        rising = all_rise d.fresh (λ n. ap numbers_rise (becomes.is_open.fresh n) ∙ level n)
+          where
+            level : (n : ℕ) → numbers_rise (get_or (fresh_of now) n []) ≡ true
+            level zero = set_rises now.leaves
+            level (suc zero) = set_rises now.nodes
+            level (suc (suc n)) = refl
+
+        few : blocks_taken s.graph es ≤ blocks_taken s.graph ds + need_of s who request
+        few = omega (
+          arith,
+          alone_take id it es becomes.is_open.alone,
+          alone_take id (opened_as id was before) ds open_in.alone,
+          ap (sum_by draft_blocks) (without_replaced it ds),
+          fresh_few (written_anew change before.object before.fresh) before.fresh (held_levels (changed_object change before.object)) rising,
+          ap (λ (n : Option ℕ). length (option_to_list n)) shadow,
+          ap (λ (n : Option ℕ). length (option_to_list n)) created,
+          need_is,
+        )
+
+        four : 4 ≤ sum space.free
+        four = four_left g k new s after s.graph serves T es has (need_of s who request) few (omega (arith, room, beside_is))
+
+        pub altered : ((c : D) (n : ℕ) (i : Image) → g.left_since c n i → length i ≡ g.blocks c) → length (g.content k.disk) ≡ g.blocks disk → k.stop ≡ None → Leaves g k.disk disk (λ c. Holds c s.graph)
+            → Answers g k new s who request replies.Done
+        altered left_sized wide none leaves = record {
+          event = makes_stepped g k new s after s.graph serves T es has stepped (next_keeps k.words.seed s after (events.Ask who request replies.Done) serves.state (is.speaks who) (legal none))
+              (changed_drafts who t k.seats s.grants seat x (ended.place g k s serves who t x found was drafting) serves.drafts was before (ended.drafting_is g k s serves who t x found was drafting) draft_was now d)
+              (changed_have who t k.seats s.grants seat x (ended.place g k s serves who t x found was drafting) serves.drafts was before (ended.drafting_is g k s serves who t x found was drafting) draft_was now d
+              (record { is_open = becomes.is_open; writes = written_in; special = subst (λ (y : Object). is_normal (changed_object change y) ≡ false) (sym file_is) (still_special change file (subst (λ (y : Object). is_normal y ≡ false) file_is not_normal)) })) four
+              left_sized wide (events.Ask who request replies.Done) (legal none) refl leaves;
+          still = λ all. let no : true ≡ false = sym all in cc;
+          owed = owes k.words.seed s who request (g.content k.disk) (sum k.space.free) replies.Done tt (ByOutcome goes (record {
+            block = 0;
+            least = λ made. let no : true ≡ false = sym made ∙ is.makes in cc;
+            reply_is = sym (ap (λ (p : Reply × State). p.0) (is.outcome k.words.seed s who 0));
+            room = λ short. omega (arith, short.few, room, beside_is);
+          }));
+        }
+
+      -- the seats where it stays as it was
+      unchanged : now ≡ was → with_drafting t.draw (Some now) k.seats ≡ k.seats
+      unchanged same =
+          let place = ended.place g k s serves who t x found was drafting in
+          with_is who t k.seats s.grants seat x place (Some now)
+          ∙ ap (λ (w : Option Drafting). place.ss1 ++ record { grant = seat.grant; drafting = w } ∷ place.ss2) (ap (λ (w : Drafting). Some w) same ∙ sym (ended.drafting_is g k s serves who t x found was drafting))
+          ∙ sym place.seats_are
+
+      as_it_was : (space ≡ k.space) → now ≡ was → new ≡ record k { disk = disk }
+      as_it_was same before_it = ap (λ (y : Kept). record k { disk = disk; space = y; seats = with_drafting t.draw (Some now) k.seats }) same ∙ ap (λ (ss : List Seat). record k { disk = disk; seats = ss }) (unchanged before_it)
+
+      module _ (left_sized : (c : D) (n : ℕ) (i : Image) → g.left_since c n i → length i ≡ g.blocks c) (sized : (c : D) → IsTrue (g.honest c) → length (g.content c) ≡ g.blocks c) (none : k.stop ≡ None)
+          (result : Result (Unit {0}) Refused) (changes : ChangesDraft g change k.disk disk k.space space was now result) where
+        wide : length (g.content k.disk) ≡ g.blocks disk
+        wide = sized k.disk serves.store.carries.tells.honest ∙ sym changes.calls.same.size
+
+        full : (n : needs.Need) → refusals.Full n ≡ refusals.Full (record { free = sum k.space.free; need = need_beside change before was }) → sum k.space.free < need_beside change before was + 4
+            → OnlyReads g 31092 k.disk disk → space ≡ k.space → now ≡ was → Answers g k new s who request (replies.Full n)
+        full n told short reads same before_it =
+            let is_need : n ≡ record { free = sum k.space.free; need = need_beside change before was } = cc in
+            let need_so : n.need ≡ need_of s who request = ap (λ (y : needs.Need). y.need) is_need ∙ beside_is in
+            let free_so : n.free ≡ sum k.space.free = ap (λ (y : needs.Need). y.free) is_need in
+            record {
+              event = stays g 31092 k new reads (as_it_was same before_it) s serves left_sized (sized k.disk serves.store.carries.tells.honest) (events.Ask who request (replies.Full n))
+                  (is.full k.words.seed s who n (running g k s serves none) goes need_so (omega (arith, short, need_so, free_so, beside_is)));
+              still = λ all. reads.content;
+              owed = ByWant goes (record { delete = is.delete; few = omega (arith, short, beside_is) })
+                  (ap (λ (y : needs.Need). replies.Full y) is_need ∙ ap (λ (y : ℕ). replies.Full (record { free = sum k.space.free; need = y })) beside_is);
+            }
+
+        doubtful : IsInDoubt g k new s who request
+        doubtful = record {
+          allowed = goes;
+          drawn = refl;
+          named = refl;
+          grants = grants_with t.draw (Some now) k.seats;
+          leaves = wider g k.disk disk _ _ (changes.leaves s.graph ds id before knows) (λ c holds. record { graph = s.graph; may = Undone; fits = fits g k s serves (g.blocks disk) wide; holds = holds });
+        }
+
+        did : (r : Result (Unit {0}) Refused) → r ≡ result → EndsSo g k new s who request (done_or r)
+        did (Ok u) same =
+            altered (rw (← same) at (changes.done s.graph ds id before knows)) changes.shadow changes.created (rw (← same) at (changes.room s.graph ds id before knows)) left_sized wide none (changes.leaves s.graph ds id before knows)
+        did (Err (refusals.Full n)) same =
+            let told = (rw (← same) at (changes.full s.graph ds id before knows)) refl in
+            let spared = (rw (← same) at (changes.spared s.graph ds id before knows)) refl in
+            full n told.0 told.1 spared.0 spared.1 spared.2
+        did (Err (refusals.Disk false)) same = (let two = (rw (← same) at changes.untried) refl in disk_failed g left_sized sized 31092 k new two.0 (as_it_was two.1 two.2) s who serves none request)
+        did (Err (refusals.Disk true)) same = doubtful
+        did (Err (refusals.Damaged damage)) same = let no : true ≡ false = rw (← same) at (changes.sound s.graph ds id before knows) in cc
+        did (Err refusals.Memory) same = absurd (rw (← same) at changes.refused)
+
+        pub ends_so : EndsSo g k new s who request (done_or result)
+        ends_so = did result refl
+
+-- ---- a grant without a draft
+
+pub undrafted : {D : Type 0} (g : Ghosts D) (k : Kernel D) (s : State) → Serves g k s → (who : ℕ) (t : Tuid) → drafting_at k.seats t.draw ≡ None → draft_of s who (Through t) ≡ None
+undrafted g k s serves who t none = at (grant_of s who t) refl
+  where
+    at : (o : Option Grant) → grant_of s who t ≡ o → option_and_then (λ (x : Grant). x.draft) o ≡ None
+    at None found = refl
+    at (Some x) found =
+        let two = place_of who t k.seats s.grants x serves.front.grants serves.state.rising found in
+        let is_none : two.0.drafting ≡ None = sym (ap (option_and_then (λ (e : Seat). e.drafting)) (ap (find (is_drawn t.draw)) two.1.seats_are ∙ find_drawn t.draw two.0 two.1.ss2 two.1.ss1 (drawn who t k.seats s.grants two.0 x two.1) two.1.none_first)) ∙ none in
+        bare_seat two.0 x.draft (subst (λ (o : Option Drafting). HasDraftOf (drafts_of_seats k.seats s.grants) two.0 o x.draft) is_none (has_draft who t k.seats s.grants two.0 x two.1 serves.drafts))
+      where
+        bare_seat : (here : Seat) (d : Option Draft) → HasDraftOf (drafts_of_seats k.seats s.grants) here None d → d ≡ None
+        bare_seat here None it_has = refl
+        bare_seat here (Some d) it_has = absurd it_has
+
+-- ---- calls that only read
+
+module _ {D : Type 0} (g : Ghosts D) (left_sized : (d : D) (t : ℕ) (c : Image) → g.left_since d t c → length c ≡ g.blocks d) (sized : (d : D) → IsTrue (g.honest d) → length (g.content d) ≡ g.blocks d)
+    (k : Kernel D) (who : ℕ) (t : Tuid) (was : Drafting) (drafting : drafting_at k.seats t.draw ≡ Some was) (the : (s : State) → Serves g k s → (x : Grant) × (grant_of s who t ≡ Some x)) where
+  pub tries_size : Tries g k k who (asks.Size (Through t)) (Ok (replies.Number was.root.size))
+  tries_size = tries_so g left_sized sized 0 k k (reads_none g 0 k.disk) refl who (asks.Size (Through t)) (Ok (replies.Number was.root.size))
+      (λ s serves none. let x = the s serves in
+      told g left_sized sized 0 k k (reads_none g 0 k.disk) refl s who serves none (asks.Size (Through t)) (replies.Number was.root.size) refl refl
+      (subst (IsSeen k.words.seed s who (asks.Size (Through t))) (ap replies.Number (sym (size_is g k s serves who t x.0 x.1 was drafting))) (size_told g k s serves who t x.0 x.1 was drafting k.words.seed)))
+      tt tt
+
+  module _ (n : ℕ) (d : D) (reads : OnlyReads g n k.disk d) (offset count : ℕ) where
+    abbrev read : Request
+    read = asks.Read (Through t) offset count
+
+    pub tries_read : (result : Result Reply Refused)
+        → ((graph : Graph) (ds : List Opened) (space : Kept) (id : Puid) (o : Object) (m : Draft) (f : File) → StoreHas g graph ds k.disk space → object_at graph id ≡ Some o → IsOpen ds id was m → m.object ≡ objects.File f → length f.bytes ≡ was.root.size
+        → IfOk result (λ reply. reply ≡ content_of f offset count))
+        → IfOk result IsPlainReply
+        → ((graph : Graph) (ds : List Opened) (space : Kept) (id : Puid) (o : Object) (m : Draft) → StoreHas g graph ds k.disk space → object_at graph id ≡ Some o → IsOpen ds id was m → IfErr result (λ e. is_damaged e ≡ false))
+        → IfErr result (IsCalmCause g k.disk d) → Tries g k (record k { disk = d }) who read result
+    unfolding knows files
+    tries_read (Ok reply) exact plain sound cause = tries_so g left_sized sized n k (record k { disk = d }) reads refl who read (Ok reply)
+        (λ s serves none. let x = the s serves in
+        let knows = knows g k s serves who t x.0 x.1 was drafting in
+        told g left_sized sized n k (record k { disk = d }) reads refl s who serves none read reply refl refl
+        (subst (IsSeen k.words.seed s who read) (sym (exact s.graph _ k.space _ knows.object _ knows.file knows.store knows.there knows.is_open knows.is_file (sym (size_is g k s serves who t x.0 x.1 was drafting))))
+        (read_told g k s serves who t x.0 x.1 was drafting k.words.seed offset count)))
+        plain tt
+    tries_read (Err (refusals.Full need)) exact plain sound cause = absurd cause
+    tries_read (Err (refusals.Disk tried)) exact plain sound cause = subst (λ (b : Bool). Tries g k (record k { disk = d }) who read (Err (refusals.Disk b))) (sym cause.0)
+        (tries_so g left_sized sized n k (record k { disk = d }) reads refl who read (Err (refusals.Disk false)) (λ s serves none. disk_failed g left_sized sized n k (record k { disk = d }) reads refl s who serves none read) tt cause.1)
+    tries_read (Err (refusals.Damaged damage)) exact plain sound cause = tries_so g left_sized sized n k (record k { disk = d }) reads refl who read (Err (refusals.Damaged damage))
+        (λ s serves none. let x = the s serves in let knows = knows g k s serves who t x.0 x.1 was drafting in
+        let no : true ≡ false = sound s.graph _ k.space _ knows.object _ knows.store knows.there knows.is_open in cc) tt tt
+    tries_read (Err refusals.Memory) exact plain sound cause = tries_so g left_sized sized n k (record k { disk = d }) reads refl who read (Err refusals.Memory)
+        (λ s serves none. memory g left_sized sized n k (record k { disk = d }) reads refl s who serves none read) tt tt
+
+change_cause : {D : Type 0} (g : Ghosts D) (at : ℕ) (a b : D) (kept : Kept) (result : Result (Unit {0}) Refused) → IfErr result (IsRefusal g at 4 a b kept) → IfErr (done_or result) (IsCause g a b)
+change_cause g at a b kept (Ok u) is = tt
+change_cause g at a b kept (Err (refusals.Full need)) is = tt
+change_cause g at a b kept (Err (refusals.Disk tried)) is = is
+change_cause g at a b kept (Err (refusals.Damaged damage)) is = tt
+change_cause g at a b kept (Err refusals.Memory) is = tt
+
+-- the whole call, of a grant that has a draft
+pub tries_altered : {D : Type 0} (g : Ghosts D) (left_sized : (d : D) (t : ℕ) (c : Image) → g.left_since d t c → length c ≡ g.blocks d) (sized : (d : D) → IsTrue (g.honest d) → length (g.content d) ≡ g.blocks d)
+    (k : Kernel D) (ready : list_all (is_ready k.names.room) k.seats ≡ true) (who : ℕ) (t : Tuid) (was : Drafting) (drafting : drafting_at k.seats t.draw ≡ Some was) (the : (s : State) → Serves g k s → (x : Grant) × (grant_of s who t ≡ Some x))
+    (change : Change) (request : Request) (is : IsChanging request change) (goes_to : target request ≡ Through t) → ((s : State) → Serves g k s → refusal_of s who request ≡ None)
+    → (now : Drafting) (disk : D) (space : Kept) (result : Result (Unit {0}) Refused) → ChangesDraft g change k.disk disk k.space space was now result
+    → Tries g k (record k { disk = disk; space = space; seats = with_drafting t.draw (Some now) k.seats }) who request (done_or result)
+tries_altered g left_sized sized k ready who t was drafting the change request is goes_to goes now disk space result changes = record {
+  ends = λ s serves none. let x = the s serves in
+      ends_so g k s serves who t x.0 x.1 was drafting ready change request is goes_to (goes s serves) now disk space left_sized sized none result changes;
+  plain = plain result;
+  cause = change_cause g was.at k.disk disk space result changes.refused;
+  size = changes.calls.same.size;
+  faults = changes.calls.faults;
+  stop = refl;
+  collections = refl;
+  seed = refl;
+  kept = omega arith;
+  drawn = omega arith;
+}
+  where
+    plain : (r : Result (Unit {0}) Refused) → IfOk (done_or r) IsPlainReply
+    plain (Ok u) = tt
+    plain (Err e) = tt

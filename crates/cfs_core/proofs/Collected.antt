@@ -1,0 +1,196 @@
+-- How the collector keeps up with what is asked, and with what a session's end drops.
+use Rattle.std.proofs.Common.{◌≡◌, ◌⊎◌, ℕ, ◌+◌, ◌-◌, ◌*◌, ◌/◌, ◌^◌, ◌<◌, ◌≤◌, List, [], ◌∷◌, ◌++◌, Bool, true, false, not, ◌&&◌, ◌||◌, cond, Option, Some, None, is_none, refl, sym, ◌∙◌, ap, subst, arith}
+use Rattle.std.proofs.lemmas.Bool.{and_parts, both_ways, false_from_ne_true}
+use Rattle.std.proofs.lemmas.List.{append_assoc, append-nil}
+use Rattle.cfs_base.specs.Disk.{Image}
+use Rattle.collector_steps.specs.Collecting.{Collecting, IsAsBefore, IsCollecting, IsWithin, colours_in, volume_of, waiting_in}
+use Rattle.collector_steps.specs.Sweep.{NoInner, NoStray}
+use Rattle.collector_steps.specs.declared.phase.Phase.{Phase}
+use Rattle.collector_steps.specs.declared.phase.Phase.TheVariants as phases
+use Rattle.cyl_map.specs.declared.entry.MapEntry.{MapEntry}
+use Rattle.marking.specs.declared.memory.Rescue.{Rescue}
+use Rattle.marking.specs.Colours.{Colours}
+use Rattle.marking.specs.Marking.{IsMarking}
+use Rattle.marking.specs.Meanwhile.{Changes, rescues_of}
+use Rattle.marking.specs.Pace.{IsPaced}
+use Rattle.marking.proofs.Asked.{allowed, ask_changes, less_open}
+use Rattle.marking.proofs.Changed.{changes_keep}
+use Rattle.marking.proofs.Paces.{pace_change, pace_rescue}
+use Rattle.marking.proofs.Wells.{well}
+use Rattle.ufs_model.specs.declared.asked.Event.TheVariants as events
+use Rattle.ufs_model.specs.declared.asked.Reply.{Reply}
+use Rattle.ufs_model.specs.declared.asked.Reply.TheVariants as replies
+use Rattle.ufs_model.specs.declared.asked.Request.{Request}
+use Rattle.ufs_model.specs.declared.collection.Collection.{Collection}
+use Rattle.ufs_model.specs.declared.collection.Collection.TheVariants as collections
+use Rattle.ufs_model.specs.Graph.{Graph, is_free_root}
+use Rattle.ufs_model.specs.Next.{by_outcome, is_outcome, next, same_reply}
+use Rattle.ufs_model.specs.Outcome.{block_named, creates, outcome_of}
+use Rattle.ufs_model.specs.Refusal.{refusal_of}
+use Rattle.ufs_model.specs.State.{State, stopped_at}
+use Rattle.ufs_model.specs.Vanish.{is_marking}
+use Rattle.ufs_model.specs.WellFormed.{IsState}
+use Rattle.ufs_model.proofs.Outcomes.{IsOfPart, outcome_leaves}
+use Rattle.vol_owners.specs.Account.{IsSwept}
+use Rattle.vol_owners.specs.Owner.{is_root, is_taken}
+use Rattle.cfs_core.specs.Calls.{AddsNoStray}
+use Rattle.cfs_core.specs.Kernel.{marks_in, sweeps_in}
+use Rattle.cfs_core.specs.Rescues.{AreRescued, HasRescued, added_with, while_marking}
+use Rattle.cfs_core.specs.StandsFor.{HasCollection, HasCollector, is_sweeping}
+use Rattle.cfs_core.proofs.Serving.{none_more}
+
+-- ---- no request moves a collection on
+
+pub none_is : (c : Collection) → is_marking c ≡ false → is_sweeping c ≡ false → c ≡ collections.None
+none_is collections.None m w = refl
+none_is (collections.Marking edges starts) m w = cc
+none_is collections.Sweeping m w = cc
+
+pub same_some : (a b : State) → Some a ≡ Some b → a ≡ b
+same_some a b is = cc
+
+none_from : (o : Option Reply) → is_none o ≡ true → o ≡ None
+none_from None is = refl
+none_from (Some r) is = cc
+
+module _ (test : Collection → Bool) (tells : IsOfPart test) (seed : ℕ) (s : State) (state : IsState s) (who : ℕ) where
+  abbrev pub IsKept : State → Type 0
+  IsKept t = test t.collection ≡ test s.collection
+
+  same : (t : State) → s ≡ t → IsKept t
+  same t is = subst IsKept is refl
+
+  by : (request : Request) (reply : Reply) (t : State) → by_outcome seed s who request reply ≡ Some t → IsKept t
+  by request reply t is =
+      let two = allowed (is_outcome seed s who request reply) (outcome_of seed s who request (block_named reply)).1 t is in
+      let said = and_parts _ (same_reply (outcome_of seed s who request (block_named reply)).0 reply) two.0 in
+      let free = and_parts _ (not (creates request) || is_free_root s.graph (block_named reply)) said.0 in
+      let none = and_parts (is_none s.stopped) (is_none (refusal_of s who request)) free.0 in
+      subst IsKept two.1 ((outcome_leaves seed s who state request (block_named reply) (none_from (refusal_of s who request) none.1)
+      (λ makes. subst (λ (b : Bool). (not b || is_free_root s.graph (block_named reply)) ≡ true) makes free.1)).part test tells)
+
+  pub part_stays : (request : Request) (reply : Reply) (t : State) → next seed s (events.Ask who request reply) ≡ Some t → IsKept t
+  part_stays request replies.Done t h = by request replies.Done t h
+  part_stays request (replies.Id id) t h = by request (replies.Id id) t h
+  part_stays request (replies.Grant u) t h = by request (replies.Grant u) t h
+  part_stays request (replies.Number n) t h = by request (replies.Number n) t h
+  part_stays request (replies.Content bytes) t h = by request (replies.Content bytes) t h
+  part_stays request replies.Memory t h = same t (same_some s t h)
+  part_stays request (replies.Stopped moment) t h = same t (allowed _ s t h).1
+  part_stays request (replies.Disk None) t h = same t (allowed _ s t h).1
+  part_stays request (replies.Disk (Some moment)) t h = subst IsKept (allowed _ (stopped_at moment s) t h).1 refl
+  part_stays request (replies.Damaged damage moment) t h = subst IsKept (allowed _ (stopped_at moment s) t h).1 refl
+  part_stays request (replies.Full n) t h = same t (allowed _ s t h).1
+  part_stays request reply t h = same t (allowed _ s t h).1
+
+-- ---- one collector
+
+paced_more : (h : Graph) (c : Colours) (more waiting : List Rescue) (steps added : ℕ) → IsPaced h c waiting steps added → IsPaced h c (waiting ++ more) steps (added_with more added)
+paced_more h c [] waiting steps added is = subst (λ (w : List Rescue). IsPaced h c w steps added) (sym (append-nil waiting)) is
+paced_more h c (r ∷ rs) waiting steps added is =
+    subst (λ (w : List Rescue). IsPaced h c w steps (added_with (r ∷ rs) added)) (append_assoc waiting (r ∷ []) rs)
+    (paced_more h c rs (waiting ++ r ∷ []) steps _ (pace_rescue h c waiting r steps added is))
+
+-- Where the state changes so while a collection marks, and no block of an object that is gone is added, the collector keeps
+-- up by these rescues.
+module _ (a b : Image) (s t : State) (more : List Rescue) (marked : is_marking t.collection ≡ is_marking s.collection) (swept : is_sweeping t.collection ≡ is_sweeping s.collection) (strays : AddsNoStray a b s.graph t.graph)
+    (changes : is_marking s.collection ≡ true → Changes s t more) where
+  inner_on : (n : ℕ) → NoInner a s.graph n → NoInner b t.graph n
+  inner_on n none = λ m below stray. let two = strays m stray in subst (λ (e : Option MapEntry). is_root is_taken e ≡ true) (sym two.0) (none m below two.1)
+
+  stray_on : (n : ℕ) → NoStray a s.graph n → NoStray b t.graph n
+  stray_on n none = λ m below. false_from_ne_true _ (λ stray. both_ways _ (none m below) (strays m stray).1)
+
+  swept_on : IsSwept a s.graph → IsSwept b t.graph
+  swept_on is = record { none = λ m. false_from_ne_true _ (λ stray. both_ways _ (is.none m) (strays m stray).1) }
+
+  module _ (k l : Collecting) (rescued : HasRescued k l more) (has : HasCollector a s k) where
+    within : (n : ℕ) → while_marking k more ≡ [] → IsWithin k n → IsWithin l n
+    within n none is = λ few.
+        let added : l.added ≡ k.added = rescued.added ∙ ap (λ (m : List Rescue). added_with m k.added) none in
+        let now = is (omega (arith, few, added)) in omega (arith, now, added, rescued.steps, rescued.marks.blocks)
+
+    on : (p : Phase) → k.phase ≡ p → IsCollecting p a s k → IsCollecting p b t l
+    on phases.Idle is holds = tt
+    on phases.Marking is holds =
+        let change = changes (has.marking ∙ ap marks_in is) in
+        let these : while_marking k more ≡ more = ap (λ p. cond (marks_in p) more []) is in
+        let waiting : waiting_in l ≡ waiting_in k ++ more = rescued.waiting ∙ ap (λ m. waiting_in k ++ m) these in
+        let added : l.added ≡ added_with more k.added = rescued.added ∙ ap (λ m. added_with m k.added) these in (
+          subst (λ (c : Colours). IsMarking t c (waiting_in l)) (sym rescued.marks.colours) (subst (λ (w : List Rescue). IsMarking t (colours_in k) w) (sym waiting) (changes_keep s t more change (colours_in k) (waiting_in k) holds.0)),
+          subst (λ (c : Colours). IsPaced t.graph c (waiting_in l) l.steps l.added) (sym rescued.marks.colours)
+              (subst (λ (w : List Rescue). IsPaced t.graph (colours_in k) w l.steps l.added) (sym waiting)
+              (subst (λ (n : ℕ). IsPaced t.graph (colours_in k) (waiting_in k ++ more) n l.added) (sym rescued.steps)
+              (subst (λ (n : ℕ). IsPaced t.graph (colours_in k) (waiting_in k ++ more) k.steps n) (sym added)
+              (paced_more t.graph (colours_in k) more (waiting_in k) k.steps k.added (pace_change s.graph t.graph (colours_in k) (waiting_in k) k.steps k.added (change.leaves (colours_in k)) holds.1))))),
+        )
+    on (phases.Inner cylinder) is holds = (inner_on cylinder holds.0, within (2 + cylinder) (ap (λ p. cond (marks_in p) more []) is) holds.1)
+    on (phases.Roots cylinder) is holds =
+        let volume = rescued.marks.blocks in
+        subst (λ (v : ℕ). NoInner b t.graph (v / 64) × (NoStray b t.graph cylinder × IsWithin l (2 + v / 64 + cylinder))) (sym volume)
+        (inner_on (volume_of k / 64) holds.0, (stray_on cylinder holds.1.0, within (2 + volume_of k / 64 + cylinder) (ap (λ p. cond (marks_in p) more []) is) holds.1.1))
+    on phases.Swept is holds =
+        subst (λ (v : ℕ). IsSwept b t.graph × IsWithin l (2 + 2 * (v / 64))) (sym rescued.marks.blocks)
+        (swept_on holds.0, within (2 + 2 * (volume_of k / 64)) (ap (λ p. cond (marks_in p) more []) is) holds.1)
+
+    collector_on : HasCollector b t l
+    collector_on = record {
+      marking = marked ∙ has.marking ∙ ap marks_in (sym rescued.phase);
+      sweeping = swept ∙ has.sweeping ∙ ap sweeps_in (sym rescued.phase);
+      collects = subst (λ p. IsCollecting p b t l) (sym rescued.phase) (on k.phase refl has.collects);
+    }
+
+  pub collection_on : (o p : Option Collecting) → AreRescued o p more → HasCollection a s o → HasCollection b t p
+  collection_on None None rescued none = none_is t.collection (marked ∙ ap is_marking none) (swept ∙ ap is_sweeping none)
+  collection_on (Some k) (Some l) rescued has = collector_on k l rescued has
+  collection_on None (Some l) rescued has = absurd rescued
+  collection_on (Some k) None rescued has = absurd rescued
+
+-- ---- what is asked
+
+pub collection_asked : (a b : Image) (seed : ℕ) (s t : State) (who : ℕ) (request : Request) (reply : Reply) → next seed s (events.Ask who request reply) ≡ Some t → IsState s → AddsNoStray a b s.graph t.graph
+    → (o p : Option Collecting) → AreRescued o p (rescues_of s who request reply) → HasCollection a s o → HasCollection b t p
+collection_asked a b seed s t who request reply step state strays o p rescued has =
+    collection_on a b s t (rescues_of s who request reply) (part_stays is_marking (λ a b c d. refl) seed s state who request reply t step) (part_stays is_sweeping (λ a b c d. refl) seed s state who request reply t step) strays
+    (λ marking. ask_changes seed s (well s state) marking who request reply t step) o p rescued has
+
+-- nothing is rescued, and nothing moves
+no_more : (m : Bool) (ws : List Rescue) → ws ≡ ws ++ cond m [] []
+no_more true ws = sym (append-nil ws)
+no_more false ws = sym (append-nil ws)
+
+none_added : (m : Bool) (n : ℕ) → n ≡ added_with (cond m [] []) n
+none_added true n = refl
+none_added false n = refl
+
+pub as_before : (k l : Collecting) → IsAsBefore k l → HasRescued k l []
+as_before k l same = record {
+  marks = same.marks;
+  phase = same.phase;
+  steps = same.steps;
+  waiting = same.rescues ∙ no_more (marks_in k.phase) (waiting_in k);
+  added = same.added ∙ none_added (marks_in k.phase) k.added;
+}
+
+pub same_rescued : (o : Option Collecting) → AreRescued o o []
+same_rescued None = tt
+same_rescued (Some k) = as_before k k (record { marks = record { colours = refl; blocks = refl }; rescues = refl; phase = refl; steps = refl; added = refl })
+
+-- room was made first
+pub rescued_after : (o p q : Option Collecting) (more : List Rescue) → AreRescued o p [] → AreRescued p q more → AreRescued o q more
+rescued_after None None None more ready rescued = tt
+rescued_after (Some k) (Some l) (Some m) more ready rescued = record {
+  marks = record { colours = rescued.marks.colours ∙ ready.marks.colours; blocks = rescued.marks.blocks ∙ ready.marks.blocks };
+  phase = rescued.phase ∙ ready.phase;
+  steps = rescued.steps ∙ ready.steps;
+  waiting = rescued.waiting ∙ ap (λ ws. ws ++ while_marking l more) (ready.waiting ∙ sym (no_more (marks_in k.phase) (waiting_in k))) ∙ ap (λ p. waiting_in k ++ cond (marks_in p) more []) ready.phase;
+  added = rescued.added ∙ ap (added_with (while_marking l more)) (ready.added ∙ sym (none_added (marks_in k.phase) k.added)) ∙ ap (λ p. added_with (cond (marks_in p) more []) k.added) ready.phase;
+}
+rescued_after None None (Some m) more ready rescued = absurd rescued
+rescued_after None (Some l) q more ready rescued = absurd ready
+rescued_after (Some k) None q more ready rescued = absurd ready
+rescued_after (Some k) (Some l) None more ready rescued = absurd rescued
+
+pub collection_ready : (image : Image) (s : State) (o p : Option Collecting) → AreRescued o p [] → HasCollection image s o → HasCollection image s p
+collection_ready image s o p ready has =
+    collection_on image image s s [] refl refl (none_more image image s.graph refl) (λ marking. less_open s s refl refl (λ x h. h)) o p ready has

@@ -1,0 +1,131 @@
+-- A grant of a session that leaves is dropped.
+use Rattle.std.proofs.Common.{◌≡◌, ℕ, List, [], ◌∷◌, Bool, true, false, cond, not, Some, None, refl, sym, ◌∙◌, ap, subst, arith}
+use Rattle.std.specs.Prelude.{◌==◌, filter}
+use Rattle.cfs_base.specs.declared.disk.Disk.{Ghosts}
+use Rattle.cfs_base.specs.declared.identifier.Tuid.{Tuid}
+use Rattle.open_table.specs.declared.grant.Grant as seats
+use Rattle.open_table.specs.Grants as tables
+use Rattle.open_table.proofs.Lists.{without_session-without_grant}
+use Rattle.special_files.specs.Drafting.{Drafting}
+use Rattle.special_files.proofs.CommitDraft.{nothing_left}
+use Rattle.ufs_model.specs.declared.asked.Event.TheVariants as events
+use Rattle.ufs_model.specs.declared.asked.Reply.TheVariants as replies
+use Rattle.ufs_model.specs.declared.asked.Request.TheVariants as asks
+use Rattle.ufs_model.specs.declared.object.Grant.{Grant}
+use Rattle.ufs_model.specs.Next.{next}
+use Rattle.ufs_model.specs.Outcome.{closed}
+use Rattle.ufs_model.specs.State.{State, grant_of, is_grant}
+use Rattle.ufs_model.proofs.Legal.{outcome_legal}
+use Rattle.ufs_model.proofs.WellStates.{closed_keeps}
+use Rattle.vol_image.specs.Sound.{Holds}
+use Rattle.cfs_core.specs.Kernel.{Kernel, Seat, grants_in}
+use Rattle.cfs_core.specs.Leaving.{GaveUp, GivesUp, ServesFewer, Sheds, of_others}
+use Rattle.cfs_core.specs.Seats.{drafting_at, have_draft, is_at, seats_but, with_drafting}
+use Rattle.cfs_core.specs.StandsFor.{Serves}
+use Rattle.cfs_core.proofs.Collected.{collection_asked, same_rescued}
+use Rattle.cfs_core.proofs.Ended.{aborted, ds, gone_is, id, open_in, stores_aborted, strays_aborted, there_at}
+use Rattle.cfs_core.proofs.Granted.{close_goes}
+use Rattle.cfs_core.proofs.Regranted.{but_keeps, but_table, stores_after}
+use Rattle.cfs_core.proofs.Seated.{grants_with, none_of_grant}
+use Rattle.cfs_core.proofs.Serving.{none_more, running, serves_with}
+
+-- ---- lists
+
+pub grants_but : (test : seats.Grant → Bool) (ss : List Seat) → grants_in (seats_but test ss) ≡ filter (λ e. not (test e)) (grants_in ss)
+grants_but test [] = refl
+grants_but test (seat ∷ ss) = elim (test seat.grant) as (λ b. grants_in (cond (not b) (seat ∷ seats_but test ss) (seats_but test ss)) ≡ cond (not b) (seat.grant ∷ filter (λ e. not (test e)) (grants_in ss)) (filter (λ e. not (test e)) (grants_in ss))) [
+  | true ↦ grants_but test ss
+  | false ↦ ap (λ rest. seat.grant ∷ rest) (grants_but test ss)
+]
+
+others_stay : (who : ℕ) (t : Tuid) (grants : List Grant) → of_others who (filter (λ x. not (is_grant who t x)) grants) ≡ of_others who grants
+others_stay who t [] = refl
+others_stay who t (x ∷ grants) = at (others_stay who t grants) (x.session == who) refl (is_grant who t x) refl
+  where
+    at : of_others who (filter (λ y. not (is_grant who t y)) grants) ≡ of_others who grants → (b : Bool) → (x.session == who) ≡ b → (m : Bool) → is_grant who t x ≡ m
+        → of_others who (cond (not m) (x ∷ filter (λ y. not (is_grant who t y)) grants) (filter (λ y. not (is_grant who t y)) grants)) ≡ cond (not b) (x ∷ of_others who grants) (of_others who grants)
+    at rest true is true mine = rest
+    at rest true is false mine = rw is rest
+    at rest false is true mine = (let no : false ≡ true = rw is at mine in cc)
+    at rest false is false mine = rw is (ap (λ more. x ∷ more) rest)
+
+-- ---- the seat is gone
+
+module _ {D : Type 0} (g : Ghosts D) (k : Kernel D) (who : ℕ) (t : Tuid) (the : (s : State) → Serves g k s → (x : Grant) × (grant_of s who t ≡ Some x)) where
+  step : (s : State) → Serves g k s → k.stop ≡ None → next k.words.seed s (events.Ask who (asks.Close t false) replies.Done) ≡ Some (closed s who t false)
+  step s serves none = (let x = the s serves in outcome_legal k.words.seed s who (asks.Close t false) 0 (running g k s serves none) (close_goes 0 s who t false x.0 x.1) (λ made. let no : true ≡ false = sym made in cc))
+
+  seats_others : (ss : List Seat) → tables.without_session (grants_in (seats_but (tables.is_grant who t) ss)) who ≡ tables.without_session (grants_in ss) who
+  seats_others ss = ap (λ gs. tables.without_session gs who) (grants_but (tables.is_grant who t) ss) ∙ without_session-without_grant (grants_in ss) who t
+
+  -- it had no draft
+  pub shed_bare : have_draft (is_at t.draw) k.seats ≡ false → Sheds g who k (record k { seats = seats_but (tables.is_grant who t) k.seats })
+  shed_bare none_drawn = record {
+    words = refl;
+    names = refl;
+    collections = refl;
+    others = seats_others k.seats;
+    size = refl;
+    faults = omega arith;
+    later = omega arith;
+    idle = λ stop is. (is, refl);
+    leaves = λ s serves none. nothing_left g k.disk (λ c. Holds c s.graph);
+    serves = λ s serves none runs. record {
+      grants = (closed s who t false).grants;
+      serves = serves_with g (record k { seats = seats_but (tables.is_grant who t) k.seats }) (closed s who t false)
+          (stores_after g k (seats_but (tables.is_grant who t) k.seats) k.words s (closed s who t false)
+          (record { graph = refl; sweeping = refl; stopped = refl; drawn_is = serves.front.drawn; table = but_table (tables.is_grant who t) k.seats s.grants serves.front.grants })
+          (closed_keeps s who t false serves.state) (but_keeps (tables.is_grant who t) _ k.seats s.grants serves.front.grants serves.drafts (none_of_grant who t k.seats none_drawn)) serves)
+          (collection_asked (g.content k.disk) (g.content k.disk) k.words.seed s (closed s who t false) who (asks.Close t false) replies.Done (step s serves none) serves.state (none_more (g.content k.disk) (g.content k.disk) s.graph refl)
+          k.collections.collector k.collections.collector (same_rescued k.collections.collector) serves.collecting);
+      others = others_stay who t s.grants;
+    };
+    strays = λ s serves none runs. none_more (g.content k.disk) (g.content k.disk) s.graph refl;
+    halts = λ stop none is quiet. let no : None ≡ Some stop = sym none ∙ is in cc;
+    sound = λ s serves none stop is. let no : None ≡ Some stop = sym none ∙ is in cc;
+  }
+
+  -- it had one, which was given up
+  module _ (was : Drafting) (drafting : drafting_at k.seats t.draw ≡ Some was) (bare : was.created ≡ None) (new : Kernel D) where
+    abbrev mid : Kernel D
+    mid = record k { seats = seats_but (tables.is_grant who t) (with_drafting t.draw None k.seats) }
+
+    module _ (gives : GivesUp g was mid new) where
+      gave : (s : State) (serves : Serves g k s) → k.stop ≡ None → let x = the s serves in GaveUp g s.graph (ds g k s serves who t x.0 x.1 was drafting) (id g k s serves who t x.0 x.1 was drafting) was.created mid new
+      gave s serves none = (let x = the s serves in gives.ends s.graph _ _ _ _ serves.store (there_at g k s serves who t x.0 x.1 was drafting) (open_in g k s serves who t x.0 x.1 was drafting) none)
+
+      new_is : (s : State) (serves : Serves g k s) → k.stop ≡ None → new.stop ≡ None → new ≡ record k { disk = new.disk; space = new.space; seats = seats_but (tables.is_grant who t) k.seats }
+      new_is s serves none runs =
+          let x = the s serves in
+          gives.same ∙ ap (λ ss. record k { disk = new.disk; space = new.space; seats = ss; stop = new.stop }) (sym (gone_is g k s serves who t x.0 x.1 was drafting new.disk new.space))
+          ∙ ap (λ o. record k { disk = new.disk; space = new.space; seats = seats_but (tables.is_grant who t) k.seats; stop = o }) (runs ∙ sym none)
+
+      fewer : (s : State) → Serves g k s → k.stop ≡ None → new.stop ≡ None → ServesFewer g new s who
+      fewer s serves none runs =
+          let x = the s serves in
+          let dropped = (gave s serves none).dropped runs in
+          subst (λ (j : Kernel D). ServesFewer g j s who) (sym (new_is s serves none runs)) (record {
+            grants = (closed s who t false).grants;
+            serves = serves_with g (aborted g k s serves who t x.0 x.1 was drafting new.disk new.space) (closed s who t false) (stores_aborted g k s serves who t x.0 x.1 was drafting new.disk new.space bare dropped)
+                (collection_asked (g.content k.disk) (g.content new.disk) k.words.seed s (closed s who t false) who (asks.Close t false) replies.Done (step s serves none) serves.state
+                (strays_aborted g k s serves who t x.0 x.1 was drafting new.disk new.space bare dropped)
+                k.collections.collector k.collections.collector (same_rescued k.collections.collector) serves.collecting);
+            others = others_stay who t s.grants;
+          })
+
+      pub shed_drafted : Sheds g who k new
+      shed_drafted = record {
+        words = ap (λ (j : Kernel D). j.words) gives.same;
+        names = ap (λ (j : Kernel D). j.names) gives.same;
+        collections = ap (λ (j : Kernel D). j.collections) gives.same;
+        others = ap (λ (j : Kernel D). tables.without_session (grants_in j.seats) who) gives.same ∙ seats_others (with_drafting t.draw None k.seats) ∙ ap (λ gs. tables.without_session gs who) (grants_with t.draw None k.seats);
+        size = gives.size;
+        faults = gives.faults;
+        later = gives.later;
+        idle = λ stop is. let same = gives.idle stop is in (ap (λ (j : Kernel D). j.stop) same ∙ is, ap (λ (j : Kernel D). j.disk) same);
+        leaves = λ s serves none. (gave s serves none).leaves;
+        serves = fewer;
+        strays = λ s serves none runs. let x = the s serves in strays_aborted g k s serves who t x.0 x.1 was drafting new.disk new.space bare ((gave s serves none).dropped runs);
+        halts = gives.halts;
+        sound = λ s serves none. (gave s serves none).sound;
+      }

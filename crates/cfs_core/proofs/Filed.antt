@@ -1,0 +1,341 @@
+-- How a call ends that changes a file which has no draft: a normal one in place, a special one as one commit.
+use Rattle.std.proofs.Common.{◌≡◌, ◌⊎◌, inl, inr, ℕ, ◌+◌, ◌<◌, ◌≤◌, [], length, true, false, cond, Some, None, Result, Ok, Err, IsTrue, refl, sym, ◌∙◌, ap, subst, arith}
+use Rattle.std.specs.Prelude.{IfErr, IfOk, List, ◌∷◌, nat_lt, sum}
+use Rattle.std.specs.List.{list_all}
+use Rattle.std.proofs.lemmas.Bool.{and_parts, eq-eqb}
+use Rattle.std.proofs.lemmas.Bool.Decides.{nat_tests}
+use Rattle.cfs_base.specs.Calls.{OnlyReads}
+use Rattle.cfs_base.specs.Disk.{Image}
+use Rattle.cfs_base.specs.Run.{Leaves}
+use Rattle.cfs_base.specs.declared.disk.Disk.{Ghosts}
+use Rattle.cfs_base.specs.declared.identifier.Puid.{Puid}
+use Rattle.cfs_base.specs.declared.kind.FileKind.{FileKind}
+use Rattle.cfs_base.specs.declared.kind.FileKind.TheVariants as kinds
+use Rattle.cfs_base.specs.declared.refusal.Need.{Need}
+use Rattle.cfs_base.specs.declared.refusal.Refused.{Refused}
+use Rattle.cfs_base.specs.declared.refusal.Refused.TheVariants as refusals
+use Rattle.cfs_base.proofs.Runs.{wider}
+use Rattle.cyl_alloc.specs.Space.{Kept}
+use Rattle.file_ops.specs.Changes.{ChangesFile, IsFileRefusal, MayChange, MayLeave, need_for}
+use Rattle.normal_files.specs.Standing.{HoldsOfEither, IsPartly}
+use Rattle.puid_space.specs.Kinds.{kind_of}
+use Rattle.survival.specs.Held.{Fits}
+use Rattle.ufs_model.specs.declared.asked.Event.TheVariants as events
+use Rattle.ufs_model.specs.declared.asked.Ref.{Ref}
+use Rattle.ufs_model.specs.declared.asked.Reply.TheVariants as replies
+use Rattle.ufs_model.specs.declared.asked.Request.{Request}
+use Rattle.ufs_model.specs.declared.asked.Request.TheVariants as asks
+use Rattle.ufs_model.specs.declared.change.Change.{Change}
+use Rattle.ufs_model.specs.declared.change.Change.TheVariants.{Fill, Overwrite, SetSize}
+use Rattle.ufs_model.specs.declared.object.File.{File}
+use Rattle.ufs_model.specs.declared.object.Object.{Object}
+use Rattle.ufs_model.specs.declared.object.Object.TheVariants as objects
+use Rattle.ufs_model.specs.Graph.{Graph, IsClosedGraph, is_there, object_at, referred, with_object}
+use Rattle.ufs_model.specs.Identifier.{is_among, same_puid}
+use Rattle.ufs_model.specs.Need.{change_need, need_of}
+use Rattle.ufs_model.specs.Next.{next}
+use Rattle.ufs_model.specs.Numbers.{has_number, numbers_rise, with_numbers}
+use Rattle.ufs_model.specs.Object.{IsInside, blocks_of, byte_may_stand, changed_object, each_from, held_levels, is_object, leaves_in, resized, touched, written}
+use Rattle.ufs_model.specs.Outcome.{changed, creates, outcome_of}
+use Rattle.ufs_model.specs.Plain.{IsPlainReply}
+use Rattle.ufs_model.specs.Refusal.{refusal_of, target}
+use Rattle.ufs_model.specs.State.{State, draft_of, is_running, named}
+use Rattle.ufs_model.specs.WellFormed.{IsSpeakable}
+use Rattle.ufs_model.proofs.Graphs.{index_has_pair, object_at-with_object, pair_from_index, rises-with_object}
+use Rattle.ufs_model.proofs.Rising.{filter-rises, here, in_filter, in_with, later, withs-rise}
+use Rattle.ufs_model.proofs.WellGraphs.{closed_graph, object_whole, still_there}
+use Rattle.vol_image.specs.Sound.{Holds}
+use Rattle.vol_image.specs.Survives.{change_of}
+use Rattle.vol_image.proofs.Reached.{same_puid_is}
+use Rattle.vol_owners.specs.Account.{Opened, drafts_of}
+use Rattle.cfs_core.specs.Calls.{Answers, ByWant, EndsSo, IsCause, IsInDoubt, IsShort, Tries, Undone, done_or, is_delete}
+use Rattle.cfs_core.specs.Kernel.{Kernel}
+use Rattle.cfs_core.specs.Looks.{Knows, ReachesAll}
+use Rattle.cfs_core.specs.StandsFor.{Serves, drafts_of_seats}
+use Rattle.cfs_core.specs.Ways.{Reaches}
+use Rattle.cfs_core.proofs.After.{cause, ends}
+use Rattle.cfs_core.proofs.Answering.{disk_failed, knows_that, memory}
+use Rattle.cfs_core.proofs.Changed.{object_did, object_in_doubt}
+use Rattle.cfs_core.proofs.Committed.{IsCut, LeavesThese}
+use Rattle.cfs_core.proofs.Few.{blocks_within}
+use Rattle.cfs_core.proofs.Grown.{replaced_blocks}
+use Rattle.cfs_core.proofs.Refusing.{put_is}
+use Rattle.cfs_core.proofs.Serving.{fits, may_fit, running, serves_on, stays}
+
+-- ---- a request that changes a file
+
+-- the request makes this change of what it goes to
+pub record IsChanging (request : Request) (change : Change) : Type 0 where
+  pub outcome : (seed : ℕ) (s : State) (who b : ℕ) → outcome_of seed s who request b ≡ (replies.Done, changed s who (target request) change)
+  pub need : (s : State) (who : ℕ) → need_of s who request ≡ change_need s who (target request) change
+  pub change_is : change_of request ≡ Some change
+  pub makes : creates request ≡ false
+  pub delete : is_delete request ≡ false
+  pub full : (seed : ℕ) (s : State) (who : ℕ) (n : Need) → is_running s ≡ true → refusal_of s who request ≡ None → n.need ≡ need_of s who request → n.free < n.need + 4
+      → next seed s (events.Ask who request (replies.Full n)) ≡ Some s
+  pub speaks : (who : ℕ) → IsSpeakable (events.Ask who request replies.Done)
+
+pub write_changes : (to : Ref) (offset : ℕ) (bytes : List ℕ) → list_all (λ byte. nat_lt byte 256) bytes ≡ true → IsChanging (asks.Write to offset bytes) (Overwrite offset bytes)
+write_changes to offset bytes small = record {
+  outcome = λ seed s who b. refl;
+  need = λ s who. refl;
+  change_is = refl;
+  makes = refl;
+  delete = refl;
+  full = λ seed s who n run goes need few. let less : nat_lt n.free (n.need + 4) ≡ true = grind (arith, nat_tests) in rw (run, goes, eq-eqb n.need _ need, less) refl;
+  speaks = λ who. small;
+}
+
+pub resize_changes : (to : Ref) (size : ℕ) → IsChanging (asks.Resize to size) (SetSize size)
+resize_changes to size = record {
+  outcome = λ seed s who b. refl;
+  need = λ s who. refl;
+  change_is = refl;
+  makes = refl;
+  delete = refl;
+  full = λ seed s who n run goes need few. let less : nat_lt n.free (n.need + 4) ≡ true = grind (arith, nat_tests) in rw (run, goes, eq-eqb n.need _ need, less) refl;
+  speaks = λ who. refl;
+}
+
+-- ---- the objects with another file in the place of one
+
+module _ (g : Graph) (closed : IsClosedGraph g) (id : Puid) (f x : File) (found : object_at g id ≡ Some (objects.File f)) where
+  abbrev h : Graph
+  h = with_object g id (objects.File x)
+
+  other_root : same_puid g.root id ≡ false
+  other_root = elim (same_puid g.root id) as (λ b. same_puid g.root id ≡ b → b ≡ false) [
+    | true ↦ λ same. (let both : Some (objects.File f) ≡ Some (objects.Index closed.root.0) = sym found ∙ ap (object_at g) (sym (same_puid_is g.root id same)) ∙ closed.root.1 in cc)
+    | false ↦ λ other. refl
+  ] refl
+
+  pub still_closed : IsClosedGraph h
+  still_closed = record {
+    ordered = rises-with_object g id (objects.File x) closed.ordered;
+    root = (closed.root.0, object_at-with_object g id (objects.File x) g.root ∙ rw other_root closed.root.1, closed.root.2);
+    closed = λ i y has. still_there g id (objects.File x) y (let pair = pair_from_index h i y (rises-with_object g id (objects.File x) closed.ordered) has in from i y pair.0 pair.1 pair.2);
+  }
+    where
+      from : (i y : Puid) (o : Object) → object_at h i ≡ Some o → is_among y (referred o) ≡ true → is_there g y ≡ true
+      from i y o at refers = elim (same_puid i id) as (λ b. cond b (Some (objects.File x)) (object_at g i) ≡ Some o → is_there g y ≡ true) [
+        | true ↦ λ is. (let same : objects.File x ≡ o = cc in let no : false ≡ true = subst (λ (z : Object). is_among y (referred z) ≡ true) (sym same) refers in cc)
+        | false ↦ λ is. closed.closed i y (index_has_pair g i y o closed.ordered is refers)
+      ] (sym (object_at-with_object g id (objects.File x) i) ∙ at)
+
+-- ---- how many blocks it takes
+
+abbrev pub file_of : Change → File → File
+file_of (Overwrite offset bytes) f = written f offset bytes
+file_of (SetSize size) f = resized f size
+file_of (Fill slot what) f = f
+
+is_file : (change : Change) (f : File) → changed_object change (objects.File f) ≡ objects.File (file_of change f)
+is_file (Overwrite offset bytes) f = refl
+is_file (SetSize size) f = refl
+is_file (Fill slot what) f = refl
+
+same_kinds : (change : Change) (f : File) → kind_of (changed_object change (objects.File f)) ≡ kind_of (objects.File f)
+same_kinds (Overwrite offset bytes) f = refl
+same_kinds (SetSize size) f = refl
+same_kinds (Fill slot what) f = refl
+
+in_both : (x : ℕ) (ns ms : List ℕ) → has_number x (with_numbers ns ms) ≡ true → (has_number x ms ≡ true) ⊎ (has_number x ns ≡ true)
+in_both x [] ms has = inl has
+in_both x (n ∷ ns) ms has = elim (in_with x n (with_numbers ns ms) has) [
+  | inl same ↦ inr (subst (λ (y : ℕ). has_number x (y ∷ ns) ≡ true) (sym same) (here x ns))
+  | inr rest ↦ elim (in_both x ns ms rest) [ inl old ↦ inl old | inr new ↦ inr (later x n ns new) ]
+]
+
+-- a file of which each leaf is one of the old file's, or of the changed one's
+few : (kind : FileKind) (change : Change) (f x : File) → HoldsOfEither f (file_of change f) x → blocks_of (objects.File x) ≤ blocks_of (objects.File f) + need_for kind change f
+few kinds.Normal (Overwrite offset bytes) f x is = blocks_within x f (touched offset (length bytes)) (held_levels (objects.File f)) is.rising (λ leaf has. both leaf (is.each leaf has)) (λ n h. h) (λ n h. h)
+  where
+    both : (leaf : ℕ) → (has_number leaf f.held ≡ true) ⊎ (has_number leaf (written f offset bytes).held ≡ true) → (has_number leaf f.held ≡ true) ⊎ (has_number leaf (touched offset (length bytes)) ≡ true)
+    both leaf (inl old) = inl old
+    both leaf (inr new) = in_both leaf (touched offset (length bytes)) f.held new
+few kinds.Special (Overwrite offset bytes) f x is = omega (arith, blocks_within x f (touched offset (length bytes)) [] is.rising (λ leaf has. both leaf (is.each leaf has)) (λ n h. absurd (none h)) (λ n h. absurd (none h)))
+  where
+    none : false ≡ true → ⊥
+    none h = cc
+
+    both : (leaf : ℕ) → (has_number leaf f.held ≡ true) ⊎ (has_number leaf (written f offset bytes).held ≡ true) → (has_number leaf f.held ≡ true) ⊎ (has_number leaf (touched offset (length bytes)) ≡ true)
+    both leaf (inl old) = inl old
+    both leaf (inr new) = in_both leaf (touched offset (length bytes)) f.held new
+few kind (SetSize size) f x is = omega (arith, blocks_within x f [] [] is.rising (λ leaf has. inl (was leaf (is.each leaf has))) (λ n h. absurd (none h)) (λ n h. absurd (none h)))
+  where
+    none : false ≡ true → ⊥
+    none h = cc
+
+    was : (leaf : ℕ) → (has_number leaf f.held ≡ true) ⊎ (has_number leaf (resized f size).held ≡ true) → has_number leaf f.held ≡ true
+    was leaf (inl old) = old
+    was leaf (inr new) = (in_filter (λ n. nat_lt n (leaves_in size)) leaf f.held new).1
+few kind (Fill slot what) f x is = omega (arith, blocks_within x f [] [] is.rising (λ leaf has. inl (was leaf (is.each leaf has))) (λ n h. absurd (none h)) (λ n h. absurd (none h)))
+  where
+    none : false ≡ true → ⊥
+    none h = cc
+
+    was : (leaf : ℕ) → (has_number leaf f.held ≡ true) ⊎ (has_number leaf f.held ≡ true) → has_number leaf f.held ≡ true
+    was leaf (inl old) = old
+    was leaf (inr new) = new
+
+-- the changed file is one
+itself : (change : Change) (f : File) → numbers_rise f.held ≡ true → HoldsOfEither f (file_of change f) (file_of change f)
+itself (Overwrite offset bytes) f up = record { rising = withs-rise (touched offset (length bytes)) f.held up; each = λ leaf has. inr has }
+itself (SetSize size) f up = record { rising = filter-rises (λ n. nat_lt n (leaves_in size)) f.held up; each = λ leaf has. inr has }
+itself (Fill slot what) f up = record { rising = up; each = λ leaf has. inr has }
+
+rising_of : (f : File) → is_object (objects.File f) ≡ true → numbers_rise f.held ≡ true
+rising_of f is = (and_parts _ (numbers_rise f.held) (and_parts _ (list_all (λ leaf. nat_lt leaf (leaves_in (length f.bytes))) f.held) (and_parts _ (each_from (byte_may_stand f) 0 f.bytes) is).0).0).1
+
+-- what is told of it is what the definitions say
+need_told : (s : State) (who : ℕ) (to : Ref) (id : Puid) (f : File) (kind : FileKind) (change : Change) → named s who to ≡ Some id → draft_of s who to ≡ None → object_at s.graph id ≡ Some (objects.File f) → f.kind ≡ kind
+    → change_need s who to change ≡ need_for kind change f
+need_told s who to id f kinds.Normal (Overwrite offset bytes) name bare there is = rw (bare, name, there, is) refl
+need_told s who to id f kinds.Normal (SetSize size) name bare there is = rw (bare, name, there, is) refl
+need_told s who to id f kinds.Normal (Fill slot what) name bare there is = rw (bare, name, there, is) refl
+need_told s who to id f kinds.Special change name bare there is = rw (bare, name, there, is) refl
+
+same_need : (a b : Need) → refusals.Full a ≡ refusals.Full b → a ≡ b
+same_need a b is = cc
+
+-- ---- the call
+
+file_cause : {D : Type 0} (g : Ghosts D) (at : ℕ) (kind : FileKind) (floor : ℕ) (change : Change) (old new : D) (after : Kept) (result : Result (Unit {0}) Refused) → IfErr result (IsFileRefusal g at kind floor change old new after) → IfErr (done_or result) (IsCause g old new)
+file_cause g at kind floor change old new after (Ok u) is = tt
+file_cause g at kind floor change old new after (Err (refusals.Full need)) is = tt
+file_cause g at kind floor change old new after (Err (refusals.Disk tried)) is = is
+file_cause g at kind floor change old new after (Err (refusals.Damaged damage)) is = tt
+file_cause g at kind floor change old new after (Err refusals.Memory) is = tt
+
+module _ {D : Type 0} (g : Ghosts D) (left_sized : (d : D) (t : ℕ) (c : Image) → g.left_since d t c → length c ≡ g.blocks d) (sized : (d : D) → IsTrue (g.honest d) → length (g.content d) ≡ g.blocks d)
+    (k : Kernel D) (d : D) (space : Kept) (id : Puid) (kind : FileKind) (change : Change) (request : Request) (is : IsChanging request change)
+    (result : Result (Unit {0}) Refused) (changes : ChangesFile g id.block kind 4 change k.disk d k.space space result) where
+  abbrev new : Kernel D
+  new = record k { disk = d; space = space }
+
+  module _ (s : State) (who : ℕ) (f : File) (serves : Serves g k s) (none : k.stop ≡ None) (reach : Reaches s who request id (objects.File f)) (shut : drafts_of (drafts_of_seats k.seats s.grants) id ≡ []) (kind_is : f.kind ≡ kind) (inside : IsInside change (objects.File f))
+      (goes : refusal_of s who request ≡ None) where
+    abbrev drafts : List Opened
+    drafts = drafts_of_seats k.seats s.grants
+
+    abbrev o : Object
+    o = changed_object change (objects.File f)
+
+    has : MayChange g id.block kind change s.graph drafts id f k.disk k.space
+    has = record { has = record { store = serves.store; root = refl; there = reach.there; shut = shut }; kind_is = kind_is; inside = inside }
+
+    need : need_of s who request ≡ need_for kind change f
+    need = is.need s who ∙ need_told s who (target request) id f kind change reach.name reach.bare reach.there kind_is
+
+    size : g.blocks d ≡ g.blocks k.disk
+    size = changes.calls.same.size
+
+    wide : length (g.content k.disk) ≡ g.blocks d
+    wide = sized k.disk serves.store.carries.tells.honest ∙ sym size
+
+    fits_cut : need_for kind change f + 4 ≤ sum k.space.free → (x : File) → HoldsOfEither f (file_of change f) x → Fits (g.blocks d) (with_object s.graph id (objects.File x))
+    fits_cut free x either = may_fit g k s serves (with_object s.graph id (objects.File x)) (need_for kind change f) (g.blocks d) (still_closed s.graph (closed_graph s.graph serves.state.graph) id f x reach.there)
+        (replaced_blocks s.graph id (objects.File f) (objects.File x) (need_for kind change f) serves.store.ordered reach.there (few kind change f x either)) free wide
+
+    cut : need_for kind change f + 4 ≤ sum k.space.free → kind ≡ kinds.Normal → (c : Image) → IsPartly c s.graph id f (file_of change f) → IsCut (g.blocks d) s who request replies.Done c
+    cut free normal c partly = record {
+      done = refl;
+      id = id;
+      was = f;
+      now = file_of change f;
+      file = partly.file;
+      changes = record { allowed = goes; named_is = reach.name; there = reach.there; normal = kind_is ∙ normal; change = change; change_is = is.change_is; after = is_file change f };
+      between = partly.between;
+      fits = fits_cut free partly.file partly.either;
+      holds = partly.holds;
+    }
+
+    left : need_for kind change f + 4 ≤ sum k.space.free → LeavesThese g k.disk d s who request replies.Done (with_object s.graph id o)
+    left free = wider g k.disk d _ _ (changes.leaves s.graph drafts id f has) (λ c may. by c kind change refl refl may)
+      where
+        by : (c : Image) (x : FileKind) (y : Change) → kind ≡ x → change ≡ y → MayLeave x y s.graph id f c → (Holds c s.graph ⊎ Holds c (with_object s.graph id o)) ⊎ IsCut (g.blocks d) s who request replies.Done c
+        by c kinds.Special y at same either = inl (subst (λ (z : Change). Holds c s.graph ⊎ Holds c (with_object s.graph id (changed_object z (objects.File f)))) (sym same) either)
+        by c kinds.Normal (Overwrite offset bytes) at same partly = inr (cut free at c (subst (λ (z : Change). IsPartly c s.graph id f (file_of z f)) (sym same) partly))
+        by c kinds.Normal (SetSize bytes) at same partly = inr (cut free at c (subst (λ (z : Change). IsPartly c s.graph id f (file_of z f)) (sym same) partly))
+        by c kinds.Normal (Fill slot what) at same holds = inl (inl holds)
+
+    abbrev after : State
+    after = record s { graph = with_object s.graph id o }
+
+    out : outcome_of k.words.seed s who request 0 ≡ (replies.Done, after)
+    out = is.outcome k.words.seed s who 0 ∙ ap (λ (t : State). (replies.Done, t)) (put_is s who (target request) id (objects.File f) change reach.name reach.bare reach.there)
+
+    more : blocks_of o ≤ blocks_of (objects.File f) + need_for kind change f
+    more = subst (λ (x : Object). blocks_of x ≤ blocks_of (objects.File f) + need_for kind change f) (sym (is_file change f))
+        (few kind change f (file_of change f) (itself change f (rising_of f (object_whole s.graph serves.state.graph id (objects.File f) reach.there))))
+
+    roomy : need_for kind change f + 4 ≤ sum k.space.free → ¬ IsShort s who request (sum k.space.free)
+    roomy free short = omega (arith, short.few, need, free)
+
+    as_it_was : (space ≡ k.space) × OnlyReads g 31093 k.disk d → new ≡ record k { disk = d }
+    as_it_was two = ap (λ (x : Kept). record k { disk = d; space = x }) two.0
+
+    full : (n : Need) → (n ≡ record { free = sum k.space.free; need = need_for kind change f }) × (sum k.space.free < need_for kind change f + 4) → (space ≡ k.space) × OnlyReads g 31093 k.disk d → Answers g k new s who request (replies.Full n)
+    full n told two =
+        let need_is : n.need ≡ need_of s who request = ap (λ (x : Need). x.need) told.0 ∙ sym need in
+        let free_is : n.free ≡ sum k.space.free = ap (λ (x : Need). x.free) told.0 in
+        record {
+          event = stays g 31093 k new two.1 (as_it_was two) s serves left_sized (sized k.disk serves.store.carries.tells.honest) (events.Ask who request (replies.Full n))
+              (is.full k.words.seed s who n (running g k s serves none) goes need_is (omega (arith, told.1, need_is, free_is, need)));
+          still = λ all. two.1.content;
+          owed = ByWant goes (record { delete = is.delete; few = omega (arith, told.1, need) })
+              (ap (λ (x : Need). replies.Full x) told.0 ∙ ap (λ (x : ℕ). replies.Full (record { free = sum k.space.free; need = x })) (sym need));
+        }
+
+    doubtful : (need_for kind change f + 4 ≤ sum k.space.free) ⊎ Leaves g k.disk d (λ c. Holds c s.graph) → IsInDoubt g k new s who request
+    doubtful (inl free) = object_in_doubt g left_sized sized k new size refl none s after who request serves id (objects.File f) o reach.there (same_kinds change f) (need_for kind change f) more goes is.makes (is.speaks who) out
+        (record { graph = refl; grants = refl; drawn = refl; stopped = refl; sweeping = refl }) (roomy free) free (left free)
+    doubtful (inr still) = record {
+      allowed = goes;
+      drawn = refl;
+      named = refl;
+      grants = refl;
+      leaves = wider g k.disk d _ _ still (λ c holds. record { graph = s.graph; may = Undone; fits = fits g k s serves (g.blocks d) wide; holds = holds });
+    }
+
+    did_so : (r : Result (Unit {0}) Refused) → r ≡ result → EndsSo g k new s who request (done_or r)
+    did_so (Ok u) same =
+        let done = rw (← same) at (changes.done s.graph drafts id f has) in
+        let free = rw (← same) at (changes.room s.graph drafts id f has) in
+        object_did g left_sized sized k new size refl none s after who request serves id (objects.File f) o reach.there (same_kinds change f) (need_for kind change f) more goes is.makes (is.speaks who) out
+        (record { graph = refl; grants = refl; drawn = refl; stopped = refl; sweeping = refl }) (roomy free) free (left free) done.store done.only
+    did_so (Err (refusals.Full n)) same = let told = (rw (← same) at (changes.full s.graph drafts id f has)) refl in full n (same_need n _ told.0, told.1) ((rw (← same) at changes.untried) refl)
+    did_so (Err (refusals.Disk false)) same = let two = (rw (← same) at changes.untried) refl in disk_failed g left_sized sized 31093 k new two.1 (as_it_was two) s who serves none request
+    did_so (Err (refusals.Disk true)) same = doubtful ((rw (← same) at (changes.begun s.graph drafts id f has)) refl)
+    did_so (Err (refusals.Damaged damage)) same = let no : true ≡ false = rw (← same) at (changes.sound s.graph drafts id f has) in cc
+    did_so (Err refusals.Memory) same = let two = (rw (← same) at changes.untried) refl in memory g left_sized sized 31093 k new two.1 (as_it_was two) s who serves none request
+
+    pub did : EndsSo g k new s who request (done_or result)
+    did = did_so result refl
+
+-- a call that read the size first, or nothing
+pub tries_changed : {D : Type 0} (g : Ghosts D) (left_sized : (d : D) (t : ℕ) (c : Image) → g.left_since d t c → length c ≡ g.blocks d) (sized : (d : D) → IsTrue (g.honest d) → length (g.content d) ≡ g.blocks d)
+    (n : ℕ) (k : Kernel D) (mid d : D) (space : Kept) → OnlyReads g n k.disk mid → (id : Puid) (kind : FileKind) (change : Change) (request : Request) → IsChanging request change
+    → (result : Result (Unit {0}) Refused) → ChangesFile g id.block kind 4 change mid d k.space space result → (who : ℕ) → ReachesAll g objects.File k who request id
+    → ((s : State) (f : File) → Serves g k s → Reaches s who request id (objects.File f) → Knows g k.disk id.block (objects.File f) → (f.kind ≡ kind) × IsInside change (objects.File f) × (refusal_of s who request ≡ None))
+    → Tries g k (record k { disk = d; space = space }) who request (done_or result)
+tries_changed g left_sized sized n k mid d space reads id kind change request is result changes who reaches goes = record {
+  ends = λ s serves none.
+      let r = reaches s serves in
+      let may = goes s r.0 serves r.1 (knows_that g k s serves id (objects.File r.0) r.1.there r.2) in
+      ends g n k mid (record k { disk = d; space = space }) reads request s who (done_or result)
+      (did g left_sized sized (record k { disk = mid }) d space id kind change request is result changes s who r.0 (serves_on g n k (record k { disk = mid }) reads refl s serves) none r.1 r.2 may.0 may.1 may.2);
+  plain = plain result;
+  cause = cause g n k mid (record k { disk = d; space = space }) reads request (done_or result) (file_cause g id.block kind 4 change mid d space result changes.refused);
+  size = changes.calls.same.size ∙ reads.same.size;
+  faults = omega (arith, reads.faults, changes.calls.faults);
+  stop = refl;
+  collections = refl;
+  seed = refl;
+  kept = omega arith;
+  drawn = omega arith;
+}
+  where
+    plain : (r : Result (Unit {0}) Refused) → IfOk (done_or r) IsPlainReply
+    plain (Ok u) = tt
+    plain (Err e) = tt

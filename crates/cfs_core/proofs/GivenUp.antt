@@ -1,0 +1,86 @@
+-- How a draft is given up while a session leaves.
+use Rattle.std.proofs.Common.{◌≡◌, ◌≢◌, ℕ, List, true, false, Some, None, refl, sym, ◌∙◌, ap, arith}
+use Rattle.std.specs.Prelude.{is_some}
+use Rattle.cfs_base.specs.Calls.{HasFailed, MakesAtMost}
+use Rattle.cfs_base.specs.Refusals.{refused_by}
+use Rattle.cfs_base.specs.Run.{Leaves}
+use Rattle.cfs_base.specs.declared.disk.Disk.{Ghosts}
+use Rattle.cfs_base.specs.declared.identifier.Puid.{Puid}
+use Rattle.cfs_base.specs.declared.refusal.Trouble.{Trouble}
+use Rattle.cfs_base.specs.declared.refusal.Trouble.TheVariants as troubles
+use Rattle.cyl_alloc.specs.Space.{Kept}
+use Rattle.intentions.specs.Store.{StoreHas}
+use Rattle.special_files.specs.Committing.{Dropped}
+use Rattle.special_files.specs.Drafting.{Drafting, IsOpen}
+use Rattle.special_files.specs.Refusal.{IsTrouble, is_damage}
+use Rattle.ufs_model.specs.declared.object.Draft.{Draft}
+use Rattle.ufs_model.specs.declared.object.Object.{Object}
+use Rattle.ufs_model.specs.Graph.{Graph, object_at}
+use Rattle.vol_image.specs.Sound.{Holds}
+use Rattle.vol_owners.specs.Account.{Opened}
+use Rattle.cfs_core.specs.declared.kernel.Stop.{Stop}
+use Rattle.cfs_core.specs.Asked.{stopped_by, told}
+use Rattle.cfs_core.specs.Kernel.{Kernel}
+use Rattle.cfs_core.specs.Leaving.{GivesUp}
+
+-- a core that stopped does nothing
+pub stopped_as : {D : Type 0} (g : Ghosts D) (was : Drafting) (k : Kernel D) → is_some k.stop ≡ true → GivesUp g was k k
+stopped_as g was k stopped = record {
+  same = refl;
+  size = refl;
+  faults = omega arith;
+  later = omega arith;
+  idle = λ stop is. refl;
+  ends = λ graph ds id o d store at opened none. absurd (runs none);
+  halts = λ stop none is quiet. let no : None ≡ Some stop = sym none ∙ is in cc;
+}
+  where
+    runs : k.stop ≡ None → ⊥
+    runs none = let no : true ≡ false = sym stopped ∙ ap is_some none in cc
+
+module _ {D : Type 0} (g : Ghosts D) (was : Drafting) (k : Kernel D) (d : D) (space : Kept) (n m : ℕ) (calls : MakesAtMost g n m k.disk d) (runs : k.stop ≡ None)
+    (leaves : (graph : Graph) (ds : List Opened) (id : Puid) (o : Object) (dr : Draft) → StoreHas g graph ds k.disk k.space → object_at graph id ≡ Some o → IsOpen ds id was dr → Leaves g k.disk d (λ c. Holds c graph)) where
+  no_stop : {A : Type 0} (stop : Stop) → k.stop ≡ Some stop → A
+  no_stop stop is = let no : None ≡ Some stop = sym runs ∙ is in cc
+
+  pub given_up : ((graph : Graph) (ds : List Opened) (id : Puid) (o : Object) (dr : Draft) → StoreHas g graph ds k.disk k.space → object_at graph id ≡ Some o → IsOpen ds id was dr → Dropped g graph ds id was.created k.disk d space)
+      → GivesUp g was k (record k { disk = d; space = space })
+  given_up done = record {
+    same = refl;
+    size = calls.same.size;
+    faults = calls.faults;
+    later = calls.later;
+    idle = λ stop is. no_stop stop is;
+    ends = λ graph ds id o dr store at opened none. record { leaves = leaves graph ds id o dr store at opened; dropped = λ still. done graph ds id o dr store at opened; sound = λ stop is. no_stop stop is };
+    halts = λ stop none is quiet. no_stop stop is;
+  }
+
+  -- it stops
+  pub not_given_up : (e : Trouble) → e ≢ troubles.Disk false → IsTrouble g was.at k.disk d space e
+      → ((graph : Graph) (ds : List Opened) (id : Puid) (o : Object) (dr : Draft) → StoreHas g graph ds k.disk k.space → object_at graph id ≡ Some o → IsOpen ds id was dr → is_damage e ≡ false)
+      → GivesUp g was k (record k { disk = d; space = space; stop = stopped_by (told (refused_by e) (g.moment d)) k.stop })
+  not_given_up e tried why sound = at e tried why sound
+    where
+      with_stop : (stop : Stop) → (stop.damage ≡ None → HasFailed g k.disk d)
+          → ((graph : Graph) (ds : List Opened) (id : Puid) (o : Object) (dr : Draft) → StoreHas g graph ds k.disk k.space → object_at graph id ≡ Some o → IsOpen ds id was dr → stop.damage ≡ None)
+          → GivesUp g was k (record k { disk = d; space = space; stop = Some stop })
+      with_stop stop failed calm = record {
+        same = refl;
+        size = calls.same.size;
+        faults = calls.faults;
+        later = calls.later;
+        idle = λ other is. no_stop other is;
+        ends = λ graph ds id o dr store at opened none. record {
+          leaves = leaves graph ds id o dr store at opened;
+          dropped = λ still. let no : Some stop ≡ None = still in cc;
+          sound = λ other is. let same : stop ≡ other = cc in ap (λ (x : Stop). x.damage) (sym same) ∙ calm graph ds id o dr store at opened;
+        };
+        halts = λ other none is quiet. let same : stop ≡ other = cc in failed (ap (λ (x : Stop). x.damage) same ∙ quiet);
+      }
+
+      at : (t : Trouble) → t ≢ troubles.Disk false → IsTrouble g was.at k.disk d space t
+          → ((graph : Graph) (ds : List Opened) (id : Puid) (o : Object) (dr : Draft) → StoreHas g graph ds k.disk k.space → object_at graph id ≡ Some o → IsOpen ds id was dr → is_damage t ≡ false)
+          → GivesUp g was k (record k { disk = d; space = space; stop = stopped_by (told (refused_by t) (g.moment d)) k.stop })
+      at (troubles.Disk true) first is calm = with_stop _ (λ none. is.failed) (λ graph ds id o dr store there opened. refl)
+      at (troubles.Disk false) first is calm = absurd (first refl)
+      at (troubles.Damaged damage) first is calm = with_stop _ (λ none. let no : Some damage ≡ None = none in cc) (λ graph ds id o dr store there opened. let no : true ≡ false = calm graph ds id o dr store there opened in cc)

@@ -1,0 +1,111 @@
+-- What a step of a draft, its commit or its end makes of the state.
+use Rattle.std.proofs.Common.{◌≡◌, ◌⊎◌, ℕ, ◌+◌, ◌/◌, ◌≤◌, List, [], ◌∷◌, length, Bool, true, false, cond, Option, Some, sym, ◌∙◌, ap, subst, arith}
+use Rattle.std.specs.Prelude.{filter, map, sum, option_map}
+use Rattle.std.specs.List.{sum_by}
+use Rattle.std.proofs.lemmas.List.Sums.{sum_by-cons}
+use Rattle.cfs_base.specs.Disk.{Image}
+use Rattle.cfs_base.specs.Run.{IsSettled, Leaves}
+use Rattle.cfs_base.specs.declared.disk.Disk.{Ghosts}
+use Rattle.cyl_alloc.proofs.Counted.{sum_is}
+use Rattle.cyl_map.specs.declared.entry.MapEntry.{MapEntry}
+use Rattle.intentions.specs.Store.{StoreHas}
+use Rattle.puid_space.specs.Kinds.{kinds_of}
+use Rattle.survival.specs.Held.{Fits}
+use Rattle.survival.proofs.Calls.{done, loose}
+use Rattle.ufs_model.specs.declared.asked.Event.{Event}
+use Rattle.ufs_model.specs.Graph.{Graph}
+use Rattle.ufs_model.specs.Next.{next}
+use Rattle.ufs_model.specs.State.{State}
+use Rattle.ufs_model.specs.WellFormed.{IsState}
+use Rattle.vol_image.specs.Sound.{Holds}
+use Rattle.vol_owners.specs.Account.{IsSwept, Opened}
+use Rattle.vol_owners.specs.Change.{ChangesOnly, IsOfThese}
+use Rattle.vol_owners.specs.Room.{blocks_taken, draft_blocks}
+use Rattle.vol_owners.proofs.Rooms.{room}
+use Rattle.vol_owners.proofs.Strays.{stays_swept, stray_was, strays_stay}
+use Rattle.cfs_core.specs.declared.kernel.Stop.{Stop}
+use Rattle.cfs_core.specs.Calls.{AddsNoStray, Makes}
+use Rattle.cfs_core.specs.Kernel.{Kernel, grants_in}
+use Rattle.cfs_core.specs.StandsFor.{AreDraftsOf, Serves, Stores, bare, drafts_of_seats, is_sweeping}
+use Rattle.cfs_core.proofs.Serving.{fits, pending}
+
+-- the state afterwards, with these objects
+pub record IsStepped {D : Type 0} (old new : Kernel D) (s after : State) (h : Graph) : Type 0 where
+  pub graph : after.graph ≡ h
+  pub rooted : h.root ≡ s.graph.root
+  pub stopped : after.stopped ≡ s.stopped
+  pub sweeping : is_sweeping after.collection ≡ is_sweeping s.collection
+  pub drawn : after.drawn ≡ new.words.drawn
+  pub named : new.names.named ≡ kinds_of h
+  pub root : new.root ≡ old.root
+  pub stop : new.stop ≡ old.stop
+  pub table : grants_in new.seats ≡ map bare after.grants
+
+-- the store has these objects and drafts afterwards, and only blocks of objects that are there changed
+pub record HasStepped {D : Type 0} (g : Ghosts D) (old new : Kernel D) (s : State) (h : Graph) (T : Option MapEntry → Bool) (es : List Opened) : Type 0 where
+  pub store : StoreHas g h es new.disk new.space
+  pub only : ChangesOnly T (g.content old.disk) (g.content new.disk)
+  pub these : IsOfThese T s.graph h
+
+-- the drafts of fewer take no more
+pub fewer_take : (P : Opened → Bool) (ds : List Opened) → sum_by draft_blocks (filter P ds) ≤ sum_by draft_blocks ds
+fewer_take P [] = omega arith
+fewer_take P (d ∷ ds) = elim (P d) as (λ b. sum_by draft_blocks (cond b (d ∷ filter P ds) (filter P ds)) ≤ sum_by draft_blocks (d ∷ ds)) [
+  | true ↦ omega (arith, sum_by-cons draft_blocks d (filter P ds), sum_by-cons draft_blocks d ds, fewer_take P ds)
+  | false ↦ omega (arith, sum_by-cons draft_blocks d ds, fewer_take P ds)
+]
+
+module _ {D : Type 0} (g : Ghosts D) (old new : Kernel D) (s after : State) (h : Graph) (serves : Serves g old s) (T : Option MapEntry → Bool) (es : List Opened) (has : HasStepped g old new s h T es) where
+  -- where it takes n blocks more, and so many and four were Free, four still are
+  pub four_left : (n : ℕ) → blocks_taken h es ≤ blocks_taken s.graph (drafts_of_seats old.seats s.grants) + n → n + 4 ≤ sum old.space.free → 4 ≤ sum new.space.free
+  four_left n few free =
+      let before = room (g.content old.disk) s.graph (drafts_of_seats old.seats s.grants) serves.store.account serves.store.ordered in
+      let now = room (g.content new.disk) h es has.store.account has.store.ordered in
+      let strays = strays_stay T (g.content old.disk) (g.content new.disk) s.graph h has.only has.these in
+      omega (arith, before, now, strays, few, free, sum_is (g.content old.disk) old.space serves.store.counts, sum_is (g.content new.disk) new.space has.store.counts, ap (λ (m : ℕ). m / 64) has.only.size)
+
+  module _ (is : IsStepped old new s after h) (state : IsState after) (drafts_are : drafts_of_seats new.seats after.grants ≡ es) (have : AreDraftsOf es new.seats after.grants) (four : 4 ≤ sum new.space.free) where
+    pub stores_stepped : Stores g new after
+    stores_stepped = record {
+      front = record {
+        drawn = is.drawn;
+        names = is.named ∙ ap kinds_of (sym is.graph);
+        grants = is.table;
+        stopped = is.stopped ∙ serves.front.stopped ∙ ap (option_map (λ (stop : Stop). stop.moment)) (sym is.stop);
+      };
+      state = state;
+      root = ap (λ (x : Graph). x.root) is.graph ∙ is.rooted ∙ serves.root ∙ sym is.root;
+      store = subst (λ (x : Graph). StoreHas g x (drafts_of_seats new.seats after.grants) new.disk new.space) (sym is.graph)
+          (subst (λ (ds : List Opened). StoreHas g h ds new.disk new.space) (sym drafts_are) has.store);
+      drafts = subst (λ (ds : List Opened). AreDraftsOf ds new.seats after.grants) (sym drafts_are) have;
+      swept = λ rests. subst (IsSwept (g.content new.disk)) (sym is.graph)
+          (stays_swept T (g.content old.disk) (g.content new.disk) s.graph h has.only has.these (serves.swept (sym is.sweeping ∙ rests)));
+      four = four;
+    }
+
+    pub strays_stepped : AddsNoStray (g.content old.disk) (g.content new.disk) s.graph after.graph
+    strays_stepped = subst (λ (x : Graph). AddsNoStray (g.content old.disk) (g.content new.disk) s.graph x) (sym is.graph) (stray_was T (g.content old.disk) (g.content new.disk) s.graph h has.only has.these)
+
+    module _ (left_sized : (d : D) (t : ℕ) (c : Image) → g.left_since d t c → length c ≡ g.blocks d) (wide : length (g.content old.disk) ≡ g.blocks new.disk) (e : Event) (step : next old.words.seed s e ≡ Some after) where
+      -- the objects stay
+      pub makes_stepped : h ≡ s.graph → Leaves g old.disk new.disk (λ c. Holds c s.graph) → Makes g old new s e
+      makes_stepped same leaves = record {
+        after = after;
+        step = step;
+        stores = stores_stepped;
+        strays = strays_stepped;
+        survives = loose g left_sized old.words.seed s old.disk new.disk (fits g old s serves (g.blocks new.disk) wide) e after step (is.graph ∙ same) leaves (pending g old s serves);
+      }
+
+      -- they are committed
+      pub makes_committed : Fits (g.blocks new.disk) h → IsSettled g new.disk → Leaves g old.disk new.disk (λ c. Holds c s.graph ⊎ Holds c h) → Makes g old new s e
+      makes_committed fits_after settled leaves = record {
+        after = after;
+        step = step;
+        stores = stores_stepped;
+        strays = strays_stepped;
+        survives = done g left_sized old.words.seed s old.disk new.disk (fits g old s serves (g.blocks new.disk) wide) e after step
+            (subst (Fits (g.blocks new.disk)) (sym is.graph) fits_after)
+            (subst (λ (x : Graph). Leaves g old.disk new.disk (λ c. Holds c s.graph ⊎ Holds c x)) (sym is.graph) leaves)
+            (λ c left. subst (Holds c) (sym is.graph) (subst (λ (x : Image). Holds x h) (sym (settled.only c left)) has.store.account.holds));
+      }

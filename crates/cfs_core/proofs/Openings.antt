@@ -1,0 +1,470 @@
+-- How an opening ends.
+use Rattle.std.proofs.Common.{◌≡◌, ℕ, ◌+◌, ◌<◌, ◌≤◌, List, [], ◌∷◌, ◌++◌, length, Bool, true, false, cond, get_or, Option, Some, None, Ok, Err, IsTrue, refl, sym, ◌∙◌, ap, subst, arith}
+use Rattle.std.specs.Prelude.{IfSome, Result, is_some, map, nat_le, nat_lt, option_to_list, sum}
+use Rattle.std.specs.List.{list_any}
+use Rattle.std.proofs.lemmas.Bool.{or_parts}
+use Rattle.std.proofs.lemmas.List.Elements.{filter-append}
+use Rattle.std.proofs.lemmas.List.Sums.{sum_by-cons}
+use Rattle.std.proofs.lemmas.Bool.Decides.{nat_tests}
+use Rattle.cfs_base.specs.Calls.{OnlyReads}
+use Rattle.cfs_base.specs.Disk.{Image}
+use Rattle.cfs_base.specs.Run.{Leaves}
+use Rattle.cfs_base.specs.declared.disk.Disk.{Ghosts}
+use Rattle.cfs_base.specs.declared.identifier.Puid.{Puid}
+use Rattle.cfs_base.specs.declared.identifier.Tuid.{Tuid}
+use Rattle.cfs_base.specs.declared.kind.FileKind.{FileKind}
+use Rattle.cfs_base.specs.declared.kind.FileKind.TheVariants as file_kinds
+use Rattle.cfs_base.specs.declared.kind.Kind.{Kind}
+use Rattle.cfs_base.specs.declared.kind.Kind.TheVariants as kinds
+use Rattle.cfs_base.specs.declared.kind.Mode.{Mode}
+use Rattle.cfs_base.specs.declared.kind.Mode.TheVariants.{Reading, Writing}
+use Rattle.cfs_base.specs.declared.refusal.Refused.{Refused}
+use Rattle.cfs_base.specs.declared.refusal.Refused.TheVariants as refusals
+use Rattle.cfs_base.specs.Refusals.{had_tried}
+use Rattle.cfs_base.proofs.Runs.{wider}
+use Rattle.cyl_alloc.specs.Space.{Kept}
+use Rattle.open_table.specs.declared.fault.AcquireFault.{AcquireFault}
+use Rattle.open_table.specs.declared.fault.AcquireFault.TheVariants as faults
+use Rattle.open_table.specs.Grants.{fault_by}
+use Rattle.open_table.specs.declared.grant.Grant as seats
+use Rattle.puid_space.specs.Directory.{kind_in}
+use Rattle.puid_space.specs.Draw.{Draws}
+use Rattle.puid_space.specs.Kinds.{kind_of}
+use Rattle.special_files.specs.Drafting.{Drafting, IsOpen, begun_at, fresh_of, opened_as}
+use Rattle.special_files.proofs.CommitDraft.{nothing_left}
+use Rattle.special_files.proofs.Lists.{differs, first_here, first_others}
+use Rattle.special_files.specs.Refusal.{IsRefusalOrMemory, is_damaged, is_full}
+use Rattle.special_files.proofs.Begun.{begun_fresh}
+use Rattle.special_files.proofs.Levels.{length-none}
+use Rattle.ufs_model.specs.declared.asked.Event.TheVariants as events
+use Rattle.ufs_model.specs.declared.asked.Reply.{Reply}
+use Rattle.ufs_model.specs.declared.asked.Reply.TheVariants as replies
+use Rattle.ufs_model.specs.declared.asked.Request.{Request}
+use Rattle.ufs_model.specs.declared.asked.Request.TheVariants as asks
+use Rattle.ufs_model.specs.declared.limits.TheConstants.{MOST_GRANTS}
+use Rattle.ufs_model.specs.declared.object.Draft as models
+use Rattle.ufs_model.specs.declared.object.Grant.{Grant}
+use Rattle.ufs_model.specs.declared.object.Object.{Object}
+use Rattle.ufs_model.specs.declared.object.Object.TheVariants as objects
+use Rattle.ufs_model.specs.Graph.{Graph, is_there, object_at}
+use Rattle.ufs_model.specs.Identifier.{same_puid}
+use Rattle.ufs_model.specs.Need.{is_normal, need_of, one_if, takes_draft}
+use Rattle.ufs_model.specs.Next.{next}
+use Rattle.ufs_model.specs.Outcome.{first_draft, granted, outcome_of}
+use Rattle.ufs_model.specs.Plain.{IsPlainReply}
+use Rattle.ufs_model.specs.Refusal.{has_all_grants, is_locked, is_reading, is_unwanted_index, refusal_of, wanted}
+use Rattle.ufs_model.specs.State.{State}
+use Rattle.ufs_model.specs.WellFormed.{IsState}
+use Rattle.ufs_model.specs.Word.{word}
+use Rattle.ufs_model.proofs.Legal.{outcome_legal}
+use Rattle.ufs_model.proofs.Outcomes.{start_stays}
+use Rattle.ufs_model.proofs.WellStates.{granted_keeps}
+use Rattle.vol_image.specs.Sound.{Holds}
+use Rattle.vol_owners.specs.Account.{Opened, drafts_of}
+use Rattle.vol_owners.specs.Change.{of_draft}
+use Rattle.vol_owners.specs.Room.{draft_blocks}
+use Rattle.vol_owners.proofs.Changes.{changes_begin}
+use Rattle.vol_owners.proofs.Keys.{block_there}
+use Rattle.cfs_core.specs.Calls.{Answers, ByOutcome, ByWant, EndsSo, IsCause, Owes, Tries, Undone}
+use Rattle.cfs_core.specs.Kernel.{Kernel, Seat, grants_in, is_ready}
+use Rattle.cfs_core.specs.Opening.{Begins, BeginsSo, IsBegun, gets_draft, is_unfit, told_of}
+use Rattle.cfs_core.specs.StandsFor.{HasDraftOf, Serves, bare, drafts_at, drafts_of_seats, is_sweeping}
+use Rattle.cfs_core.proofs.Answering.{disk_failed, memory, owes}
+use Rattle.cfs_core.proofs.Drafted.{others_have}
+use Rattle.cfs_core.proofs.Ended.{of_its_draft}
+use Rattle.cfs_core.proofs.Readied.{for_ready}
+use Rattle.cfs_core.proofs.Regranted.{grants_push, push_drafts, push_have}
+use Rattle.cfs_core.proofs.Granted.{locked_by, many_by, none_by}
+use Rattle.cfs_core.proofs.Serving.{fits, kind_is, object_listed, running, stays}
+use Rattle.cfs_core.proofs.Moved.{HasStepped, IsStepped, four_left, makes_stepped}
+
+-- ---- by its kind
+
+pub unfit_is : (o : Object) (kind : Kind) → kind_of o ≡ kind → (id : Puid) (mode : Mode) → is_unwanted_index (wanted (asks.OpenFor id mode)) (Some o) ≡ is_unfit kind mode
+unfit_is (objects.Index i) kind is id Reading = ap (λ k. is_unfit k Reading) is
+unfit_is (objects.Index i) kind is id Writing = ap (λ k. is_unfit k Writing) is
+unfit_is (objects.File f) kind is id mode = at f.kind mode ∙ ap (λ k. is_unfit k mode) is
+  where
+    at : (k : FileKind) (m : Mode) → is_unwanted_index (wanted (asks.OpenFor id m)) (Some (objects.File f)) ≡ is_unfit (kind_of (objects.File (record f { kind = k }))) m
+    at file_kinds.Normal Reading = refl
+    at file_kinds.Normal Writing = refl
+    at file_kinds.Special Reading = refl
+    at file_kinds.Special Writing = refl
+
+pub gets_is : (o : Object) (kind : Kind) → kind_of o ≡ kind → (mode : Mode) → takes_draft mode (Some o) ≡ gets_draft kind mode
+gets_is (objects.Index i) kind is Reading = ap (λ k. gets_draft k Reading) is
+gets_is (objects.Index i) kind is Writing = ap (λ k. gets_draft k Writing) is
+gets_is (objects.File f) kind is mode = at f.kind mode ∙ ap (λ k. gets_draft k mode) is
+  where
+    at : (k : FileKind) (m : Mode) → takes_draft m (Some (objects.File (record f { kind = k }))) ≡ gets_draft (kind_of (objects.File (record f { kind = k }))) m
+    at file_kinds.Normal Reading = refl
+    at file_kinds.Normal Writing = refl
+    at file_kinds.Special Reading = refl
+    at file_kinds.Special Writing = refl
+
+-- what gets a draft is a special file
+special_of : (mode : Mode) (o : Object) → takes_draft mode (Some o) ≡ true → is_normal o ≡ false
+special_of Reading o gets = cc
+special_of Writing (objects.Index i) gets = cc
+special_of Writing (objects.File f) gets = at f.kind gets
+  where
+    at : (k : FileKind) → takes_draft Writing (Some (objects.File (record f { kind = k }))) ≡ true → is_normal (objects.File (record f { kind = k })) ≡ false
+    at file_kinds.Normal h = cc
+    at file_kinds.Special h = refl
+
+written_of : (mode : Mode) (o : Object) → takes_draft mode (Some o) ≡ true → is_reading mode ≡ false
+written_of Reading o gets = cc
+written_of Writing o gets = refl
+
+-- ---- why it is refused
+
+module _ (s : State) (who : ℕ) (id : Puid) where
+  pub open_gone : (mode : Mode) → is_there s.graph id ≡ false → refusal_of s who (asks.OpenFor id mode) ≡ Some replies.NoObject
+  open_gone Reading gone = rw gone refl
+  open_gone Writing gone = rw gone refl
+
+  module _ (there : is_there s.graph id ≡ true) (mode : Mode) where
+    abbrev unwanted : Bool
+    unwanted = is_unwanted_index (wanted (asks.OpenFor id mode)) (object_at s.graph id)
+
+    pub open_index : unwanted ≡ true → refusal_of s who (asks.OpenFor id mode) ≡ Some replies.NotFile
+    open_index index = at mode index
+      where
+        at : (m : Mode) → is_unwanted_index (wanted (asks.OpenFor id m)) (object_at s.graph id) ≡ true → refusal_of s who (asks.OpenFor id m) ≡ Some replies.NotFile
+        at Reading h = cc
+        at Writing h = rw (there, h) refl
+
+    module _ (fit : unwanted ≡ false) where
+      pub open_locked : is_locked s who (asks.OpenFor id mode) ≡ true → refusal_of s who (asks.OpenFor id mode) ≡ Some replies.Locked
+      open_locked locked = at mode fit locked
+        where
+          at : (m : Mode) → is_unwanted_index (wanted (asks.OpenFor id m)) (object_at s.graph id) ≡ false → is_locked s who (asks.OpenFor id m) ≡ true → refusal_of s who (asks.OpenFor id m) ≡ Some replies.Locked
+          at Reading h l = rw (there, l) refl
+          at Writing h l = rw (there, h, l) refl
+
+      pub open_many : is_locked s who (asks.OpenFor id mode) ≡ false → has_all_grants s who (asks.OpenFor id mode) ≡ true → refusal_of s who (asks.OpenFor id mode) ≡ Some replies.Grants
+      open_many free many = at mode fit free many
+        where
+          at : (m : Mode) → is_unwanted_index (wanted (asks.OpenFor id m)) (object_at s.graph id) ≡ false → is_locked s who (asks.OpenFor id m) ≡ false → has_all_grants s who (asks.OpenFor id m) ≡ true
+              → refusal_of s who (asks.OpenFor id m) ≡ Some replies.Grants
+          at Reading h l n = rw (there, l, n) refl
+          at Writing h l n = rw (there, h, l, n) refl
+
+      pub open_goes : is_locked s who (asks.OpenFor id mode) ≡ false → has_all_grants s who (asks.OpenFor id mode) ≡ false → refusal_of s who (asks.OpenFor id mode) ≡ None
+      open_goes free few = at mode fit free few
+        where
+          at : (m : Mode) → is_unwanted_index (wanted (asks.OpenFor id m)) (object_at s.graph id) ≡ false → is_locked s who (asks.OpenFor id m) ≡ false → has_all_grants s who (asks.OpenFor id m) ≡ false
+              → refusal_of s who (asks.OpenFor id m) ≡ None
+          at Reading h l n = rw (there, l, n) refl
+          at Writing h l n = rw (there, h, l, n) refl
+
+-- ---- as the core finds it
+
+module _ {D : Type 0} (g : Ghosts D) (k : Kernel D) (s : State) (serves : Serves g k s) (id : Puid) (kind : Kind) (listed : kind_in k.names.named id ≡ Some kind) where
+  pub the_object : (o : Object) × (object_at s.graph id ≡ Some o)
+  the_object = object_listed g k s serves id kind listed
+
+  pub the_kind : kind_of the_object.0 ≡ kind
+  the_kind = kind_is g k s serves id the_object.0 kind listed the_object.1
+
+  pub there_now : is_there s.graph id ≡ true
+  there_now = ap is_some the_object.1
+
+  pub fit_is : (mode : Mode) → is_unwanted_index (wanted (asks.OpenFor id mode)) (object_at s.graph id) ≡ is_unfit kind mode
+  fit_is mode = ap (is_unwanted_index (wanted (asks.OpenFor id mode))) the_object.1 ∙ unfit_is the_object.0 kind the_kind id mode
+
+  pub gets_now : (mode : Mode) → takes_draft mode (Some the_object.0) ≡ gets_draft kind mode
+  gets_now mode = gets_is the_object.0 kind the_kind mode
+
+pub told_plain : (fault : AcquireFault) → IsPlainReply (told_of fault)
+told_plain (faults.Locked mode) = tt
+told_plain faults.Grants = tt
+
+module _ (s : State) (who : ℕ) (id : Puid) (mode : Mode) (there : is_there s.graph id ≡ true) (fit : is_unwanted_index (wanted (asks.OpenFor id mode)) (object_at s.graph id) ≡ false)
+    (m : Option Mode) (count : ℕ) (lock : is_some m ≡ is_locked s who (asks.OpenFor id mode)) (many : nat_le MOST_GRANTS count ≡ has_all_grants s who (asks.OpenFor id mode)) where
+  pub fault_told : (fault : AcquireFault) → fault_by m count ≡ Some fault → refusal_of s who (asks.OpenFor id mode) ≡ Some (told_of fault)
+  fault_told (faults.Locked held) is = open_locked s who id there mode fit (sym lock ∙ locked_by m count (faults.Locked held) held is refl)
+  fault_told faults.Grants is = (let two = many_by m count faults.Grants is refl in open_many s who id there mode fit (sym lock ∙ two.0) (sym many ∙ two.1))
+
+  pub none_told : fault_by m count ≡ None → refusal_of s who (asks.OpenFor id mode) ≡ None
+  none_told is = (let two = none_by m count is in open_goes s who id there mode fit (sym lock ∙ two.0) (sym many ∙ two.1))
+
+  pub none_locked : fault_by m count ≡ None → is_locked s who (asks.OpenFor id mode) ≡ false
+  none_locked is = sym lock ∙ (none_by m count is).0
+
+-- ---- no grant is on it
+
+pub unopened : (id : Puid) (ss : List Seat) (grants : List Grant) → grants_in ss ≡ map bare grants → list_any (λ x. same_puid id x.id) grants ≡ false → drafts_of (drafts_of_seats ss grants) id ≡ []
+unopened id [] [] table none = refl
+unopened id [] (x ∷ grants) table none = cc
+unopened id (seat ∷ ss) [] table none = refl
+unopened id (seat ∷ ss) (x ∷ grants) table none =
+    let head : seat.grant ≡ bare x = cc in
+    let tail : grants_in ss ≡ map bare grants = cc in
+    let two = or_parts (same_puid id x.id) (list_any (λ y. same_puid id y.id) grants) none in
+    filter-append (λ d. same_puid d.id id) (drafts_of_seats ss grants) (drafts_at seat seat.drafting x.draft)
+    ∙ rw (unopened id ss grants tail two.1) (at (differs id seat.grant.id (ap (same_puid id) (ap (λ (e : seats.Grant). e.id) head) ∙ two.0)) seat.drafting x.draft)
+  where
+    at : same_puid seat.grant.id id ≡ false → (o : Option Drafting) (d : Option models.Draft) → drafts_of (drafts_at seat o d) id ≡ []
+    at other None d = refl
+    at other (Some o) None = refl
+    at other (Some o) (Some d) = rw other refl
+
+-- one that couldn't be begun
+pub refusal_cause : {D : Type 0} (g : Ghosts D) (at floor : ℕ) (old new : D) (kept : Kept) (e : Refused) → IsRefusalOrMemory g at floor old new kept e → IsCause g old new e
+refusal_cause g at floor old new kept (refusals.Full need) is = tt
+refusal_cause g at floor old new kept (refusals.Disk tried) is = is
+refusal_cause g at floor old new kept (refusals.Damaged damage) is = tt
+refusal_cause g at floor old new kept refusals.Memory is = tt
+
+pub refusal_so : {D : Type 0} (g : Ghosts D) (graph : Graph) (ds : List Opened) (id : Puid) (o : Object) (old new : D) (before after : Kept) (wanted_draft : Bool) → wanted_draft ≡ true → (e : Refused)
+    → (is_full e ≡ true → (e ≡ refusals.Full (record { free = sum before.free; need = 1 })) × (sum before.free < 5) × (new ≡ old)) → (had_tried e ≡ false → (after ≡ before) × OnlyReads g 2 old new)
+    → is_damaged e ≡ false → Leaves g old new (λ c. Holds c graph) → BeginsSo g graph ds id o wanted_draft old new before after (Err e)
+refusal_so g graph ds id o old new before after w wants (refusals.Full need) full untried sound leaves = (let is = full refl in let same : need ≡ record { free = sum before.free; need = 1 } = (let both = is.0 in cc) in (wants, same, is.1, (untried refl).1, (untried refl).0))
+refusal_so g graph ds id o old new before after w wants (refusals.Disk true) full untried sound leaves = leaves
+refusal_so g graph ds id o old new before after w wants (refusals.Disk false) full untried sound leaves = ((untried refl).1, (untried refl).0)
+refusal_so g graph ds id o old new before after w wants (refusals.Damaged damage) full untried sound leaves = cc
+refusal_so g graph ds id o old new before after w wants refusals.Memory full untried sound leaves = ((untried refl).1, (untried refl).0)
+
+-- a draft that was begun is among the drafts
+pub begun_open : (id : Puid) (o : Object) (ds : List Opened) (at n : ℕ) (d : Drafting) → d ≡ begun_at at (Some n) d.own → id.block ≡ at → drafts_of ds id ≡ []
+    → IsOpen (opened_as id d (record { object = o; fresh = [] }) ∷ ds) id d (record { object = o; fresh = [] })
+begun_open id o ds at n d is same none = record {
+  at = same ∙ sym (ap (λ (w : Drafting). w.at) is);
+  alone = first_here (opened_as id d (record { object = o; fresh = [] })) ds none;
+  leaf_flags = ap (λ (w : Drafting). length w.leaves) is ∙ length-none 15360;
+  node_flags = ap (λ (w : Drafting). length w.nodes) is ∙ length-none 120;
+  fresh = λ level. begun_fresh at (Some n) d.own level ∙ ap (λ (w : Drafting). get_or (fresh_of w) level []) (sym is);
+}
+
+-- a draft that was begun is ready
+pub begun_ready : (blocks : ℕ) (kind : Kind) (grant : seats.Grant) (o : Option Drafting) → IfSome o (λ d. (gets_draft kind grant.mode ≡ true) × (d.at ≡ grant.id.block) × ((n : ℕ) × (d.shadow ≡ Some n)) × (d.created ≡ None)) → grant.id.block < blocks
+    → is_ready blocks (record { grant = grant; drafting = o }) ≡ true
+begun_ready blocks kind grant None is less = refl
+begun_ready blocks kind grant (Some d) is less =
+    for_ready blocks d (record { on_disk = omega (arith, is.1, less); shadow = is.2; bare = is.3 })
+
+-- ---- a grant more
+
+module _ {D : Type 0} (g : Ghosts D) (left_sized : (d : D) (t : ℕ) (c : Image) → g.left_since d t c → length c ≡ g.blocks d) (sized : (d : D) → IsTrue (g.honest d) → length (g.content d) ≡ g.blocks d)
+    (k : Kernel D) (who : ℕ) (id : Puid) (mode : Mode) (wanted_draft : Bool) (tuid : Tuid) (tuid_is : tuid ≡ record { draw = k.words.drawn + 1; word = word k.words.seed (k.words.drawn + 1) })
+    (s : State) (serves : Serves g k s) (none : k.stop ≡ None) (o : Object) (there : object_at s.graph id ≡ Some o) (gets : takes_draft mode (Some o) ≡ wanted_draft) (goes : refusal_of s who (asks.OpenFor id mode) ≡ None) where
+  abbrev request : Request
+  request = asks.OpenFor id mode
+
+  abbrev ds : List Opened
+  ds = drafts_of_seats k.seats s.grants
+
+  abbrev after : State
+  after = (granted k.words.seed s who id mode).1
+
+  abbrev grant : Grant
+  grant = record { tuid = record { draw = s.drawn + 1; word = word k.words.seed (s.drawn + 1) }; session = who; id = id; mode = mode; draft = first_draft mode (object_at s.graph id) }
+
+  -- the same as the core has it
+  abbrev shown : seats.Grant
+  shown = record { tuid = tuid; session = who; id = id; mode = mode }
+
+  tuid_same : tuid ≡ record { draw = s.drawn + 1; word = word k.words.seed (s.drawn + 1) }
+  tuid_same = tuid_is ∙ ap (λ (n : ℕ). record { draw = n + 1; word = word k.words.seed (n + 1) }) (sym serves.front.drawn)
+
+  need_is : need_of s who request ≡ one_if wanted_draft
+  need_is = rw there (ap one_if gets)
+
+  draft_is : first_draft mode (object_at s.graph id) ≡ cond wanted_draft (Some (record { object = o; fresh = [] })) None
+  draft_is = rw there (ap (λ b. cond b (Some (record { object = o; fresh = [] })) None) gets)
+
+  is_there_now : is_there s.graph id ≡ true
+  is_there_now = rw there refl
+
+  told_is : replies.Grant tuid ≡ (outcome_of k.words.seed s who request 0).0
+  told_is = ap replies.Grant tuid_same
+
+  legal : next k.words.seed s (events.Ask who request (replies.Grant tuid)) ≡ Some after
+  legal = subst (λ (r : Reply). next k.words.seed s (events.Ask who request r) ≡ Some after) (sym told_is)
+      (outcome_legal k.words.seed s who request 0 (running g k s serves none) goes (λ made. let no : true ≡ false = sym made in cc))
+
+  -- ---- with this draft, if it has one
+
+  module _ (drafting : Option Drafting) (d : D) (space : Kept) (words : Draws) (words_are : words ≡ record { seed = k.words.seed; drawn = k.words.drawn + 1 }) where
+    abbrev seat : Seat
+    seat = record { grant = shown; drafting = drafting }
+
+    abbrev new : Kernel D
+    new = record k { disk = d; space = space; words = words; seats = k.seats ++ seat ∷ [] }
+
+    table : grants_in (k.seats ++ seat ∷ []) ≡ map bare (s.grants ++ grant ∷ [])
+    table = grants_push k.seats seat ∙ ap (λ gs. gs ++ shown ∷ []) serves.front.grants ∙ ap (λ (t : Tuid). map bare s.grants ++ record { tuid = t; session = who; id = id; mode = mode } ∷ []) tuid_same ∙ sym (map_push s.grants)
+      where
+        map_push : (gs : List Grant) → map bare (gs ++ grant ∷ []) ≡ map bare gs ++ bare grant ∷ []
+        map_push [] = refl
+        map_push (x ∷ gs) = ap (λ rest. bare x ∷ rest) (map_push gs)
+
+    stepped : IsStepped k new s after s.graph
+    stepped = record {
+      graph = refl;
+      rooted = refl;
+      stopped = refl;
+      sweeping = start_stays is_sweeping (λ a b c e. refl) id s.collection;
+      drawn = ap (λ (n : ℕ). n + 1) serves.front.drawn ∙ sym (ap (λ (w : Draws). w.drawn) words_are);
+      named = serves.front.names;
+      root = refl;
+      stop = refl;
+      table = table;
+    }
+
+    drafts_are : drafts_of_seats (k.seats ++ seat ∷ []) (s.grants ++ grant ∷ []) ≡ drafts_at seat drafting grant.draft ++ ds
+    drafts_are = push_drafts ds seat grant k.seats s.grants serves.drafts
+
+    state : IsState after
+    state = granted_keeps k.words.seed s who id mode serves.state is_there_now
+
+    owed : need_of s who request + 4 ≤ sum k.space.free → Owes k.words.seed s who request (g.content k.disk) (sum k.space.free) (replies.Grant tuid)
+    owed free = owes k.words.seed s who request (g.content k.disk) (sum k.space.free) (replies.Grant tuid) tt
+        (ByOutcome goes (record { block = 0; least = λ made. let no : true ≡ false = sym made in cc; reply_is = told_is; room = λ short. omega (arith, short.few, free) }))
+
+  -- none is wanted
+  pub opened_bare : wanted_draft ≡ false → (words : Draws) → words ≡ record { seed = k.words.seed; drawn = k.words.drawn + 1 }
+      → Answers g k (record k { words = words; seats = k.seats ++ record { grant = shown; drafting = None } ∷ [] }) s who request (replies.Grant tuid)
+  opened_bare bare words words_are =
+      let no_draft : first_draft mode (object_at s.graph id) ≡ None = draft_is ∙ ap (λ b. cond b (Some (record { object = o; fresh = [] })) None) bare in
+      let free : need_of s who request ≡ 0 = need_is ∙ ap one_if bare in
+      let after_it : Kernel D = record k { words = words; seats = k.seats ++ record { grant = shown; drafting = None } ∷ [] } in
+      let has : HasStepped g k after_it s s.graph (λ entry. false) ds = record {
+        store = serves.store;
+        only = changes_begin (λ entry. false) (g.content k.disk) s.graph serves.store.account.holds;
+        these = record { there = λ entry is made. let no : true ≡ false = sym is in cc; more = λ r had. had };
+      } in
+      record {
+        event = makes_stepped g k after_it s after s.graph serves (λ entry. false) ds has (stepped None k.disk k.space words words_are) (state None k.disk k.space words words_are)
+            (drafts_are None k.disk k.space words words_are)
+            (push_have ds (record { grant = shown; drafting = None }) grant (subst (HasDraftOf ds (record { grant = shown; drafting = None }) None) (sym no_draft) tt) k.seats s.grants serves.drafts) (omega (arith, serves.four))
+            left_sized (sized k.disk serves.store.carries.tells.honest) (events.Ask who request (replies.Grant tuid)) legal refl (nothing_left g k.disk (λ c. Holds c s.graph));
+        still = λ all. let no : true ≡ false = sym all in cc;
+        owed = owed None k.disk k.space words words_are (omega (arith, free, serves.four));
+      }
+
+  -- one is, and was begun
+  pub opened_draft : wanted_draft ≡ true → (drafting : Drafting) (d : D) (space : Kept) (words : Draws) → words ≡ record { seed = k.words.seed; drawn = k.words.drawn + 1 } → drafts_of ds id ≡ [] → g.blocks d ≡ g.blocks k.disk
+      → IsBegun g s.graph ds id o k.disk d k.space space drafting
+      → Answers g k (record k { disk = d; space = space; words = words; seats = k.seats ++ record { grant = shown; drafting = Some drafting } ∷ [] }) s who request (replies.Grant tuid)
+  opened_draft wants drafting d space words words_are shut size begun =
+      let it : Opened = opened_as id drafting (record { object = o; fresh = [] }) in
+      let has_draft : first_draft mode (object_at s.graph id) ≡ Some (record { object = o; fresh = [] }) = draft_is ∙ ap (λ b. cond b (Some (record { object = o; fresh = [] })) None) wants in
+      let need : need_of s who request ≡ 1 = need_is ∙ ap one_if wants in
+      let after_it : Kernel D = record k { disk = d; space = space; words = words; seats = k.seats ++ record { grant = shown; drafting = Some drafting } ∷ [] } in
+      let has : HasStepped g k after_it s s.graph (λ entry. of_draft id.block entry) (it ∷ ds) = record {
+        store = begun.steps.store;
+        only = begun.steps.only;
+        these = of_its_draft s.graph id (block_there s.graph id o there);
+      } in
+      let made : length (option_to_list drafting.created) ≡ 0 = ap (λ (c : Option ℕ). length (option_to_list c)) begun.bare in
+      let four = four_left g k after_it s after s.graph serves (λ entry. of_draft id.block entry) (it ∷ ds) has 1 (omega (arith, sum_by-cons draft_blocks it ds, made, one_at_most drafting.shadow)) (omega (arith, begun.free)) in
+      record {
+        event = makes_stepped g k after_it s after s.graph serves (λ entry. of_draft id.block entry) (it ∷ ds) has (stepped (Some drafting) d space words words_are) (state (Some drafting) d space words words_are)
+            (drafts_are (Some drafting) d space words words_are ∙ ap (λ x. drafts_at (record { grant = shown; drafting = Some drafting }) (Some drafting) x ++ ds) has_draft)
+            (push_have (it ∷ ds) (record { grant = shown; drafting = Some drafting }) grant (subst (HasDraftOf (it ∷ ds) (record { grant = shown; drafting = Some drafting }) (Some drafting)) (sym has_draft) (record { is_open = begun.opened; special = special_of mode o (gets ∙ wants); writes = written_of mode o (gets ∙ wants) })) k.seats s.grants (others_have id ds (it ∷ ds) (first_others it ds) k.seats s.grants shut serves.drafts)) four
+            left_sized (sized k.disk serves.store.carries.tells.honest ∙ sym size) (events.Ask who request (replies.Grant tuid)) legal refl begun.leaves;
+        still = λ all. let no : true ≡ false = sym all in cc;
+        owed = owed (Some drafting) d space words words_are (omega (arith, need, begun.free));
+      }
+    where
+      one_at_most : (c : Option ℕ) → length (option_to_list c) ≤ 1
+      one_at_most None = omega arith
+      one_at_most (Some n) = omega arith
+
+  -- it couldn't be begun
+  module _ (d : D) (space : Kept) (size : g.blocks d ≡ g.blocks k.disk) where
+    abbrev stays_as : Kernel D
+    stays_as = record k { disk = d; space = space }
+
+    as_it_was : space ≡ k.space → stays_as ≡ record k { disk = d }
+    as_it_was same = ap (λ (x : Kept). record k { disk = d; space = x }) same
+
+    pub not_opened : (e : Refused) → BeginsSo g s.graph ds id o wanted_draft k.disk d k.space space (Err e) → EndsSo g k stays_as s who request (Err e)
+    not_opened (refusals.Full need) is =
+        let wants : need_of s who request ≡ 1 = need_is ∙ ap one_if is.0 in
+        subst (λ n. Answers g k stays_as s who request (replies.Full n)) (sym is.1) (record {
+          event = stays g 2 k stays_as is.3 (as_it_was is.4) s serves left_sized (sized k.disk serves.store.carries.tells.honest) (events.Ask who request (replies.Full (record { free = sum k.space.free; need = 1 })))
+              (full_legal (sum k.space.free) wants is.2);
+          still = λ all. is.3.content;
+          owed = ByWant goes (record { delete = refl; few = omega (arith, is.2, wants) }) (ap (λ (n : ℕ). replies.Full (record { free = sum k.space.free; need = n })) (sym wants));
+        })
+      where
+        full_legal : (free : ℕ) → need_of s who request ≡ 1 → free < 5 → next k.words.seed s (events.Ask who request (replies.Full (record { free = free; need = 1 }))) ≡ Some s
+        full_legal free wants few = let less : nat_lt free 5 ≡ true = grind (arith, nat_tests) in rw (running g k s serves none, goes, wants, less) refl
+    not_opened (refusals.Disk false) is = disk_failed g left_sized sized 2 k stays_as is.0 (as_it_was is.1) s who serves none request
+    not_opened (refusals.Disk true) is = record {
+      allowed = goes;
+      drawn = refl;
+      named = refl;
+      grants = refl;
+      leaves = wider g k.disk d _ _ is (λ c holds. record { graph = s.graph; may = Undone; fits = fits g k s serves (g.blocks d) (sized k.disk serves.store.carries.tells.honest ∙ sym size); holds = holds });
+    }
+    not_opened (refusals.Damaged damage) is = absurd is
+    not_opened refusals.Memory is = memory g left_sized sized 2 k stays_as is.0 (as_it_was is.1) s who serves none request
+
+-- ---- the whole call
+
+module _ {D : Type 0} (g : Ghosts D) (left_sized : (d : D) (t : ℕ) (c : Image) → g.left_since d t c → length c ≡ g.blocks d) (sized : (d : D) → IsTrue (g.honest d) → length (g.content d) ≡ g.blocks d)
+    (k : Kernel D) (who : ℕ) (id : Puid) (mode : Mode) (kind : Kind) (listed : kind_in k.names.named id ≡ Some kind) (tuid : Tuid) (tuid_is : tuid ≡ record { draw = k.words.drawn + 1; word = word k.words.seed (k.words.drawn + 1) })
+    (goes : (s : State) → Serves g k s → (refusal_of s who (asks.OpenFor id mode) ≡ None) × (is_locked s who (asks.OpenFor id mode) ≡ false)) (d : D) (space : Kept) where
+  -- where it is to have a draft no grant is on it
+  shut : (s : State) (serves : Serves g k s) → gets_draft kind mode ≡ true → drafts_of (drafts_of_seats k.seats s.grants) id ≡ []
+  shut s serves wants = unopened id k.seats s.grants serves.front.grants (alone mode kind wants (goes s serves).1)
+    where
+      alone : (m : Mode) (n : Kind) → gets_draft n m ≡ true → is_locked s who (asks.OpenFor id m) ≡ false → list_any (λ x. same_puid id x.id) s.grants ≡ false
+      alone Writing n gets free = free
+      alone Reading kinds.Special gets free = cc
+      alone Reading kinds.Normal gets free = cc
+      alone Reading kinds.Index gets free = cc
+
+  begins_so : (result : Result (Option Drafting) Refused) → Begins g id.block (gets_draft kind mode) k.disk d k.space space result → (s : State) (serves : Serves g k s)
+      → BeginsSo g s.graph (drafts_of_seats k.seats s.grants) id (the_object g k s serves id kind listed).0 (gets_draft kind mode) k.disk d k.space space result
+  begins_so result begins s serves = (let o = the_object g k s serves id kind listed in begins.ends s.graph _ id o.0 serves.store refl o.1 (shut s serves))
+
+  module _ (words : Draws) (words_are : words ≡ record { seed = k.words.seed; drawn = k.words.drawn + 1 }) where
+    abbrev seat_with : Option Drafting → Seat
+    seat_with drafting = record { grant = record { tuid = tuid; session = who; id = id; mode = mode }; drafting = drafting }
+
+    pub tries_open : (drafting : Option Drafting) → Begins g id.block (gets_draft kind mode) k.disk d k.space space (Ok drafting)
+        → Tries g k (record k { disk = d; space = space; words = words; seats = k.seats ++ seat_with drafting ∷ [] }) who (asks.OpenFor id mode) (Ok (replies.Grant tuid))
+    tries_open drafting begins = record {
+      ends = λ s serves none. ends drafting s serves none (begins_so (Ok drafting) begins s serves);
+      plain = tt;
+      cause = tt;
+      size = begins.calls.same.size;
+      faults = begins.calls.faults;
+      stop = refl;
+      collections = refl;
+      seed = ap (λ (w : Draws). w.seed) words_are;
+      kept = omega (arith, ap (λ (w : Draws). w.drawn) words_are);
+      drawn = omega (arith, ap (λ (w : Draws). w.drawn) words_are);
+    }
+      where
+        ends : (o : Option Drafting) (s : State) (serves : Serves g k s) → k.stop ≡ None → BeginsSo g s.graph (drafts_of_seats k.seats s.grants) id (the_object g k s serves id kind listed).0 (gets_draft kind mode) k.disk d k.space space (Ok o)
+            → Answers g k (record k { disk = d; space = space; words = words; seats = k.seats ++ seat_with o ∷ [] }) s who (asks.OpenFor id mode) (replies.Grant tuid)
+        ends None s serves none is =
+            let o = the_object g k s serves id kind listed in
+            subst (λ (x : Kept). Answers g k (record k { disk = d; space = x; words = words; seats = k.seats ++ seat_with None ∷ [] }) s who (asks.OpenFor id mode) (replies.Grant tuid)) (sym is.2)
+            (subst (λ (y : D). Answers g k (record k { disk = y; words = words; seats = k.seats ++ seat_with None ∷ [] }) s who (asks.OpenFor id mode) (replies.Grant tuid)) (sym is.1)
+            (opened_bare g left_sized sized k who id mode (gets_draft kind mode) tuid tuid_is s serves none o.0 o.1 (gets_now g k s serves id kind listed mode) (goes s serves).0 is.0 words words_are))
+        ends (Some drafting) s serves none is =
+            let o = the_object g k s serves id kind listed in
+            opened_draft g left_sized sized k who id mode (gets_draft kind mode) tuid tuid_is s serves none o.0 o.1 (gets_now g k s serves id kind listed mode) (goes s serves).0 is.0 drafting d space words words_are
+            (shut s serves is.0) begins.calls.same.size is.1
+
+  pub tries_not : (e : Refused) → Begins g id.block (gets_draft kind mode) k.disk d k.space space (Err e) → Tries g k (record k { disk = d; space = space }) who (asks.OpenFor id mode) (Err e)
+  tries_not e begins = record {
+    ends = λ s serves none. let o = the_object g k s serves id kind listed in
+        not_opened g left_sized sized k who id mode (gets_draft kind mode) tuid tuid_is s serves none o.0 o.1 (gets_now g k s serves id kind listed mode) (goes s serves).0 d space begins.calls.same.size e (begins_so (Err e) begins s serves);
+    plain = tt;
+    cause = begins.cause;
+    size = begins.calls.same.size;
+    faults = begins.calls.faults;
+    stop = refl;
+    collections = refl;
+    seed = refl;
+    kept = omega arith;
+    drawn = omega arith;
+  }

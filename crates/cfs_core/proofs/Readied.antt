@@ -1,0 +1,126 @@
+-- Drafts as they stand between two calls.
+use Rattle.std.proofs.Common.{◌≡◌, ℕ, ◌<◌, List, [], ◌∷◌, ◌++◌, Bool, true, false, cond, ◌&&◌, length, Option, Some, None, refl, sym, ◌∙◌, ap, subst, arith}
+use Rattle.std.specs.Prelude.{find, is_none, is_some, nat_lt, option_and_then, option_to_list}
+use Rattle.std.specs.List.{list_all, sum_by}
+use Rattle.std.proofs.lemmas.Bool.{and_parts}
+use Rattle.std.proofs.lemmas.Bool.Decides.{nat_tests}
+use Rattle.std.proofs.lemmas.List.Folds.{list_all-append}
+use Rattle.std.proofs.lemmas.List.Sums.{sum_by-append, sum_by-cons}
+use Rattle.special_files.specs.Drafting.{Drafting, opened_as}
+use Rattle.ufs_model.specs.declared.object.Draft.{Draft}
+use Rattle.ufs_model.specs.declared.object.Grant.{Grant}
+use Rattle.vol_owners.specs.Account.{Opened}
+use Rattle.vol_owners.specs.Room as owners
+use Rattle.cfs_core.specs.Room.{draft_blocks}
+use Rattle.cfs_core.specs.StandsFor.{AreDraftsOf, HasDraftOf, drafts_at, drafts_of_seats}
+use Rattle.cfs_core.specs.Kernel.{Seat, is_drawn_by, is_ready, is_ready_for}
+use Rattle.cfs_core.specs.Seats.{drafting_at, is_drawn, with_drafting}
+
+pub record IsReadyFor (blocks : ℕ) (d : Drafting) : Type 0 where
+  pub on_disk : d.at < blocks
+  pub shadow : (s : ℕ) × (d.shadow ≡ Some s)
+  pub bare : d.created ≡ None
+
+pub ready_for : (blocks : ℕ) (d : Drafting) → is_ready_for blocks d ≡ true → IsReadyFor blocks d
+ready_for blocks d is =
+    let two = and_parts _ (is_none d.created) is in
+    let one = and_parts (nat_lt d.at blocks) (is_some d.shadow) two.0 in
+    record { on_disk = less d.at blocks one.0; shadow = some d.shadow one.1; bare = none d.created two.1 }
+  where
+    less : (a b : ℕ) → nat_lt a b ≡ true → a < b
+    less a b h = grind (arith, nat_tests)
+
+    some : (o : Option ℕ) → is_some o ≡ true → (s : ℕ) × (o ≡ Some s)
+    some None h = cc
+    some (Some s) h = (s, refl)
+
+    none : (o : Option ℕ) → is_none o ≡ true → o ≡ None
+    none None h = refl
+    none (Some s) h = cc
+
+pub never_none : {A : Type 0} (o : Option ℕ) (s : ℕ) → o ≡ None → o ≡ Some s → A
+never_none o s none some = let no : None ≡ Some s = sym none ∙ some in cc
+
+pub for_ready : (blocks : ℕ) (d : Drafting) → IsReadyFor blocks d → is_ready_for blocks d ≡ true
+for_ready blocks d r = at (less d.at blocks r.on_disk) d.shadow r.shadow.1 d.created r.bare
+  where
+    less : (a b : ℕ) → a < b → nat_lt a b ≡ true
+    less a b h = grind (arith, nat_tests)
+
+    at : nat_lt d.at blocks ≡ true → (o : Option ℕ) → o ≡ Some r.shadow.0 → (p : Option ℕ) → p ≡ None → (nat_lt d.at blocks && is_some o && is_none p) ≡ true
+    at below (Some s) is None none = rw below refl
+    at below None is p none = cc
+    at below (Some s) is (Some c) none = cc
+
+-- the draft of a seat is ready where all are
+pub ready_at : (blocks draw : ℕ) (ss : List Seat) → list_all (is_ready blocks) ss ≡ true → (d : Drafting) → drafting_at ss draw ≡ Some d → is_ready_for blocks d ≡ true
+ready_at blocks draw [] all d is = cc
+ready_at blocks draw (seat ∷ ss) all d is =
+    let two = and_parts (is_ready blocks seat) (list_all (is_ready blocks) ss) all in
+    elim (is_drawn draw seat) as (λ b. option_and_then (λ (e : Seat). e.drafting) (cond b (Some seat) (find (is_drawn draw) ss)) ≡ Some d → is_ready_for blocks d ≡ true) [
+      | true ↦ λ h. here seat.drafting two.0 h
+      | false ↦ λ h. ready_at blocks draw ss two.1 d h
+    ] is
+  where
+    here : (o : Option Drafting) → is_ready blocks (record seat { drafting = o }) ≡ true → o ≡ Some d → is_ready_for blocks d ≡ true
+    here None h same = cc
+    here (Some e) h same = let one : e ≡ d = cc in subst (λ (x : Drafting). is_ready_for blocks x ≡ true) one h
+
+-- where the draft of one draw is taken, what holds of all seats but for their drafts still does
+pub all_taken : (test : Seat → Bool) (draw : ℕ) → ((seat : Seat) → test seat ≡ true → test (record { grant = seat.grant; drafting = None }) ≡ true) → (ss : List Seat) → list_all test ss ≡ true
+    → list_all test (with_drafting draw None ss) ≡ true
+all_taken test draw bare [] all = refl
+all_taken test draw bare (seat ∷ ss) all =
+    let two = and_parts (test seat) (list_all test ss) all in
+    elim (is_drawn draw seat) as (λ b. (test (cond b (record { grant = seat.grant; drafting = None }) seat) && list_all test (with_drafting draw None ss)) ≡ true) [
+      | true ↦ rw (bare seat two.0, all_taken test draw bare ss two.1) refl
+      | false ↦ rw (two.0, all_taken test draw bare ss two.1) refl
+    ]
+
+pub ready_taken : (blocks draw : ℕ) (ss : List Seat) → list_all (is_ready blocks) ss ≡ true → list_all (is_ready blocks) (with_drafting draw None ss) ≡ true
+ready_taken blocks draw ss all = all_taken (is_ready blocks) draw (λ seat is. refl) ss all
+
+-- where another draft that is ready is put in its place
+pub ready_put : (blocks draw : ℕ) (d : Drafting) → is_ready_for blocks d ≡ true → (ss : List Seat) → list_all (is_ready blocks) ss ≡ true → list_all (is_ready blocks) (with_drafting draw (Some d) ss) ≡ true
+ready_put blocks draw d is [] all = refl
+ready_put blocks draw d is (seat ∷ ss) all =
+    let two = and_parts (is_ready blocks seat) (list_all (is_ready blocks) ss) all in
+    elim (is_drawn draw seat) as (λ b. (is_ready blocks (cond b (record { grant = seat.grant; drafting = Some d }) seat) && list_all (is_ready blocks) (with_drafting draw (Some d) ss)) ≡ true) [
+      | true ↦ rw (is, ready_put blocks draw d is ss two.1) refl
+      | false ↦ rw (two.0, ready_put blocks draw d is ss two.1) refl
+    ]
+
+pub drawn_put : (n draw : ℕ) (what : Option Drafting) (ss : List Seat) → list_all (is_drawn_by n) ss ≡ true → list_all (is_drawn_by n) (with_drafting draw what ss) ≡ true
+drawn_put n draw what [] all = refl
+drawn_put n draw what (seat ∷ ss) all =
+    let two = and_parts (is_drawn_by n seat) (list_all (is_drawn_by n) ss) all in
+    elim (is_drawn draw seat) as (λ b. (is_drawn_by n (cond b (record { grant = seat.grant; drafting = what }) seat) && list_all (is_drawn_by n) (with_drafting draw what ss)) ≡ true) [
+      | true ↦ rw (two.0, drawn_put n draw what ss two.1) refl
+      | false ↦ rw (two.0, drawn_put n draw what ss two.1) refl
+    ]
+
+pub drawn_taken : (n draw : ℕ) (ss : List Seat) → list_all (is_drawn_by n) ss ≡ true → list_all (is_drawn_by n) (with_drafting draw None ss) ≡ true
+drawn_taken n draw ss all = all_taken (is_drawn_by n) draw (λ seat is. is) ss all
+
+pub all_push : (test : Seat → Bool) (ss : List Seat) (x : Seat) → list_all test ss ≡ true → test x ≡ true → list_all test (ss ++ x ∷ []) ≡ true
+all_push test ss x all is = list_all-append test ss (x ∷ []) ∙ rw (all, is) refl
+
+-- ---- what drafts take
+
+pub drafts_take : (blocks : ℕ) (ds : List Opened) (ss : List Seat) (grants : List Grant) → list_all (is_ready blocks) ss ≡ true → AreDraftsOf ds ss grants → sum_by owners.draft_blocks (drafts_of_seats ss grants) ≡ sum_by draft_blocks grants
+drafts_take blocks ds [] [] all are = refl
+drafts_take blocks ds [] (x ∷ grants) all are = absurd are
+drafts_take blocks ds (seat ∷ ss) [] all are = absurd are
+drafts_take blocks ds (seat ∷ ss) (x ∷ grants) all are =
+    let two = and_parts (is_ready blocks seat) (list_all (is_ready blocks) ss) all in
+    omega (arith, sum_by-append owners.draft_blocks (drafts_of_seats ss grants) (drafts_at seat seat.drafting x.draft), drafts_take blocks ds ss grants two.1 are.1, one seat.drafting x.draft two.0 are.0, sum_by-cons draft_blocks x grants)
+  where
+    one : (o : Option Drafting) (d : Option Draft) → is_ready blocks (record seat { drafting = o }) ≡ true → HasDraftOf ds seat o d → sum_by owners.draft_blocks (drafts_at seat o d) ≡ draft_blocks (record x { draft = d })
+    one None None is has = refl
+    one None (Some d) is has = absurd has
+    one (Some o) None is has = absurd has
+    one (Some o) (Some d) is has =
+        let ready = ready_for blocks o is in
+        let shadow = ap (λ (c : Option ℕ). length (option_to_list c)) ready.shadow.1 in
+        let made = ap (λ (c : Option ℕ). length (option_to_list c)) ready.bare in
+        omega (arith, sum_by-cons owners.draft_blocks (opened_as seat.grant.id o d) [], shadow, made)

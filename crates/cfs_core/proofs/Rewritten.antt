@@ -1,0 +1,73 @@
+-- A draft that is written or resized, as the core asks for it.
+use Rattle.std.proofs.Common.{◌≡◌, ℕ, ◌+◌, ◌-◌, ◌/◌, ◌<◌, ◌≤◌, Bool, true, false, [], Some, Ok, Err, refl, sym, subst, arith}
+use Rattle.std.specs.Prelude.{IfErr, Result, sum}
+use Rattle.cfs_base.specs.Calls.{HasStopped, MakesAtMost, OnlyReads}
+use Rattle.cfs_base.specs.Refusals.{refused_by, trouble_had_tried}
+use Rattle.cfs_base.specs.declared.disk.Disk.{Ghosts}
+use Rattle.cfs_base.specs.declared.refusal.Refused.{Refused}
+use Rattle.cfs_base.specs.declared.refusal.Trouble.{Trouble}
+use Rattle.cfs_base.specs.declared.refusal.Trouble.TheVariants as troubles
+use Rattle.cfs_base.specs.declared.refusal.Refused.TheVariants as refusals
+use Rattle.cfs_base.proofs.Calls.{reads_within}
+use Rattle.cyl_alloc.specs.Space.{Kept}
+use Rattle.special_files.specs.Drafting.{Drafting}
+use Rattle.special_files.specs.Ends.{Ends}
+use Rattle.special_files.specs.Refusal.{IsTrouble, is_damage, is_damaged, is_full}
+use Rattle.special_files.specs.Shed.{Resizes}
+use Rattle.cfs_core.specs.Looks.{IsCalmCause}
+use Rattle.cfs_core.proofs.Answering.{reads_none}
+
+-- 4,096 bytes touch nine leaves at most
+pub few_leaves : (offset count : ℕ) → count ≤ 4096 → (offset + count + 512 - 1) / 512 - offset / 512 ≤ 9
+few_leaves offset count few = omega (arith, few)
+
+pub fewer_calls : {D : Type 0} (g : Ghosts D) (n t m u : ℕ) (old new : D) → n ≤ m → t ≤ u → MakesAtMost g n t old new → MakesAtMost g m u old new
+fewer_calls g n t m u old new less fewer calls = record {
+  later = calls.later;
+  keeps = calls.keeps;
+  same = calls.same;
+  faults = calls.faults;
+  calls = omega (arith, calls.calls, less);
+  tries = omega (arith, calls.tries, fewer);
+  no_fewer = calls.no_fewer;
+}
+
+module _ {D A : Type 0} (g : Ghosts D) (at n t k : ℕ) (old new : D) (before after : Kept) (was now : Drafting) where
+  -- where it failed and nothing had been tried, all is as it was
+  pub untried_so : (r : Result A Refused) → n ≤ 31092 → Ends g at 4 n t k old new before after r → IfErr r (λ e. e ≡ refusals.Disk false → now ≡ was) → IfErr r (λ e. e ≡ refusals.Disk false → OnlyReads g 31092 old new × (after ≡ before) × (now ≡ was))
+  untried_so (Ok x) less ends kept = tt
+  untried_so (Err e) less ends kept = λ is. (reads_within g old new n 31092 less (ends.untried is).1, (ends.untried is).0, kept is)
+
+  -- what is told where a write is Full; and that nothing was done then
+  module _ (need : ℕ) where
+    pub told_of_full : (r : Result A Refused) → IfErr r (λ e. is_full e ≡ true → (e ≡ refusals.Full (record { free = sum before.free; need = need })) × (sum before.free < need + 4) × (new ≡ old) × (after ≡ before) × (now ≡ was)) → IfErr r (λ e. is_full e ≡ true → (e ≡ refusals.Full (record { free = sum before.free; need = need })) × (sum before.free < need + 4))
+    told_of_full (Ok x) is = tt
+    told_of_full (Err e) is = λ full. ((is full).0, (is full).1)
+
+    pub spared_so : (r : Result A Refused) → IfErr r (λ e. is_full e ≡ true → (e ≡ refusals.Full (record { free = sum before.free; need = need })) × (sum before.free < need + 4) × (new ≡ old) × (after ≡ before) × (now ≡ was)) → IfErr r (λ e. is_full e ≡ true → OnlyReads g 31092 old new × (after ≡ before) × (now ≡ was))
+    spared_so (Ok x) is = tt
+    spared_so (Err e) is = λ full. (subst (λ (d : D). OnlyReads g 31092 old d) (sym (is full).2) (reads_none g 31092 old), (is full).3, (is full).4)
+
+  -- and of a resize but a read
+  pub spared_one : (r : Result A Refused) → IfErr r (λ e. is_full e ≡ true → OnlyReads g 1 old new × (after ≡ before) × (now ≡ was)) → IfErr r (λ e. is_full e ≡ true → OnlyReads g 31092 old new × (after ≡ before) × (now ≡ was))
+  spared_one (Ok x) is = tt
+  spared_one (Err e) is = λ full. (reads_within g old new 1 31092 (omega arith) (is full).0, (is full).1, (is full).2)
+
+-- ---- a resize leaves where it is, its shadow root and what it makes
+
+pub resized_stays : (size : ℕ) (was now : Drafting) (r : Result (Unit {0}) Refused) → Resizes size was now r → (now.at ≡ was.at) × (now.shadow ≡ was.shadow) × (now.created ≡ was.created)
+resized_stays size was now (Ok u) stays = (stays.at, stays.shadow, stays.created)
+resized_stays size was now (Err e) stays = (stays.at, stays.shadow, stays.created)
+
+-- ---- a draft is read
+
+pub sound_trouble : (e : Trouble) → is_damage e ≡ false → is_damaged (refused_by e) ≡ false
+sound_trouble (troubles.Disk tried) sound = refl
+sound_trouble (troubles.Damaged damage) sound = cc
+
+pub calm_trouble : {D : Type 0} (g : Ghosts D) (at : ℕ) (old new : D) (e : Trouble) → ((kept : Kept) → IsTrouble g at old new kept e) → trouble_had_tried e ≡ false → IsCalmCause g old new (refused_by e)
+calm_trouble g at old new (troubles.Disk tried) is untried = (untried, subst (λ (b : Bool). HasStopped g b old new) untried (is (record { free = [] })))
+calm_trouble g at old new (troubles.Damaged damage) is untried = tt
+
+pub same_draft : (a b : Drafting) → Some a ≡ Some b → a ≡ b
+same_draft a b is = cc

@@ -1,0 +1,45 @@
+use Rattle.std.proofs.Common.{◌≡◌, true, refl, ap}
+use Rattle.special_files.specs.Drafting.{Drafting}
+use Rattle.special_files.proofs.CommitDraft.{nothing_made}
+use Rattle.cfs_core.proofs.Openings.{begun_open, refusal_so, refusal_cause}
+use Rattle.cfs_core.proofs.granting.first_draft.Goals as goal
+
+pub returns-then-not-wanted-clause-begins : goal.returns-then-not-wanted-clause-begins
+returns-then-not-wanted-clause-begins g c = record {
+  ends = λ graph ds id o store same at shut. (c.if-not-wanted.true, refl, refl);
+  ready = tt;
+  cause = tt;
+  calls = nothing_made g.D.Disk c.args.disk.now 3 1;
+}
+
+pub returns-in-Ok-clause-begins : goal.returns-in-Ok-clause-begins
+returns-in-Ok-clause-begins g c =
+    let wants : c.args.wanted ≡ true = c.if-not-wanted.false in
+    let draft = c.in-Ok.draft in
+    let begun = c.in-Ok.ensures.begun in
+    record {
+      ends = λ graph ds id o store same at shut. (
+        wants,
+        record {
+          steps = c.in-Ok.ensures.steps graph ds id o store same at (shut wants);
+          opened = begun_open id o ds c.args.at.0 begun.0 draft begun.1 same (shut wants);
+          bare = ap (λ (w : Drafting). w.created) begun.1;
+          leaves = c.begin.ensures.leaves graph ds id o store same at;
+          free = c.in-Ok.ensures.floor;
+        },
+      );
+      ready = (wants, ap (λ (w : Drafting). w.at) begun.1, (begun.0, ap (λ (w : Drafting). w.shadow) begun.1), ap (λ (w : Drafting). w.created) begun.1);
+      cause = tt;
+      calls = c.begin.ensures.calls;
+    }
+
+pub returns-in-Err-clause-begins : goal.returns-in-Err-clause-begins
+returns-in-Err-clause-begins g c =
+    let wants : c.args.wanted ≡ true = c.if-not-wanted.false in
+    record {
+      ends = λ graph ds id o store same at shut. refusal_so g.D.Disk graph ds id o c.args.disk.now c.begin.new.disk c.args.space.now c.begin.new.space c.args.wanted wants c.in-Err.refused c.in-Err.ensures.full c.in-Err.ensures.untried
+          (c.in-Err.ensures.sound graph ds id o store same at) (c.begin.ensures.leaves graph ds id o store same at);
+      ready = tt;
+      cause = refusal_cause g.D.Disk c.args.at.0 4 c.args.disk.now c.begin.new.disk c.begin.new.space c.in-Err.refused c.in-Err.ensures.refused;
+      calls = c.begin.ensures.calls;
+    }

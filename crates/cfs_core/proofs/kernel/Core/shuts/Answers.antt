@@ -1,0 +1,19 @@
+use Rattle.std.proofs.Common.{◌≡◌, Bool, List, true, false, ◌&&◌, refl, IsTrue, subst}
+use Rattle.open_table.specs.Grants.{few_each, is_held, none_collide, tuids_differ}
+use Rattle.open_table.specs.declared.grant.Grant.{Grant}
+use Rattle.cfs_core.specs.Kernel.{grants_in}
+use Rattle.cfs_core.proofs.Barred.{shut_by}
+use Rattle.cfs_core.proofs.kernel.Core.shuts.Goals as goal
+
+held : (gs : List Grant) → IsTrue (is_held gs) → none_collide gs ≡ true
+held gs is = at (none_collide gs) (tuids_differ gs) (few_each gs) is
+  where
+    at : (a b d : Bool) → IsTrue (a && b && d) → a ≡ true
+    at true b d is = refl
+    at false b d is = cc
+
+pub returns : goal.returns
+returns g c = λ s id serves name bare free.
+    let k = c.args.self.now in
+    shut_by _ s c.args.who c.args.way.changes c.args.way.to id k.seats serves.front.grants serves.drafts
+    (held (grants_in k.seats) (subst (λ x. IsTrue (is_held (grants_in x.seats))) c.self.view_is c.len.ensures.held)) name bare free

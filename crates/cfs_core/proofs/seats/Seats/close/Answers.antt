@@ -1,0 +1,23 @@
+use Rattle.std.proofs.Common.{nat_eq, ◌≡◌, None, Some, ap, sym, subst, ◌∙◌}
+use Rattle.std.specs.Prelude.{IfOk, OnErr}
+use Rattle.open_table.specs.Grants.{grant_in, is_grant}
+use Rattle.cfs_core.specs.Kernel.{grants_in}
+use Rattle.std.specs.HashMap.{get}
+use Rattle.cfs_core.specs.Seats.{AreOfGrants, have_draft, is_at, seated, seats_but}
+use Rattle.cfs_core.proofs.Seated.{none_held, none_of_grant, on_err, on_ok, seated_but, seated_grants, stays_or}
+use Rattle.cfs_core.proofs.seats.Seats.close.Goals as goal
+
+pub invariant_of-self : goal.invariant_of-self
+invariant_of-self c = stays_or c.close.result (λ gs. AreOfGrants (get nat_eq c.self.inside.drafts) gs) c.close.ensures.grants (on_err c.close.result (ap (λ t. t.grants)) c.close.ensures.err)
+    (none_held (get nat_eq c.self.inside.drafts) (is_grant c.args.who c.args.tuid) c.self.inside.grants.grants
+    (none_of_grant c.args.who c.args.tuid _ (ap (λ t. have_draft (is_at c.args.tuid.draw) t.seats) c.self.view_is ∙ c.requires.undrafted)) c.self.invariant)
+    c.self.invariant
+
+pub returns-clause-found : goal.returns-clause-found
+returns-clause-found c = subst (λ gs. IfOk c.close.result (λ grant. grant_in gs c.args.who c.args.tuid ≡ Some grant)) (sym (seated_grants _ c.self.inside.grants.grants) ∙ ap (λ t. grants_in t.seats) c.self.view_is) c.close.ensures.found
+
+pub returns-clause-seats : goal.returns-clause-seats
+returns-clause-seats c = on_ok c.close.result (λ is. ap (seated _) is ∙ seated_but _ (is_grant c.args.who c.args.tuid) c.self.inside.grants.grants ∙ ap (λ t. seats_but (is_grant c.args.who c.args.tuid) t.seats) c.self.view_is) c.close.ensures.grants
+
+pub returns-clause-none : goal.returns-clause-none
+returns-clause-none c = subst (λ gs. OnErr c.close.result (grant_in gs c.args.who c.args.tuid ≡ None)) (sym (seated_grants _ c.self.inside.grants.grants) ∙ ap (λ t. grants_in t.seats) c.self.view_is) c.close.ensures.none

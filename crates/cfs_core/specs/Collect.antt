@@ -1,0 +1,323 @@
+-- A step of the collector: which is due, what it is as an event, and how it ends.
+use Rattle.std.specs.Prelude.{◌≡◌, ◌⊎◌, ◌↔◌, ℕ, ◌+◌, ◌-◌, ◌*◌, ◌/◌, ◌^◌, ◌<◌, ◌≤◌, Bool, true, false, List, [], length, sum, Result, Ok, Err, IfErr, IfOk, Option, Some, None}
+use Rattle.std.specs.List.{list_all}
+use Rattle.cfs_base.specs.Calls.{HasStopped, MakesAtMost, OnlyReads}
+use Rattle.cfs_base.specs.Disk.{Image}
+use Rattle.cfs_base.specs.Outside.{count_after}
+use Rattle.cfs_base.specs.Refusals.{had_tried, refused_by}
+use Rattle.cfs_base.specs.Run.{Leaves}
+use Rattle.cfs_base.specs.declared.disk.Disk.{Ghosts}
+use Rattle.cfs_base.specs.declared.identifier.Puid.{Puid}
+use Rattle.cfs_base.specs.declared.kind.Kind.{Kind}
+use Rattle.cfs_base.specs.declared.refusal.Refused.{Refused}
+use Rattle.cfs_base.specs.declared.refusal.Refused.TheVariants as refusals
+use Rattle.cfs_base.specs.declared.refusal.Trouble.{Trouble}
+use Rattle.collector_steps.specs.Collecting as Keeps
+use Rattle.collector_steps.specs.Collecting.{Collecting, IsAsBefore, volume_of, waiting_in}
+use Rattle.collector_steps.specs.declared.phase.Phase.{Phase}
+use Rattle.collector_steps.specs.declared.phase.Phase.TheVariants as phases
+use Rattle.cyl_alloc.specs.Space.{Kept}
+use Rattle.cyl_map.specs.Volume.{is_free_in}
+use Rattle.intentions.specs.Store.{StoreHas}
+use Rattle.puid_space.specs.Directory.{Listing, has_root_in}
+use Rattle.puid_space.specs.Kinds.{kinds_of}
+use Rattle.survival.specs.Call.{CallKeeps}
+use Rattle.ufs_model.specs.declared.asked.Event.{Event}
+use Rattle.ufs_model.specs.declared.asked.Event.TheVariants as events
+use Rattle.ufs_model.specs.Graph.{Graph}
+use Rattle.ufs_model.specs.Identifier.{is_among}
+use Rattle.ufs_model.specs.Limits.{reserve}
+use Rattle.ufs_model.specs.Next.{next}
+use Rattle.ufs_model.specs.Reach.{starts_now}
+use Rattle.ufs_model.specs.State.{State, is_running, open_ids}
+use Rattle.ufs_model.specs.WellFormed.{IsState}
+use Rattle.vol_image.specs.Frame.{IsHeldBy}
+use Rattle.vol_image.specs.Part.{is_fixed}
+use Rattle.vol_image.specs.Sound.{Holds}
+use Rattle.vol_owners.specs.Account.{IsSwept, Opened}
+use Rattle.cfs_core.specs.declared.collecting.Collections.{Collections}
+use Rattle.cfs_core.specs.declared.collecting.CollectFault.{CollectFault}
+use Rattle.cfs_core.specs.declared.collecting.CollectFault.TheVariants as faults
+use Rattle.cfs_core.specs.declared.collecting.Step.{Step}
+use Rattle.cfs_core.specs.declared.collecting.Step.TheVariants as steps
+use Rattle.cfs_core.specs.declared.kernel.Stop.{Stop}
+use Rattle.cfs_core.specs.Asked.{Happens}
+use Rattle.cfs_core.specs.Calls.{IsCause}
+use Rattle.cfs_core.specs.Kernel.{Kernel, runs}
+use Rattle.cfs_core.specs.Rescues.{AreRescued}
+use Rattle.cfs_core.specs.Room.{MayLoseBy, lost_blocks}
+use Rattle.cfs_core.specs.StandsFor.{HasCollection, HasCollector, IsFront, Serves, StandsFor, is_sweeping}
+
+-- ---- which step is due: the first that fits
+
+abbrev pub sweeps_blocks : Phase → Bool
+sweeps_blocks phases.Idle = false
+sweeps_blocks phases.Marking = false
+sweeps_blocks (phases.Inner cylinder) = true
+sweeps_blocks (phases.Roots cylinder) = true
+sweeps_blocks phases.Swept = false
+
+-- of a collection that runs
+abbrev pub IsNext : Collecting → Step → Type 0
+IsNext k steps.Idle = ⊥
+IsNext k steps.Began = ⊥
+IsNext k steps.Took = (k.phase ≡ phases.Marking) × ¬ (waiting_in k ≡ [])
+IsNext k steps.Scanned = (k.phase ≡ phases.Marking) × (waiting_in k ≡ []) × ¬ (k.marks.grey ≡ [])
+IsNext k (steps.Condemned ids) = (k.phase ≡ phases.Marking) × (waiting_in k ≡ []) × (k.marks.grey ≡ [])
+IsNext k steps.Swept = sweeps_blocks k.phase ≡ true
+IsNext k steps.Finished = k.phase ≡ phases.Swept
+
+abbrev pub IsNextOf : Option Collecting → Step → Type 0
+IsNextOf None step = ⊥
+IsNextOf (Some k) step = IsNext k step
+
+abbrev pub IsDue : Collections → Step → Type 0
+IsDue c steps.Idle = (runs c.collector ≡ false) × (c.finished ≡ c.called)
+IsDue c steps.Began = (runs c.collector ≡ false) × (c.finished < c.called)
+IsDue c step = IsNextOf c.collector step
+
+-- ---- what it is as an event
+
+abbrev pub event_of : Step → Option Event
+event_of steps.Idle = None
+event_of steps.Began = Some events.Began
+event_of steps.Took = None
+event_of steps.Scanned = None
+event_of (steps.Condemned ids) = Some (events.Vanish ids)
+event_of steps.Swept = None
+event_of steps.Finished = Some events.Finished
+
+abbrev pub ComesBy : State → Option Event → State → Type 0
+ComesBy s None t = t ≡ s
+ComesBy s (Some e) t = (seed : ℕ) → next seed s e ≡ Some t
+
+-- ---- a step on what a disk has
+
+-- the store has the state, with these drafts of what is open
+pub record HasState {D : Type 0} (g : Ghosts D) (disk : D) (space : Kept) (names : Listing) (s : State) (ds : List Opened) : Type 0 where
+  pub runs : is_running s ≡ true
+  pub state : IsState s
+  pub named : names.named ≡ kinds_of s.graph
+  pub store : StoreHas g s.graph ds disk space
+  pub opened : list_all (λ d. is_among d.id (open_ids s)) ds ≡ true
+  pub swept : is_sweeping s.collection ≡ false → IsSwept (g.content disk) s.graph
+  pub four : reserve ≤ sum space.free
+
+-- Where a step leaves the state. What a crash leaves holds the graph of before.
+pub record Moves {D : Type 0} (g : Ghosts D) (old new : D) (space : Kept) (names : Listing) (o : Option Collecting) (s : State) (ds : List Opened) (step : Step) : Type 0 where
+  pub after : State
+  pub comes : ComesBy s (event_of step) after
+  pub has : HasState g new space names after ds
+  pub collecting : HasCollection (g.content new) after o
+  pub leaves : Leaves g old new (λ c. Holds c s.graph)
+  pub lost : MayLoseBy (event_of step) s.graph after.graph (lost_blocks (g.content old) s.graph) (lost_blocks (g.content new) after.graph)
+  pub root : after.graph.root ≡ s.graph.root
+  pub grants : after.grants ≡ s.grants
+  pub drawn : after.drawn ≡ s.drawn
+  pub stopped : after.stopped ≡ s.stopped
+
+-- how a step ends that was tried: a refusal leaves all as it was, but where a write had been tried
+abbrev pub EndsStep : {D : Type 0} → Ghosts D → D → D → Kept → Listing → Option Collecting → State → List Opened → Result Step Refused → Type 0
+EndsStep g old new space names o s ds (Ok step) = Moves g old new space names o s ds step
+EndsStep g old new space names o s ds (Err (refusals.Full need)) = ⊥
+EndsStep g old new space names o s ds (Err (refusals.Disk false)) = Moves g old new space names o s ds steps.Idle
+EndsStep g old new space names o s ds (Err (refusals.Disk true)) = Leaves g old new (λ c. Holds c s.graph) × (names.named ≡ kinds_of s.graph)
+EndsStep g old new space names o s ds (Err (refusals.Damaged damage)) = ⊥
+EndsStep g old new space names o s ds (Err refusals.Memory) = Moves g old new space names o s ds steps.Idle
+
+-- a step is counted, and no rescue with it
+abbrev pub IsCounted : Collecting → Collecting → Type 0
+IsCounted k l = (l.steps ≡ count_after k.steps) × (l.added ≡ k.added)
+
+-- the end of a sweep, as a step's
+abbrev pub told_as : Result (Unit {0}) Trouble → Result Step Refused
+told_as (Ok u) = Ok steps.Swept
+told_as (Err t) = Err (refused_by t)
+
+-- A refusal with nothing tried left all but room as it was.
+pub record IsStill {D : Type 0} (g : Ghosts D) (old new : D) (before after : Kept) (names left : Listing) (k l : Collecting) : Type 0 where
+  pub reads : OnlyReads g 4 old new
+  pub space : after ≡ before
+  pub listing : left ≡ names
+  pub collector : IsAsBefore k l
+
+-- A step of a collection that runs, on any disk.
+pub record StepsSo {D : Type 0} (g : Ghosts D) (old new : D) (before after : Kept) (names left : Listing) (k l : Collecting) (result : Result Step Refused) : Type 0 where
+  pub ends : (s : State) (ds : List Opened) → HasState g old before names s ds → HasCollector (g.content old) s k → EndsStep g old new after left (Some l) s ds result
+  pub due : IfOk result (IsNext k)
+  pub counted : IfOk result (λ step. IsCounted k l)
+  pub still : IfErr result (λ e. had_tried e ≡ false → IsStill g old new before after names left k l)
+  pub runs : runs (Some l) ≡ true
+  pub volume : volume_of l ≡ volume_of k
+  pub room : left.room ≡ names.room
+  pub some : has_root_in names.named 0 ≡ false → has_root_in left.named 0 ≡ false
+  pub cylinders : length after.free ≡ length before.free
+  pub cause : IfErr result (IsCause g old new)
+  pub calls : MakesAtMost g 4 1 old new
+
+-- A collection has begun: whatever the state, if these are its starts and its identifiers.
+pub record HasBegun (roots : List Puid) (named : List (Puid × Kind)) (l : Collecting) : Type 0 where
+  pub phase : l.phase ≡ phases.Marking
+  pub steps : l.steps ≡ 1
+  pub added : l.added ≡ 0
+  pub keeps : (seed : ℕ) (s t : State) (image : Image) → IsState s → named ≡ kinds_of s.graph → ((x : Puid) → is_among x roots ≡ is_among x (starts_now s))
+      → next seed s events.Began ≡ Some t → Keeps.Collects image t l
+
+-- ---- a step of a core
+
+-- where it leaves the state
+pub record MovesTo {D : Type 0} (g : Ghosts D) (old new : Kernel D) (s : State) (e : Option Event) : Type 0 where
+  pub after : State
+  pub comes : ComesBy s e after
+  pub serves : Serves g new after
+  pub leaves : Leaves g old.disk new.disk (λ c. Holds c s.graph)
+  pub lost : MayLoseBy e s.graph after.graph (lost_blocks (g.content old.disk) s.graph) (lost_blocks (g.content new.disk) after.graph)
+
+abbrev pub EndsTo : {D : Type 0} → Ghosts D → Kernel D → Kernel D → State → Result Step Refused → Type 0
+EndsTo g old new s (Ok step) = MovesTo g old new s (event_of step)
+EndsTo g old new s (Err (refusals.Full need)) = ⊥
+EndsTo g old new s (Err (refusals.Disk false)) = MovesTo g old new s None
+EndsTo g old new s (Err (refusals.Disk true)) = Leaves g old.disk new.disk (λ c. Holds c s.graph) × IsFront new s
+EndsTo g old new s (Err (refusals.Damaged damage)) = ⊥
+EndsTo g old new s (Err refusals.Memory) = MovesTo g old new s None
+
+-- the steps of the collection that runs
+abbrev pub steps_in : Option Collecting → ℕ
+steps_in None = 0
+steps_in (Some k) = k.steps
+
+abbrev pub added_in : Option Collecting → ℕ
+added_in None = 0
+added_in (Some k) = k.added
+
+abbrev pub phase_of : Option Collecting → Phase
+phase_of None = phases.Idle
+phase_of (Some k) = k.phase
+
+-- a step that was made is counted, the first as one
+abbrev pub AreCounted : Collections → Collections → Step → Type 0
+AreCounted c d steps.Idle = d ≡ c
+AreCounted c d steps.Began = (steps_in d.collector ≡ 1) × (added_in d.collector ≡ 0) × (d.finished ≡ c.finished)
+AreCounted c d steps.Finished = (steps_in d.collector ≡ count_after (steps_in c.collector)) × (added_in d.collector ≡ added_in c.collector) × (d.finished ≡ c.finished + 1)
+AreCounted c d step = (steps_in d.collector ≡ count_after (steps_in c.collector)) × (added_in d.collector ≡ added_in c.collector) × (d.finished ≡ c.finished)
+
+-- ---- once a collection is over
+
+-- Beside the maps and the label exactly the blocks of the objects aren't Free.
+abbrev pub IsTidy : Image → Graph → Type 0
+IsTidy image graph = (n : ℕ) → n < length image → (is_free_in image n ≡ false) ↔ ((is_fixed n ≡ true) ⊎ IsHeldBy image graph n)
+
+-- It took no more steps than one for each block and each rescue, two for each cylinder, and three; as long as rescues were
+-- counted.
+abbrev pub IsBounded : ℕ → Collections → Type 0
+IsBounded blocks c = added_in c.collector < 2 ^ 64 - 1 → steps_in c.collector ≤ blocks + added_in c.collector + 2 * (blocks / 64) + 3
+
+-- and where nothing is open the volume is tidy
+abbrev pub IsOver : {D : Type 0} → Ghosts D → Kernel D → Kernel D → State → Step → Type 0
+IsOver g old new s steps.Finished = IsBounded (g.blocks new.disk) new.collections × (new.seats ≡ [] → IsTidy (g.content new.disk) s.graph)
+IsOver g old new s step = Unit {0}
+
+-- ---- a refusal with nothing tried
+
+-- all but room is as it was
+pub record IsUnchanged {D : Type 0} (g : Ghosts D) (old new : Kernel D) : Type 0 where
+  pub reads : OnlyReads g 4 old.disk new.disk
+  pub names : new.names ≡ old.names
+  pub space : new.space ≡ old.space
+  pub collector : AreRescued old.collections.collector new.collections.collector []
+  pub finished : new.collections.finished ≡ old.collections.finished
+
+-- A call that tries to make a step of a core that hasn't stopped, on any disk.
+pub record TriesStep {D : Type 0} (g : Ghosts D) (old new : Kernel D) (result : Result Step Refused) : Type 0 where
+  pub ends : (s : State) → Serves g old s → old.stop ≡ None → EndsTo g old new s result
+  pub due : IfOk result (IsDue old.collections)
+  pub counted : IfOk result (AreCounted old.collections new.collections)
+  pub over : IfOk result (λ step. (s : State) → Serves g old s → IsOver g old new s step)
+  pub still : IfErr result (λ e. had_tried e ≡ false → IsUnchanged g old new)
+  pub called : new.collections.called ≡ old.collections.called
+  pub cause : IfErr result (IsCause g old.disk new.disk)
+  pub calls : MakesAtMost g 4 1 old.disk new.disk
+  pub root : new.root ≡ old.root
+  pub stop : new.stop ≡ old.stop
+  pub words : new.words ≡ old.words
+  pub seats : new.seats ≡ old.seats
+
+-- ---- what is told of it
+
+abbrev pub fault_of : Refused → ℕ → CollectFault
+fault_of (refusals.Full need) moment = faults.Memory
+fault_of (refusals.Disk false) moment = faults.Disk None
+fault_of (refusals.Disk true) moment = faults.Disk (Some (moment - 1))
+fault_of (refusals.Damaged damage) moment = faults.Damaged damage moment
+fault_of refusals.Memory moment = faults.Memory
+
+-- and whether the core stops
+abbrev pub stop_by : CollectFault → Option Stop → Option Stop
+stop_by faults.Memory before = before
+stop_by (faults.Disk None) before = before
+stop_by (faults.Disk (Some moment)) before = Some (record { moment = moment; damage = None })
+stop_by (faults.Damaged damage moment) before = Some (record { moment = moment; damage = Some damage })
+stop_by (faults.Stopped moment) before = before
+
+-- No event: the core stands for the state on, and a crash leaves it. No more blocks are left behind than were.
+pub record Rests {D : Type 0} (g : Ghosts D) (old new : Kernel D) (s : State) : Type 0 where
+  pub stands : StandsFor g new s
+  pub keeps : CallKeeps g s old.disk new.disk
+  pub lost : lost_blocks (g.content new.disk) s.graph ≤ lost_blocks (g.content old.disk) s.graph
+
+abbrev pub HappensOrRests : {D : Type 0} → Ghosts D → Kernel D → Kernel D → State → Option Event → Type 0
+HappensOrRests g old new s None = Rests g old new s
+HappensOrRests g old new s (Some e) = Happens g old new s e
+
+-- A step is one event or none, and one at which the core stops is told as such.
+abbrev pub IsStep : {D : Type 0} → Ghosts D → Kernel D → Kernel D → State → Result Step CollectFault → Type 0
+IsStep g old new s (Ok step) = HappensOrRests g old new s (event_of step)
+IsStep g old new s (Err faults.Memory) = Rests g old new s
+IsStep g old new s (Err (faults.Disk None)) = Rests g old new s
+IsStep g old new s (Err (faults.Disk (Some moment))) = Happens g old new s (events.Halted moment)
+IsStep g old new s (Err (faults.Damaged damage moment)) = Happens g old new s (events.Halted moment)
+IsStep g old new s (Err (faults.Stopped moment)) = new ≡ old
+
+-- a device call failed; with a doubt the moment is the one before that which the disk has now
+abbrev pub IsFaultCause : {D : Type 0} → Ghosts D → D → D → CollectFault → Type 0
+IsFaultCause g old new faults.Memory = Unit {0}
+IsFaultCause g old new (faults.Disk None) = HasStopped g false old new
+IsFaultCause g old new (faults.Disk (Some moment)) = HasStopped g true old new × (moment ≡ g.moment new - 1)
+IsFaultCause g old new (faults.Damaged damage moment) = moment ≡ g.moment new
+IsFaultCause g old new (faults.Stopped moment) = Unit {0}
+
+-- want of memory, and a device call that failed without a doubt, leave all as it was
+abbrev pub LeavesAll : {D : Type 0} → Ghosts D → Kernel D → Kernel D → CollectFault → Type 0
+LeavesAll g old new faults.Memory = IsUnchanged g old new
+LeavesAll g old new (faults.Disk None) = IsUnchanged g old new
+LeavesAll g old new (faults.Disk (Some moment)) = Unit {0}
+LeavesAll g old new (faults.Damaged damage moment) = Unit {0}
+LeavesAll g old new (faults.Stopped moment) = Unit {0}
+
+abbrev pub IsNoDamage : CollectFault → Type 0
+IsNoDamage faults.Memory = Unit {0}
+IsNoDamage (faults.Disk doubt) = Unit {0}
+IsNoDamage (faults.Damaged damage moment) = ⊥
+IsNoDamage (faults.Stopped moment) = ⊥
+
+-- A step that was asked for.
+pub record Collects {D : Type 0} (g : Ghosts D) (old new : Kernel D) (result : Result Step CollectFault) : Type 0 where
+  pub event : (s : State) → StandsFor g old s → IsStep g old new s result
+  -- one that stopped makes no call of the disk
+  pub stopped : (stop : Stop) → old.stop ≡ Some stop → (new ≡ old) × (result ≡ Err (faults.Stopped stop.moment))
+  -- the first that fits
+  pub due : IfOk result (IsDue old.collections)
+  pub counted : IfOk result (AreCounted old.collections new.collections)
+  -- a whole collection takes so many steps at most, and leaves a tidy volume
+  pub over : IfOk result (λ step. (s : State) → StandsFor g old s → IsOver g old new s step)
+  pub still : IfErr result (LeavesAll g old new)
+  pub called : new.collections.called ≡ old.collections.called
+  -- no damage is met on a disk that serves
+  pub sound : old.stop ≡ None → (s : State) → StandsFor g old s → IfErr result IsNoDamage
+  pub stops : IfErr result (λ fault. new.stop ≡ stop_by fault old.stop)
+  pub goes_on : IfOk result (λ step. new.stop ≡ old.stop)
+  pub cause : IfErr result (IsFaultCause g old.disk new.disk)
+  pub calls : MakesAtMost g 4 1 old.disk new.disk
+  pub root : new.root ≡ old.root
+  pub words : new.words ≡ old.words
+  pub seats : new.seats ≡ old.seats

@@ -1,0 +1,62 @@
+-- Requests on a file through a grant with a draft.
+use Rattle.std.specs.Prelude.{◌≡◌, ℕ, ◌+◌, ◌<◌, ◌≤◌, true, false, List, length, sum, Result, Some, IfErr, OnOk}
+use Rattle.cfs_base.specs.Calls.{MakesAtMost, OnlyReads}
+use Rattle.cfs_base.specs.Run.{Leaves}
+use Rattle.cfs_base.specs.declared.disk.Disk.{Ghosts}
+use Rattle.cfs_base.specs.declared.identifier.Puid.{Puid}
+use Rattle.cfs_base.specs.declared.identifier.Tuid.{Tuid}
+use Rattle.cfs_base.specs.declared.refusal.Refused.{Refused}
+use Rattle.cfs_base.specs.declared.refusal.Refused.TheVariants as refusals
+use Rattle.cyl_alloc.specs.Space.{Kept}
+use Rattle.intentions.specs.Store.{StoreHas}
+use Rattle.open_table.specs.declared.grant.Grant.{Grant}
+use Rattle.open_table.specs.Grants.{grant_in}
+use Rattle.special_files.specs.Becomes.{Becomes}
+use Rattle.special_files.specs.Drafting.{Drafting, IsOpen, need_beside}
+use Rattle.special_files.specs.Refusal.{IsRefusal, is_damaged, is_full}
+use Rattle.ufs_model.specs.declared.change.Change.{Change}
+use Rattle.ufs_model.specs.declared.object.Draft.{Draft}
+use Rattle.ufs_model.specs.declared.object.File.{File}
+use Rattle.ufs_model.specs.declared.object.Object.{Object}
+use Rattle.ufs_model.specs.declared.object.Object.TheVariants as objects
+use Rattle.ufs_model.specs.Graph.{Graph, object_at}
+use Rattle.ufs_model.specs.Limits.{reserve}
+use Rattle.ufs_model.specs.State.{changed_draft}
+use Rattle.vol_image.specs.Sound.{Holds}
+use Rattle.vol_owners.specs.Account.{Opened}
+use Rattle.cfs_core.specs.Kernel.{Kernel, grants_in}
+use Rattle.cfs_core.specs.Seats.{drafting_at}
+
+-- the session has the grant, and it has a draft
+pub record IsDrafted {D : Type 0} (k : Kernel D) (who : ℕ) (t : Tuid) : Type 0 where
+  pub grant : Grant
+  pub found : grant_in (grants_in k.seats) who t ≡ Some grant
+  pub drafting : Drafting
+  pub has : drafting_at k.seats t.draw ≡ Some drafting
+
+-- the store has this object, and this draft of it, which is a file
+pub record KnowsDraft {D : Type 0} (g : Ghosts D) (graph : Graph) (ds : List Opened) (disk : D) (space : Kept) (id : Puid) (was : Drafting) (d : Draft) : Type 0 where
+  pub store : StoreHas g graph ds disk space
+  pub object : Object
+  pub there : object_at graph id ≡ Some object
+  pub is_open : IsOpen ds id was d
+  pub file : File
+  pub is_file : d.object ≡ objects.File file
+
+-- A draft is changed so, beside the last four blocks. Where it is done it is the model's; where it is Full, or failed before anything
+-- was tried, all is as it was.
+pub record ChangesDraft {D : Type 0} (g : Ghosts D) (change : Change) (old new : D) (before after : Kept) (was now : Drafting) (result : Result (Unit {0}) Refused) : Type 0 where
+  pub done : (graph : Graph) (ds : List Opened) (id : Puid) (d : Draft) → KnowsDraft g graph ds old before id was d → OnOk result (Becomes g graph ds id (changed_draft change d) old new after now)
+  pub room : (graph : Graph) (ds : List Opened) (id : Puid) (d : Draft) → KnowsDraft g graph ds old before id was d → OnOk result (need_beside change d was + reserve ≤ sum before.free)
+  pub leaves : (graph : Graph) (ds : List Opened) (id : Puid) (d : Draft) → KnowsDraft g graph ds old before id was d → Leaves g old new (λ c. Holds c graph)
+  pub full : (graph : Graph) (ds : List Opened) (id : Puid) (d : Draft) → KnowsDraft g graph ds old before id was d
+      → IfErr result (λ e. is_full e ≡ true → (e ≡ refusals.Full (record { free = sum before.free; need = need_beside change d was })) × (sum before.free < need_beside change d was + reserve))
+  pub sound : (graph : Graph) (ds : List Opened) (id : Puid) (d : Draft) → KnowsDraft g graph ds old before id was d → IfErr result (λ e. is_damaged e ≡ false)
+  pub spared : (graph : Graph) (ds : List Opened) (id : Puid) (d : Draft) → KnowsDraft g graph ds old before id was d → IfErr result (λ e. is_full e ≡ true → OnlyReads g 31092 old new × (after ≡ before) × (now ≡ was))
+  pub untried : IfErr result (λ e. e ≡ refusals.Disk false → OnlyReads g 31092 old new × (after ≡ before) × (now ≡ was))
+  pub refused : IfErr result (IsRefusal g was.at reserve old new after)
+  pub at : now.at ≡ was.at
+  pub shadow : now.shadow ≡ was.shadow
+  pub created : now.created ≡ was.created
+  pub cylinders : length after.free ≡ length before.free
+  pub calls : MakesAtMost g 31092 15486 old new

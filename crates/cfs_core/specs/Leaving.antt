@@ -1,0 +1,79 @@
+-- A session leaves: its grants are dropped one after the other, and their drafts are given up.
+use Rattle.std.specs.Prelude.{◌≡◌, ℕ, ◌≤◌, not, ◌==◌, List, filter, Option, Some, None, Result, Ok, Err}
+use Rattle.cfs_base.specs.Calls.{HasFailed}
+use Rattle.cfs_base.specs.Run.{Leaves}
+use Rattle.cfs_base.specs.declared.disk.Disk.{Ghosts}
+use Rattle.cfs_base.specs.declared.identifier.Puid.{Puid}
+use Rattle.intentions.specs.Store.{StoreHas}
+use Rattle.open_table.specs.Grants.{without_session}
+use Rattle.special_files.specs.Committing.{Dropped}
+use Rattle.special_files.specs.Drafting.{Drafting, IsOpen}
+use Rattle.ufs_model.specs.declared.object.Draft.{Draft}
+use Rattle.ufs_model.specs.declared.object.Grant.{Grant}
+use Rattle.ufs_model.specs.declared.object.Object.{Object}
+use Rattle.ufs_model.specs.Graph.{Graph, object_at}
+use Rattle.ufs_model.specs.State.{State}
+use Rattle.vol_image.specs.Sound.{Holds}
+use Rattle.vol_owners.specs.Account.{Opened}
+use Rattle.cfs_core.specs.declared.kernel.Halt.{Halt}
+use Rattle.cfs_core.specs.declared.kernel.Stop.{Stop}
+use Rattle.cfs_core.specs.Calls.{AddsNoStray}
+use Rattle.cfs_core.specs.Kernel.{Kernel, grants_in}
+use Rattle.cfs_core.specs.StandsFor.{Serves}
+
+-- the grants of all others
+abbrev pub of_others : ℕ → List Grant → List Grant
+of_others who grants = filter (λ g. not (g.session == who)) grants
+
+-- it serves the state with fewer grants of the session
+pub record ServesFewer {D : Type 0} (g : Ghosts D) (k : Kernel D) (s : State) (who : ℕ) : Type 0 where
+  pub grants : List Grant
+  pub serves : Serves g k (record s { grants = grants })
+  pub others : of_others who grants ≡ of_others who s.grants
+
+-- Some grants of the session are gone, with their drafts. All else is as it was, but that a core that ran may have stopped.
+pub record Sheds {D : Type 0} (g : Ghosts D) (who : ℕ) (old new : Kernel D) : Type 0 where
+  pub words : new.words ≡ old.words
+  pub names : new.names ≡ old.names
+  pub collections : new.collections ≡ old.collections
+  pub others : without_session (grants_in new.seats) who ≡ without_session (grants_in old.seats) who
+  pub size : g.blocks new.disk ≡ g.blocks old.disk
+  pub faults : g.faults old.disk ≤ g.faults new.disk
+  pub later : g.moment old.disk ≤ g.moment new.disk
+  -- one that had stopped makes no call of the disk
+  pub idle : (stop : Stop) → old.stop ≡ Some stop → (new.stop ≡ Some stop) × (new.disk ≡ old.disk)
+  -- one that ran gives up the drafts, and each image that a crash leaves has the objects
+  pub leaves : (s : State) → Serves g old s → old.stop ≡ None → Leaves g old.disk new.disk (λ c. Holds c s.graph)
+  pub serves : (s : State) → Serves g old s → old.stop ≡ None → new.stop ≡ None → ServesFewer g new s who
+  -- no block is left behind
+  pub strays : (s : State) → Serves g old s → old.stop ≡ None → new.stop ≡ None → AddsNoStray (g.content old.disk) (g.content new.disk) s.graph s.graph
+  -- it stops where a device call failed, or at a damage
+  pub halts : (stop : Stop) → old.stop ≡ None → new.stop ≡ Some stop → stop.damage ≡ None → HasFailed g old.disk new.disk
+  -- and at no damage where it served a state
+  pub sound : (s : State) → Serves g old s → old.stop ≡ None → (stop : Stop) → new.stop ≡ Some stop → stop.damage ≡ None
+
+-- ---- one draft
+
+-- what the store has of it then
+pub record GaveUp {D : Type 0} (g : Ghosts D) (graph : Graph) (ds : List Opened) (id : Puid) (created : Option ℕ) (old new : Kernel D) : Type 0 where
+  pub leaves : Leaves g old.disk new.disk (λ c. Holds c graph)
+  pub dropped : new.stop ≡ None → Dropped g graph ds id created old.disk new.disk new.space
+  pub sound : (stop : Stop) → new.stop ≡ Some stop → stop.damage ≡ None
+
+-- A draft is given up, unless the core had stopped. Where that fails the core stops.
+pub record GivesUp {D : Type 0} (g : Ghosts D) (was : Drafting) (old new : Kernel D) : Type 0 where
+  pub same : new ≡ record old { disk = new.disk; space = new.space; stop = new.stop }
+  pub size : g.blocks new.disk ≡ g.blocks old.disk
+  pub faults : g.faults old.disk ≤ g.faults new.disk
+  pub later : g.moment old.disk ≤ g.moment new.disk
+  pub idle : (stop : Stop) → old.stop ≡ Some stop → new ≡ old
+  pub ends : (graph : Graph) (ds : List Opened) (id : Puid) (o : Object) (d : Draft) → StoreHas g graph ds old.disk old.space → object_at graph id ≡ Some o → IsOpen ds id was d
+      → old.stop ≡ None → GaveUp g graph ds id was.created old new
+  pub halts : (stop : Stop) → old.stop ≡ None → new.stop ≡ Some stop → stop.damage ≡ None → HasFailed g old.disk new.disk
+
+-- ---- what is told
+
+abbrev pub halt_of : (before now : Option Stop) → Result (Unit {0}) Halt
+halt_of None None = Ok tt
+halt_of None (Some stop) = Err (record { moment = stop.moment })
+halt_of (Some stop) now = Ok tt

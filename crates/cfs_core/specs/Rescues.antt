@@ -1,0 +1,63 @@
+-- What is put into an index, or opened, and so is a rescue while a collection marks.
+use Rattle.std.specs.Prelude.{◌≡◌, ℕ, ◌<◌, Bool, true, false, if◌then◌else◌, List, [], ◌∷◌, ◌++◌, Option, Some, None, option_map}
+use Rattle.cfs_base.specs.Outside.{count_after}
+use Rattle.cfs_base.specs.declared.identifier.Puid.{Puid}
+use Rattle.collector_marks.specs.Kept.{SameMarks}
+use Rattle.collector_steps.specs.Collecting.{Collecting, waiting_in}
+use Rattle.marking.specs.declared.memory.Rescue.{Rescue}
+use Rattle.marking.specs.Meanwhile.{is_done}
+use Rattle.ufs_model.specs.declared.asked.Reply.{Reply}
+use Rattle.ufs_model.specs.declared.asked.Reply.TheVariants as replies
+use Rattle.ufs_model.specs.declared.asked.Request.{Request}
+use Rattle.ufs_model.specs.declared.asked.Request.TheVariants as asks
+use Rattle.cfs_core.specs.Kernel.{marks_in}
+
+-- a request that puts an object into an index, or opens one
+abbrev pub may_rescue : Request → Bool
+may_rescue (asks.CreateFile kind fill index slot) = true
+may_rescue (asks.CreateIndex slots index slot) = true
+may_rescue (asks.Retain index slot id) = true
+may_rescue (asks.OpenFor id mode) = true
+may_rescue request = false
+
+abbrev pub id_in : Reply → Option Puid
+id_in (replies.Id id) = Some id
+id_in reply = None
+
+-- what a request puts into this index, or opens, where it was done
+abbrev pub rescue_put : Option Puid → Request → Reply → Option Rescue
+rescue_put index (asks.CreateFile kind fill to slot) reply = option_map (λ id. record { index = index; id = id }) (id_in reply)
+rescue_put index (asks.CreateIndex slots to slot) reply = option_map (λ id. record { index = index; id = id }) (id_in reply)
+rescue_put index (asks.Retain to slot id) reply = Some (record { index = index; id = id })
+rescue_put index (asks.OpenFor id mode) reply = Some (record { index = None; id = id })
+rescue_put index request reply = None
+
+abbrev pub rescue_of : Option Puid → Request → Reply → Option Rescue
+rescue_of index request reply = if is_done reply then rescue_put index request reply else None
+
+-- there is room for a rescue, where the request may add one
+abbrev pub HasRoomFor : Request → Option Collecting → Type 0
+HasRoomFor request None = Unit {0}
+HasRoomFor request (Some k) = marks_in k.phase ≡ true → may_rescue request ≡ true → 0 < k.rescues.room
+
+-- the count of rescues, and that of one more for each of these
+abbrev pub added_with : List Rescue → ℕ → ℕ
+added_with [] n = n
+added_with (r ∷ rs) n = added_with rs (count_after n)
+
+abbrev pub while_marking : Collecting → List Rescue → List Rescue
+while_marking k more = if marks_in k.phase then more else []
+
+-- Where it marks these rescues wait as well, and are counted; nothing but room is otherwise changed.
+pub record HasRescued (k l : Collecting) (more : List Rescue) : Type 0 where
+  pub marks : SameMarks k.marks l.marks
+  pub phase : l.phase ≡ k.phase
+  pub steps : l.steps ≡ k.steps
+  pub waiting : waiting_in l ≡ waiting_in k ++ while_marking k more
+  pub added : l.added ≡ added_with (while_marking k more) k.added
+
+abbrev pub AreRescued : Option Collecting → Option Collecting → List Rescue → Type 0
+AreRescued None None more = Unit {0}
+AreRescued (Some k) (Some l) more = HasRescued k l more
+AreRescued None (Some l) more = ⊥
+AreRescued (Some k) None more = ⊥

@@ -1,0 +1,181 @@
+//! The ends of grants: a request that closes one, and a session that leaves.
+ghost use Rattle.std.specs.Prelude.{◌≡◌, ◌≤◌, List, false, true, IfErr, OnOk, IsSome, None, Some, Ok};
+ghost use Rattle.cfs_base.specs.Calls.{HasFailed};
+ghost use Rattle.cfs_core.specs.Asked.{Happens, halted};
+ghost use Rattle.cfs_core.specs.Calls.{Tries};
+ghost use Rattle.cfs_core.specs.Kernel.{Seat, grants_in, is_ready_for};
+ghost use Rattle.cfs_core.specs.Leaving as spec;
+ghost use Rattle.cfs_core.specs.Leaving.{GivesUp, Sheds};
+ghost use Rattle.cfs_core.specs.Seats.{drafting_at, have_draft, is_at, with_drafting};
+ghost use Rattle.cfs_core.specs.StandsFor.{Serves, StandsFor};
+ghost use Rattle.cfs_core.specs.declared.kernel.Stop.{Stop};
+ghost use Rattle.open_table.specs.Grants.{grant_in, without_grant};
+ghost use Rattle.ufs_model.specs.State.{State};
+ghost use Rattle.ufs_model.specs.declared.asked.Event.TheVariants as events;
+ghost use Rattle.ufs_model.specs.declared.asked.Request.TheVariants as asks;
+
+use crate::kernel::{Core, Halt, Stop};
+use cfs_base::{Disk, Refused, Session, Tuid};
+use open_table::table_follows_the_model;
+use special_files::Draft;
+use ufs_model::Reply;
+
+impl<D: Disk> Core<D> {
+    /// Ends a grant. Its draft, if it has one, becomes the object or is given up.
+    pub(crate) fn close(
+        &mut self,
+        who: Session,
+        grant: Tuid,
+        commit: bool,
+    ) -> Result<Reply, Refused>
+        ensures { Tries D.Disk self.old self.new who (asks.Close grant commit) result }
+    {
+        table_follows_the_model();
+        if self.seats.find(who, grant).is_none() {
+            return Ok(Reply::NoGrant);
+        }
+        match self.seats.take(grant.draw) {
+            Some(draft) => self.end(who, grant, draft, commit),
+            None => Ok(self.close_bare(who, grant, commit)),
+        }
+    }
+
+    /// Ends a grant that has no draft.
+    fn close_bare(&mut self, who: Session, grant: Tuid, commit: bool) -> Reply
+        requires undrafted { have_draft (is_at grant.draw) self.old.seats ≡ false }
+        ensures { Tries D.Disk self.old self.new who (asks.Close grant commit) (Ok result) }
+    {
+        table_follows_the_model();
+        let _commit = commit;
+        if let Err(_) = self.seats.close(who, grant) {
+            return Reply::NoGrant;
+        }
+        Reply::Done
+    }
+
+    /// Ends a grant that had this draft.
+    fn end(
+        &mut self,
+        who: Session,
+        grant: Tuid,
+        draft: Draft,
+        commit: bool,
+    ) -> Result<Reply, Refused>
+        requires ready { is_ready_for (D.blocks self.old.disk) draft ≡ true }
+        requires taken { have_draft (is_at grant.draw) self.old.seats ≡ false }
+        requires found { IsSome (grant_in (grants_in self.old.seats) who grant) }
+        ensures { (seats : List Seat) → self.old.seats ≡ with_drafting grant.draw None seats
+            → drafting_at seats grant.draw ≡ Some draft
+            → Tries D.Disk (record self.old { seats = seats }) self.new who (asks.Close grant commit) result }
+    {
+        if commit {
+            self.commit_draft(who, grant, draft)
+        } else {
+            self.abort_draft(who, grant, draft)
+        }
+    }
+
+    /// Ends a grant whose draft becomes the object.
+    fn commit_draft(&mut self, who: Session, grant: Tuid, draft: Draft) -> Result<Reply, Refused>
+        requires ready { is_ready_for (D.blocks self.old.disk) draft ≡ true }
+        requires taken { have_draft (is_at grant.draw) self.old.seats ≡ false }
+        requires found { IsSome (grant_in (grants_in self.old.seats) who grant) }
+        ensures { (seats : List Seat) → self.old.seats ≡ with_drafting grant.draw None seats
+            → drafting_at seats grant.draw ≡ Some draft
+            → Tries D.Disk (record self.old { seats = seats }) self.new who (asks.Close grant true) result }
+    {
+        table_follows_the_model();
+        match draft.commit(&mut self.disk, &mut self.space) {
+            Ok(()) => {
+                let _ = self.seats.close(who, grant);
+                Ok(Reply::Done)
+            }
+            Err(trouble) => Err(Refused::from(trouble)),
+        }
+    }
+
+    /// Ends a grant whose draft is given up.
+    fn abort_draft(&mut self, who: Session, grant: Tuid, draft: Draft) -> Result<Reply, Refused>
+        requires ready { is_ready_for (D.blocks self.old.disk) draft ≡ true }
+        requires taken { have_draft (is_at grant.draw) self.old.seats ≡ false }
+        requires found { IsSome (grant_in (grants_in self.old.seats) who grant) }
+        ensures { (seats : List Seat) → self.old.seats ≡ with_drafting grant.draw None seats
+            → drafting_at seats grant.draw ≡ Some draft
+            → Tries D.Disk (record self.old { seats = seats }) self.new who (asks.Close grant false) result }
+    {
+        table_follows_the_model();
+        match draft.abort(&mut self.disk, &mut self.space) {
+            Ok(()) => {
+                let _ = self.seats.close(who, grant);
+                Ok(Reply::Done)
+            }
+            Err(trouble) => Err(Refused::from(trouble)),
+        }
+    }
+
+    /// A session leaves: its grants are dropped, and their drafts are given up. A core that stopped is left as well, with
+    /// no call of the disk. `Halt` where the core stops in it.
+    pub fn leave(&mut self, who: Session) -> Result<(), Halt>
+        ensures event { (s : State) → StandsFor D.Disk self.old s
+            → Happens D.Disk self.old self.new s (events.Leave who (halted result)) }
+        ensures words { self.new.words ≡ self.old.words }
+        ensures size { D.blocks self.new.disk ≡ D.blocks self.old.disk }
+        ensures faults { D.faults self.old.disk ≤ D.faults self.new.disk }
+        ensures collections { self.new.collections ≡ self.old.collections }
+        ensures goes_on { OnOk result (self.new.stop ≡ self.old.stop) }
+        // The core stopped at this moment, where a device call failed, or at a damage.
+        ensures halts { IfErr result (λ halt. (stop : Stop) × (self.old.stop ≡ None) × (self.new.stop ≡ Some stop)
+            × (stop.moment ≡ halt.moment) × (stop.damage ≡ None → HasFailed D.Disk self.old.disk self.new.disk)) }
+        // One that served a state stops at no damage.
+        ensures sound { (s : State) → Serves D.Disk self.old s → self.old.stop ≡ None
+            → (stop : Stop) → self.new.stop ≡ Some stop → stop.damage ≡ None }
+        // One that had stopped makes no call of the disk.
+        ensures idle { IsSome self.old.stop → self.new.disk ≡ self.old.disk }
+    {
+        let before = self.stop;
+        while let Some(grant) = self.seats.next_of(who) {
+            self.drop_grant(who, grant.tuid);
+        }
+        halt_of(before, self.stop)
+    }
+
+    /// Drops a grant of a session. Its draft is given up, unless the core has stopped; where that fails, the core stops.
+    fn drop_grant(&mut self, who: Session, grant: Tuid)
+        requires found { IsSome (grant_in (grants_in self.old.seats) who grant) }
+        ensures sheds { Sheds D.Disk who self.old self.new }
+        ensures gone { grants_in self.new.seats ≡ without_grant (grants_in self.old.seats) who grant }
+    {
+        table_follows_the_model();
+        let draft = self.seats.take(grant.draw);
+        let _ = self.seats.close(who, grant);
+        match draft {
+            Some(draft) => self.give_up(draft),
+            None => {}
+        }
+    }
+
+    /// Gives up a draft, unless the core has stopped; where that fails, the core stops.
+    fn give_up(&mut self, draft: Draft)
+        requires ready { is_ready_for (D.blocks self.old.disk) draft ≡ true }
+        ensures { GivesUp D.Disk draft self.old self.new }
+    {
+        if self.stop.is_some() {
+            return;
+        }
+        if let Err(trouble) = draft.abort(&mut self.disk, &mut self.space) {
+            self.refuse(Refused::from(trouble));
+        }
+    }
+}
+
+/// What a leave tells where the core had stopped so before, and has stopped so now.
+fn halt_of(before: Option<Stop>, now: Option<Stop>) -> Result<(), Halt>
+    ensures { result ≡ spec.halt_of before now }
+{
+    match (before, now) {
+        (None, Some(stop)) => Err(Halt {
+            moment: stop.moment,
+        }),
+        _ => Ok(()),
+    }
+}

@@ -1,0 +1,324 @@
+//! Collections: how many were called for, and the steps of the collector.
+ghost use Rattle.std.specs.Prelude.{◌≡◌, ◌||◌, ◌+◌, ◌*◌, ◌++◌, ◌∷◌, ◌<◌, ◌≤◌, IfOk, None, Ok, OnOk, length, map, sum, true};
+ghost use Rattle.cfs_core.specs.Collect.{Collects, HasBegun, StepsSo, TriesStep, fault_of, phase_of, stop_by, sweeps_blocks, told_as};
+ghost use Rattle.cfs_core.specs.Kernel.{Seat, marks_in, runs, sweeps_in};
+ghost use Rattle.collector_steps.specs.Collecting.{volume_of};
+ghost use Rattle.cyl_alloc.specs.Space as space;
+ghost use Rattle.open_table.specs.declared.grant.Grant as grant;
+
+use crate::kernel::{Core, Stop};
+use cfs_base::{Damage, Disk, Ids, NoMemory, Puid, Refused, Trouble, code};
+use collector_steps::{Collector, Phase};
+use cyl_alloc::Space;
+use open_table::Grants;
+use puid_space::Directory;
+use std::alloc::Global;
+
+/// What a step of the collector did.
+#[derive(Debug, Drop)]
+pub enum Step {
+    /// Nothing: no collection runs, and as many are finished as were called for.
+    Idle,
+    Began,
+    /// The oldest rescue was taken.
+    Took,
+    /// A leaf of a grey index was read.
+    Scanned,
+    /// These objects are gone, all at one stroke.
+    Condemned { ids: Ids },
+    /// A cylinder was swept.
+    Swept,
+    Finished,
+}
+
+/// Why a step wasn't made.
+#[derive(Clone, Copy, Debug, PartialEq, Eq)]
+pub enum CollectFault {
+    /// Want of memory. All is as it was.
+    Memory,
+    /// A device call failed. Without a doubt all is as it was; with one the core stopped, and that is the moment.
+    Disk { doubt: Option<u64> },
+    /// A block that was read is outside its table. The core stopped at this moment.
+    Damaged { damage: Damage, moment: u64 },
+    /// The core had stopped at this moment.
+    Stopped { moment: u64 },
+}
+
+/// How many collections were called for and how many are finished; and the collector, once one has begun.
+#[derive(Drop)]
+pub struct Collections {
+    pub(crate) collector: Option<Collector>,
+    pub(crate) called: u32,
+    pub(crate) finished: u32,
+}
+
+impl Collections {
+    /// None was called for.
+    pub(crate) fn new() -> Collections
+        ensures { result ≡ record { collector = None; called = 0; finished = 0 } }
+    {
+        Collections {
+            collector: None,
+            called: 0,
+            finished: 0,
+        }
+    }
+
+    /// Whether a collection runs.
+    pub(crate) fn is_running(&self) -> bool
+        ensures { result ≡ runs self.now.collector }
+    {
+        match &self.collector {
+            Some(collector) => is_going(collector.phase()),
+            None => false,
+        }
+    }
+
+    /// Where the collection is.
+    fn phase(&self) -> Phase
+        ensures { result ≡ phase_of self.now.collector }
+    {
+        match &self.collector {
+            Some(collector) => collector.phase(),
+            None => Phase::Idle,
+        }
+    }
+}
+
+/// Whether a collection runs in this phase.
+fn is_going(phase: Phase) -> bool
+    ensures { result ≡ (marks_in phase || sweeps_in phase) }
+{
+    match phase {
+        Phase::Idle => false,
+        Phase::Marking | Phase::Inner { .. } | Phase::Roots { .. } | Phase::Swept => true,
+    }
+}
+
+/// A step of a collection that marks.
+fn mark<D: Disk>(
+    collector: &mut Collector,
+    disk: &mut D,
+    names: &mut Directory,
+) -> Result<Step, Refused>
+    requires marks { collector.old.phase ≡ Phase.Marking }
+    requires room { names.old.room ≤ volume_of collector.old }
+    requires size { D.blocks disk.old ≡ volume_of collector.old }
+    ensures { (kept : space.Kept) → StepsSo D.Disk disk.old disk.new kept kept names.old names.new collector.old collector.new result }
+{
+    if collector.has_rescue() {
+        return match collector.take(names) {
+            Ok(()) => Ok(Step::Took),
+            Err(want) => Err(Refused::from(want)),
+        };
+    }
+    if collector.has_grey() {
+        return match collector.scan(disk, names) {
+            Ok(()) => Ok(Step::Scanned),
+            Err(refused) => Err(refused),
+        };
+    }
+    let ids = collector.condemn(names);
+    Ok(Step::Condemned { ids })
+}
+
+/// A step of a collection that sweeps.
+fn sweep<D: Disk>(
+    collector: &mut Collector,
+    disk: &mut D,
+    space: &mut Space,
+    names: &Directory,
+) -> Result<Step, Refused>
+    requires sweeps { sweeps_blocks collector.old.phase ≡ true }
+    requires size { D.blocks disk.old ≡ volume_of collector.old }
+    requires counts { 64 * length space.old.free ≡ volume_of collector.old }
+    ensures { StepsSo D.Disk disk.old disk.new space.old space.new names.now names.now collector.old collector.new result }
+{
+    match collector.phase() {
+        Phase::Inner { .. } => told(collector.sweep_inner(disk, space, names)),
+        Phase::Roots { .. } => told(collector.sweep_roots(disk, space, names)),
+        Phase::Idle | Phase::Marking | Phase::Swept => unreachable!(),
+    }
+}
+
+/// The end of a sweep, as a step's.
+fn told(swept: Result<(), Trouble>) -> Result<Step, Refused>
+    ensures { result ≡ told_as swept }
+{
+    match swept {
+        Ok(()) => Ok(Step::Swept),
+        Err(trouble) => Err(Refused::from(trouble)),
+    }
+}
+
+/// A collector of so many blocks, with a collection that has begun.
+fn begun(
+    alloc: Global,
+    blocks: u32,
+    roots: &[Puid],
+    names: &Directory,
+) -> Result<Collector, NoMemory>
+    requires some { 0 < blocks }
+    requires room { names.now.room ≤ blocks }
+    ensures volume { IfOk result (λ k. volume_of k ≡ blocks) }
+    ensures begun { IfOk result (HasBegun roots.now names.now.named) }
+{
+    let mut collector = Collector::new(alloc, blocks)?;
+    collector.begin(roots, names)?;
+    Ok(collector)
+}
+
+/// Adds each object that is open.
+fn push_open(roots: &mut Vec<Puid>, grants: &Grants) -> Result<(), NoMemory>
+    ensures { OnOk result (roots.new.items ≡ roots.old.items ++ map (λ (g : grant.Grant). g.id) grants.now.grants) }
+{
+    for place in 0..grants.len() {
+        roots.push(grants.at(place).id)?;
+    }
+    Ok(())
+}
+
+impl<D: Disk> Core<D> {
+    /// Calls for so many collections more. Takes no memory.
+    pub fn call_for(&mut self, more: u32)
+        requires few { self.old.collections.called + more < 4294967296 }
+        ensures { self.new ≡ record self.old {
+          collections = record self.old.collections {
+            called = self.old.collections.called + more;
+          };
+        } }
+    {
+        self.collections.called += more;
+    }
+
+    /// Makes one step of the collector, the first that is due. At most 4 device calls, at most one of them a write. Memory
+    /// is taken before anything changes.
+    pub fn collect(&mut self, alloc: Global) -> Result<Step, CollectFault>
+        ensures { Collects D.Disk self.old self.new result }
+    {
+        if let Some(stop) = self.stop {
+            return Err(CollectFault::Stopped {
+                moment: stop.moment,
+            });
+        }
+        match self.step(alloc) {
+            Ok(step) => Ok(step),
+            Err(refused) => Err(self.fail(refused)),
+        }
+    }
+
+    /// Tries to make a step.
+    fn step(&mut self, alloc: Global) -> Result<Step, Refused>
+        ensures { TriesStep D.Disk self.old self.new result }
+    {
+        match self.collections.phase() {
+            Phase::Idle => {
+                if self.collections.finished == self.collections.called {
+                    Ok(Step::Idle)
+                } else {
+                    self.begin(alloc)
+                }
+            }
+            Phase::Marking => self.mark(),
+            Phase::Inner { .. } | Phase::Roots { .. } => self.sweep(),
+            Phase::Swept => Ok(self.finish()),
+        }
+    }
+
+    /// A step of the collection that marks.
+    fn mark(&mut self) -> Result<Step, Refused>
+        requires { phase_of self.old.collections.collector ≡ Phase.Marking }
+        ensures { TriesStep D.Disk self.old self.new result }
+    {
+        match &mut self.collections.collector {
+            Some(collector) => mark(collector, &mut self.disk, &mut self.names),
+            None => unreachable!(),
+        }
+    }
+
+    /// A step of the collection that sweeps.
+    fn sweep(&mut self) -> Result<Step, Refused>
+        requires { sweeps_blocks (phase_of self.old.collections.collector) ≡ true }
+        ensures { TriesStep D.Disk self.old self.new result }
+    {
+        match &mut self.collections.collector {
+            Some(collector) => sweep(collector, &mut self.disk, &mut self.space, &self.names),
+            None => unreachable!(),
+        }
+    }
+
+    /// The collection ends.
+    fn finish(&mut self) -> Step
+        requires { phase_of self.old.collections.collector ≡ Phase.Swept }
+        ensures { TriesStep D.Disk self.old self.new (Ok result) }
+    {
+        let Some(collector) = &mut self.collections.collector else {
+            unreachable!()
+        };
+        collector.end();
+        let _called = self.collections.called;
+        self.collections.finished += 1;
+        Step::Finished
+    }
+
+    /// The root, and each object that is open.
+    fn roots(&self, alloc: Global) -> Result<Vec<Puid>, NoMemory>
+        ensures { IfOk result (λ roots. roots.items ≡ self.now.root ∷ map (λ (seat : Seat). seat.grant.id) self.now.seats) }
+    {
+        let mut roots = Vec::new(alloc);
+        roots.push(self.root)?;
+        push_open(&mut roots, self.seats.grants())?;
+        Ok(roots)
+    }
+
+    /// A collection begins. On a disk that lies there may be no block.
+    fn begin(&mut self, alloc: Global) -> Result<Step, Refused>
+        requires idle { phase_of self.old.collections.collector ≡ Phase.Idle }
+        requires more { self.old.collections.finished < self.old.collections.called }
+        ensures { TriesStep D.Disk self.old self.new result }
+    {
+        let roots = self.roots(alloc)?;
+        if let Some(collector) = &mut self.collections.collector {
+            collector.begin(&roots, &self.names)?;
+            return Ok(Step::Began);
+        }
+        if self.names.room() == 0 {
+            return Err(Refused::Damaged(Damage {
+                block: 0,
+                code: code::TOO_FULL,
+            }));
+        }
+        let collector = begun(alloc, self.names.room(), &roots, &self.names)?;
+        self.collections.collector = Some(collector);
+        Ok(Step::Began)
+    }
+
+    /// Why a step wasn't made. The core stops where a write had been tried, and at a damage.
+    fn fail(&mut self, refused: Refused) -> CollectFault
+        ensures told { result ≡ fault_of refused (D.moment self.old.disk) }
+        ensures stop { self.new ≡ record self.old { stop = stop_by (fault_of refused (D.moment self.old.disk)) self.old.stop } }
+    {
+        match refused {
+            Refused::Memory | Refused::Full(_) => CollectFault::Memory,
+            Refused::Disk { tried: false } => CollectFault::Disk { doubt: None },
+            Refused::Disk { tried: true } => {
+                let moment = self.disk.moment().saturating_sub(1);
+                self.stop = Some(Stop {
+                    moment,
+                    damage: None,
+                });
+                CollectFault::Disk {
+                    doubt: Some(moment),
+                }
+            }
+            Refused::Damaged(damage) => {
+                let moment = self.disk.moment();
+                self.stop = Some(Stop {
+                    moment,
+                    damage: Some(damage),
+                });
+                CollectFault::Damaged { damage, moment }
+            }
+        }
+    }
+}

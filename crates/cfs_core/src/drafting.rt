@@ -1,0 +1,209 @@
+//! Requests on a file through a grant with a draft.
+ghost use Rattle.std.specs.Prelude.{◌≡◌, ◌+◌, ◌*◌, ◌<◌, ◌≤◌, ℕ, false, IfErr, IfOk, IfNone, IfSome, List, Some, length, None};
+ghost use Rattle.cfs_base.specs.Calls.{OnlyReads};
+ghost use Rattle.cfs_base.specs.declared.identifier.Puid.{Puid};
+ghost use Rattle.cfs_core.specs.Calls.{Tries};
+ghost use Rattle.cfs_core.specs.Drafts.{ChangesDraft, IsDrafted};
+ghost use Rattle.cfs_core.specs.Looks.{IsCalmCause, content_of};
+ghost use Rattle.cfs_core.specs.Seats.{drafting_at};
+ghost use Rattle.cfs_core.specs.StandsFor.{Serves};
+ghost use Rattle.cyl_alloc.specs.Space.{Kept};
+ghost use Rattle.intentions.specs.Store.{StoreHas};
+ghost use Rattle.special_files.specs.Drafting.{IsOpen};
+ghost use Rattle.special_files.specs.Refusal.{is_damaged};
+ghost use Rattle.ufs_model.specs.Graph.{Graph, object_at};
+ghost use Rattle.ufs_model.specs.Plain.{IsPlainReply};
+ghost use Rattle.ufs_model.specs.State.{State, draft_of};
+ghost use Rattle.ufs_model.specs.declared.asked.Ref.TheVariants as refs;
+ghost use Rattle.ufs_model.specs.declared.asked.Request.TheVariants as asks;
+ghost use Rattle.ufs_model.specs.declared.change.Change.TheVariants.{Overwrite, SetSize};
+ghost use Rattle.ufs_model.specs.declared.object.Draft as drafts;
+ghost use Rattle.ufs_model.specs.declared.object.File.{File};
+ghost use Rattle.ufs_model.specs.declared.object.Object.TheVariants as objects;
+ghost use Rattle.ufs_model.specs.declared.object.Object.{Object};
+ghost use Rattle.vol_owners.specs.Account.{Opened};
+
+use crate::kernel::Core;
+use crate::reading::is_range;
+use cfs_base::{Bytes, Disk, NoMemory, Refused, Session, Tuid};
+use cyl_alloc::Space;
+use open_table::table_follows_the_model;
+use special_files::Draft;
+use std::alloc::Global;
+use ufs_model::laws::are_bytes;
+use ufs_model::{MOST_BYTES, RESERVE, Ref, Reply};
+
+/// So many bytes.
+fn zeros(alloc: Global, count: usize) -> Result<Vec<u8>, NoMemory>
+    ensures { IfOk result (λ bytes. length bytes.items ≡ count) }
+{
+    Ok(vec![in alloc; 0u8; count]?)
+}
+
+/// So many bytes of a draft, from an offset on, as a reply: `Range` where they aren't 1 to 4,096 within its size.
+fn content<D: Disk>(
+    alloc: Global,
+    disk: &mut D,
+    draft: &Draft,
+    offset: u64,
+    count: u64,
+) -> Result<Reply, Refused>
+    requires { draft.now.at < D.blocks disk.old }
+    ensures exact { (graph : Graph) (ds : List Opened) (space : Kept) (id : Puid) (o : Object) (d : drafts.Draft) (f : File)
+        → StoreHas D.Disk graph ds disk.old space → object_at graph id ≡ Some o → IsOpen ds id draft.now d
+        → d.object ≡ objects.File f → length f.bytes ≡ draft.now.root.size
+        → IfOk result (λ reply. reply ≡ content_of f offset count) }
+    ensures plain { IfOk result IsPlainReply }
+    ensures sound { (graph : Graph) (ds : List Opened) (space : Kept) (id : Puid) (o : Object) (d : drafts.Draft)
+        → StoreHas D.Disk graph ds disk.old space → object_at graph id ≡ Some o → IsOpen ds id draft.now d
+        → IfErr result (λ e. is_damaged e ≡ false) }
+    ensures cause { IfErr result (IsCalmCause D.Disk disk.old disk.new) }
+    ensures reads { OnlyReads D.Disk 18 disk.old disk.new }
+{
+    if !is_range(draft.size(), offset, count) {
+        return Ok(Reply::Range);
+    }
+    let mut bytes = match zeros(alloc, count as usize) {
+        Ok(bytes) => bytes,
+        Err(want) => return Err(Refused::from(want)),
+    };
+    match draft.read(disk, offset, bytes.as_mut_slice()) {
+        Ok(()) => Ok(Reply::Content(Bytes::new(bytes))),
+        Err(trouble) => Err(Refused::from(trouble)),
+    }
+}
+
+/// Writes bytes into a draft, within its size.
+pub(crate) fn overwrite<D: Disk>(
+    draft: &mut Draft,
+    disk: &mut D,
+    space: &mut Space,
+    offset: u64,
+    bytes: &[u8],
+) -> Result<(), Refused>
+    requires on_disk { draft.old.at < D.blocks disk.old }
+    requires size { D.blocks disk.old ≡ 64 * length space.old.free }
+    requires within { offset + length bytes.now ≤ draft.old.root.size }
+    requires most { length bytes.now ≤ 4096 }
+    ensures { ChangesDraft D.Disk (Overwrite offset bytes.now) disk.old disk.new space.old space.new draft.old draft.new result }
+{
+    draft.write(disk, space, offset, bytes, RESERVE)
+}
+
+/// Sets the size of a draft.
+pub(crate) fn set_size<D: Disk>(
+    draft: &mut Draft,
+    disk: &mut D,
+    space: &mut Space,
+    size: u64,
+) -> Result<(), Refused>
+    requires on_disk { draft.old.at < D.blocks disk.old }
+    requires size { D.blocks disk.old ≡ 64 * length space.old.free }
+    requires limit { size ≤ 7864320 }
+    ensures { ChangesDraft D.Disk (SetSize size) disk.old disk.new space.old space.new draft.old draft.new result }
+{
+    draft.resize(disk, space, size, RESERVE)
+}
+
+impl<D: Disk> Core<D> {
+    /// The session's grant that a reference goes through, where it has a draft.
+    pub(crate) fn drafted(&self, who: Session, to: Ref) -> Option<Tuid>
+        ensures through { IfSome result (λ grant. to ≡ refs.Through grant) }
+        ensures has { IfSome result (λ grant. IsDrafted self.now who grant) }
+        ensures bare { IfNone result ((s : State) → Serves D.Disk self.now s → draft_of s who to ≡ None) }
+    {
+        table_follows_the_model();
+        let grant = match to {
+            Ref::Direct(_) => return None,
+            Ref::Through(grant) => grant,
+        };
+        if self.seats.find(who, grant).is_some() && self.seats.draft(grant.draw).is_some() {
+            Some(grant)
+        } else {
+            None
+        }
+    }
+
+    /// So many bytes of a draft, from an offset on.
+    pub(crate) fn read_draft(
+        &mut self,
+        alloc: Global,
+        who: Session,
+        grant: Tuid,
+        offset: u64,
+        count: u64,
+    ) -> Result<Reply, Refused>
+        requires { IsDrafted self.old who grant }
+        ensures { Tries D.Disk self.old self.new who (asks.Read (refs.Through grant) offset count) result }
+    {
+        table_follows_the_model();
+        match self.seats.draft(grant.draw) {
+            Some(draft) => content(alloc, &mut self.disk, draft, offset, count),
+            None => unreachable!(),
+        }
+    }
+
+    /// The size of a draft in bytes.
+    pub(crate) fn size_of_draft(&self, who: Session, grant: Tuid) -> Reply
+        requires { IsDrafted self.now who grant }
+        ensures { Tries D.Disk self.now self.now who (asks.Size (refs.Through grant)) (Ok result) }
+    {
+        table_follows_the_model();
+        match self.seats.draft(grant.draw) {
+            Some(draft) => Reply::Number(draft.size()),
+            None => unreachable!(),
+        }
+    }
+
+    /// Writes bytes into a draft, from an offset on.
+    pub(crate) fn write_draft(
+        &mut self,
+        who: Session,
+        grant: Tuid,
+        offset: u64,
+        bytes: &[u8],
+    ) -> Result<Reply, Refused>
+        requires { IsDrafted self.old who grant }
+        ensures { Tries D.Disk self.old self.new who (asks.Write (refs.Through grant) offset bytes.now) result }
+    {
+        are_bytes(bytes);
+        table_follows_the_model();
+        let held = match self.seats.draft(grant.draw) {
+            Some(draft) => draft.size(),
+            None => unreachable!(),
+        };
+        if !is_range(held, offset, bytes.len() as u64) {
+            return Ok(Reply::Range);
+        }
+        match self
+            .seats
+            .write(grant.draw, &mut self.disk, &mut self.space, offset, bytes)
+        {
+            Ok(()) => Ok(Reply::Done),
+            Err(refused) => Err(refused),
+        }
+    }
+
+    /// Sets the size of a draft in bytes.
+    pub(crate) fn resize_draft(
+        &mut self,
+        who: Session,
+        grant: Tuid,
+        size: u64,
+    ) -> Result<Reply, Refused>
+        requires { IsDrafted self.old who grant }
+        ensures { Tries D.Disk self.old self.new who (asks.Resize (refs.Through grant) size) result }
+    {
+        table_follows_the_model();
+        if size > MOST_BYTES {
+            return Ok(Reply::Range);
+        }
+        match self
+            .seats
+            .resize(grant.draw, &mut self.disk, &mut self.space, size)
+        {
+            Ok(()) => Ok(Reply::Done),
+            Err(refused) => Err(refused),
+        }
+    }
+}

@@ -1,0 +1,132 @@
+//! What is put into an index, or opened, while a collection marks.
+ghost use Rattle.std.specs.Prelude.{◌≡◌, [], OnOk, option_to_list};
+ghost use Rattle.cfs_core.specs.Kernel.{marks_in};
+ghost use Rattle.cfs_core.specs.Rescues as spec;
+ghost use Rattle.cfs_core.specs.Rescues.{AreRescued, HasRoomFor};
+ghost use Rattle.cfs_core.specs.StandsFor.{Serves};
+ghost use Rattle.marking.specs.Meanwhile as meanwhile;
+ghost use Rattle.ufs_model.specs.State.{State};
+ghost use Rattle.ufs_model.specs.declared.asked.Reply as asked;
+
+use crate::collecting::Collections;
+use crate::kernel::Core;
+use cfs_base::{Disk, NoMemory, Puid, Session};
+use collector_steps::{Collector, Phase};
+use marking::Rescue;
+use ufs_model::{Reply, Request};
+
+/// Whether a request puts an object into an index, or opens one.
+fn may_rescue(request: &Request) -> bool
+    ensures { result ≡ spec.may_rescue request.now }
+{
+    match request {
+        Request::CreateFile { .. }
+        | Request::CreateIndex { .. }
+        | Request::Retain { .. }
+        | Request::OpenFor { .. } => true,
+        _ => false,
+    }
+}
+
+/// Whether a reply tells that all was done that was asked.
+fn is_done(reply: &Reply) -> bool
+    ensures { result ≡ meanwhile.is_done reply.now }
+{
+    match reply {
+        Reply::Done | Reply::Id(_) | Reply::Grant(_) => true,
+        _ => false,
+    }
+}
+
+/// The identifier that a reply names, if it names one.
+fn id_in(reply: &Reply) -> Option<Puid>
+    ensures { result ≡ spec.id_in reply.now }
+{
+    match reply {
+        Reply::Id(id) => Some(*id),
+        _ => None,
+    }
+}
+
+/// What was put into this index, or opened, if anything was.
+fn rescue_of(index: Option<Puid>, request: &Request, reply: &Reply) -> Option<Rescue>
+    ensures { result ≡ spec.rescue_of index request.now reply.now }
+{
+    if !is_done(reply) {
+        return None;
+    }
+    match request {
+        Request::CreateFile { .. } | Request::CreateIndex { .. } => match id_in(reply) {
+            Some(id) => Some(Rescue { index, id }),
+            None => None,
+        },
+        Request::Retain { id, .. } => Some(Rescue { index, id: *id }),
+        Request::OpenFor { id, .. } => Some(Rescue {
+            index: None,
+            id: *id,
+        }),
+        _ => None,
+    }
+}
+
+/// Whether a collection marks.
+fn is_marking(collector: &Collector) -> bool
+    ensures { result ≡ marks_in collector.now.phase }
+{
+    match collector.phase() {
+        Phase::Marking => true,
+        _ => false,
+    }
+}
+
+impl Collections {
+    /// Makes room for the rescue that a request may add, where a collection marks.
+    pub(crate) fn make_room(&mut self, request: &Request) -> Result<(), NoMemory>
+        ensures room { OnOk result (HasRoomFor request.now self.new.collector) }
+        ensures same { AreRescued self.old.collector self.new.collector [] }
+        ensures called { self.new.called ≡ self.old.called }
+        ensures finished { self.new.finished ≡ self.old.finished }
+    {
+        match &mut self.collector {
+            Some(collector) => {
+                if is_marking(collector) && may_rescue(request) {
+                    collector.reserve()
+                } else {
+                    Ok(())
+                }
+            }
+            None => Ok(()),
+        }
+    }
+
+    /// What a request that was answered put into this index, or opened, is a rescue where a collection marks.
+    pub(crate) fn rescue(&mut self, index: Option<Puid>, request: &Request, reply: &Reply)
+        requires room { HasRoomFor request.now self.old.collector }
+        ensures rescued { AreRescued self.old.collector self.new.collector (option_to_list (spec.rescue_of index request.now reply.now)) }
+        ensures called { self.new.called ≡ self.old.called }
+        ensures finished { self.new.finished ≡ self.old.finished }
+    {
+        if let Some(collector) = &mut self.collector {
+            if is_marking(collector) {
+                if let Some(rescue) = rescue_of(index, request, reply) {
+                    collector.rescue(rescue.index, rescue.id);
+                }
+            }
+        }
+    }
+}
+
+impl<D: Disk> Core<D> {
+    /// The index that a request of a session would put an object into, if it goes to any.
+    pub(crate) fn aim(&self, who: Session, request: &Request) -> Option<Puid>
+        ensures { (s : State) → Serves D.Disk self.now s → (reply : asked.Reply)
+            → option_to_list (spec.rescue_of result request.now reply) ≡ meanwhile.rescues_of s who request.now reply }
+    {
+        match request {
+            Request::CreateFile { index, .. }
+            | Request::CreateIndex { index, .. }
+            | Request::Retain { index, .. } => self.goes_to(who, *index),
+            _ => None,
+        }
+    }
+}

@@ -1,0 +1,308 @@
+-- A step of the collector of a core, as the hall sees it.
+use Rattle.std.proofs.Common.{◌≡◌, ◌⊎◌, inl, inr, ℕ, ◌+◌, ◌-◌, ◌≤◌, Bool, true, false, List, [], ◌∷◌, ◌++◌, Option, Some, None, Result, Ok, Err, is_some, refl, sym, ap, ◌∙◌, subst, arith}
+use Rattle.std.specs.Prelude.{◌||◌, option_and_then}
+use Rattle.cfs_base.specs.Outside.{Rose}
+use Rattle.cfs_base.specs.declared.disk.Disk.{Ghosts}
+use Rattle.cfs_base.specs.declared.identifier.Puid.{Puid}
+use Rattle.cfs_core.specs.declared.collecting.Collections.{Collections}
+use Rattle.cfs_core.specs.declared.collecting.CollectFault.{CollectFault}
+use Rattle.cfs_core.specs.declared.collecting.CollectFault.TheVariants as faults
+use Rattle.cfs_core.specs.declared.collecting.Step.{Step}
+use Rattle.cfs_core.specs.declared.collecting.Step.TheVariants as steps
+use Rattle.cfs_core.specs.declared.kernel.Stop.{Stop}
+use Rattle.cfs_core.specs.Asked.{Happens}
+use Rattle.cfs_core.specs.Collect.{Collects, HappensOrRests, IsNextOf, IsStep, IsUnchanged, event_of}
+use Rattle.cfs_core.specs.Kernel.{Kernel, marks_in, runs, sweeps_in}
+use Rattle.cfs_core.specs.Room.{MayLose, lost_blocks}
+use Rattle.cfs_core.specs.StandsFor.{HasCollection, Serves, Stands, StandsFor, is_collecting, is_sweeping}
+use Rattle.collector_steps.specs.Collecting.{Collecting}
+use Rattle.marking.proofs.Asked.{allowed}
+use Rattle.survival.specs.Call.{CallKeeps, Survived}
+use Rattle.survival.specs.Trail.{RunSurvives}
+use Rattle.ufs_model.specs.declared.asked.Event.{Event}
+use Rattle.ufs_model.specs.declared.asked.Event.TheVariants as events
+use Rattle.ufs_model.specs.declared.collection.Collection.{Collection}
+use Rattle.ufs_model.specs.declared.collection.Collection.TheVariants as collections
+use Rattle.ufs_model.specs.Graph.{Graph, without}
+use Rattle.ufs_model.specs.Next.{next}
+use Rattle.ufs_model.specs.Reach.{starts_now}
+use Rattle.ufs_model.specs.Run.{replay}
+use Rattle.ufs_model.specs.State.{State, pairs_of}
+use Rattle.ufs_model.specs.Vanish.{is_marking}
+use Rattle.cfs_serve.specs.Calls.{MayGoOn, MayMake, MayTally, Rests, Tallies, TellsStep, event_by, fails, is_calm_step, tally_of, tells_stop_at}
+use Rattle.cfs_serve.proofs.Journals.{some_same}
+use Rattle.cfs_serve.proofs.Owed.{no_some, rescued_runs}
+
+never : true ≡ false → ⊥
+never e = cc
+
+gone_less : (after t before s : ℕ) → after + t ≡ before + s → before ≡ 0 → after ≤ s - t
+gone_less after t before s all none = omega (arith, all, none)
+
+-- a core has a collection as the state has one
+running_as : (a b : Bool) (c : Collection) → is_marking c ≡ a → is_sweeping c ≡ b → is_collecting c ≡ (a || b)
+running_as a b c marking sweeping = ap (λ x. x || is_sweeping c) marking ∙ ap (λ y. a || y) sweeping
+
+pub runs_so : {D : Type 0} (g : Ghosts D) (k : Kernel D) (s : State) → Serves g k s → runs k.collections.collector ≡ is_collecting s.collection
+runs_so g k s serves = at k.collections.collector serves.collecting
+  where
+    at : (o : Option Collecting) → HasCollection (g.content k.disk) s o → runs o ≡ is_collecting s.collection
+    at None is = sym (ap is_collecting is)
+    at (Some collector) is = sym (running_as (marks_in collector.phase) (sweeps_in collector.phase) s.collection is.marking is.sweeping)
+
+abbrev damaged : Option Stop → Bool
+damaged o = is_some (option_and_then (λ (x : Stop). x.damage) o)
+
+module _ {D : Type 0} (g : Ghosts D) (old new : Kernel D) (result : Result Step CollectFault) (did : Collects g old new result) where
+  -- one that stopped stays as it is
+  stood : (stop : Stop) → old.stop ≡ Some stop → new ≡ old
+  stood stop is = (did.stopped stop is).0
+
+  -- ---- the event
+
+  made_by : (s : State) (o : Option Event) → HappensOrRests g old new s o → MayMake (λ t. StandsFor g new t) old.words.seed s o
+  made_by s None rests = rests.stands
+  made_by s (Some e) happens = record { after = happens.after; step = happens.step; standing = happens.stands }
+
+  pub made : (s : State) → StandsFor g old s → MayMake (λ t. StandsFor g new t) old.words.seed s (event_by result)
+  made s stands = by result (did.event s stands)
+    where
+      by : (r : Result Step CollectFault) → IsStep g old new s r → MayMake (λ t. StandsFor g new t) old.words.seed s (event_by r)
+      by (Ok step) is = made_by s (event_of step) is
+      by (Err faults.Memory) is = is.stands
+      by (Err (faults.Disk None)) is = is.stands
+      by (Err (faults.Disk (Some moment))) is = made_by s (Some (events.Halted moment)) is
+      by (Err (faults.Damaged damage moment)) is = made_by s (Some (events.Halted moment)) is
+      by (Err (faults.Stopped moment)) is = subst (λ (k : Kernel D). StandsFor g k s) (sym is) stands
+
+  -- ---- what a crash leaves
+
+  module _ (event : (seed : ℕ) (graph : Graph) (trail : List Event) (marks : List ℕ) (s : State) (a b : D) → replay seed graph trail ≡ Some s → RunSurvives g seed graph trail marks a
+      → (e : Event) → Survived g seed s e a b → RunSurvives g seed graph (trail ++ e ∷ []) (marks ++ g.moment b ∷ []) b)
+      (none : (seed : ℕ) (graph : Graph) (trail : List Event) (marks : List ℕ) (s : State) (a b : D) → replay seed graph trail ≡ Some s → RunSurvives g seed graph trail marks a
+      → CallKeeps g s a b → RunSurvives g seed graph trail marks b) where
+    abbrev GoesOnBy : Option Event → Type 0
+    GoesOnBy o = MayGoOn (λ k s. StandsFor g k s) (λ (k : Kernel D). g.moment k.disk) (λ k seed graph trail marks. RunSurvives g seed graph trail marks k.disk) old.words.seed old new o
+
+    goes_by : (o : Option Event) → ((s : State) → StandsFor g old s → HappensOrRests g old new s o) → GoesOnBy o
+    goes_by None is = λ graph trail marks s legal stands run. none old.words.seed graph trail marks s old.disk new.disk legal run (is s stands).keeps
+    goes_by (Some e) is = λ graph trail marks s legal stands run. event old.words.seed graph trail marks s old.disk new.disk legal run e (is s stands).survives
+
+    pub goes_on : GoesOnBy (event_by result)
+    goes_on = by result did.event
+      where
+        by : (r : Result Step CollectFault) → ((s : State) → StandsFor g old s → IsStep g old new s r) → GoesOnBy (event_by r)
+        by (Ok step) is = goes_by (event_of step) is
+        by (Err faults.Memory) is = goes_by None is
+        by (Err (faults.Disk None)) is = goes_by None is
+        by (Err (faults.Disk (Some moment))) is = goes_by (Some (events.Halted moment)) is
+        by (Err (faults.Damaged damage moment)) is = goes_by (Some (events.Halted moment)) is
+        by (Err (faults.Stopped moment)) is = λ graph trail marks s legal stands run. subst (λ (k : Kernel D). RunSurvives g old.words.seed graph trail marks k.disk) (sym (is s stands)) run
+
+  -- ---- what is told of the disk
+
+  pub stays : is_some old.stop ≡ true → is_some new.stop ≡ true
+  stays some = at old.stop refl some
+    where
+      at : (o : Option Stop) → old.stop ≡ o → is_some o ≡ true → is_some new.stop ≡ true
+      at (Some stop) is some = rw (stood stop is, is) refl
+      at None is some = absurd (cc some)
+
+  pub tells : TellsStep (λ (k : Kernel D). g.faults k.disk) (λ (k : Kernel D). is_some k.stop) (λ (k : Kernel D). damaged k.stop) old new result
+  tells = record {
+    later = did.calls.faults;
+    told = λ is. told_at result refl is;
+    stays = stays;
+    calm = λ runs none. calm_at result refl runs;
+    halts = λ stopped sound. halts_at old.stop refl stopped sound;
+  }
+    where
+      told_at : (r : Result Step CollectFault) → result ≡ r → fails r ≡ true → Rose (g.faults old.disk) (g.faults new.disk)
+      told_at (Err (faults.Disk None)) same is = (rw same at did.cause).failed.cause
+      told_at (Err (faults.Disk (Some moment))) same is = (rw same at did.cause).0.failed.cause
+      told_at r same is = absurd (cc is)
+
+      calm_at : (r : Result Step CollectFault) → result ≡ r → is_some new.stop ≡ false → is_calm_step (event_by r) ≡ true
+      calm_at (Ok steps.Idle) same runs = refl
+      calm_at (Ok steps.Began) same runs = refl
+      calm_at (Ok steps.Took) same runs = refl
+      calm_at (Ok steps.Scanned) same runs = refl
+      calm_at (Ok (steps.Condemned ids)) same runs = refl
+      calm_at (Ok steps.Swept) same runs = refl
+      calm_at (Ok steps.Finished) same runs = refl
+      calm_at (Err faults.Memory) same runs = refl
+      calm_at (Err (faults.Disk None)) same runs = refl
+      calm_at (Err (faults.Disk (Some moment))) same runs = absurd (never (sym (ap is_some (rw same at did.stops)) ∙ runs))
+      calm_at (Err (faults.Damaged damage moment)) same runs = absurd (never (sym (ap is_some (rw same at did.stops)) ∙ runs))
+      calm_at (Err (faults.Stopped moment)) same runs = refl
+
+      halts_in : (r : Result Step CollectFault) → result ≡ r → old.stop ≡ None → is_some new.stop ≡ true → damaged new.stop ≡ false → Rose (g.faults old.disk) (g.faults new.disk)
+      halts_in (Ok step) same is stopped sound = absurd (never (sym stopped ∙ ap is_some ((rw same at did.goes_on) ∙ is)))
+      halts_in (Err faults.Memory) same is stopped sound = absurd (never (sym stopped ∙ ap is_some ((rw same at did.stops) ∙ is)))
+      halts_in (Err (faults.Disk None)) same is stopped sound = absurd (never (sym stopped ∙ ap is_some ((rw same at did.stops) ∙ is)))
+      halts_in (Err (faults.Disk (Some moment))) same is stopped sound = told_at (Err (faults.Disk (Some moment))) same refl
+      halts_in (Err (faults.Damaged damage moment)) same is stopped sound = absurd (never (sym (ap damaged (rw same at did.stops)) ∙ sound))
+      halts_in (Err (faults.Stopped moment)) same is stopped sound = absurd (never (sym stopped ∙ ap is_some ((rw same at did.stops) ∙ is)))
+
+      halts_at : (o : Option Stop) → old.stop ≡ o → is_some new.stop ≡ true → damaged new.stop ≡ false
+          → ((is_some old.stop ≡ true) × (damaged old.stop ≡ false)) ⊎ Rose (g.faults old.disk) (g.faults new.disk)
+      halts_at (Some stop) is stopped sound = inl (rw (← stood stop is) (stopped, sound))
+      halts_at None is stopped sound = inr (halts_in result refl is stopped sound)
+
+  -- no block of a disk that holds the store is found damaged
+  pub undamaged : (s : State) → StandsFor g old s → damaged old.stop ≡ false → damaged new.stop ≡ false
+  undamaged s stands before = at old.stop refl
+    where
+      by : old.stop ≡ None → (r : Result Step CollectFault) → result ≡ r → damaged new.stop ≡ false
+      by is (Ok step) same = ap damaged (rw same at did.goes_on) ∙ before
+      by is (Err (faults.Damaged damage moment)) same = absurd (rw same at did.sound is s stands)
+      by is (Err faults.Memory) same = ap damaged (rw same at did.stops) ∙ before
+      by is (Err (faults.Disk None)) same = ap damaged (rw same at did.stops) ∙ before
+      by is (Err (faults.Disk (Some moment))) same = ap damaged (rw same at did.stops)
+      by is (Err (faults.Stopped moment)) same = ap damaged (rw same at did.stops) ∙ before
+
+      at : (o : Option Stop) → old.stop ≡ o → damaged new.stop ≡ false
+      at None is = by is result refl
+      at (Some stop) is = rw (stood stop is) before
+
+  -- it stops where a call failed
+  pub halts : (s : State) → StandsFor g old s → tells_stop_at (event_by result) ≡ true → Rose (g.faults old.disk) (g.faults new.disk)
+  halts s stands stops = by result refl stops
+    where
+      running : old.stop ≡ None → (r : Result Step CollectFault) → result ≡ r → tells_stop_at (event_by r) ≡ true → Rose (g.faults old.disk) (g.faults new.disk)
+      running none (Err (faults.Disk (Some moment))) same is = (rw same at did.cause).0.failed.cause
+      running none (Err (faults.Damaged damage moment)) same is = absurd (rw same at did.sound none s stands)
+      running none (Err faults.Memory) same is = absurd (cc is)
+      running none (Err (faults.Disk None)) same is = absurd (cc is)
+      running none (Err (faults.Stopped moment)) same is = absurd (cc is)
+      running none (Ok steps.Idle) same is = absurd (cc is)
+      running none (Ok steps.Began) same is = absurd (cc is)
+      running none (Ok steps.Took) same is = absurd (cc is)
+      running none (Ok steps.Scanned) same is = absurd (cc is)
+      running none (Ok (steps.Condemned ids)) same is = absurd (cc is)
+      running none (Ok steps.Swept) same is = absurd (cc is)
+      running none (Ok steps.Finished) same is = absurd (cc is)
+
+      by : (r : Result Step CollectFault) → result ≡ r → tells_stop_at (event_by r) ≡ true → Rose (g.faults old.disk) (g.faults new.disk)
+      by r same is = at old.stop refl
+        where
+          at : (o : Option Stop) → old.stop ≡ o → Rose (g.faults old.disk) (g.faults new.disk)
+          at None none = running none r same is
+          at (Some stop) there = absurd (cc (subst (λ x. tells_stop_at (event_by x) ≡ true) (sym same ∙ (did.stopped stop there).1) is))
+
+  -- ---- what becomes of the collections
+
+  abbrev stopped : Kernel D → Bool
+  stopped k = is_some k.stop
+
+  abbrev TalliesBy : State → Option Event → Type 0
+  TalliesBy s o = MayTally stopped (tally_of g) old.words.seed old new s o
+
+  -- a step that was made was one of a core that runs, and it runs on
+  ran : (step : Step) → result ≡ Ok step → old.stop ≡ None
+  ran step same = at old.stop refl
+    where
+      at : (o : Option Stop) → old.stop ≡ o → old.stop ≡ None
+      at None is = is
+      at (Some stop) is = absurd (cc (same, (did.stopped stop is).1))
+
+  goes : (step : Step) → result ≡ Ok step → new.stop ≡ None
+  goes step same = (rw same at did.goes_on) ∙ ran step same
+
+  serves_old : (step : Step) → result ≡ Ok step → (s : State) → StandsFor g old s → Serves g old s
+  serves_old step same s stands = subst (Stands g old s) (ran step same) stands
+
+  serves_new : (step : Step) → result ≡ Ok step → (t : State) → StandsFor g new t → Serves g new t
+  serves_new step same t stands = subst (Stands g new t) (goes step same) stands
+
+  -- it made no event
+  rests_so : (step : Step) → result ≡ Ok step → (s : State) → StandsFor g old s → event_of step ≡ None → new.collections.finished ≡ old.collections.finished → Rests stopped (tally_of g) old new s
+  rests_so step same s stands none finished =
+      let rest = subst (λ o. HappensOrRests g old new s o) none (subst (λ r. IsStep g old new s r) same (did.event s stands)) in
+      record {
+        counts = (finished, runs_so g new s (serves_new step same s rest.stands) ∙ sym (runs_so g old s (serves_old step same s stands)));
+        lost = λ runs. rest.lost;
+      }
+
+  -- the blocks of what is gone, by an event
+  lost_so : (s t : State) (e : Event) → Happens g old new s e → is_some new.stop ≡ false → next old.words.seed s e ≡ Some t
+      → MayLose e s.graph t.graph (lost_blocks (g.content old.disk) s.graph) (lost_blocks (g.content new.disk) t.graph)
+  lost_so s t e here runs step =
+      subst (λ (u : State). MayLose e s.graph u.graph (lost_blocks (g.content old.disk) s.graph) (lost_blocks (g.content new.disk) u.graph)) (some_same here.after t (sym here.step ∙ step)) (here.lost (no_some new.stop runs))
+
+  unchanged : (s : State) → IsUnchanged g old new → ((is_some new.stop ≡ false) → lost_blocks (g.content new.disk) s.graph ≤ lost_blocks (g.content old.disk) s.graph) → Rests stopped (tally_of g) old new s
+  unchanged s same lost = record { counts = (same.finished, rescued_runs old.collections.collector new.collections.collector [] same.collector); lost = lost }
+
+  halted : (s : State) (moment : ℕ) (stop : Stop) → new.stop ≡ Some stop → Tallies stopped (tally_of g) old.words.seed old new s (events.Halted moment)
+  halted s moment stop is = record {
+    counts = λ runs. absurd (never (sym (ap is_some is) ∙ runs));
+    runs = λ begins. absurd (cc begins);
+    lost = λ runs. absurd (never (sym (ap is_some is) ∙ runs));
+  }
+
+  -- the phase in which objects vanish, and that in which a collection ends
+  marks_due : (s : State) (ids : List Puid) (o : Option Collecting) → HasCollection (g.content old.disk) s o → IsNextOf o (steps.Condemned ids) → (is_sweeping s.collection ≡ false) × (runs o ≡ true)
+  marks_due s ids None has due = absurd due
+  marks_due s ids (Some k) has due = (has.sweeping ∙ ap sweeps_in due.0, ap (λ p. marks_in p || sweeps_in p) due.0)
+
+  swept_due : (o : Option Collecting) → IsNextOf o steps.Finished → runs o ≡ true
+  swept_due None due = absurd due
+  swept_due (Some k) due = ap (λ p. marks_in p || sweeps_in p) due
+
+  pub tallies : ((s : State) → Serves g old s → is_sweeping s.collection ≡ false → lost_blocks (g.content old.disk) s.graph ≡ 0) → (s : State) → StandsFor g old s → TalliesBy s (event_by result)
+  tallies swept s stands = by result refl
+    where
+      event : (r : Result Step CollectFault) → result ≡ r → IsStep g old new s r
+      event r same = subst (λ x. IsStep g old new s x) same (did.event s stands)
+
+      by : (r : Result Step CollectFault) → result ≡ r → TalliesBy s (event_by r)
+      by (Ok steps.Idle) same = rests_so steps.Idle same s stands refl (ap (λ (x : Collections). x.finished) (rw same at did.counted))
+      by (Ok steps.Took) same = rests_so steps.Took same s stands refl (rw same at did.counted).2
+      by (Ok steps.Scanned) same = rests_so steps.Scanned same s stands refl (rw same at did.counted).2
+      by (Ok steps.Swept) same = rests_so steps.Swept same s stands refl (rw same at did.counted).2
+      by (Ok steps.Began) same =
+          let here = event (Ok steps.Began) same in
+          let due = rw same at did.due in
+          let after = allowed _ (record s { collection = collections.Marking (pairs_of s) (starts_now s) }) here.after here.step in
+          record {
+            counts = λ runs. (due.1, due.0, (rw same at did.counted).2, runs_so g new here.after (serves_new steps.Began same here.after here.stands) ∙ ap (λ (u : State). is_collecting u.collection) (sym after.1));
+            runs = λ begins. ap is_some (goes steps.Began same);
+            lost = λ runs t step. lost_so s t events.Began here runs step;
+          }
+      by (Ok (steps.Condemned ids)) same =
+          let here = event (Ok (steps.Condemned ids)) same in
+          let serves = serves_old (steps.Condemned ids) same s stands in
+          let due = marks_due s ids old.collections.collector serves.collecting (rw same at did.due) in
+          let after = allowed _ (record s { graph = without s.graph ids; collection = collections.Sweeping }) here.after here.step in
+          record {
+            counts = λ runs. (
+              (rw same at did.counted).2,
+              runs_so g new here.after (serves_new (steps.Condemned ids) same here.after here.stands) ∙ ap (λ (u : State). is_collecting u.collection) (sym after.1) ∙ sym due.1,
+            );
+            runs = λ begins. absurd (cc begins);
+            lost = λ runs t step. gone_less _ _ _ _ (lost_so s t (events.Vanish ids) here runs step) (swept s serves due.0);
+          }
+      by (Ok steps.Finished) same =
+          let here = event (Ok steps.Finished) same in
+          let after = allowed _ (record s { collection = collections.None }) here.after here.step in
+          record {
+            counts = λ runs. (
+              swept_due old.collections.collector (rw same at did.due),
+              (rw same at did.counted).2,
+              runs_so g new here.after (serves_new steps.Finished same here.after here.stands) ∙ ap (λ (u : State). is_collecting u.collection) (sym after.1),
+            );
+            runs = λ begins. absurd (cc begins);
+            lost = λ runs t step. lost_so s t events.Finished here runs step;
+          }
+      by (Err faults.Memory) same = unchanged s (rw same at did.still) (λ runs. (event (Err faults.Memory) same).lost)
+      by (Err (faults.Disk None)) same = unchanged s (rw same at did.still) (λ runs. (event (Err (faults.Disk None)) same).lost)
+      by (Err (faults.Disk (Some moment))) same = halted s moment (record { moment = moment; damage = None }) (rw same at did.stops)
+      by (Err (faults.Damaged damage moment)) same = halted s moment (record { moment = moment; damage = Some damage }) (rw same at did.stops)
+      by (Err (faults.Stopped moment)) same = subst (λ (k : Kernel D). Rests stopped (tally_of g) old k s) (sym (event (Err (faults.Stopped moment)) same)) (record { counts = (refl, refl); lost = λ runs. omega arith })
+
+  -- nothing is left to do once all that were called for are finished
+  pub idle : result ≡ Ok steps.Idle → (is_some new.stop ≡ false) × (new.collections.finished ≡ new.collections.called)
+  idle same =
+      let due = rw same at did.due in
+      let stays = rw same at did.counted in
+      (ap is_some (goes steps.Idle same), ap (λ (c : Collections). c.finished) stays ∙ due.1 ∙ sym (ap (λ (c : Collections). c.called) stays))

@@ -1,0 +1,87 @@
+-- A step of the collector keeps what the journal keeps.
+use Rattle.std.proofs.Common.{◌≡◌, ℕ, ◌==◌, Bool, true, false, List, [], ◌++◌, Option, Some, None, Result, Ok, Err, refl, sym, ap, ◌∙◌, subst}
+use Rattle.std.specs.Prelude.{◌||◌}
+use Rattle.std.specs.List.{list_any}
+use Rattle.std.proofs.lemmas.List.{append-nil}
+use Rattle.cfs_core.specs.declared.collecting.CollectFault.{CollectFault}
+use Rattle.cfs_core.specs.declared.collecting.CollectFault.TheVariants as faults
+use Rattle.cfs_core.specs.declared.collecting.Step.{Step}
+use Rattle.cfs_core.specs.declared.collecting.Step.TheVariants as steps
+use Rattle.ufs_model.specs.declared.asked.Event.{Event}
+use Rattle.ufs_model.specs.declared.asked.Event.TheVariants as events
+use Rattle.ufs_model.specs.Graph.{Graph}
+use Rattle.ufs_model.specs.State.{State}
+use Rattle.cfs_serve.specs.Calls.{IsExactEvent, MayGoOn, MayMake, MayTally, Tally, event_by}
+use Rattle.cfs_serve.specs.Charter.{Terms}
+use Rattle.cfs_serve.specs.Events.{is_of, tells_disk, wants_memory}
+use Rattle.cfs_serve.specs.Journal.{AreCollected, IsRun, Lasts, recorded, stamps}
+use Rattle.cfs_serve.proofs.Journals.{any-push, lasts_on, lasts_rests, run_on, run_rests}
+use Rattle.cfs_serve.proofs.Sessions.{test_refl}
+
+some_event : (a b : Event) → Some a ≡ Some b → a ≡ b
+some_event a b e = cc
+
+-- it is an event of no session
+pub nobodys : (result : Result Step CollectFault) (e : Event) → event_by result ≡ Some e → (k : ℕ) → is_of k e ≡ false
+nobodys (Ok steps.Began) e is k = subst (λ x. is_of k x ≡ false) (some_event events.Began e is) refl
+nobodys (Ok (steps.Condemned ids)) e is k = subst (λ x. is_of k x ≡ false) (some_event (events.Vanish ids) e is) refl
+nobodys (Ok steps.Finished) e is k = subst (λ x. is_of k x ≡ false) (some_event events.Finished e is) refl
+nobodys (Err (faults.Disk (Some moment))) e is k = subst (λ x. is_of k x ≡ false) (some_event (events.Halted moment) e is) refl
+nobodys (Err (faults.Damaged damage moment)) e is k = subst (λ x. is_of k x ≡ false) (some_event (events.Halted moment) e is) refl
+nobodys (Ok steps.Idle) e is k = absurd (cc is)
+nobodys (Ok steps.Took) e is k = absurd (cc is)
+nobodys (Ok steps.Scanned) e is k = absurd (cc is)
+nobodys (Ok steps.Swept) e is k = absurd (cc is)
+nobodys (Err faults.Memory) e is k = absurd (cc is)
+nobodys (Err (faults.Disk None)) e is k = absurd (cc is)
+nobodys (Err (faults.Stopped moment)) e is k = absurd (cc is)
+
+never : (who : ℕ) → (who == who) ≡ false → ⊥
+never who other = absurd (cc (other, test_refl who))
+
+exact_nobody : (cylinders lost : ℕ) (s : State) (e : Event) → ((k : ℕ) → is_of k e ≡ false) → IsExactEvent cylinders lost s e
+exact_nobody cylinders lost s (events.Ask who request reply) nobody = absurd (never who (nobody who))
+exact_nobody cylinders lost s e nobody = tt
+
+calm_nobody : (e : Event) → ((k : ℕ) → is_of k e ≡ false) → wants_memory e ≡ false
+calm_nobody (events.Ask who request reply) nobody = absurd (never who (nobody who))
+calm_nobody (events.Unread who why) nobody = absurd (never who (nobody who))
+calm_nobody e nobody = refl
+
+pub silent : (e : Event) → ((k : ℕ) → is_of k e ≡ false) → tells_disk e ≡ false
+silent (events.Ask who request reply) nobody = absurd (never who (nobody who))
+silent e nobody = refl
+
+module _ (trail : List Event) where
+  -- want of memory is told by sessions alone
+  pub starved_step : (o : Option Event) → ((e : Event) → o ≡ Some e → (k : ℕ) → is_of k e ≡ false) → list_any wants_memory trail ≡ list_any wants_memory (trail ++ recorded o)
+  starved_step None nobody = ap (λ es. list_any wants_memory es) (sym (append-nil trail))
+  starved_step (Some e) nobody = sym (any-push wants_memory trail e ∙ ap (λ b. b || list_any wants_memory trail) (calm_nobody e (nobody e refl)))
+
+  -- a server that runs, and for which nothing is left to do
+  pub collected_at : {A : Type 0} (stands : A → State → Type 0) (has_stopped is_damaged : A → Bool) (tally : A → Tally) (t : Terms A) (server : A) (o : Option Event)
+      → IsRun stands has_stopped is_damaged tally t server (trail ++ recorded o) → has_stopped server ≡ false → (tally server).finished ≡ t.collections → AreCollected stands t (trail ++ recorded o)
+  collected_at stands has_stopped is_damaged tally t server o run runs all = λ begun graph is standing. ((run begun graph is standing).tallied runs).1 ∙ all
+
+  module _ {A : Type 0} (stands : A → State → Type 0) (has_stopped is_damaged : A → Bool) (tally : A → Tally) (t : Terms A) (old new : A) (was : IsRun stands has_stopped is_damaged tally t old trail)
+      (o : Option Event) (nobody : (e : Event) → o ≡ Some e → (k : ℕ) → is_of k e ≡ false) where
+    pub run_step : (has_stopped old ≡ true → has_stopped new ≡ true) → ((s : State) → stands old s → is_damaged old ≡ false → is_damaged new ≡ false)
+        → ((s : State) → stands old s → MayMake (stands new) t.seed s o) → ((s : State) → stands old s → MayTally has_stopped tally t.seed old new s o) → (tally old).called ≡ t.collections
+        → IsRun stands has_stopped is_damaged tally t new (trail ++ recorded o)
+    run_step stays sound makes tallies called = by o nobody makes tallies
+      where
+        by : (x : Option Event) → ((e : Event) → x ≡ Some e → (k : ℕ) → is_of k e ≡ false) → ((s : State) → stands old s → MayMake (stands new) t.seed s x)
+            → ((s : State) → stands old s → MayTally has_stopped tally t.seed old new s x) → IsRun stands has_stopped is_damaged tally t new (trail ++ recorded x)
+        by None nobody makes tallies = subst (λ es. IsRun stands has_stopped is_damaged tally t new es) (sym (append-nil trail)) (run_rests stands has_stopped is_damaged tally t trail old new was stays sound makes tallies)
+        by (Some e) nobody makes tallies =
+            run_on stands has_stopped is_damaged tally t trail old new was stays sound e makes (λ s standing some lost least. exact_nobody t.cylinders lost s e (nobody e refl)) tallies called
+
+    pub lasts_step : (clock : A → ℕ) (lasts : A → ℕ → Graph → List Event → List ℕ → Type 0) (moments : List ℕ) → Lasts stands clock lasts t old trail moments → MayGoOn stands clock lasts t.seed old new o
+        → Lasts stands clock lasts t new (trail ++ recorded o) (moments ++ stamps o (clock new))
+    lasts_step clock lasts moments before goes = by o goes
+      where
+        by : (x : Option Event) → MayGoOn stands clock lasts t.seed old new x → Lasts stands clock lasts t new (trail ++ recorded x) (moments ++ stamps x (clock new))
+        by None goes =
+            subst (λ es. Lasts stands clock lasts t new es (moments ++ [])) (sym (append-nil trail))
+            (subst (λ ms. Lasts stands clock lasts t new trail ms) (sym (append-nil moments)) (lasts_rests stands has_stopped is_damaged tally clock lasts t trail moments old new was before goes))
+        by (Some e) goes = lasts_on stands has_stopped is_damaged tally clock lasts t trail moments old new e was before goes

@@ -1,0 +1,49 @@
+use Rattle.std.proofs.Common.{◌<◌, ap, refl, subst, arith}
+use Rattle.cfs_serve.specs.Journal.{AreCounted, first_fault, is_recorded}
+use Rattle.cfs_serve.proofs.Raising.{counted_step}
+use Rattle.cfs_serve.proofs.Workers.{as_told, few_on, heard_on, quiet_on, room_on}
+use Rattle.cfs_serve.proofs.hall.Hall.collector_turn.Goals as goal
+
+pub collect-progress-requires : goal.collect-progress-requires
+collect-progress-requires g c =
+    let some : 0 < c.self.inside.turns = omega (arith, ap (λ h. h.turns) c.self.view_is, c.requires) in
+    omega (arith, c.self.invariant.1, c.self.invariant.4 some)
+
+pub invariant_of-self : goal.invariant_of-self
+invariant_of-self g c =
+    let t = g.J.Charter.charter in
+    let k = c.self.invariant in
+    let old = c.self.inside.journal in
+    let new = c.collect-progress.new.self in
+    let ports = c.self.inside.ports.items in
+    let progress = c.collect-progress.result in
+    let steps = c.collect-progress.ensures.steps in
+    let rest = c.rest_after-turns.ensures in
+    let told = as_told (is_recorded progress) steps.event steps.none in
+    let turns = c.self.inside.turns in
+    let events = c.self.inside.events in
+    let refused = c.self.inside.refused in
+    let some : 0 < turns = omega (arith, ap (λ h. h.turns) c.self.view_is, c.requires) in
+    let left = c.rest_after-turns.result.1 in (
+      heard_on t g.A.Server.clock old new ports progress turns events refused k.0 k.1 k.2 k.4 k.5 some steps,
+      room_on t g.A.Server.clock old new ports progress turns events refused k.0 k.1 k.2 k.4 k.5 some steps left (omega (arith, told, rest.room)),
+      few_on t g.A.Server.clock old new ports progress turns events refused k.0 k.1 k.2 k.4 k.5 some steps left (omega (arith, told, rest.room)),
+      k.3,
+      rest.paired,
+      quiet_on t g.A.Server.clock old new ports progress turns events refused k.0 k.1 k.2 k.4 k.5 some steps _ _,
+      λ spent whole. c.collect-progress.ensures.idle (rest.idle spent whole),
+      rest.on,
+      counted_step g.A.Server.faults g.A.Asker.stands t old new c.collect-progress.ensures.raised c.rest_after-turns.result.2
+          (subst (λ o. AreCounted g.A.Server.faults g.A.Asker.stands t (first_fault o) old.server old.events) (k.7 some) k.8) (λ quiet. c.collect-progress.ensures.quiet (rest.quiet quiet)),
+    )
+
+pub returns-clause-turn : goal.returns-clause-turn
+returns-clause-turn g c = rw (← c.self.view_is) (record {
+  progress = c.collect-progress.result;
+  steps = c.collect-progress.ensures.steps;
+  ports = refl;
+  turns = c.rest_after-turns.ensures.fewer;
+})
+
+pub returns-clause-raised : goal.returns-clause-raised
+returns-clause-raised g c = rw (← c.self.view_is) c.collect-progress.ensures.raised
