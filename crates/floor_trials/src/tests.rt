@@ -2,7 +2,9 @@
 use crate::Rounds;
 use cfs_base::NoMemory;
 use cfs_fakes::{Hold, HoldGate, OpenGate};
-use cfs_floor::{Floor, make_turns_left, run_workers, shares_of};
+use cfs_floor::{Floor, make_all_turns, make_turns_left, run_workers, shares_of};
+use std::alloc::Global;
+use std::process::Abort;
 
 fn rounds() -> Rounds {
     Rounds {
@@ -21,24 +23,40 @@ fn hold(worker: u32, turn: u64, until_worker: u32, until_turn: u64) -> Hold {
     }
 }
 
-#[test]
-fn holds_make_one_order_of_the_turns(rt: HostRuntime) -> Result<(), NoMemory> {
-    let mut holds = Vec::new(rt.alloc());
-    // 1, then 2 and 2, then 1 and 1; the last turn of worker 1 ends the order
+/// A gate that makes the turns come as 1, then 2 and 2, then 1 and 1; the last turn of worker 1 ends the order.
+fn one_order(alloc: Global) -> Result<HoldGate, NoMemory> {
+    let mut holds = Vec::new(alloc);
     holds.push(hold(1, 0, 0, 0))?;
     holds.push(hold(0, 1, 1, 1))?;
     holds.push(hold(1, 2, 0, 1))?;
-    let gate = HoldGate::new(rt.alloc(), holds, 100_000_000)?;
-    let machine = rounds();
-    let mut shares = shares_of(rt.alloc(), &machine)?;
-    let floor = Floor::new(machine);
-    run_workers(&rt, &floor, &gate, shares.as_mut_slice());
-    let made = floor.close().made;
+    HoldGate::new(alloc, holds, 100_000_000)
+}
+
+/// So they came, all behind the gate.
+fn expect_one_order(rt: &impl Abort, gate: &HoldGate, made: u64) {
     assert!(rt; !gate.gave_up());
     assert!(rt; made == 122_112 || made == 122_121);
     assert_eq!(rt; gate.passed(0), 3);
     assert_eq!(rt; gate.passed(1), 3);
+}
+
+#[test]
+fn holds_make_one_order_of_the_turns(rt: HostRuntime) -> Result<(), NoMemory> {
+    let gate = one_order(rt.alloc())?;
+    let machine = rounds();
+    let mut shares = shares_of(rt.alloc(), &machine)?;
+    let floor = Floor::new(machine);
+    run_workers(&rt, &floor, &gate, shares.as_mut_slice());
+    expect_one_order(&rt, &gate, floor.close().made);
     assert_eq!(rt; gate.passed(65), 0);
+    Ok(())
+}
+
+#[test]
+fn all_turns_are_made_by_workers_beside_each_other(rt: HostRuntime) -> Result<(), NoMemory> {
+    let gate = one_order(rt.alloc())?;
+    let made = make_all_turns(&rt, rt.alloc(), &gate, rounds()).made;
+    expect_one_order(&rt, &gate, made);
     Ok(())
 }
 
