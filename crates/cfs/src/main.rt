@@ -1,28 +1,49 @@
 //! The Cambridge File Server. `cfs play CYLINDERS SEED COLLECTIONS IN OUT ..` serves 1 to 64 sessions on a new volume in memory, one for
 //! each pair IN OUT: it writes a reply to OUT for each request of the file IN, and a report to standard output. `-` is a standard
-//! stream. `cfs format VOLUME CYLINDERS SEED` makes a volume in a file, and `cfs serve VOLUME SEED COLLECTIONS IN OUT ..` serves it.
+//! stream. `cfs format VOLUME CYLINDERS SEED` makes a volume in a file, and `cfs serve VOLUME SEED COLLECTIONS IN OUT ..` serves it;
+//! `pair-format` and `pair-serve` do so on a file that keeps each block twice, for a device that may tear blocks.
 //! `cfs --help` and `cfs --version` print a page.
 #![tactic(auto)]
 
 mod opening;
 
+ghost use Rattle.std.specs.Prelude.{◌≡◌, ◌/◌, option_map};
+
+use cfs_base::Disk;
 use cfs_fakes::OpenGate;
 use cfs_host::{FileDisk, FileSink};
 use cfs_serve::{Bay, top};
 use opening::{AnySink, AnySource, open, tell_starved};
+use pair_disk::PairDisk;
 use std::alloc::Global;
 use std::env;
+use std::io::ErrorKind;
 use std::process::ExitCode;
 use std::sync::Wait;
 use std::thread::Threads;
 
-/// The words after the program's name. Nothing for want of memory.
+/// The words after the program's name; none, which is no form of words, where one of them is no text. Nothing for want of memory.
 fn words(rt: &HostRuntime, alloc: Global) -> Option<Vec<String>> {
     let mut words = Vec::new(alloc);
-    for word in env::args(rt).ok()?.skip(1) {
+    let told = match env::args(rt) {
+        Ok(told) => told,
+        Err(error) if error.kind() == ErrorKind::OutOfMemory => return None,
+        Err(_) => return Some(words),
+    };
+    for word in told.skip(1) {
         words.push(word).ok()?;
     }
     Some(words)
+}
+
+/// The disk of pairs of blocks in a file, where there is one.
+fn paired(file: Option<FileDisk>) -> Option<PairDisk<FileDisk>>
+    ensures { option_map ⟦<PairDisk<FileDisk> as Disk>⟧.blocks result ≡ option_map (λ f. ⟦<FileDisk as Disk>⟧.blocks f / 3) file }
+{
+    match file {
+        Some(file) => Some(PairDisk::new(file)),
+        None => None,
+    }
 }
 
 /// Does what the words ask, in threads, and answers the status.
@@ -30,17 +51,27 @@ fn run<R: Threads + Wait + Sync>(rt: &HostRuntime, threads: &R, alloc: Global) -
     let Some(words) = words(rt, alloc) else {
         return Err(tell_starved(rt));
     };
-    let opened = open(rt, alloc, words.as_slice())?;
+    let words = words.as_slice();
+    let opened = open(rt, alloc, words)?;
     let Ok(report) = FileSink::named(rt, "-", rt.stdout()) else {
         unreachable!();
     };
+    if opened.pair {
+        let bay: Bay<PairDisk<FileDisk>, AnySource, AnySink> = Bay {
+            disk: paired(opened.disk),
+            sources: opened.sources,
+            sinks: opened.sinks,
+            report,
+        };
+        return Ok(top(threads, alloc, words, bay, &OpenGate).status);
+    }
     let bay: Bay<FileDisk, AnySource, AnySink> = Bay {
         disk: opened.disk,
         sources: opened.sources,
         sinks: opened.sinks,
         report,
     };
-    Ok(top(threads, alloc, words.as_slice(), bay, &OpenGate).status)
+    Ok(top(threads, alloc, words, bay, &OpenGate).status)
 }
 
 fn main(rt: HostRuntime) -> ExitCode {

@@ -1,6 +1,7 @@
 //! The files that a command names, opened.
-ghost use Rattle.std.specs.Prelude.{◌≡◌, ◌*◌, length, map, option_map, string_bytes, IfOk, IfSome};
-ghost use Rattle.cfs_serve.specs.Words.{asked_in};
+ghost use Rattle.std.specs.Prelude.{◌≡◌, ◌*◌, ◌≤◌, length, map, option_map, string_bytes, IfOk, IfSome};
+ghost use Rattle.cfs.specs.Opened.{volume_blocks};
+ghost use Rattle.cfs_serve.specs.Words.{asked_in, most_made};
 ghost use Rattle.cfs_serve.specs.Whole.{FitsVolume, HasCylinders, HasDisk, HasPlaces};
 
 use cfs_base::Disk;
@@ -14,10 +15,11 @@ pub(crate) type AnySource = FileSource<Stream<File, Stdin>>;
 
 pub(crate) type AnySink = FileSink<Stream<File, Stdout>>;
 
-/// The disk of a run's volume, where it has one in a file; its sources and its sinks.
+/// The file of a run's volume, where it has one, and whether it is one of pairs of blocks; its sources and its sinks.
 #[derive(Drop)]
 pub(crate) struct Opened {
     pub disk: Option<FileDisk>,
+    pub pair: bool,
     pub sources: Vec<AnySource>,
     pub sinks: Vec<AnySink>,
 }
@@ -34,10 +36,26 @@ fn tell_path(rt: &HostRuntime, path: &Path) -> u8 {
     10
 }
 
+/// The blocks of a file for a volume of so many cylinders.
+fn file_blocks(pair: bool, cylinders: u32) -> u32
+    requires { cylinders ≤ most_made pair }
+    ensures { volume_blocks pair result ≡ 64 * cylinders }
+{
+    if pair {
+        3 * 64 * cylinders
+    } else {
+        64 * cylinders
+    }
+}
+
 /// Opens or makes the file of the volume, where one is named.
-fn open_volume(rt: &HostRuntime, volume: &Option<Volume>) -> Result<Option<FileDisk>, u8>
-    requires { IfSome volume.now HasCylinders }
-    ensures { IfOk result (λ d. FitsVolume volume.now (option_map ⟦<FileDisk as Disk>⟧.blocks d)) }
+fn open_volume(
+    rt: &HostRuntime,
+    volume: &Option<Volume>,
+    pair: bool,
+) -> Result<Option<FileDisk>, u8>
+    requires { IfSome volume.now (HasCylinders pair) }
+    ensures { IfOk result (λ d. FitsVolume volume.now (option_map (λ f. volume_blocks pair (⟦<FileDisk as Disk>⟧.blocks f)) d)) }
 {
     match volume {
         None => Ok(None),
@@ -46,7 +64,7 @@ fn open_volume(rt: &HostRuntime, volume: &Option<Volume>) -> Result<Option<FileD
             Err(_) => Err(tell_path(rt, path)),
         },
         Some(Volume::Fresh { path, cylinders }) => {
-            match FileDisk::fresh(rt, path.as_str(), 64 * cylinders) {
+            match FileDisk::fresh(rt, path.as_str(), file_blocks(pair, *cylinders)) {
                 Ok(disk) => Ok(Some(disk)),
                 Err(_) => Err(tell_path(rt, path)),
             }
@@ -89,7 +107,8 @@ fn make_sinks(rt: &HostRuntime, alloc: Global, paths: &[Path]) -> Result<Vec<Any
 /// Opens what the words name, and nothing for a page or for words that are of no form. Where it can't, it tells why and answers the
 /// status.
 pub(crate) fn open(rt: &HostRuntime, alloc: Global, words: &[String]) -> Result<Opened, u8>
-    ensures disk { IfOk result (λ o. HasDisk (asked_in (map string_bytes words.now)) (option_map ⟦<FileDisk as Disk>⟧.blocks o.disk)) }
+    ensures disk { IfOk result (λ o. HasDisk (asked_in (map string_bytes words.now))
+        (option_map (λ f. volume_blocks o.pair (⟦<FileDisk as Disk>⟧.blocks f)) o.disk)) }
     ensures places { IfOk result (λ o. HasPlaces (asked_in (map string_bytes words.now)) (length o.sources.items) (length o.sinks.items)) }
 {
     let names = match names(alloc, words) {
@@ -97,17 +116,19 @@ pub(crate) fn open(rt: &HostRuntime, alloc: Global, words: &[String]) -> Result<
         Err(WordsFault::Words) => {
             return Ok(Opened {
                 disk: None,
+                pair: false,
                 sources: Vec::new(alloc),
                 sinks: Vec::new(alloc),
             });
         }
         Err(WordsFault::Memory) => return Err(tell_starved(rt)),
     };
-    let disk = open_volume(rt, &names.volume)?;
+    let disk = open_volume(rt, &names.volume, names.pair)?;
     let sources = open_sources(rt, alloc, names.sources.as_slice())?;
     let sinks = make_sinks(rt, alloc, names.sinks.as_slice())?;
     Ok(Opened {
         disk,
+        pair: names.pair,
         sources,
         sinks,
     })

@@ -4,18 +4,12 @@ use Rattle.cfs_base.specs.Disk.{Image, IsSameDisk, Nothing, Written, Only, block
 use Rattle.cfs_base.specs.Run.{Tells, Leaves, left_now, IsSettled, Crashes, Comes, OnlyAt, Near}
 use Rattle.cfs_base.specs.declared.disk.Disk.{Ghosts}
 
-pub only_at_same : (free : ℕ → Type 0) (image c : Image) → c ≡ image → OnlyAt free image c
-only_at_same free image c is = record { size = ap length is; same = λ n not. ap (λ (i : Image). block_at i n) is }
-
 -- a write to a free block
 pub only_at_set : (free : ℕ → Type 0) (image d c : Image) (at : ℕ) (block : List ℕ) → OnlyAt free image d → free at → c ≡ set d at block → OnlyAt free image c
 only_at_set free image d c at block was may is = record {
   size = ap length is ∙ length-set d at block ∙ was.size;
   same = λ n not. ap (λ (i : Image). block_at i n) is ∙ get_or-set_other d at n block [] (λ (e : n ≡ at). not (subst free (sym e) may)) ∙ was.same n not;
 }
-
-pub near_same : (free : ℕ → Type 0) (images : Image → Type 0) (c : Image) → images c → Near free images c
-near_same free images c h = (c, h, only_at_same free c c refl)
 
 -- a write to a free block, of an image near one of these
 pub near_set : (free : ℕ → Type 0) (images : Image → Type 0) (c : Image) (at : ℕ) (block : List ℕ) → free at → Written (Near free images) at block c → Near free images c

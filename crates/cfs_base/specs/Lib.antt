@@ -4,3 +4,4 @@ pub mod Run
 pub mod Calls
 pub mod Refusals
 pub mod Codes
+pub mod Log

@@ -128,26 +128,3 @@ impl Block {
         put(&mut self.bytes, at, &value.to_be_bytes());
     }
 }
-
-#[cfg(test)]
-mod tests {
-    use super::*;
-    use std::test::Fail;
-
-    #[test]
-    fn numbers_are_big_endian(rt: HostRuntime) {
-        let mut block = Block::zero();
-        block.put_u16(0, 0x0102);
-        block.put_u32(2, 0x0304_0506);
-        block.put_u64(504, 0x0708_090a_0b0c_0d0e);
-        assert_eq!(rt; block.bytes()[0], 1);
-        assert_eq!(rt; block.bytes()[1], 2);
-        assert_eq!(rt; block.bytes()[5], 6);
-        assert_eq!(rt; block.bytes()[6], 0);
-        assert_eq!(rt; block.bytes()[511], 0x0e);
-        assert_eq!(rt; block.u16_at(4), 0x0506);
-        assert_eq!(rt; block.u32_at(0), 0x0102_0304);
-        assert_eq!(rt; block.u64_at(504), 0x0708_090a_0b0c_0d0e);
-        assert_eq!(rt; Block::of(*block.bytes()), block);
-    }
-}

@@ -13,8 +13,6 @@ mod lists;
 mod machine;
 mod outside;
 mod refusal;
-#[cfg(test)]
-mod steps;
 
 pub use block::Block;
 pub use disk::Disk;
@@ -22,6 +20,6 @@ pub use gate::Gate;
 pub use identifier::{BlockNo, Puid, Session, Tuid};
 pub use kind::{FileKind, Kind, Mode, Place};
 pub use lists::{Bytes, Ids};
-pub use machine::Machine;
+pub use machine::{Logged, Machine};
 pub use outside::{Sink, Source};
 pub use refusal::{Damage, Failed, Need, NoMemory, Refused, Trouble, code};

@@ -1,5 +1,5 @@
 //! Work that is made in turns.
-ghost use Rattle.std.specs.Prelude.{◌≡◌, ◌≢◌, ℕ, ◌<◌, ◌≤◌, Bool, true, false};
+ghost use Rattle.std.specs.Prelude.{◌≡◌, ◌≢◌, ℕ, ◌<◌, ◌≤◌, Bool, true, false, List, length};
 
 /// Work that workers make in turns. Workers are numbered from 0.
 pub trait Machine {
@@ -39,4 +39,22 @@ pub trait Machine {
     ghost outside: { (m : Self) (w : ℕ) → worker_count m ≤ w → done m w ≡ true };
 
     ghost at_rest: { (m : Self) (w : ℕ) → worker_count m ≤ w → left m w ≡ 0 };
+}
+
+/// A machine that keeps a log of its turns.
+pub trait Logged: Machine {
+    ghost use Rattle.cfs_base.specs.Log.{AddsAtMostOne};
+
+    /// What stands in the log.
+    type Entry;
+
+    /// What was logged, the oldest first.
+    ghost log: { Self → List Self.Entry };
+
+    /// How many entries the log has.
+    fn events(&self) -> u64
+        ensures { result ≡ length (log self.now) };
+
+    /// A turn adds one entry at most, at the end.
+    ghost adds: { (m : Self) (w : ℕ) (n : Self) → Self.turned m w n → AddsAtMostOne (log m) (log n) };
 }

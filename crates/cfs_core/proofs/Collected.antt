@@ -1,8 +1,9 @@
 -- How the collector keeps up with what is asked, and with what a session's end drops.
-use Rattle.std.proofs.Common.{◌≡◌, ◌⊎◌, ℕ, ◌+◌, ◌-◌, ◌*◌, ◌/◌, ◌^◌, ◌<◌, ◌≤◌, List, [], ◌∷◌, ◌++◌, Bool, true, false, not, ◌&&◌, ◌||◌, cond, Option, Some, None, is_none, refl, sym, ◌∙◌, ap, subst, arith}
+use Rattle.std.proofs.Common.{◌≡◌, ℕ, ◌+◌, ◌*◌, ◌/◌, List, [], ◌∷◌, ◌++◌, Bool, true, false, not, ◌||◌, cond, Option, Some, None, is_none, refl, sym, ◌∙◌, ap, subst, arith}
 use Rattle.std.proofs.lemmas.Bool.{and_parts, both_ways, false_from_ne_true}
 use Rattle.std.proofs.lemmas.List.{append_assoc, append-nil}
 use Rattle.cfs_base.specs.Disk.{Image}
+use Rattle.collector_marks.specs.Kept.{blocks_of, colours_of}
 use Rattle.collector_steps.specs.Collecting.{Collecting, IsAsBefore, IsCollecting, IsWithin, colours_in, volume_of, waiting_in}
 use Rattle.collector_steps.specs.Sweep.{NoInner, NoStray}
 use Rattle.collector_steps.specs.declared.phase.Phase.{Phase}
@@ -108,7 +109,7 @@ module _ (a b : Image) (s t : State) (more : List Rescue) (marked : is_marking t
     within : (n : ℕ) → while_marking k more ≡ [] → IsWithin k n → IsWithin l n
     within n none is = λ few.
         let added : l.added ≡ k.added = rescued.added ∙ ap (λ (m : List Rescue). added_with m k.added) none in
-        let now = is (omega (arith, few, added)) in omega (arith, now, added, rescued.steps, rescued.marks.blocks)
+        let now = is (omega (arith, few, added)) in omega (arith, now, added, rescued.steps, (ap blocks_of rescued.marks))
 
     on : (p : Phase) → k.phase ≡ p → IsCollecting p a s k → IsCollecting p b t l
     on phases.Idle is holds = tt
@@ -117,8 +118,8 @@ module _ (a b : Image) (s t : State) (more : List Rescue) (marked : is_marking t
         let these : while_marking k more ≡ more = ap (λ p. cond (marks_in p) more []) is in
         let waiting : waiting_in l ≡ waiting_in k ++ more = rescued.waiting ∙ ap (λ m. waiting_in k ++ m) these in
         let added : l.added ≡ added_with more k.added = rescued.added ∙ ap (λ m. added_with m k.added) these in (
-          subst (λ (c : Colours). IsMarking t c (waiting_in l)) (sym rescued.marks.colours) (subst (λ (w : List Rescue). IsMarking t (colours_in k) w) (sym waiting) (changes_keep s t more change (colours_in k) (waiting_in k) holds.0)),
-          subst (λ (c : Colours). IsPaced t.graph c (waiting_in l) l.steps l.added) (sym rescued.marks.colours)
+          subst (λ (c : Colours). IsMarking t c (waiting_in l)) (sym (ap colours_of rescued.marks)) (subst (λ (w : List Rescue). IsMarking t (colours_in k) w) (sym waiting) (changes_keep s t more change (colours_in k) (waiting_in k) holds.0)),
+          subst (λ (c : Colours). IsPaced t.graph c (waiting_in l) l.steps l.added) (sym (ap colours_of rescued.marks))
               (subst (λ (w : List Rescue). IsPaced t.graph (colours_in k) w l.steps l.added) (sym waiting)
               (subst (λ (n : ℕ). IsPaced t.graph (colours_in k) (waiting_in k ++ more) n l.added) (sym rescued.steps)
               (subst (λ (n : ℕ). IsPaced t.graph (colours_in k) (waiting_in k ++ more) k.steps n) (sym added)
@@ -126,11 +127,11 @@ module _ (a b : Image) (s t : State) (more : List Rescue) (marked : is_marking t
         )
     on (phases.Inner cylinder) is holds = (inner_on cylinder holds.0, within (2 + cylinder) (ap (λ p. cond (marks_in p) more []) is) holds.1)
     on (phases.Roots cylinder) is holds =
-        let volume = rescued.marks.blocks in
+        let volume = (ap blocks_of rescued.marks) in
         subst (λ (v : ℕ). NoInner b t.graph (v / 64) × (NoStray b t.graph cylinder × IsWithin l (2 + v / 64 + cylinder))) (sym volume)
         (inner_on (volume_of k / 64) holds.0, (stray_on cylinder holds.1.0, within (2 + volume_of k / 64 + cylinder) (ap (λ p. cond (marks_in p) more []) is) holds.1.1))
     on phases.Swept is holds =
-        subst (λ (v : ℕ). IsSwept b t.graph × IsWithin l (2 + 2 * (v / 64))) (sym rescued.marks.blocks)
+        subst (λ (v : ℕ). IsSwept b t.graph × IsWithin l (2 + 2 * (v / 64))) (sym (ap blocks_of rescued.marks))
         (swept_on holds.0, within (2 + 2 * (volume_of k / 64)) (ap (λ p. cond (marks_in p) more []) is) holds.1)
 
     collector_on : HasCollector b t l
@@ -174,13 +175,13 @@ as_before k l same = record {
 
 pub same_rescued : (o : Option Collecting) → AreRescued o o []
 same_rescued None = tt
-same_rescued (Some k) = as_before k k (record { marks = record { colours = refl; blocks = refl }; rescues = refl; phase = refl; steps = refl; added = refl })
+same_rescued (Some k) = as_before k k (record { marks = refl; rescues = refl; phase = refl; steps = refl; added = refl })
 
 -- room was made first
 pub rescued_after : (o p q : Option Collecting) (more : List Rescue) → AreRescued o p [] → AreRescued p q more → AreRescued o q more
 rescued_after None None None more ready rescued = tt
 rescued_after (Some k) (Some l) (Some m) more ready rescued = record {
-  marks = record { colours = rescued.marks.colours ∙ ready.marks.colours; blocks = rescued.marks.blocks ∙ ready.marks.blocks };
+  marks = rescued.marks ∙ ready.marks;
   phase = rescued.phase ∙ ready.phase;
   steps = rescued.steps ∙ ready.steps;
   waiting = rescued.waiting ∙ ap (λ ws. ws ++ while_marking l more) (ready.waiting ∙ sym (no_more (marks_in k.phase) (waiting_in k))) ∙ ap (λ p. waiting_in k ++ cond (marks_in p) more []) ready.phase;

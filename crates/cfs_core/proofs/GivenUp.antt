@@ -1,6 +1,5 @@
 -- How a draft is given up while a session leaves.
-use Rattle.std.proofs.Common.{◌≡◌, ◌≢◌, ℕ, List, true, false, Some, None, refl, sym, ◌∙◌, ap, arith}
-use Rattle.std.specs.Prelude.{is_some}
+use Rattle.std.proofs.Common.{◌≡◌, ◌≢◌, ℕ, List, true, false, Some, None, refl, sym, ◌∙◌, ap}
 use Rattle.cfs_base.specs.Calls.{HasFailed, MakesAtMost}
 use Rattle.cfs_base.specs.Refusals.{refused_by}
 use Rattle.cfs_base.specs.Run.{Leaves}
@@ -22,21 +21,6 @@ use Rattle.cfs_core.specs.declared.kernel.Stop.{Stop}
 use Rattle.cfs_core.specs.Asked.{stopped_by, told}
 use Rattle.cfs_core.specs.Kernel.{Kernel}
 use Rattle.cfs_core.specs.Leaving.{GivesUp}
-
--- a core that stopped does nothing
-pub stopped_as : {D : Type 0} (g : Ghosts D) (was : Drafting) (k : Kernel D) → is_some k.stop ≡ true → GivesUp g was k k
-stopped_as g was k stopped = record {
-  same = refl;
-  size = refl;
-  faults = omega arith;
-  later = omega arith;
-  idle = λ stop is. refl;
-  ends = λ graph ds id o d store at opened none. absurd (runs none);
-  halts = λ stop none is quiet. let no : None ≡ Some stop = sym none ∙ is in cc;
-}
-  where
-    runs : k.stop ≡ None → ⊥
-    runs none = let no : true ≡ false = sym stopped ∙ ap is_some none in cc
 
 module _ {D : Type 0} (g : Ghosts D) (was : Drafting) (k : Kernel D) (d : D) (space : Kept) (n m : ℕ) (calls : MakesAtMost g n m k.disk d) (runs : k.stop ≡ None)
     (leaves : (graph : Graph) (ds : List Opened) (id : Puid) (o : Object) (dr : Draft) → StoreHas g graph ds k.disk k.space → object_at graph id ≡ Some o → IsOpen ds id was dr → Leaves g k.disk d (λ c. Holds c graph)) where

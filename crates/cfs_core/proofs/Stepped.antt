@@ -1,5 +1,5 @@
 -- The steps of the collector, of a core.
-use Rattle.std.proofs.Common.{◌≡◌, ◌⊎◌, inl, ℕ, ◌+◌, ◌-◌, ◌*◌, ◌/◌, ◌^◌, ◌<◌, ◌≤◌, cond, ◌||◌, List, [], ◌∷◌, ◌++◌, length, true, false, Result, Ok, Err, Option, Some, None, IsTrue, refl, sym, ◌∙◌, ap, subst, append-nil, arith}
+use Rattle.std.proofs.Common.{◌≡◌, inl, ℕ, ◌+◌, ◌-◌, ◌*◌, ◌/◌, ◌^◌, ◌<◌, ◌≤◌, cond, ◌||◌, List, [], ◌∷◌, length, true, false, Result, Ok, Err, Option, Some, None, IsTrue, refl, sym, ◌∙◌, ap, subst, append-nil, arith}
 use Rattle.std.specs.Prelude.{IfErr, IfOk, IfSome, map}
 use Rattle.std.specs.List.{list_all}
 use Rattle.std.proofs.lemmas.Bool.{and_from, and_parts}
@@ -35,12 +35,13 @@ use Rattle.special_files.specs.Drafting.{Drafting, opened_as}
 use Rattle.vol_image.specs.Sound.{Holds}
 use Rattle.vol_owners.specs.Account.{Accounts, Opened}
 use Rattle.cfs_core.specs.declared.collecting.Collections.{Collections}
+use Rattle.cfs_core.specs.declared.collecting.CollectFault.{CollectFault}
 use Rattle.cfs_core.specs.declared.collecting.CollectFault.TheVariants as faults
 use Rattle.cfs_core.specs.declared.collecting.Step.{Step}
 use Rattle.cfs_core.specs.declared.collecting.Step.TheVariants as steps
 use Rattle.cfs_core.specs.declared.kernel.Stop.{Stop}
 use Rattle.cfs_core.specs.Calls.{IsCause}
-use Rattle.cfs_core.specs.Collect.{AreCounted, Collects, EndsStep, EndsTo, HappensOrRests, HasBegun, HasState, IsCounted, IsDue, IsFaultCause, IsNext, IsNoDamage, IsOver, IsStep, IsStill, IsTidy, IsUnchanged, LeavesAll, Moves, MovesTo, StepsSo, TriesStep, event_of, fault_of, phase_of, stop_by}
+use Rattle.cfs_core.specs.Collect.{AreCounted, Collects, EndsStep, EndsTo, HappensOrRests, HasBegun, HasState, IsCounted, IsDue, IsFaultCause, IsNext, IsNoDamage, IsOver, IsStep, IsStill, IsTidy, IsUnchanged, LeavesAll, Moves, MovesTo, StepsSo, TriesStep, event_of, fault_of, is_want, phase_of, stop_by}
 use Rattle.cfs_core.specs.Kernel.{AreKept, IsSized, Kernel, Seat, is_ready, marks_in, runs, sweeps_in}
 use Rattle.cfs_core.specs.Rescues.{AreRescued}
 use Rattle.cfs_core.specs.Room.{lost_blocks}
@@ -118,7 +119,7 @@ module _ {D : Type 0} (g : Ghosts D) (k : Kernel D) (s : State) (none : k.stop �
     ends_to (Err (refusals.Disk false)) is = moves_to steps.Idle is
     ends_to (Err (refusals.Disk true)) is = (is.0, record { drawn = serves.front.drawn; names = is.1; grants = serves.front.grants; stopped = serves.front.stopped })
     ends_to (Err (refusals.Damaged damage)) is = is
-    ends_to (Err refusals.Memory) is = moves_to steps.Idle is
+    ends_to (Err refusals.Memory) is = absurd is
 
 -- a step of the collection that runs, as one of the core
 module _ {D : Type 0} (g : Ghosts D) (k : Kernel D) (col l : Collecting) (there : k.collections.collector ≡ Some col) (unswept : col.phase ≡ phases.Swept → ⊥) (d : D) (space : Kept) (names : Listing) where
@@ -153,6 +154,7 @@ module _ {D : Type 0} (g : Ghosts D) (k : Kernel D) (col l : Collecting) (there 
     counted = counted_in result is.due is.counted;
     called = refl;
     cause = is.cause;
+    wants = never result is.wants;
     calls = is.calls;
     root = refl;
     stop = refl;
@@ -160,6 +162,10 @@ module _ {D : Type 0} (g : Ghosts D) (k : Kernel D) (col l : Collecting) (there 
     seats = refl;
   }
     where
+      never : (r : Result Step Refused) → IfErr r (λ e. is_want e ≡ false) → IfErr r (λ e. is_want e ≡ true → IsDue k.collections steps.Began)
+      never (Ok step) none = tt
+      never (Err e) none = λ some. let no : false ≡ true = sym none ∙ some in cc
+
       over : (s : State) (step : Step) → IsNext col step → IsOver g k (record k { disk = d; space = space; names = names; collections = kept }) s step
       over s steps.Idle is = tt
       over s steps.Began is = tt
@@ -204,6 +210,7 @@ collects_stopped g k stop is = record {
   stops = refl;
   goes_on = tt;
   cause = tt;
+  wants = λ no. cc;
   calls = read_calls g k.disk k.disk 0 (reads_none g 0 k.disk) (omega arith);
   root = refl;
   words = refl;
@@ -244,6 +251,7 @@ module _ {D : Type 0} (g : Ghosts D) (left_sized : (d : D) (t : ℕ) (c : Image)
     stops = tt;
     goes_on = is.stop;
     cause = tt;
+    wants = λ no. cc;
     calls = is.calls;
     root = is.root;
     words = is.words;
@@ -296,6 +304,16 @@ module _ {D : Type 0} (g : Ghosts D) (left_sized : (d : D) (t : ℕ) (c : Image)
   no_damage (refusals.Damaged damage) moment s is = absurd is
   no_damage refusals.Memory moment s is = tt
 
+  want_told : (refused : Refused) (moment : ℕ) → fault_of refused moment ≡ faults.Memory → is_want refused ≡ true
+  want_told (refusals.Full need) moment is = refl
+  want_told (refusals.Disk false) moment is = cc
+  want_told (refusals.Disk true) moment is = cc
+  want_told (refusals.Damaged damage) moment is = cc
+  want_told refusals.Memory moment is = refl
+
+  same_err : {e f : CollectFault} → ◌≡◌ {A = Result Step CollectFault} (Err e) (Err f) → e ≡ f
+  same_err is = cc
+
   pub collects_err : (refused : Refused) (new : Kernel D) → new ≡ stopped_as refused → TriesStep g old mid (Err refused) → Collects g old new (Err (fault_of refused (g.moment mid.disk)))
   collects_err refused new is tries = subst (λ (k : Kernel D). Collects g old k (Err (fault_of refused (g.moment mid.disk)))) (sym is) (record {
     event = λ s stands. let serves = serves_from g old s none stands in halted refused (g.moment mid.disk) s tries serves (tries.ends s serves none);
@@ -309,6 +327,7 @@ module _ {D : Type 0} (g : Ghosts D) (left_sized : (d : D) (t : ℕ) (c : Image)
     stops = ap (λ (o : Option Stop). stop_by (fault_of refused (g.moment mid.disk)) o) tries.stop;
     goes_on = tt;
     cause = told_cause refused tries.cause;
+    wants = λ told. tries.wants (want_told refused _ (same_err told));
     calls = tries.calls;
     root = tries.root;
     words = tries.words;
@@ -347,6 +366,7 @@ module _ {D : Type 0} (g : Ghosts D) (k : Kernel D) where
     still = tt;
     called = refl;
     cause = tt;
+    wants = tt;
     calls = no_calls;
     root = refl;
     stop = refl;
@@ -355,8 +375,8 @@ module _ {D : Type 0} (g : Ghosts D) (k : Kernel D) where
   }
 
   -- memory is wanted
-  pub steps_starved : (c : Collections) → AreRescued k.collections.collector c.collector [] → c.called ≡ k.collections.called → c.finished ≡ k.collections.finished → TriesStep g k (record k { collections = c }) (Err refusals.Memory)
-  steps_starved c same called finished = record {
+  pub steps_starved : (c : Collections) → phase_of k.collections.collector ≡ phases.Idle → k.collections.finished < k.collections.called → AreRescued k.collections.collector c.collector [] → c.called ≡ k.collections.called → c.finished ≡ k.collections.finished → TriesStep g k (record k { collections = c }) (Err refusals.Memory)
+  steps_starved c idle more same called finished = record {
     ends = λ s serves none. rests c same s serves;
     due = tt;
     counted = tt;
@@ -364,6 +384,7 @@ module _ {D : Type 0} (g : Ghosts D) (k : Kernel D) where
     still = λ untried. record { reads = reads_none g 4 k.disk; names = refl; space = refl; collector = same; finished = finished };
     called = called;
     cause = tt;
+    wants = λ some. (runs_not k.collections.collector idle, more);
     calls = no_calls;
     root = refl;
     stop = refl;
@@ -383,6 +404,7 @@ module _ {D : Type 0} (g : Ghosts D) (k : Kernel D) where
     still = λ untried. record { reads = reads_none g 4 k.disk; names = refl; space = refl; collector = same_rescued k.collections.collector; finished = refl };
     called = refl;
     cause = tt;
+    wants = λ some. cc;
     calls = no_calls;
     root = refl;
     stop = refl;
@@ -414,6 +436,7 @@ module _ {D : Type 0} (g : Ghosts D) (k : Kernel D) where
     still = tt;
     called = refl;
     cause = tt;
+    wants = tt;
     calls = no_calls;
     root = refl;
     stop = refl;
@@ -455,6 +478,7 @@ module _ {D : Type 0} (g : Ghosts D) (k : Kernel D) where
       still = tt;
       called = refl;
       cause = tt;
+      wants = tt;
       calls = no_calls;
       root = refl;
       stop = refl;

@@ -1,5 +1,5 @@
 -- The steps of the collector, on what a disk has of a state.
-use Rattle.std.proofs.Common.{IsTrue, ◌≡◌, ◌≢◌, ◌⊎◌, inl, inr, ℕ, ◌+◌, ◌*◌, ◌/◌, ◌<◌, ◌≤◌, List, [], ◌∷◌, length, Bool, true, false, not, ◌&&◌, ◌||◌, cond, Result, Option, Some, None, Ok, Err, refl, sym, ◌∙◌, ap, subst, arith}
+use Rattle.std.proofs.Common.{IsTrue, ◌≡◌, inl, inr, ℕ, ◌+◌, ◌*◌, ◌/◌, ◌≤◌, List, [], ◌∷◌, length, Bool, true, false, not, ◌||◌, cond, Result, Option, Some, None, Ok, Err, refl, sym, ◌∙◌, ap, subst, arith}
 use Rattle.std.specs.Prelude.{◌==◌, nat_lt, option_map, slice_get}
 use Rattle.std.specs.List.{list_all}
 use Rattle.std.proofs.lemmas.Bool.{and_from, and_parts, both_ways, or_cases, or_left, or_right}
@@ -18,14 +18,13 @@ use Rattle.cfs_base.specs.declared.disk.Disk.{Ghosts}
 use Rattle.cfs_base.specs.declared.identifier.Puid.{Puid}
 use Rattle.cfs_base.proofs.Runs.{wider}
 use Rattle.collector_steps.specs.Collecting.{Collecting, Collects, IsAsBefore, IsCollecting, Serves, volume_of}
-use Rattle.collector_steps.specs.Scan.{IsDamaged, IsScanRefusal}
+use Rattle.collector_steps.specs.Scan.{IsDamaged, IsScanTrouble}
 use Rattle.collector_steps.specs.Sweep.{IsSweptOf, goes, swept}
 use Rattle.collector_steps.specs.Swept.{HasSwept, IsPhaseOf, cylinder_of, next_phase}
 use Rattle.cyl_alloc.specs.Refusals.{IsMapTrouble}
 use Rattle.collector_steps.specs.declared.phase.Phase.{Phase}
 use Rattle.collector_steps.specs.declared.phase.Phase.TheVariants as phases
 use Rattle.collector_steps.specs.declared.sweep.Pass.{Pass}
-use Rattle.collector_steps.specs.declared.sweep.Pass.TheVariants as passes
 use Rattle.cyl_alloc.specs.Space.{AreCounts, Kept}
 use Rattle.cyl_alloc.proofs.Counted.{sum_is}
 use Rattle.cyl_map.specs.declared.entry.MapEntry.{MapEntry}
@@ -58,8 +57,8 @@ use Rattle.vol_owners.proofs.Sums.{ones_le}
 use Rattle.cfs_core.specs.declared.collecting.Step.{Step}
 use Rattle.cfs_core.specs.declared.collecting.Step.TheVariants as steps
 use Rattle.cfs_core.specs.Calls.{IsCause}
-use Rattle.cfs_core.specs.Collect.{ComesBy, EndsStep, HasBegun, HasState, IsCounted, IsNext, Moves, StepsSo, event_of, phase_of, sweeps_blocks, told_as}
-use Rattle.cfs_core.specs.Kernel.{marks_in, runs, sweeps_in}
+use Rattle.cfs_core.specs.Collect.{ComesBy, EndsStep, HasBegun, HasState, IsCounted, IsNext, Moves, StepsSo, event_of, is_want, phase_of, sweeps_blocks, told_as}
+use Rattle.cfs_core.specs.Kernel.{marks_in, sweeps_in}
 use Rattle.cfs_core.specs.Room.{MayLoseBy, lost_blocks}
 use Rattle.cfs_core.specs.StandsFor.{HasCollection, HasCollector, is_sweeping}
 use Rattle.cfs_core.proofs.Answering.{reads_none}
@@ -332,6 +331,11 @@ is_calm_refusal (refusals.Disk true) = false
 is_calm_refusal (refusals.Damaged damage) = false
 is_calm_refusal refusals.Memory = true
 
+-- no want of memory is told
+pub no_want : (t : Trouble) → is_want (refused_by t) ≡ false
+no_want (trouble.Disk tried) = refl
+no_want (trouble.Damaged damage) = refl
+
 at_most : {D : Type 0} (g : Ghosts D) (old new : D) (n t : ℕ) → MakesAtMost g n t old new → n ≤ 4 → t ≤ 1 → MakesAtMost g 4 1 old new
 at_most g old new n t is few less = record {
   later = is.later;
@@ -361,14 +365,15 @@ module _ {D : Type 0} (g : Ghosts D) (old : D) (space : Kept) (names : Listing) 
     some = λ h. h;
     cylinders = refl;
     cause = tt;
+    wants = tt;
     calls = read_calls g old new n reads few;
   }
 
   -- one that failed, with nothing tried: of a disk that serves only for want of memory, or since a device call failed
-  pub steps_failed : (n : ℕ) (new : D) → OnlyReads g n old new → n ≤ 4 → k.phase ≡ phases.Marking → IsAsBefore k l → (e : Refused) → IsCause g old new e → ((s : State) (ds : List Opened) → Serves g old names.named s ds → Collects (g.content old) s k → is_calm_refusal e ≡ true)
+  pub steps_failed : (n : ℕ) (new : D) → OnlyReads g n old new → n ≤ 4 → k.phase ≡ phases.Marking → IsAsBefore k l → (e : Refused) → IsCause g old new e → is_want e ≡ false → ((s : State) (ds : List Opened) → Serves g old names.named s ds → Collects (g.content old) s k → is_calm_refusal e ≡ true)
       → StepsSo g old new space space names names k l (Err e)
-  steps_failed n new reads few marking same e cause calm = record {
-    ends = λ s ds has col. ends s ds has col e (calm s ds (served g old space names s ds has k col) col.collects);
+  steps_failed n new reads few marking same e cause is_none calm = record {
+    ends = λ s ds has col. ends s ds has col e is_none (calm s ds (served g old space names s ds has k col) col.collects);
     due = tt;
     counted = tt;
     still = λ untried. record { reads = reads_within g old new n 4 few reads; space = refl; listing = refl; collector = same };
@@ -378,15 +383,16 @@ module _ {D : Type 0} (g : Ghosts D) (old : D) (space : Kept) (names : Listing) 
     some = λ h. h;
     cylinders = refl;
     cause = cause;
+    wants = is_none;
     calls = read_calls g old new n reads few;
   }
     where
-      ends : (s : State) (ds : List Opened) (has : HasState g old space names s ds) (col : HasCollector (g.content old) s k) (e : Refused) → is_calm_refusal e ≡ true → EndsStep g old new space names (Some l) s ds (Err e)
-      ends s ds has col (refusals.Full need) is = cc
-      ends s ds has col (refusals.Disk false) is = stayed g old space names s ds has k col n new reads l same
-      ends s ds has col (refusals.Disk true) is = cc
-      ends s ds has col (refusals.Damaged damage) is = cc
-      ends s ds has col refusals.Memory is = stayed g old space names s ds has k col n new reads l same
+      ends : (s : State) (ds : List Opened) (has : HasState g old space names s ds) (col : HasCollector (g.content old) s k) (e : Refused) → is_want e ≡ false → is_calm_refusal e ≡ true → EndsStep g old new space names (Some l) s ds (Err e)
+      ends s ds has col (refusals.Full need) is_none is = cc
+      ends s ds has col (refusals.Disk false) is_none is = stayed g old space names s ds has k col n new reads l same
+      ends s ds has col (refusals.Disk true) is_none is = cc
+      ends s ds has col (refusals.Damaged damage) is_none is = cc
+      ends s ds has col refusals.Memory is_none is = cc
 
   -- ---- objects are condemned
 
@@ -421,6 +427,7 @@ module _ {D : Type 0} (g : Ghosts D) (old : D) (space : Kept) (names : Listing) 
     some = λ none. ap (λ named. has_root_in named 0) kept ∙ no_root_left test names.named none;
     cylinders = refl;
     cause = tt;
+    wants = tt;
     calls = read_calls g old old 0 (reads_none g 0 old) (omega arith);
   }
     where
@@ -454,6 +461,7 @@ module _ {D : Type 0} (g : Ghosts D) (old : D) (space : Kept) (names : Listing) 
         some = λ h. h;
         cylinders = is.sweep.cylinders;
         cause = tt;
+        wants = tt;
         calls = at_most g old new 2 1 is.sweep.calls (omega arith) (omega arith);
       }
       by (Err t) at = record {
@@ -472,11 +480,12 @@ module _ {D : Type 0} (g : Ghosts D) (old : D) (space : Kept) (names : Listing) 
         some = λ h. h;
         cylinders = is.sweep.cylinders;
         cause = caused t (rw at at is.sweep.refused);
+        wants = no_want t;
         calls = at_most g old new 2 1 is.sweep.calls (omega arith) (omega arith);
       }
         where
           as_it_was : l ≡ k → IsAsBefore k l
-          as_it_was same = subst (IsAsBefore k) (sym same) (record { marks = record { colours = refl; blocks = refl }; rescues = refl; phase = refl; steps = refl; added = refl })
+          as_it_was same = subst (IsAsBefore k) (sym same) (record { marks = refl; rescues = refl; phase = refl; steps = refl; added = refl })
 
           untried_too : (u : Trouble) → had_tried (refused_by u) ≡ false → trouble_had_tried u ≡ false
           untried_too (trouble.Disk tried) h = h
@@ -495,18 +504,14 @@ module _ {D : Type 0} (g : Ghosts D) (old : D) (space : Kept) (names : Listing) 
 
 -- ---- why a leaf wasn't read
 
-pub scan_cause : {D : Type 0} (g : Ghosts D) (old new : D) (r : ℕ) (e : Refused) → IsScanRefusal g old new r e → IsCause g old new e
-scan_cause g old new r (refusals.Full need) is = absurd is
-scan_cause g old new r (refusals.Disk tried) is = is
-scan_cause g old new r (refusals.Damaged damage) is = tt
-scan_cause g old new r refusals.Memory is = tt
+pub scan_cause : {D : Type 0} (g : Ghosts D) (old new : D) (r : ℕ) (t : Trouble) → IsScanTrouble g old new r t → IsCause g old new (refused_by t)
+scan_cause g old new r (trouble.Disk tried) is = is
+scan_cause g old new r (trouble.Damaged damage) is = tt
 
-pub scan_calm : {D : Type 0} (g : Ghosts D) (old new : D) (r : ℕ) (e : Refused) → IsScanRefusal g old new r e → ¬ IsDamaged e → had_tried e ≡ false → is_calm_refusal e ≡ true
-scan_calm g old new r (refusals.Full need) is sound untried = absurd is
-scan_calm g old new r (refusals.Disk false) is sound untried = refl
-scan_calm g old new r (refusals.Disk true) is sound untried = cc
-scan_calm g old new r (refusals.Damaged damage) is sound untried = absurd (sound tt)
-scan_calm g old new r refusals.Memory is sound untried = refl
+pub scan_calm : {D : Type 0} (g : Ghosts D) (old new : D) (r : ℕ) (t : Trouble) → IsScanTrouble g old new r t → ¬ IsDamaged t → trouble_had_tried t ≡ false → is_calm_refusal (refused_by t) ≡ true
+scan_calm g old new r (trouble.Disk false) is sound untried = refl
+scan_calm g old new r (trouble.Disk true) is sound untried = cc
+scan_calm g old new r (trouble.Damaged damage) is sound untried = absurd (sound tt)
 
 -- ---- what waits, and what is grey
 

@@ -1,6 +1,5 @@
 -- Once all is swept, and nothing is open, exactly the blocks of the objects aren't Free beside the maps and the label.
-use Rattle.std.proofs.Common.{◌≡◌, ◌⊎◌, inl, inr, ℕ, ◌+◌, ◌<◌, [], Bool, true, false, ◌&&◌, ◌||◌, refl, ◌∙◌, ap, arith}
-use Rattle.std.specs.Prelude.{◌==◌}
+use Rattle.std.proofs.Common.{◌≡◌, ◌⊎◌, inl, inr, ℕ, [], Bool, true, false, refl, ap, arith}
 use Rattle.std.proofs.lemmas.Bool.{and_from, and_parts, both_ways, eq-eqb, false_from_ne_true, or_cases}
 use Rattle.cfs_base.specs.Disk.{Image}
 use Rattle.cyl_map.specs.Volume.{entry_in}

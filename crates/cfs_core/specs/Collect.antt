@@ -123,7 +123,14 @@ EndsStep g old new space names o s ds (Err (refusals.Full need)) = ⊥
 EndsStep g old new space names o s ds (Err (refusals.Disk false)) = Moves g old new space names o s ds steps.Idle
 EndsStep g old new space names o s ds (Err (refusals.Disk true)) = Leaves g old new (λ c. Holds c s.graph) × (names.named ≡ kinds_of s.graph)
 EndsStep g old new space names o s ds (Err (refusals.Damaged damage)) = ⊥
-EndsStep g old new space names o s ds (Err refusals.Memory) = Moves g old new space names o s ds steps.Idle
+EndsStep g old new space names o s ds (Err refusals.Memory) = ⊥
+
+-- it is told as want of memory
+abbrev pub is_want : Refused → Bool
+is_want (refusals.Full need) = true
+is_want (refusals.Disk tried) = false
+is_want (refusals.Damaged damage) = false
+is_want refusals.Memory = true
 
 -- a step is counted, and no rescue with it
 abbrev pub IsCounted : Collecting → Collecting → Type 0
@@ -153,6 +160,8 @@ pub record StepsSo {D : Type 0} (g : Ghosts D) (old new : D) (before after : Kep
   pub some : has_root_in names.named 0 ≡ false → has_root_in left.named 0 ≡ false
   pub cylinders : length after.free ≡ length before.free
   pub cause : IfErr result (IsCause g old new)
+  -- none of them takes memory
+  pub wants : IfErr result (λ e. is_want e ≡ false)
   pub calls : MakesAtMost g 4 1 old new
 
 -- A collection has begun: whatever the state, if these are its starts and its identifiers.
@@ -236,6 +245,7 @@ pub record TriesStep {D : Type 0} (g : Ghosts D) (old new : Kernel D) (result : 
   pub still : IfErr result (λ e. had_tried e ≡ false → IsUnchanged g old new)
   pub called : new.collections.called ≡ old.collections.called
   pub cause : IfErr result (IsCause g old.disk new.disk)
+  pub wants : IfErr result (λ e. is_want e ≡ true → IsDue old.collections steps.Began)
   pub calls : MakesAtMost g 4 1 old.disk new.disk
   pub root : new.root ≡ old.root
   pub stop : new.stop ≡ old.stop
@@ -317,6 +327,8 @@ pub record Collects {D : Type 0} (g : Ghosts D) (old new : Kernel D) (result : R
   pub stops : IfErr result (λ fault. new.stop ≡ stop_by fault old.stop)
   pub goes_on : IfOk result (λ step. new.stop ≡ old.stop)
   pub cause : IfErr result (IsFaultCause g old.disk new.disk)
+  -- memory is wanted where a collection would begin, and nowhere else: one that began comes to its end
+  pub wants : result ≡ Err faults.Memory → IsDue old.collections steps.Began
   pub calls : MakesAtMost g 4 1 old.disk new.disk
   pub root : new.root ≡ old.root
   pub words : new.words ≡ old.words

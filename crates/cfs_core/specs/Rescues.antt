@@ -2,7 +2,6 @@
 use Rattle.std.specs.Prelude.{◌≡◌, ℕ, ◌<◌, Bool, true, false, if◌then◌else◌, List, [], ◌∷◌, ◌++◌, Option, Some, None, option_map}
 use Rattle.cfs_base.specs.Outside.{count_after}
 use Rattle.cfs_base.specs.declared.identifier.Puid.{Puid}
-use Rattle.collector_marks.specs.Kept.{SameMarks}
 use Rattle.collector_steps.specs.Collecting.{Collecting, waiting_in}
 use Rattle.marking.specs.declared.memory.Rescue.{Rescue}
 use Rattle.marking.specs.Meanwhile.{is_done}
@@ -50,7 +49,7 @@ while_marking k more = if marks_in k.phase then more else []
 
 -- Where it marks these rescues wait as well, and are counted; nothing but room is otherwise changed.
 pub record HasRescued (k l : Collecting) (more : List Rescue) : Type 0 where
-  pub marks : SameMarks k.marks l.marks
+  pub marks : l.marks ≡ k.marks
   pub phase : l.phase ≡ k.phase
   pub steps : l.steps ≡ k.steps
   pub waiting : waiting_in l ≡ waiting_in k ++ while_marking k more

@@ -107,15 +107,13 @@ fn mark<D: Disk>(
     ensures { (kept : space.Kept) → StepsSo D.Disk disk.old disk.new kept kept names.old names.new collector.old collector.new result }
 {
     if collector.has_rescue() {
-        return match collector.take(names) {
-            Ok(()) => Ok(Step::Took),
-            Err(want) => Err(Refused::from(want)),
-        };
+        collector.take(names);
+        return Ok(Step::Took);
     }
     if collector.has_grey() {
         return match collector.scan(disk, names) {
             Ok(()) => Ok(Step::Scanned),
-            Err(refused) => Err(refused),
+            Err(trouble) => Err(Refused::from(trouble)),
         };
     }
     let ids = collector.condemn(names);
@@ -192,7 +190,7 @@ impl<D: Disk> Core<D> {
     }
 
     /// Makes one step of the collector, the first that is due. At most 4 device calls, at most one of them a write. Memory
-    /// is taken before anything changes.
+    /// is taken where a collection begins, before anything changes, and nowhere else.
     pub fn collect(&mut self, alloc: Global) -> Result<Step, CollectFault>
         ensures { Collects D.Disk self.old self.new result }
     {

@@ -1,8 +1,6 @@
 -- What a recorder's images say of the disk that holds it.
-use Rattle.std.proofs.Common.{◌≡◌, ◌⊎◌, inl, inr, ⊎_elim, ℕ, ◌≤◌, IsTrue, Bool, nat_lt, if◌then◌else◌, replicate, List, [], ◌∷◌, length, length-set, refl, sym, ◌∙◌, subst, arith, true, false}
-use Rattle.cfs_fakes.specs.Sizes.{base_size}
+use Rattle.std.proofs.Common.{◌≡◌, ◌⊎◌, inl, inr, ⊎_elim, ℕ, ◌≤◌, IsTrue, Bool, nat_lt, if◌then◌else◌, List, [], ◌∷◌, refl, sym, ◌∙◌, subst, arith, true, false}
 use Rattle.cfs_base.specs.Disk.{Image, LeavesOnly, Nothing, Written}
-use Rattle.cfs_fakes.specs.declared.kept.Call.{Call}
 use Rattle.cfs_fakes.specs.declared.kept.Call.TheVariants.{Write, Barrier}
 use Rattle.cfs_fakes.specs.declared.kept.Kept.{Kept}
 use Rattle.cfs_fakes.specs.declared.recorder.Recorder.{Recorder}

@@ -3,7 +3,7 @@ use Rattle.std.proofs.Common.{◌≡◌, ◌⊎◌, inl, inr, ⊎_elim, ℕ, ◌
 use Rattle.std.proofs.lemmas.List.{take_more}
 use Rattle.std.proofs.lemmas.Bool.{cases_lt}
 use Rattle.std.proofs.lemmas.Bool.Decides.{nat_tests}
-use Rattle.cfs_base.specs.Disk.{Image, block_at, LeavesOnly, Nothing}
+use Rattle.cfs_base.specs.Disk.{Image, block_at}
 use Rattle.cfs_fakes.specs.declared.kept.Kept.{Kept}
 use Rattle.cfs_fakes.specs.Replay.{State, after, after_before, replay, all_before, writes_to, chosen, IsChoice, IsImage, Left}
 
@@ -68,11 +68,3 @@ module _ (keeps : Bool) (s : State) (m : ℕ) (calls : List Kept) (past : IsTrue
 
     pub left_earlier : (t : ℕ) (c : Image) → Left keeps s m calls t c → Left keeps s (m + 1) (calls ++ e ∷ []) t c
     left_earlier t c h = (h.0, (h.1.0, h.1.1, omega (arith, h.1.2), subst (λ (st : State). IsImage st c) (sym (replay_kept_before h.1.0 h.1.2)) h.1.3))
-
--- more room for what is left
-pub leaves_more : {D : Type 0} {moment : D → ℕ} {left_since : D → ℕ → Image → Type 0} {old new : D} {P : Image → Type 0} → LeavesOnly moment left_since old new Nothing → LeavesOnly moment left_since old new P
-leaves_more none = record {
-  later = none.later;
-  since = λ t c le h. ⊎_elim (λ was. inl was) (λ no. absurd no) (none.since t c le h);
-  now = λ c h. ⊎_elim (λ was. inl was) (λ no. absurd no) (none.now c h);
-}

@@ -7,4 +7,6 @@ pub struct OpenGate;
 
 impl Gate for OpenGate {
     fn pass(&self, _worker: u32, _turn: u64) {}
+
+    fn told(&self, _worker: u32, _known: u64) {}
 }

@@ -76,4 +76,6 @@ impl Gate for HoldGate {
             }
         }
     }
+
+    fn told(&self, _worker: u32, _known: u64) {}
 }

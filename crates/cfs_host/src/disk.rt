@@ -1,8 +1,10 @@
 //! Volumes in files.
-ghost use Rattle.std.specs.Prelude.{◌≡◌, IfOk};
+ghost use Rattle.std.specs.Prelude.{◌≡◌, ◌≤◌, false, IfOk, IsErr};
+ghost use Rattle.cfs_base.specs.Disk.{CountsRead, CountsTry};
 
 use crate::faults::failed;
 use cfs_base::{Block, BlockNo, Disk, Failed};
+use pair_disk::TornDisk;
 use std::os::unix::fs::FileExt;
 use std::rt::Files;
 use std::{fs, io};
@@ -12,7 +14,7 @@ const BLOCK: u64 = 512;
 
 /// A volume in a file of the system: block n is its bytes from 512 n on. Each read and write is one of the system at its
 /// place, nothing is kept back, and a barrier is a data sync. A call that a signal interrupts is tried again. It tells
-/// nothing of its content; a call of the system that fails is a fault.
+/// nothing of its content; a call of the system that fails is a fault. It is a disk of whole blocks, and one whose blocks may tear.
 #[derive(Drop)]
 pub struct FileDisk {
     file: fs::File,
@@ -79,6 +81,51 @@ fn folder_of(path: &str) -> &str {
     }
 }
 
+/// What the calls of either sort of disk do.
+impl FileDisk {
+    fn read_block(&mut self, at: BlockNo, into: &mut Block) -> Result<(), Failed>
+        ensures counts { CountsRead (λ d. d.calls) (λ d. d.calls) (λ d. d.tries) (λ d. d.faults) self.old self.new (IsErr result) }
+        ensures later { self.old.calls ≤ self.new.calls }
+        ensures size { self.new.blocks ≡ self.old.blocks }
+    {
+        self.calls = self.calls.saturating_add(1);
+        let mut bytes = [0; BLOCK as usize];
+        match self.file.read_exact_at(&mut bytes, BLOCK * at.0 as u64) {
+            Ok(()) => {
+                *into = Block::of(bytes);
+                Ok(())
+            }
+            Err(_) => Err(failed(&mut self.faults)),
+        }
+    }
+
+    fn write_block(&mut self, at: BlockNo, from: &Block) -> Result<(), Failed>
+        ensures counts { CountsTry (λ d. d.calls) (λ d. d.calls) (λ d. d.tries) (λ d. d.faults) (λ d. false) self.old self.new (IsErr result) }
+        ensures later { self.old.calls ≤ self.new.calls }
+        ensures size { self.new.blocks ≡ self.old.blocks }
+    {
+        self.calls = self.calls.saturating_add(1);
+        self.tries = self.tries.saturating_add(1);
+        match self.file.write_all_at(from.bytes(), BLOCK * at.0 as u64) {
+            Ok(()) => Ok(()),
+            Err(_) => Err(failed(&mut self.faults)),
+        }
+    }
+
+    fn sync(&mut self) -> Result<(), Failed>
+        ensures counts { CountsTry (λ d. d.calls) (λ d. d.calls) (λ d. d.tries) (λ d. d.faults) (λ d. false) self.old self.new (IsErr result) }
+        ensures later { self.old.calls ≤ self.new.calls }
+        ensures size { self.new.blocks ≡ self.old.blocks }
+    {
+        self.calls = self.calls.saturating_add(1);
+        self.tries = self.tries.saturating_add(1);
+        match self.file.sync_data() {
+            Ok(()) => Ok(()),
+            Err(_) => Err(failed(&mut self.faults)),
+        }
+    }
+}
+
 impl Disk for FileDisk {
     ghost use Rattle.std.specs.Prelude.{[], false};
 
@@ -113,35 +160,64 @@ impl Disk for FileDisk {
     }
 
     fn read(&mut self, at: BlockNo, into: &mut Block) -> Result<(), Failed> {
-        self.calls = self.calls.saturating_add(1);
-        let mut bytes = [0; BLOCK as usize];
-        match self.file.read_exact_at(&mut bytes, BLOCK * at.0 as u64) {
-            Ok(()) => {
-                *into = Block::of(bytes);
-                Ok(())
-            }
-            Err(_) => Err(failed(&mut self.faults)),
-        }
+        self.read_block(at, into)
     }
 
     fn write(&mut self, at: BlockNo, from: &Block) -> Result<(), Failed> {
-        self.calls = self.calls.saturating_add(1);
-        self.tries = self.tries.saturating_add(1);
-        match self.file.write_all_at(from.bytes(), BLOCK * at.0 as u64) {
-            Ok(()) => Ok(()),
-            Err(_) => Err(failed(&mut self.faults)),
-        }
+        self.write_block(at, from)
     }
 
     fn barrier(&mut self) -> Result<(), Failed> {
-        self.calls = self.calls.saturating_add(1);
-        self.tries = self.tries.saturating_add(1);
-        match self.file.sync_data() {
-            Ok(()) => Ok(()),
-            Err(_) => Err(failed(&mut self.faults)),
-        }
+        self.sync()
     }
 }
 
-#[cfg(test)]
-mod tests;
+impl TornDisk for FileDisk {
+    ghost use Rattle.std.specs.Prelude.{[], false};
+
+    ghost blocks = { λ d. d.blocks };
+
+    ghost moment = { λ d. d.calls };
+
+    ghost calls = { λ d. d.calls };
+
+    ghost tries = { λ d. d.tries };
+
+    ghost faults = { λ d. d.faults };
+
+    ghost only_honest = { λ d n h. h };
+
+    ghost sized = { λ d h. Prim.cc };
+
+    ghost of_blocks = { λ d h. Prim.cc };
+
+    ghost left_sized = { λ d t c left. absurd left };
+
+    ghost may_stay = { λ d t tells less. Prim.cc };
+
+    ghost clocked = { λ d tells. Prim.cc };
+
+    fn blocks(&self) -> u32 {
+        self.blocks
+    }
+
+    fn moment(&self) -> u64 {
+        self.calls
+    }
+
+    fn calls(&self) -> u64 {
+        self.calls
+    }
+
+    fn read(&mut self, at: BlockNo, into: &mut Block) -> Result<(), Failed> {
+        self.read_block(at, into)
+    }
+
+    fn write(&mut self, at: BlockNo, from: &Block) -> Result<(), Failed> {
+        self.write_block(at, from)
+    }
+
+    fn barrier(&mut self) -> Result<(), Failed> {
+        self.sync()
+    }
+}

@@ -44,6 +44,3 @@ impl<W: Write> Sink for FileSink<W> {
         }
     }
 }
-
-#[cfg(test)]
-mod tests;

@@ -45,6 +45,3 @@ impl<R: Read> Source for FileSource<R> {
         }
     }
 }
-
-#[cfg(test)]
-mod tests;

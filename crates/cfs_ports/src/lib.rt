@@ -8,6 +8,3 @@ mod port;
 
 pub use hearing::Heard;
 pub use port::{Port, PortFault};
-
-#[cfg(test)]
-mod tests;

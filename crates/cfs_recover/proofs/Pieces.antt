@@ -4,7 +4,7 @@ use Rattle.std.proofs.Math.ListN.{drop_of_length-le}
 use Rattle.std.proofs.Math.Seq.{drop-cons}
 use Rattle.std.proofs.lemmas.Bool.{cases_lt}
 use Rattle.std.proofs.lemmas.Grind.{same_number_lists}
-use Rattle.std.specs.Int.{from_be_bytes, to_be_bytes, w32, w64}
+use Rattle.std.specs.Int.{from_be_bytes, w64}
 use Rattle.std.specs.Prelude.{IsSome}
 use Rattle.std.proofs.lemmas.List.Elements.{All-get_or}
 use Rattle.block_tree.specs.declared.root.Root.{Root}

@@ -8,15 +8,12 @@ use Rattle.hex.specs.Hex.{decode_of, decode_pairs, hex_digit_value, pair_value}
 use Rattle.hex.specs.declared.error.FromHexError.{FromHexError}
 use Rattle.hex.specs.declared.error.FromHexError.TheVariants.{InvalidHexCharacter}
 use Rattle.hex.proofs.HexLemmas.{decode_of-even}
-use Rattle.hex.proofs.Pairs.{decode_done, decode_err, decode_start, decode_step, prepend}
+use Rattle.hex.proofs.Pairs.{decode_done, decode_err, decode_step, prepend}
 
 -- So far the bytes of the pairs were read, or a byte that is no digit was met.
 pub record AreRead (most : ℕ) (s out : List ℕ) (i : ℕ) : Type 0 where
   pub good : most < 16 → decode_pairs 0 s ≡ prepend (take i out) (decode_pairs (2 * i) (drop (2 * i) s))
   pub bad : 16 ≤ most → IsErr (decode_pairs 0 s)
-
-pub read_start : (s out : List ℕ) → AreRead 0 s out 0
-read_start s out = record { good = λ less. decode_start s out; bad = λ more. absurd (omega (arith, more)) }
 
 -- ---- one pair
 

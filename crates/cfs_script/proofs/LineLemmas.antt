@@ -1,5 +1,5 @@
 -- The first line of a text, and the request lines from there on.
-use Rattle.std.proofs.Common.{◌≡◌, ◌≢◌, ℕ, ◌+◌, ◌<◌, ◌≤◌, Bool, true, false, ◌==◌, not, List, [], ◌∷◌, ◌++◌, length, get_or, take, drop, map, filter, cond, if◌then◌else◌, refl, sym, ap, ◌∙◌, one-add, arith, inl, inr, Option, Some, None, position, nat_lt}
+use Rattle.std.proofs.Common.{◌≡◌, ◌≢◌, ℕ, ◌+◌, ◌<◌, ◌≤◌, Bool, ◌==◌, not, List, [], ◌∷◌, ◌++◌, length, get_or, take, drop, cond, if◌then◌else◌, refl, sym, ap, ◌∙◌, one-add, arith, inl, inr, Some, None, position, nat_lt}
 use Rattle.std.proofs.lemmas.Bool.{cases_eq, cases_lt, cases_Bool, lt-ltb, le-ltb, not-true, false≢true}
 use Rattle.std.proofs.lemmas.List.{drop_all, drop_more, length-take}
 use Rattle.std.proofs.lemmas.List.Quantifiers.{position-Some}

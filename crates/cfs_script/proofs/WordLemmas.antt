@@ -1,5 +1,5 @@
 -- What single words say.
-use Rattle.std.proofs.Common.{◌≡◌, ℕ, ◌<◌, ◌≤◌, ◌^◌, Bool, true, false, List, [], ◌∷◌, length, get_or, take, drop, refl, sym, ap, ◌∙◌, arith, Ok}
+use Rattle.std.proofs.Common.{◌≡◌, ℕ, ◌<◌, ◌≤◌, ◌^◌, Bool, true, List, [], ◌∷◌, length, get_or, take, drop, refl, sym, ap, ◌∙◌, arith, Ok}
 use Rattle.std.specs.Prelude.{◌&&◌}
 use Rattle.std.proofs.lemmas.Bool.{le-ltb, and_right}
 use Rattle.std.proofs.lemmas.List.{drop_all, drop_more}
@@ -12,7 +12,7 @@ use Rattle.std.specs.Str.Parse.{digits_value}
 use Rattle.std.specs.Int.{w32, from_be_bytes}
 use Rattle.hex.specs.Hex.{decode_sized, is_hex_digit}
 use Rattle.hex.proofs.HexLemmas.{IsOk-decode_sized, decode_of-ok, decode_sized-twice}
-use Rattle.ufs_model.specs.Spoken.{Reading, Is, Bad, number_in, byte_in, digits_in}
+use Rattle.ufs_model.specs.Spoken.{Is, Bad, number_in, byte_in, digits_in}
 
 -- digits are the digits of `parse`
 pub own : IsNumeralModel (λ ds. all_ascii_digits ds ≡ true) (digits_value 10)

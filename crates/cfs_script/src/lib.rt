@@ -22,6 +22,3 @@ pub use reply::{REPLY_ROOM, print_reply, print_unread};
 pub use spoken::{Spoken, read_line};
 pub use verb::{Verb, all_verbs};
 pub use word::number_of;
-
-#[cfg(test)]
-mod tests;

@@ -89,36 +89,3 @@ pub fn next_line(text: &[u8]) -> Option<NextLine<'_>>
     }
     None
 }
-
-#[cfg(test)]
-mod tests {
-    use super::*;
-    use std::process::Abort;
-    use std::test::Fail;
-
-    fn expect_line(rt: &impl Abort, text: &[u8], line: &[u8], taken: usize) {
-        let next = next_line(text).expect(rt, "a request line");
-        assert_eq!(rt; next.line, line);
-        assert_eq!(rt; next.taken, taken);
-    }
-
-    #[test]
-    fn blank_lines_and_comments_are_no_request_lines(rt: HostRuntime) {
-        expect_line(&rt, b"slots root\r\n\nx", b"slots root", 12);
-        expect_line(&rt, b"\n# a comment\n  \t\n # none\nx", b" # none", 25);
-        assert!(rt; next_line(b"").is_none());
-        assert!(rt; next_line(b"\n\r\n#\n \t ").is_none());
-    }
-
-    #[test]
-    fn one_carriage_return_is_dropped_at_the_end_of_a_line(rt: HostRuntime) {
-        expect_line(&rt, b"slots root\r\r\n", b"slots root\r", 13);
-        expect_line(&rt, b"slots \rroot\n", b"slots \rroot", 12);
-        expect_line(&rt, b"slots a\r", b"slots a", 8);
-    }
-
-    #[test]
-    fn the_last_line_may_lack_its_line_feed(rt: HostRuntime) {
-        expect_line(&rt, b"slots a", b"slots a", 7);
-    }
-}

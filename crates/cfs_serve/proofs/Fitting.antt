@@ -1,6 +1,5 @@
 -- A disk that fits the volume that the words name is the one that they want.
-use Rattle.std.proofs.Common.{◌≡◌, ℕ, List, true, Option, Some, None, refl, subst}
-use Rattle.std.specs.Prelude.{is_none}
+use Rattle.std.proofs.Common.{ℕ, List, Option, subst}
 use Rattle.cfs_serve.specs.Words.{Asked, Files, Place, InFile, InMemory, Shows, Formats, Serves, Nothing}
 use Rattle.cfs_serve.specs.Whole.{FitsVolume, HasDisk, NamesVolume}
 use Rattle.cfs_serve.specs.declared.paths.Volume.{Volume}
@@ -12,17 +11,10 @@ served_at place seed collections sessions = Serves (record { volume = place; see
 fits_place : (volume : Option Volume) (blocks : Option ℕ) (p : Place) (seed collections : ℕ) (sessions : List Files)
     → NamesVolume (served_at p seed collections sessions) volume → FitsVolume volume blocks → HasDisk (served_at p seed collections sessions) blocks
 fits_place volume blocks (InMemory cylinders) seed collections sessions named fit = subst (λ v. FitsVolume v blocks) named fit
-fits_place volume blocks (InFile path) seed collections sessions named fit = subst (λ v. FitsVolume v blocks) named fit
+fits_place volume blocks (InFile path pair) seed collections sessions named fit = subst (λ v. FitsVolume v blocks) named fit
 
 pub fits : (volume : Option Volume) (blocks : Option ℕ) (a : Asked) → NamesVolume a volume → FitsVolume volume blocks → HasDisk a blocks
 fits volume blocks (Formats format) named fit = subst (λ v. FitsVolume v blocks) named fit
 fits volume blocks (Serves service) named fit = fits_place volume blocks service.volume service.seed service.collections service.sessions named fit
 fits volume blocks (Shows page) named fit = subst (λ v. FitsVolume v blocks) named fit
 fits volume blocks Nothing named fit = subst (λ v. FitsVolume v blocks) named fit
-
-none_fits : (volume : Option Volume) → is_none volume ≡ true → FitsVolume volume None
-none_fits None is = refl
-none_fits (Some v) is = absurd (cc is)
-
-pub no_disk : (a : Asked) (volume : Option Volume) → NamesVolume a volume → is_none volume ≡ true → HasDisk a None
-no_disk a volume named is = fits volume None a named (none_fits volume is)

@@ -21,3 +21,4 @@ mod Left
 mod Leaves
 mod Playing
 mod Volumes
+mod Through

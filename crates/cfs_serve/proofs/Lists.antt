@@ -1,5 +1,5 @@
 -- Lists, item by item.
-use Rattle.std.proofs.Common.{◌≡◌, ◌≢◌, ℕ, zero, suc, ◌+◌, ◌<◌, ◌≤◌, Bool, true, false, ◌||◌, inl, inr, List, [], ◌∷◌, ◌++◌, length, map, set, Option, Some, None, slice_get, refl, sym, ap, ◌∙◌, subst, arith}
+use Rattle.std.proofs.Common.{◌≡◌, ◌≢◌, ℕ, zero, suc, ◌+◌, ◌<◌, Bool, true, false, ◌||◌, inl, inr, List, [], ◌∷◌, ◌++◌, length, map, set, Option, Some, None, slice_get, refl, sym, ap, ◌∙◌, subst, arith}
 use Rattle.std.specs.Prelude.{reverse}
 use Rattle.std.specs.List.{sum_by}
 use Rattle.std.proofs.lemmas.List.{append_assoc, length-map, map-append, reverse-append}
@@ -168,9 +168,3 @@ new_work root (p ∷ ports) (script ∷ scripts) new same =
     let lines : length p.lines ≡ length (request_lines script) = ap length (heads same) in
     let rest = new_work root ports scripts (λ k q. new (suc k) q) (tails same) in
     omega (arith, sum_by-cons turns_left p ports, sum_by-cons (λ s. length (request_lines s)) script scripts, first, lines, rest)
-
--- of one session that is new
-pub one_work : (ports : List Reading) (p : Reading) (n : ℕ) → ports ≡ p ∷ [] → p.has_left ≡ false → length p.lines ≡ n → sum_by turns_left ports ≡ n + 1
-one_work ports p n is stays lines =
-    let first : turns_left p ≡ length p.lines + 1 = rw stays refl in
-    ap (sum_by turns_left) is ∙ sum_by-cons turns_left p [] ∙ (omega (arith, first, lines))

@@ -1,5 +1,5 @@
 -- A service on a core.
-use Rattle.std.proofs.Common.{◌≡◌, ◌⊎◌, ℕ, ◌*◌, ◌/◌, ◌≤◌, Bool, true, false, cond, ◌&&◌, List, [], ◌∷◌, ◌++◌, length, map, filter, Some, None, Option, IsTrue, is_some, refl, sym, ap, ◌∙◌, subst, arith}
+use Rattle.std.proofs.Common.{◌≡◌, ℕ, ◌/◌, ◌≤◌, Bool, true, false, cond, List, [], ◌∷◌, length, map, filter, Some, None, Option, IsTrue, is_some, refl, sym, ap, ◌∙◌, subst, arith}
 use Rattle.std.specs.Prelude.{◌||◌, ◌+◌, option_and_then, option_map, sum}
 use Rattle.std.specs.List.{list_all, list_any, sum_by}
 use Rattle.std.proofs.lemmas.List.{length-map}
@@ -20,7 +20,6 @@ use Rattle.cfs_ports.specs.Port.{Reading}
 use Rattle.survival.specs.Held.{Fits}
 use Rattle.survival.specs.Trail.{RunSurvives}
 use Rattle.ufs_model.specs.declared.asked.Event.{Event}
-use Rattle.ufs_model.specs.declared.asked.Event.TheVariants as events
 use Rattle.ufs_model.specs.declared.collection.Collection.{Collection}
 use Rattle.ufs_model.specs.declared.collection.Collection.TheVariants as collections
 use Rattle.ufs_model.specs.declared.object.Object.{Object}

@@ -44,9 +44,6 @@ one_few scripts k script at =
 
 -- ---- reading them, one after the other
 
-pub none_read : (sources : List Supply) → HaveFirst sources []
-none_read sources = record { count = omega arith; each = λ k source script at there. absurd (never_none there) }
-
 at_end : {A : Type 0} (xs : List A) (y : A) (k : ℕ) (x : A) → slice_get (xs ++ y ∷ []) k ≡ Some x → (slice_get xs k ≡ Some x) ⊎ ((k ≡ length xs) × (y ≡ x))
 at_end [] y zero x at = inr (refl, some_same _ _ at)
 at_end [] y (suc k) x at = absurd (never_none at)

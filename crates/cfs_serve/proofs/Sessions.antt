@@ -10,7 +10,6 @@ use Rattle.cfs_streams.specs.Writing.{Wrote}
 use Rattle.cfs_streams.proofs.WriteLaws.{then, then_some}
 use Rattle.ufs_model.specs.declared.asked.Event.{Event}
 use Rattle.ufs_model.specs.declared.asked.Event.TheVariants as events
-use Rattle.ufs_model.specs.declared.asked.Reply.{Reply}
 use Rattle.ufs_model.specs.declared.asked.Reply.TheVariants as replies
 use Rattle.ufs_model.specs.declared.asked.Request.{Request}
 use Rattle.ufs_model.specs.declared.asked.Unread.{Unread}
@@ -24,7 +23,7 @@ use Rattle.ufs_model.specs.Printed.{printed, printed_replies}
 use Rattle.cfs_script.specs.NameTable.{names_of}
 use Rattle.cfs_ports.specs.declared.hearing.Heard.TheVariants as heard
 use Rattle.cfs_ports.specs.Heard.{Hears}
-use Rattle.cfs_ports.specs.Port.{Replied, TakesLine, Answers, Tells}
+use Rattle.cfs_ports.specs.Port.{Replied, TakesLine, Tells}
 use Rattle.cfs_ports.specs.Port as ports
 use Rattle.cfs_serve.specs.Charter.{Seat, Terms}
 use Rattle.cfs_serve.specs.Events.{is_finish, is_of, is_sessions}
@@ -253,21 +252,6 @@ turned_unread i p r q why stays goes took told = record {
     by_why unread.Syntax reading name is = rw is refl
     by_why unread.NoName reading name is = rw is refl
     by_why unread.Memory reading name is = refl
-
-pub turned_ask : (i : ℕ) (p r q : ports.Reading) (request : Request) (name : Option (List ℕ)) (reply : Reply) → p.has_left ≡ false → p.failed ≡ false → TakesLine p r (heard.Ready request name) → Answers r q name reply
-    → Turned i p q (events.Ask i request reply)
-turned_ask i p r q request name reply stays goes took told = record {
-  line = took.line;
-  taken = took.taken ∙ ap (λ w. took.line ∷ w) (sym told.lines);
-  mine = test_refl i;
-  whole = test_refl i;
-  turn = rw took.hears.0 refl;
-  names = told.names ∙ ap (λ (n : Names). names_after_reply n name reply) took.names ∙ ap (λ (n : Option (List ℕ)). names_after_reply (names_of p.names) n reply) took.hears.1;
-  stays = stays;
-  stays_on = told.stays ∙ took.stays ∙ stays;
-  goes = goes;
-  replied = rw (test_refl i) (rw (← took.sink) told.replied);
-}
 
 -- ---- the work that is left
 

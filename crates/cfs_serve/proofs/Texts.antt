@@ -11,9 +11,6 @@ first_of_three a b x y z one = cut a b (x ++ y) z (cut a b x y one)
 pub second_of_three : (a b c : Intake) (x y z : List ℕ) → Wrote a b x → WroteSome b c y → WroteSome a c (x ++ y ++ z)
 second_of_three a b c x y z one two = cut a c (x ++ y) z (then_some a b c x y one two)
 
-pub last_of_three : {T E : Type 0} (r : Result T E) (a b c d : Intake) (x y z : List ℕ) → Wrote a b x → Wrote b c y → WritesWhole c d z r → WritesWhole a d (x ++ y ++ z) r
-last_of_three r a b c d x y z one two three = then_whole r a c d (x ++ y) z (then a b c x y one two) three
-
 pub first_of_four : (a b : Intake) (w x y z : List ℕ) → WroteSome a b w → WroteSome a b (w ++ x ++ y ++ z)
 first_of_four a b w x y z one = cut a b (w ++ x ++ y) z (first_of_three a b w x y one)
 

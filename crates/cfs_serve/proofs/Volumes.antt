@@ -1,7 +1,8 @@
 -- A volume that was opened, and what a service comes to on it.
-use Rattle.std.proofs.Common.{◌≡◌, ◌⊎◌, inl, inr, ℕ, ◌*◌, ◌/◌, ◌≤◌, Bool, List, [], ◌∷◌, Option, Some, None, Result, Ok, Err, IfOk, IsTrue, refl, sym, ap, ◌∙◌, subst, arith, length}
+use Rattle.std.proofs.Common.{◌≡◌, ◌⊎◌, inl, inr, ℕ, ◌*◌, ◌≤◌, Bool, List, [], Option, Some, None, Result, Ok, Err, IfOk, IsTrue, refl, sym, ap, ◌∙◌, subst, arith, length}
 use Rattle.std.specs.Prelude.{IfSome, option_map}
 use Rattle.std.specs.Result.{result_ok}
+use Rattle.cfs_base.specs.Disk.{Image}
 use Rattle.cfs_base.specs.Outside.{Intake, Rose, Supply}
 use Rattle.cfs_base.specs.declared.disk.Disk.{Ghosts}
 use Rattle.cfs_core.specs.Kernel.{Kernel}
@@ -19,7 +20,7 @@ use Rattle.cfs_serve.specs.declared.report.Cause.{Cause}
 use Rattle.cfs_serve.specs.declared.report.Cause.TheVariants as causes
 use Rattle.cfs_serve.specs.declared.report.Counts.{Counts}
 use Rattle.cfs_serve.specs.declared.report.Report.{Report}
-use Rattle.cfs_serve.specs.Disks.{ServesVolume}
+use Rattle.cfs_serve.specs.Disks.{LeavesSinceTry, ServesVolume}
 use Rattle.cfs_serve.specs.Ground.{Ground, ground_on, opened}
 use Rattle.cfs_serve.specs.Opening.{IsRefusal, told_of}
 use Rattle.cfs_ports.specs.Port.{Reading}
@@ -149,6 +150,11 @@ source_ill source after cause is well = absurd (rw well at is)
 
 -- ---- a volume on a disk
 
+-- the first call is the first that was tried
+pub since_try : {D : Type 0} (g : Ghosts D) (old new : D) (P : Image → Type 0) → LeavesSinceBarrier g old new P → LeavesSinceTry g old new P
+since_try g old new P (inl failed) = inl (failed.failed, failed.untouched, failed.tries)
+since_try g old new P (inr since) = inr (since.0, since.1.settled, since.1.untouched, since.1.tries, since.2)
+
 module _ {D : Type 0} (g : Ghosts D) (old : D) (seed : ℕ) where
   -- it was refused
   pub refusal_cause : (new : D) (source after : List Supply) (script : List (List ℕ)) → HaveScripts source script → (cause : Cause) → IsRefusal g old new cause
@@ -166,7 +172,7 @@ module _ {D : Type 0} (g : Ghosts D) (old : D) (seed : ℕ) where
 
   -- nothing was served on it
   pub unserved : (new : D) (report : Report) (trail : List Event) (moments : List ℕ) (cause : Cause) → report ≡ record { counts = None; cause = cause } → ¬ (cause ≡ causes.Nothing)
-      → (IsTrue (g.honest old) → (graph : Graph) → IsSoundAs (g.content old) graph → (new ≡ old) ⊎ LeavesSinceBarrier g old new (λ c. IsSoundAs c graph)) → ServesVolume g seed report trail moments old new
+      → (IsTrue (g.honest old) → (graph : Graph) → IsSoundAs (g.content old) graph → (new ≡ old) ⊎ LeavesSinceTry g old new (λ c. IsSoundAs c graph)) → ServesVolume g seed report trail moments old new
   unserved new report trail moments cause told ill images = record {
     opened = new;
     opening = images;
@@ -185,7 +191,7 @@ module _ {D : Type 0} (g : Ghosts D) (old : D) (seed : ℕ) where
       → ServesScripts g core collections scripts sinks after report trail moments new → ServesVolume g seed report trail moments old new
   served core collections scripts sinks after report trail moments new words stands images (inl s) = record {
     opened = core.disk;
-    opening = λ honest graph sound. inr (images honest graph sound);
+    opening = λ honest graph sound. inr (since_try g old core.disk _ (images honest graph sound));
     unserved = λ none. absurd (some_none (sym (ap (λ (r : Report). r.counts) s.serves.told) ∙ none));
     crashes = λ some honest graph sound. rw (← words) (s.serves.crashes graph (stands honest graph sound));
     sound = λ well honest graph sound last legal. s.serves.sound (sym (ap (λ (r : Report). r.cause) s.serves.told) ∙ well) graph (stands honest graph sound) last (rw words legal);
@@ -196,7 +202,7 @@ module _ {D : Type 0} (g : Ghosts D) (old : D) (seed : ℕ) where
     where
       some_none : {x : Counts} → Some x ≡ None → ⊥
       some_none e = cc
-  served core collections scripts sinks after report trail moments new words stands images (inr n) = rw n.1 (unserved core.disk report trail moments causes.Memory n.0.told (λ e. cc) (λ honest graph sound. inr (images honest graph sound)))
+  served core collections scripts sinks after report trail moments new words stands images (inr n) = rw n.1 (unserved core.disk report trail moments causes.Memory n.0.told (λ e. cc) (λ honest graph sound. inr (since_try g old core.disk _ (images honest graph sound))))
 
 -- what is told of a refusal
 pub refusal_of : {D : Type 0} (g : Ghosts D) (old new : D) (why : RecoverFault) → (IsTrue (g.honest old) → IsSound (g.content old) → (why ≡ whys.Disk) ⊎ (why ≡ whys.Memory)) → IsCaused g old new why

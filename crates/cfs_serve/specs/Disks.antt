@@ -1,10 +1,12 @@
 -- What a run does to the disk of its volume.
 use Rattle.std.specs.Prelude.{◌≡◌, ◌⊎◌, ℕ, ◌+◌, ◌≤◌, IsTrue, List, ◌∷◌, Option, Some, None, IsSome}
-use Rattle.cfs_base.specs.Calls.{MakesAtMost}
-use Rattle.cfs_base.specs.Run.{Leaves}
+use Rattle.cfs_base.specs.Calls.{HasFailed, MakesAtMost}
+use Rattle.cfs_base.specs.Disk.{Image}
+use Rattle.cfs_base.specs.Outside.{count_after}
+use Rattle.cfs_base.specs.Run.{IsSettled, Leaves}
 use Rattle.cfs_base.specs.declared.disk.Disk.{Ghosts}
 use Rattle.cfs_core.specs.declared.collecting.CollectFault.{CollectFault}
-use Rattle.cfs_recover.specs.Recovered.{LeavesSinceBarrier}
+use Rattle.cfs_recover.specs.Recovered.{IsUntouched}
 use Rattle.survival.specs.Trail.{RunSurvives}
 use Rattle.ufs_model.specs.declared.asked.Event.{Event}
 use Rattle.ufs_model.specs.Graph.{Graph}
@@ -30,13 +32,18 @@ pub record MakesVolume {D : Type 0} (g : Ghosts D) (format : Format) (cause : Ca
   -- a call for each cylinder, and six more
   pub calls : MakesAtMost g (format.cylinders + 6) (format.cylinders + 6) old new
 
+-- The first write or barrier that was tried is a barrier. Where it was done, whatever a crash left since, or leaves now, has P.
+abbrev pub LeavesSinceTry : {D : Type 0} → Ghosts D → D → D → (Image → Type 0) → Type 0
+LeavesSinceTry {D} g old new P = (HasFailed g old new × IsUntouched g old new × (g.tries new ≡ count_after (g.tries old)))
+    ⊎ ((mid : D) × IsSettled g mid × IsUntouched g old mid × (g.tries mid ≡ count_after (g.tries old)) × Leaves g mid new P)
+
 -- A volume was served: of an honest disk that held a sound one, which read as some graph.
 pub record ServesVolume {D : Type 0} (g : Ghosts D) (seed : ℕ) (told : Report) (trail : List Event) (moments : List ℕ) (old new : D) : Type 0 where
   -- the disk as the opening ended, or as it was where it came to none
   pub opened : D
   -- what a crash leaves since the first barrier of the opening reads as before
   pub opening : IsTrue (g.honest old) → (graph : Graph) → IsSoundAs (g.content old) graph
-      → (opened ≡ old) ⊎ LeavesSinceBarrier g old opened (λ c. IsSoundAs c graph)
+      → (opened ≡ old) ⊎ LeavesSinceTry g old opened (λ c. IsSoundAs c graph)
   pub unserved : told.counts ≡ None → new ≡ opened
   -- what one leaves since an event was recorded survives so many events of the run or more, and since the opening any number
   pub crashes : IsSome told.counts → IsTrue (g.honest old) → (graph : Graph) → IsSoundAs (g.content old) graph
@@ -58,9 +65,9 @@ MakesOn g format cause None new = ⊥
 
 abbrev ServesOn : {D : Type 0} → Ghosts D → Place → (seed : ℕ) → Report → List Event → List ℕ → Option D → Option D → Type 0
 ServesOn g (InMemory cylinders) seed told trail moments old new = new ≡ old
-ServesOn g (InFile path) seed told trail moments (Some old) (Some new) = ServesVolume g seed told trail moments old new
-ServesOn g (InFile path) seed told trail moments (Some old) None = ⊥
-ServesOn g (InFile path) seed told trail moments None new = ⊥
+ServesOn g (InFile path pair) seed told trail moments (Some old) (Some new) = ServesVolume g seed told trail moments old new
+ServesOn g (InFile path pair) seed told trail moments (Some old) None = ⊥
+ServesOn g (InFile path pair) seed told trail moments None new = ⊥
 
 -- a volume is made or served on the disk that is asked for; else there is none, before and after
 abbrev pub OnDisk : {D : Type 0} → Ghosts D → Asked → Report → List Event → List ℕ → Option D → Option D → Type 0

@@ -3,7 +3,7 @@ use Rattle.std.specs.Prelude.{◌≡◌, ℕ, ◌/◌, IsTrue, Option, Some, Non
 use Rattle.cfs_base.specs.declared.disk.Disk.{Ghosts}
 use Rattle.ufs_model.specs.Graph.{Graph, fresh_graph}
 use Rattle.vol_image.specs.Sound.{IsSound, IsSoundAs}
-use Rattle.cfs_serve.specs.Words.{Asked, Format, Formats, InFile, InMemory, Nothing, Place, Serves, Shows, root_of}
+use Rattle.cfs_serve.specs.Words.{Asked, Formats, InFile, InMemory, Nothing, Place, Serves, Shows, root_of}
 
 -- the cylinders of the volume, the graphs that it may read as, and that it is known to be no sound one
 pub record Ground : Type 1 where
@@ -31,8 +31,8 @@ no_ground = record { cylinders = 0; reads = λ graph. ⊥; unsound = ⊥ }
 
 abbrev ground_at : {D : Type 0} → Ghosts D → Place → (seed : ℕ) → Option D → Ground
 ground_at g (InMemory cylinders) seed disk = new_ground cylinders seed
-ground_at g (InFile path) seed (Some d) = ground_on g d
-ground_at g (InFile path) seed None = no_ground
+ground_at g (InFile path pair) seed (Some d) = ground_on g d
+ground_at g (InFile path pair) seed None = no_ground
 
 -- of what is asked for, and the disk of the volume where it is in a file
 abbrev pub ground_of : {D : Type 0} → Ghosts D → Asked → Option D → Ground

@@ -9,6 +9,14 @@ most_cylinders = 1024
 abbrev pub most_file_cylinders : ℕ
 most_file_cylinders = 65536
 
+-- and of the largest of pairs of blocks
+abbrev pub most_pair_cylinders : ℕ
+most_pair_cylinders = 16384
+
+-- the map blocks that a service holds in memory
+abbrev pub held_maps : ℕ
+held_maps = 64
+
 -- the bytes of the longest request file
 abbrev pub most_script : ℕ
 most_script = 16777216

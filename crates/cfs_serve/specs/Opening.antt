@@ -1,5 +1,5 @@
 -- What is told of a volume that wasn't opened.
-use Rattle.std.specs.Prelude.{◌≡◌, IsTrue, Result, Ok, Err, Option, Some, None}
+use Rattle.std.specs.Prelude.{◌≡◌, IsTrue, Result, Ok, Err, None}
 use Rattle.cfs_base.specs.Outside.{Rose}
 use Rattle.cfs_base.specs.declared.disk.Disk.{Ghosts}
 use Rattle.cfs_core.specs.Kernel.{Kernel}

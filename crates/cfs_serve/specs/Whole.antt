@@ -8,8 +8,7 @@ use Rattle.cfs_serve.specs.declared.report.Cause.TheVariants as causes
 use Rattle.cfs_serve.specs.declared.report.Report.{Report}
 use Rattle.cfs_serve.specs.declared.paths.Volume.{Volume}
 use Rattle.cfs_serve.specs.declared.paths.Volume.TheVariants as volumes
-use Rattle.cfs_serve.specs.Limits.{most_file_cylinders}
-use Rattle.cfs_serve.specs.Words.{Asked, Place, InFile, InMemory, Shows, Formats, Serves, Nothing}
+use Rattle.cfs_serve.specs.Words.{Asked, Place, InFile, InMemory, Shows, Formats, Serves, Nothing, most_made}
 use Rattle.cfs_serve.specs.Ground.{Ground}
 use Rattle.cfs_serve.specs.Report.{status_of, report_text}
 use Rattle.cfs_serve.specs.Played.{IsRunOf}
@@ -23,7 +22,7 @@ pub record Places : Type 0 where
 -- a volume in a file is named, and none in memory
 abbrev NamesPlace : Place → Option Volume → Type 0
 NamesPlace (InMemory cylinders) volume = volume ≡ None
-NamesPlace (InFile path) volume = volume ≡ Some (volumes.Existing path)
+NamesPlace (InFile path pair) volume = volume ≡ Some (volumes.Existing path)
 
 -- it is named and sized as the words have it, or none is named
 abbrev pub NamesVolume : Asked → Option Volume → Type 0
@@ -32,10 +31,10 @@ NamesVolume (Serves service) volume = NamesPlace service.volume volume
 NamesVolume (Shows page) volume = volume ≡ None
 NamesVolume Nothing volume = volume ≡ None
 
--- as many cylinders as a volume may have
-abbrev pub HasCylinders : Volume → Type 0
-HasCylinders (volumes.Fresh path cylinders) = (1 ≤ cylinders) × (cylinders ≤ most_file_cylinders)
-HasCylinders (volumes.Existing path) = Unit {0}
+-- as many cylinders as a volume may have, of pairs of blocks or not
+abbrev pub HasCylinders : (pair : Bool) → Volume → Type 0
+HasCylinders pair (volumes.Fresh path cylinders) = (1 ≤ cylinders) × (cylinders ≤ most_made pair)
+HasCylinders pair (volumes.Existing path) = Unit {0}
 
 -- a disk of so many blocks for a volume that is made, one of any size for one that is there, or none
 abbrev pub FitsVolume : Option Volume → (blocks : Option ℕ) → Type 0
@@ -45,7 +44,7 @@ FitsVolume None blocks = blocks ≡ None
 
 abbrev HasPlaceDisk : Place → (blocks : Option ℕ) → Type 0
 HasPlaceDisk (InMemory cylinders) blocks = blocks ≡ None
-HasPlaceDisk (InFile path) blocks = IsSome blocks
+HasPlaceDisk (InFile path pair) blocks = IsSome blocks
 
 -- and so it is with what the words ask for
 abbrev pub HasDisk : Asked → (blocks : Option ℕ) → Type 0

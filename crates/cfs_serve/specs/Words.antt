@@ -7,12 +7,12 @@ use Rattle.ufs_model.specs.Spoken.{Reading, Is, Unbound, Bad, number_in}
 use Rattle.ufs_model.specs.Word.{word}
 use Rattle.cfs_serve.specs.declared.page.Page.{Page}
 use Rattle.cfs_serve.specs.declared.page.Page.TheVariants as pages
-use Rattle.cfs_serve.specs.Limits.{most_collections, most_cylinders, most_file_cylinders, most_sessions}
+use Rattle.cfs_serve.specs.Limits.{most_collections, most_cylinders, most_file_cylinders, most_pair_cylinders, most_sessions}
 
--- where the volume of a service is: a new one in memory, of so many cylinders, or one in a file
+-- where the volume of a service is: a new one in memory, of so many cylinders, or one in a file, which may be of pairs of blocks
 pub data Place : Type 0 where
   InMemory : (cylinders : ℕ) → Place
-  InFile : (path : List ℕ) → Place
+  InFile : (path : List ℕ) (pair : Bool) → Place
 
 -- the files of a session: where its requests come from, and where its replies go
 pub record Files : Type 0 where
@@ -26,11 +26,12 @@ pub record Service : Type 0 where
   pub collections : ℕ
   pub sessions : List Files
 
--- a volume that is made: its file, its size and its seed
+-- a volume that is made: its file, its size and its seed, and whether it is of pairs of blocks
 pub record Format : Type 0 where
   pub volume : List ℕ
   pub cylinders : ℕ
   pub seed : ℕ
+  pub pair : Bool
 
 -- what was read, where something was
 abbrev pub read_or_none : {A : Type 0} → Reading A → Option A
@@ -81,20 +82,22 @@ numbered None seed collections files = None
 abbrev is_volume_word : List ℕ → Bool
 is_volume_word w = is_file_word w && not (is_stream w)
 
-abbrev serve_of : (volume : List ℕ) (seed collections : ℕ) (files : List (List ℕ)) → Option Service
-serve_of volume seed collections files =
+abbrev serve_of : (pair : Bool) (volume : List ℕ) (seed collections : ℕ) (files : List (List ℕ)) → Option Service
+serve_of pair volume seed collections files =
     if is_volume_word volume && nat_le collections most_collections && are_files files
-    then Some (record { volume = InFile volume; seed = seed; collections = collections; sessions = files_in files }) else None
+    then Some (record { volume = InFile volume pair; seed = seed; collections = collections; sessions = files_in files }) else None
 
-abbrev seeded : List ℕ → Option ℕ → Option ℕ → List (List ℕ) → Option Service
-seeded volume (Some seed) (Some collections) files = serve_of volume seed collections files
-seeded volume (Some seed) None files = None
-seeded volume None collections files = None
+abbrev seeded : (pair : Bool) → List ℕ → Option ℕ → Option ℕ → List (List ℕ) → Option Service
+seeded pair volume (Some seed) (Some collections) files = serve_of pair volume seed collections files
+seeded pair volume (Some seed) None files = None
+seeded pair volume None collections files = None
 
--- `serve VOLUME SEED COLLECTIONS`, and then the pairs `IN OUT`
+-- `serve VOLUME SEED COLLECTIONS` or `pair-serve ..`, and then the pairs `IN OUT`
 abbrev pub serve_in : List (List ℕ) → Option Service
 serve_in (verb ∷ volume ∷ seed ∷ collections ∷ files) =
-    if bytes_eq verb (codes "serve") then seeded volume (read_or_none (number_in seed)) (read_or_none (number_in collections)) files else None
+    if bytes_eq verb (codes "serve") then seeded false volume (read_or_none (number_in seed)) (read_or_none (number_in collections)) files
+    else if bytes_eq verb (codes "pair-serve") then seeded true volume (read_or_none (number_in seed)) (read_or_none (number_in collections)) files
+    else None
 serve_in words = None
 
 -- `play CYLINDERS SEED COLLECTIONS`, and then the pairs `IN OUT`
@@ -103,20 +106,27 @@ play_in (verb ∷ cylinders ∷ seed ∷ collections ∷ files) =
     if bytes_eq verb (codes "play") then numbered (read_or_none (number_in cylinders)) (read_or_none (number_in seed)) (read_or_none (number_in collections)) files else None
 play_in words = None
 
-abbrev format_of : (volume : List ℕ) (cylinders seed : ℕ) → Option Format
-format_of volume cylinders seed =
-    if is_volume_word volume && nat_lt 0 cylinders && nat_le cylinders most_file_cylinders
-    then Some (record { volume = volume; cylinders = cylinders; seed = seed }) else None
+-- the cylinders of the largest volume that is made, of pairs of blocks or not
+abbrev pub most_made : (pair : Bool) → ℕ
+most_made true = most_pair_cylinders
+most_made false = most_file_cylinders
 
-abbrev sized : List ℕ → Option ℕ → Option ℕ → Option Format
-sized volume (Some cylinders) (Some seed) = format_of volume cylinders seed
-sized volume (Some cylinders) None = None
-sized volume None seed = None
+abbrev format_of : (pair : Bool) (volume : List ℕ) (cylinders seed : ℕ) → Option Format
+format_of pair volume cylinders seed =
+    if is_volume_word volume && nat_lt 0 cylinders && nat_le cylinders (most_made pair)
+    then Some (record { volume = volume; cylinders = cylinders; seed = seed; pair = pair }) else None
 
--- `format VOLUME CYLINDERS SEED`
+abbrev sized : (pair : Bool) → List ℕ → Option ℕ → Option ℕ → Option Format
+sized pair volume (Some cylinders) (Some seed) = format_of pair volume cylinders seed
+sized pair volume (Some cylinders) None = None
+sized pair volume None seed = None
+
+-- `format VOLUME CYLINDERS SEED` or `pair-format ..`
 abbrev pub format_in : List (List ℕ) → Option Format
 format_in (verb ∷ volume ∷ cylinders ∷ seed ∷ []) =
-    if bytes_eq verb (codes "format") then sized volume (read_or_none (number_in cylinders)) (read_or_none (number_in seed)) else None
+    if bytes_eq verb (codes "format") then sized false volume (read_or_none (number_in cylinders)) (read_or_none (number_in seed))
+    else if bytes_eq verb (codes "pair-format") then sized true volume (read_or_none (number_in cylinders)) (read_or_none (number_in seed))
+    else None
 format_in words = None
 
 -- a page, by its word alone
@@ -163,6 +173,17 @@ collections_of (Shows page) = 0
 collections_of (Formats format) = 0
 collections_of (Serves service) = service.collections
 collections_of Nothing = 0
+
+-- the volume's file is one of pairs of blocks
+abbrev is_pair_place : Place → Bool
+is_pair_place (InMemory cylinders) = false
+is_pair_place (InFile path pair) = pair
+
+abbrev pub is_pair : Asked → Bool
+is_pair (Shows page) = false
+is_pair (Formats format) = format.pair
+is_pair (Serves service) = is_pair_place service.volume
+is_pair Nothing = false
 
 abbrev pub is_format : Asked → Bool
 is_format (Shows page) = false

@@ -3,6 +3,7 @@
 //! uses one contract, that of `top`. Below it, `serve` serves any number of sessions, and a collector, on whatever server.
 #![tactic(auto)]
 
+mod cached;
 mod hall;
 mod journal;
 mod limits;
@@ -21,7 +22,8 @@ mod words;
 
 pub use hall::{Parts, serve};
 pub use limits::{
-    MOST_COLLECTIONS, MOST_CYLINDERS, MOST_FILE_CYLINDERS, MOST_LINES, MOST_SCRIPT, MOST_SESSIONS,
+    HELD_MAPS, MOST_COLLECTIONS, MOST_CYLINDERS, MOST_FILE_CYLINDERS, MOST_LINES, MOST_SCRIPT,
+    MOST_SESSIONS,
 };
 pub use page::Page;
 pub use paths::{Names, Path, Paths, Volume, WordsFault};
@@ -29,16 +31,3 @@ pub use report::{Cause, Counts, Report, VolumeFault};
 pub use run::{Bay, Ended, top};
 pub use server::Server;
 pub use words::names;
-
-#[cfg(test)]
-mod beside;
-#[cfg(test)]
-mod collections;
-#[cfg(test)]
-mod formats;
-#[cfg(test)]
-mod serves;
-#[cfg(test)]
-mod several;
-#[cfg(test)]
-mod tests;

@@ -6,6 +6,12 @@ pub const MOST_CYLINDERS: u64 = 1_024;
 /// The cylinders of the largest volume in a file.
 pub const MOST_FILE_CYLINDERS: u64 = 65_536;
 
+/// The cylinders of the largest volume of pairs of blocks.
+pub const MOST_PAIR_CYLINDERS: u64 = 16_384;
+
+/// The map blocks that a service holds in memory.
+pub const HELD_MAPS: u32 = 64;
+
 /// The bytes of the longest request file.
 pub const MOST_SCRIPT: usize = 16_777_216;
 

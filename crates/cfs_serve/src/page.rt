@@ -24,6 +24,9 @@ cfs format VOLUME CYLINDERS SEED
     make a volume in the file VOLUME, which must not be there yet
 cfs serve VOLUME SEED COLLECTIONS IN OUT ..
     serve the sessions on the volume in the file VOLUME
+cfs pair-format VOLUME CYLINDERS SEED
+cfs pair-serve VOLUME SEED COLLECTIONS IN OUT ..
+    the same two on a file of three times the blocks, which keeps each block twice, for a device that may tear blocks
 cfs --help
     print this page
 cfs --version

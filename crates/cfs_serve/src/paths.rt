@@ -58,12 +58,14 @@ pub enum Volume {
     Fresh { path: Path, cylinders: u32 },
 }
 
-/// What a command names: its volume, where it has one in a file; the sources of its sessions and their sinks, session by session.
+/// What a command names: its volume, where it has one in a file; the sources of its sessions and their sinks, session by session; and
+/// whether the file is one of pairs of blocks.
 #[derive(Debug, Drop)]
 pub struct Names {
     pub volume: Option<Volume>,
     pub sources: Paths,
     pub sinks: Paths,
+    pub pair: bool,
 }
 
 /// Why words name nothing.

@@ -7,7 +7,8 @@ ghost use Rattle.cfs_serve.specs.Disks.{MakesVolume, OnDisk};
 ghost use Rattle.cfs_serve.specs.Ground.{ground_of};
 ghost use Rattle.cfs_serve.specs.Top.{Said, before, after};
 
-use crate::play::{Played, nothing, play, serve_volume};
+use crate::cached::serve_cached;
+use crate::play::{Played, nothing, play};
 use crate::report::{Cause, Report};
 use crate::words::{format_asked, page_asked, play_asked, serve_asked};
 use cfs_base::{Disk, Failed, Gate, Sink, Source};
@@ -115,7 +116,7 @@ fn serve_asked_on<
     }
     match (serve_asked(words), disk) {
         (Some(served), Some(disk)) => {
-            let (played, disk) = serve_volume(
+            let (played, disk) = serve_cached(
                 rt,
                 alloc,
                 gate,

@@ -4,9 +4,11 @@ ghost use Rattle.std.specs.List.{list_all};
 ghost use Rattle.ufs_model.specs.Spoken.{number_in};
 ghost use Rattle.cfs_serve.specs.Whole.{HasCylinders, HasPlaces, NamesVolume};
 ghost use Rattle.cfs_serve.specs.Words as spec;
-ghost use Rattle.cfs_serve.specs.Words.{read_or_none, InFile, InMemory, Service, Serves, Nothing, asked_in, files_in, format_in, inputs_in, is_file_word, outputs_in, page_in, play_in, serve_in, streams_in};
+ghost use Rattle.cfs_serve.specs.Words.{read_or_none, InFile, InMemory, Service, Serves, Nothing, asked_in, files_in, format_in, inputs_in, is_file_word, most_made, outputs_in, page_in, play_in, serve_in, streams_in};
 
-use crate::limits::{MOST_COLLECTIONS, MOST_CYLINDERS, MOST_FILE_CYLINDERS, MOST_SESSIONS};
+use crate::limits::{
+    MOST_COLLECTIONS, MOST_CYLINDERS, MOST_FILE_CYLINDERS, MOST_PAIR_CYLINDERS, MOST_SESSIONS,
+};
 use crate::page::Page;
 use crate::paths::{Names, Volume, WordsFault, no_paths, path_of, session_paths};
 use cfs_script::number_of;
@@ -28,6 +30,8 @@ pub(crate) struct Served<'a> {
     pub seed: u64,
     pub collections: u64,
     pub files: &'a [String],
+    /// Its file is one of pairs of blocks.
+    pub pair: bool,
 }
 
 /// A volume that is to be made.
@@ -36,6 +40,8 @@ pub(crate) struct Formatted<'a> {
     pub volume: &'a str,
     pub cylinders: u64,
     pub seed: u64,
+    /// Its file is one of pairs of blocks.
+    pub pair: bool,
 }
 
 /// The number that a word writes: 1 to 20 decimal digits within a u64.
@@ -160,13 +166,15 @@ fn volume_words<'a>(
 ) -> Option<Served<'a>>
     ensures none { IsNone result ↔ (serve_in (verb.now ∷ volume.now ∷ seed.now ∷ collections.now ∷ map string_bytes files.now) ≡ None) }
     ensures some { IfSome result (λ a. serve_in (verb.now ∷ volume.now ∷ seed.now ∷ collections.now ∷ map string_bytes files.now)
-        ≡ Some (record { volume = InFile a.volume.now; seed = a.seed; collections = a.collections; sessions = files_in (map string_bytes a.files.now) })) }
+        ≡ Some (record { volume = InFile a.volume.now a.pair; seed = a.seed; collections = a.collections; sessions = files_in (map string_bytes a.files.now) })) }
     ensures few { IfSome result (λ a. length (files_in (map string_bytes a.files.now)) ≤ 64) }
     ensures most { IfSome result (λ a. a.collections ≤ 1000) }
 {
-    if verb != "serve" {
-        return None;
-    }
+    let pair = match verb {
+        "serve" => false,
+        "pair-serve" => true,
+        _ => return None,
+    };
     let seed = number(seed)?;
     let collections = number(collections)?;
     if volume.is_empty() || is_stream(volume) || collections > MOST_COLLECTIONS {
@@ -180,6 +188,7 @@ fn volume_words<'a>(
         seed,
         collections,
         files,
+        pair,
     })
 }
 
@@ -187,7 +196,7 @@ fn volume_words<'a>(
 pub(crate) fn serve_asked(words: &[String]) -> Option<Served<'_>>
     ensures none { IsNone result ↔ (serve_in (map string_bytes words.now) ≡ None) }
     ensures some { IfSome result (λ a. serve_in (map string_bytes words.now)
-        ≡ Some (record { volume = InFile a.volume.now; seed = a.seed; collections = a.collections; sessions = files_in (map string_bytes a.files.now) })) }
+        ≡ Some (record { volume = InFile a.volume.now a.pair; seed = a.seed; collections = a.collections; sessions = files_in (map string_bytes a.files.now) })) }
     ensures few { IfSome result (λ a. length (files_in (map string_bytes a.files.now)) ≤ 64) }
     ensures most { IfSome result (λ a. a.collections ≤ 1000) }
 {
@@ -207,24 +216,27 @@ pub(crate) fn serve_asked(words: &[String]) -> Option<Served<'_>>
 fn four_words<'a>(verb: &str, volume: &'a str, cylinders: &str, seed: &str) -> Option<Formatted<'a>>
     ensures none { IsNone result ↔ (format_in (verb.now ∷ volume.now ∷ cylinders.now ∷ seed.now ∷ []) ≡ None) }
     ensures some { IfSome result (λ a. format_in (verb.now ∷ volume.now ∷ cylinders.now ∷ seed.now ∷ [])
-        ≡ Some (record { volume = a.volume.now; cylinders = a.cylinders; seed = a.seed })) }
-    ensures sized { IfSome result (λ a. (1 ≤ a.cylinders) × (a.cylinders ≤ 65536)) }
+        ≡ Some (record { volume = a.volume.now; cylinders = a.cylinders; seed = a.seed; pair = a.pair })) }
+    ensures sized { IfSome result (λ a. (1 ≤ a.cylinders) × (a.cylinders ≤ most_made a.pair)) }
 {
-    if verb != "format" {
-        return None;
-    }
+    let (pair, most) = match verb {
+        "format" => (false, MOST_FILE_CYLINDERS),
+        "pair-format" => (true, MOST_PAIR_CYLINDERS),
+        _ => return None,
+    };
     let cylinders = number(cylinders)?;
     let seed = number(seed)?;
     if volume.is_empty() || is_stream(volume) {
         return None;
     }
-    if cylinders == 0 || cylinders > MOST_FILE_CYLINDERS {
+    if cylinders == 0 || cylinders > most {
         return None;
     }
     Some(Formatted {
         volume,
         cylinders,
         seed,
+        pair,
     })
 }
 
@@ -232,8 +244,8 @@ fn four_words<'a>(verb: &str, volume: &'a str, cylinders: &str, seed: &str) -> O
 pub(crate) fn format_asked(words: &[String]) -> Option<Formatted<'_>>
     ensures none { IsNone result ↔ (format_in (map string_bytes words.now) ≡ None) }
     ensures some { IfSome result (λ a. format_in (map string_bytes words.now)
-        ≡ Some (record { volume = a.volume.now; cylinders = a.cylinders; seed = a.seed })) }
-    ensures sized { IfSome result (λ a. (1 ≤ a.cylinders) × (a.cylinders ≤ 65536)) }
+        ≡ Some (record { volume = a.volume.now; cylinders = a.cylinders; seed = a.seed; pair = a.pair })) }
+    ensures sized { IfSome result (λ a. (1 ≤ a.cylinders) × (a.cylinders ≤ most_made a.pair)) }
 {
     let [verb, volume, cylinders, seed] = words else {
         return None;
@@ -263,11 +275,17 @@ pub(crate) fn page_asked(words: &[String]) -> Option<Page>
 }
 
 /// The volume that is to be made, and no other file.
-fn volume_names(alloc: Global, volume: &str, cylinders: u64) -> Result<Names, WordsFault>
-    requires { cylinders ≤ 65536 }
+fn volume_names(
+    alloc: Global,
+    volume: &str,
+    cylinders: u64,
+    pair: bool,
+) -> Result<Names, WordsFault>
+    requires { cylinders ≤ most_made pair }
     ensures fault { IfErr result (λ e. e ≡ WordsFault.Memory) }
     ensures volume { IfOk result (λ n. n.volume ≡ Some (Volume.Fresh volume.now cylinders)) }
     ensures places { IfOk result (λ n. (n.sources ≡ []) × (n.sinks ≡ [])) }
+    ensures pair { IfOk result (λ n. n.pair ≡ pair) }
 {
     let Ok(path) = path_of(alloc, volume) else {
         return Err(WordsFault::Memory);
@@ -279,6 +297,7 @@ fn volume_names(alloc: Global, volume: &str, cylinders: u64) -> Result<Names, Wo
         }),
         sources: no_paths(alloc),
         sinks: no_paths(alloc),
+        pair,
     })
 }
 
@@ -287,11 +306,13 @@ fn session_names(
     alloc: Global,
     volume: Option<Volume>,
     files: &[String],
+    pair: bool,
 ) -> Result<Names, WordsFault>
     ensures fault { IfErr result (λ e. e ≡ WordsFault.Memory) }
     ensures volume { IfOk result (λ n. n.volume ≡ volume) }
     ensures sources { IfOk result (λ n. n.sources ≡ inputs_in (map string_bytes files.now)) }
     ensures sinks { IfOk result (λ n. n.sinks ≡ outputs_in (map string_bytes files.now)) }
+    ensures pair { IfOk result (λ n. n.pair ≡ pair) }
 {
     let Ok((sources, sinks)) = session_paths(alloc, files) else {
         return Err(WordsFault::Memory);
@@ -300,27 +321,35 @@ fn session_names(
         volume,
         sources,
         sinks,
+        pair,
     })
 }
 
 /// The volume that is to be served, and the files of its sessions.
-fn served_names(alloc: Global, volume: &str, files: &[String]) -> Result<Names, WordsFault>
+fn served_names(
+    alloc: Global,
+    volume: &str,
+    files: &[String],
+    pair: bool,
+) -> Result<Names, WordsFault>
     ensures fault { IfErr result (λ e. e ≡ WordsFault.Memory) }
     ensures volume { IfOk result (λ n. n.volume ≡ Some (Volume.Existing volume.now)) }
     ensures sources { IfOk result (λ n. n.sources ≡ inputs_in (map string_bytes files.now)) }
     ensures sinks { IfOk result (λ n. n.sinks ≡ outputs_in (map string_bytes files.now)) }
+    ensures pair { IfOk result (λ n. n.pair ≡ pair) }
 {
     let Ok(path) = path_of(alloc, volume) else {
         return Err(WordsFault::Memory);
     };
-    session_names(alloc, Some(Volume::Existing { path }), files)
+    session_names(alloc, Some(Volume::Existing { path }), files, pair)
 }
 
 /// What the words of a command name: nothing for a page. `Words` comes exactly where they are of no form.
 pub fn names(alloc: Global, words: &[String]) -> Result<Names, WordsFault>
     ensures words { result ≡ Err WordsFault.Words ↔ (asked_in (map string_bytes words.now) ≡ Nothing) }
     ensures volume { IfOk result (λ n. NamesVolume (asked_in (map string_bytes words.now)) n.volume) }
-    ensures sized { IfOk result (λ n. IfSome n.volume HasCylinders) }
+    ensures sized { IfOk result (λ n. IfSome n.volume (HasCylinders n.pair)) }
+    ensures pair { IfOk result (λ n. n.pair ≡ spec.is_pair (asked_in (map string_bytes words.now))) }
     ensures places { IfOk result (λ n. HasPlaces (asked_in (map string_bytes words.now)) (length n.sources) (length n.sinks)) }
     ensures sources { IfOk result (λ n. (s : Service) → asked_in (map string_bytes words.now) ≡ Serves s → n.sources ≡ map (λ f. f.input) s.sessions) }
     ensures sinks { IfOk result (λ n. (s : Service) → asked_in (map string_bytes words.now) ≡ Serves s → n.sinks ≡ map (λ f. f.output) s.sessions) }
@@ -330,16 +359,17 @@ pub fn names(alloc: Global, words: &[String]) -> Result<Names, WordsFault>
             volume: None,
             sources: no_paths(alloc),
             sinks: no_paths(alloc),
+            pair: false,
         });
     }
     if let Some(format) = format_asked(words) {
-        return volume_names(alloc, format.volume, format.cylinders);
+        return volume_names(alloc, format.volume, format.cylinders, format.pair);
     }
     if let Some(play) = play_asked(words) {
-        return session_names(alloc, None, play.files);
+        return session_names(alloc, None, play.files, false);
     }
     match serve_asked(words) {
-        Some(served) => served_names(alloc, served.volume, served.files),
+        Some(served) => served_names(alloc, served.volume, served.files, served.pair),
         None => Err(WordsFault::Words),
     }
 }

@@ -65,6 +65,3 @@ fn read_more<S: Source>(
     bytes.extend_from_slice(&buffer[..count])?;
     Ok(count)
 }
-
-#[cfg(test)]
-mod tests;

@@ -142,7 +142,8 @@ impl Volume {
             return None;
         }
         if self.collector.has_rescue() {
-            return self.collector.take(&self.names).ok();
+            self.collector.take(&self.names);
+            return Some(());
         }
         if self.collector.has_grey() {
             self.collector.scan(&mut self.disk, &self.names).ok()?;

@@ -3,6 +3,7 @@
 //! which costs the same however long they are.
 #![tactic(auto)]
 
+mod bits;
 mod marks;
 mod rescues;
 

@@ -1,40 +1,38 @@
 //! Marked objects, and grey indices.
-ghost use Rattle.std.specs.Prelude.{◌≡◌, ◌+◌, ◌<◌, ◌≤◌, OnOk, OnErr, IfOk, IfSome, IsOk, Some};
-ghost use Rattle.collector_marks.specs.Kept.{SameMarks, blocks_of, colours_of};
+ghost use Rattle.std.specs.Prelude.{◌≡◌, ◌<◌, IfOk, IfSome, Some, None};
+ghost use Rattle.collector_marks.specs.Kept.{blocks_of, colours_of};
 ghost use Rattle.marking.specs.Colours.{first_grey, is_index, moved, none_marked, shaded};
 
+use crate::bits::Bits;
 use cfs_base::{Kind, NoMemory, Puid};
 use marking::Grey;
 use std::alloc::Global;
 use std::marker::Model;
 
-/// The marked objects by their root blocks, and the grey indices. Clauses see the set and the list, how many blocks the
-/// volume has, and for how many more grey indices there is room.
+/// The marked objects by their root blocks, and the grey indices, of which there is room for as many as the volume has
+/// blocks. Clauses see the set, the list, and how many blocks the volume has.
 #[derive(Debug, Drop)]
 pub struct Marks {
     /// For each block of the volume whether the object with this root block is marked.
-    marked: Vec<bool>,
+    marked: Bits,
     /// The grey indices, the first last.
     grey: Vec<Grey>,
 }
 
 impl Model for Marks {
+    ghost use Rattle.std.specs.Prelude.{reverse};
     ghost use Rattle.collector_marks.specs.Kept.{Marked};
 
     ghost Value = { Marked };
 
-    ghost use Rattle.std.specs.Prelude.{◌-◌, reverse, vec_len, vec_capacity};
+    ghost view = { λ a. record { marks = a.marked; grey = reverse a.grey.items } };
 
-    ghost view = { λ a. record {
-      marks = a.marked.items;
-      grey = reverse a.grey.items;
-      room = vec_capacity a.grey - vec_len a.grey;
-    } };
+    ghost use Rattle.std.specs.Prelude.{◌<◌, ◌≤◌, All, length, vec_capacity, vec_len};
+    ghost use Rattle.collector_marks.specs.Kept.{count_marked};
 
-    ghost use Rattle.std.specs.Prelude.{◌<◌, length, All};
-
-    // Each is an object of the volume.
-    ghost invariant = { λ a. All (λ e. e.id.block < length a.marked.items) a.grey.items };
+    // Each is an object of the volume, and there are no more of them than are marked.
+    ghost invariant = { λ a. All (λ e. e.id.block < length a.marked) a.grey.items × (vec_len a.grey ≤ count_marked a.marked)
+        × (length a.marked ≤ vec_capacity a.grey) };
 }
 
 fn is_index(kind: Kind) -> bool
@@ -47,62 +45,35 @@ fn is_index(kind: Kind) -> bool
 }
 
 impl Marks {
-    /// Nothing is marked on a volume of so many blocks.
+    /// Nothing is marked on a volume of so many blocks. All memory is taken here.
     pub fn new(alloc: Global, blocks: u32) -> Result<Marks, NoMemory>
         ensures none { IfOk result (λ marks. colours_of marks ≡ none_marked) }
         ensures blocks { IfOk result (λ marks. blocks_of marks ≡ blocks) }
     {
-        let marked = vec![in alloc; false; blocks as usize]?;
-        Ok(Marks {
-            marked,
-            grey: Vec::new(alloc),
-        })
+        let marked = Bits::new(alloc, blocks)?;
+        let grey = Vec::with_capacity(alloc, blocks as usize)?;
+        Ok(Marks { marked, grey })
     }
 
-    /// Nothing is marked any more. Takes no memory.
+    /// Nothing is marked any more.
     pub fn clear(&mut self)
         ensures none { colours_of self.new ≡ none_marked }
         ensures blocks { blocks_of self.new ≡ blocks_of self.old }
-        ensures room { self.old.room ≤ self.new.room }
     {
-        self.marked.fill(false);
+        self.marked.clear();
         self.grey.clear();
     }
 
-    /// Makes room for so many grey indices more.
-    pub fn reserve(&mut self, more: usize) -> Result<(), NoMemory>
-        ensures room { OnOk result (more ≤ self.new.room) }
-        ensures same { SameMarks self.old self.new }
-    {
-        self.grey.reserve(more)?;
-        Ok(())
-    }
-
-    /// Marks an object, and makes it the first grey index where it is an index; nothing where it is marked. Want of
-    /// memory changes nothing.
-    pub fn shade(&mut self, id: Puid, kind: Kind) -> Result<(), NoMemory>
+    /// Marks an object, and makes it the first grey index where it is an index; nothing where it is marked. Takes no memory.
+    pub fn shade(&mut self, id: Puid, kind: Kind)
         requires { id.block < blocks_of self.old }
-        ensures shaded { OnOk result (colours_of self.new ≡ shaded id kind (colours_of self.old)) }
-        ensures same { OnErr result (SameMarks self.old self.new) }
-        ensures blocks { blocks_of self.new ≡ blocks_of self.old }
-    {
-        self.reserve(1)?;
-        self.shade_reserved(id, kind);
-        Ok(())
-    }
-
-    /// The same where there is room. Takes no memory.
-    pub fn shade_reserved(&mut self, id: Puid, kind: Kind)
-        requires block { id.block < blocks_of self.old }
-        requires room { 0 < self.old.room }
         ensures shaded { colours_of self.new ≡ shaded id kind (colours_of self.old) }
         ensures blocks { blocks_of self.new ≡ blocks_of self.old }
-        ensures room { self.old.room ≤ self.new.room + 1 }
     {
         if self.is_marked(id.block) {
             return;
         }
-        self.marked[id.block as usize] = true;
+        self.marked.put(id.block);
         if is_index(kind) {
             self.grey.push_reserved(Grey { id, cursor: 0 });
         }
@@ -112,10 +83,7 @@ impl Marks {
     pub fn is_marked(&self, block: u32) -> bool
         ensures { result ≡ (colours_of self.now).marked block }
     {
-        match self.marked.get(block as usize) {
-            Some(marked) => *marked,
-            None => false,
-        }
+        self.marked.has(block)
     }
 
     /// How many blocks the volume has.
@@ -133,11 +101,10 @@ impl Marks {
         self.grey.last().copied()
     }
 
-    /// Moves the cursor of the first grey index; nothing where none is grey.
+    /// Moves the cursor of the first grey index; nothing where none is grey. Takes no memory.
     pub fn advance(&mut self, cursor: u32)
         ensures moved { colours_of self.new ≡ moved (Some cursor) (colours_of self.old) }
         ensures blocks { blocks_of self.new ≡ blocks_of self.old }
-        ensures room { self.new.room ≡ self.old.room }
     {
         if let Some(first) = self.grey.pop() {
             self.grey.push_reserved(Grey {
@@ -147,11 +114,10 @@ impl Marks {
         }
     }
 
-    /// The first grey index is grey no more; nothing where none is grey.
+    /// The first grey index is grey no more; nothing where none is grey. Takes no memory.
     pub fn finish_grey(&mut self)
         ensures moved { colours_of self.new ≡ moved None (colours_of self.old) }
         ensures blocks { blocks_of self.new ≡ blocks_of self.old }
-        ensures room { self.old.room ≤ self.new.room }
     {
         let _ = self.grey.pop();
     }

@@ -1,5 +1,5 @@
 -- What the sweep of a cylinder does to a disk, from what its calls do.
-use Rattle.std.proofs.Common.{◌≡◌, ◌⊎◌, inl, inr, ℕ, ◌+◌, ◌*◌, ◌/◌, ◌%◌, ◌<◌, ◌≤◌, List, length, set, count_by, refl, sym, ap, ap₂, ◌∙◌, subst, arith, Bool, true, false, IsTrue, Some, None, Ok, Err, Result}
+use Rattle.std.proofs.Common.{◌≡◌, ℕ, ◌+◌, ◌*◌, ◌/◌, ◌<◌, List, length, set, count_by, refl, sym, ap, ap₂, ◌∙◌, subst, arith, true, false, Ok, Err}
 use Rattle.std.specs.Prelude.{IsSome}
 use Rattle.cfs_base.specs.Calls.{HasStopped, MakesAtMost, OnlyReads}
 use Rattle.cfs_base.specs.Disk.{Image, Nothing}
@@ -17,7 +17,7 @@ use Rattle.cfs_base.specs.Refusals.{trouble_had_tried}
 use Rattle.cyl_alloc.specs.Space.{AreCounts, IsFreeElsewhere, Kept, free_in_cylinder}
 use Rattle.cyl_map.specs.declared.entry.MapEntry.{MapEntry}
 use Rattle.cyl_map.specs.Map.{map_spelling}
-use Rattle.cyl_map.specs.Volume.{entry_in, map_of}
+use Rattle.cyl_map.specs.Volume.{map_of}
 use Rattle.puid_space.specs.Directory.{has_root_in}
 use Rattle.puid_space.specs.Kinds.{kinds_of}
 use Rattle.ufs_model.specs.Graph.{Graph, has_block}
@@ -30,10 +30,10 @@ use Rattle.vol_owners.specs.Account.{Accounts, Opened}
 use Rattle.vol_owners.proofs.Steps.{sweep_goes_on}
 use Rattle.collector_steps.specs.declared.sweep.Pass.{Pass}
 use Rattle.collector_steps.specs.Collecting.{Serves}
-use Rattle.collector_steps.specs.Sweep.{IsSweptOf, MayBegin, goes, swept_map}
+use Rattle.collector_steps.specs.Sweep.{IsSweptOf, goes, swept_map}
 use Rattle.collector_steps.specs.Swept.{IsDamage, IsSweep}
 use Rattle.collector_steps.proofs.Sweeping.{frames, sweeps}
-use Rattle.collector_steps.proofs.Written.{after_of, counted, elsewhere, swept_so, unswept_so}
+use Rattle.collector_steps.proofs.Written.{after_of, counted, elsewhere, swept_so}
 
 -- ---- a disk that serves
 

@@ -1,7 +1,6 @@
 -- Why a leaf of an index isn't read: what a device call or a pointer past the disk tells of the index.
-use Rattle.std.proofs.Common.{◌≡◌, ◌≢◌, ℕ, ◌/◌, ◌%◌, ◌≤◌, ◌++◌, List, [], ◌∷◌, get_or, false, refl, sym, ap, ◌∙◌, subst}
-use Rattle.cfs_base.specs.Calls.{OnlyReads, HasFailed, HasStopped}
-use Rattle.cfs_base.specs.Codes.{past_disk}
+use Rattle.std.proofs.Common.{◌≡◌, ◌≢◌, ℕ, ◌/◌, ◌%◌, ◌≤◌, List, [], ◌∷◌, get_or, false, refl, sym, ap, ◌∙◌, subst}
+use Rattle.cfs_base.specs.Calls.{OnlyReads}
 use Rattle.cfs_base.specs.Disk.{Image, block_at}
 use Rattle.cfs_base.specs.Run.{Tells}
 use Rattle.cfs_base.specs.declared.disk.Disk.{Ghosts}
@@ -16,9 +15,9 @@ use Rattle.block_tree.specs.Pointers.{node_pointers, pointers_of}
 use Rattle.block_tree.specs.Reads.{IsFault, IsPast}
 use Rattle.block_tree.specs.Root.{IsRootBlock, root_spelling}
 use Rattle.block_tree.specs.Step.{IsPastFrom}
-use Rattle.block_tree.specs.Tree.{leaf_block, levels_of, path_to, tree_of}
+use Rattle.block_tree.specs.Tree.{leaf_block, tree_of}
 use Rattle.block_tree.proofs.Trees.{past_is, path_is, node_block}
-use Rattle.collector_steps.specs.Scan.{IsIndexDamage, IsLeafTrouble, IsScanTrouble, LeadsPast, PastDisk, trouble_of}
+use Rattle.collector_steps.specs.Scan.{IsLeafTrouble, IsScanTrouble, LeadsPast, PastDisk, trouble_of}
 
 -- a pointer of the root
 past_node : (image : Image) (size r from b : ℕ) → IsPastFrom image size (block_at image r) from b → LeadsPast image size r r

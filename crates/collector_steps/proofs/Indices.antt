@@ -1,6 +1,6 @@
 -- A leaf of an index as the disk has it, and as the model has it.
-use Rattle.std.proofs.Common.{◌≡◌, ◌≢◌, ◌⊎◌, inl, inr, ℕ, zero, suc, ◌+◌, ◌*◌, ◌/◌, ◌<◌, ◌≤◌, List, [], ◌∷◌, ◌++◌, length, take, drop, get_or, replicate, refl, sym, ◌∙◌, ap, subst, arith, Bool, true, false, cond, Option, Some, None, is_some, nat_le}
-use Rattle.std.specs.Prelude.{find, map, IfSome}
+use Rattle.std.proofs.Common.{◌≡◌, ◌≢◌, inl, inr, ℕ, zero, suc, ◌+◌, ◌*◌, ◌/◌, ◌<◌, ◌≤◌, List, [], ◌∷◌, ◌++◌, length, take, drop, get_or, replicate, refl, sym, ◌∙◌, ap, subst, arith, Bool, true, false, Option, Some, None, is_some}
+use Rattle.std.specs.Prelude.{map, IfSome}
 use Rattle.std.specs.List.{filter_map, range_with_len}
 use Rattle.std.proofs.lemmas.Bool.{cases_lt}
 use Rattle.std.proofs.lemmas.List.{take_at}
@@ -11,7 +11,6 @@ use Rattle.cfs_base.specs.declared.kind.Kind.TheVariants as kinds
 use Rattle.cfs_base.specs.declared.disk.Disk.{Ghosts}
 use Rattle.cfs_base.specs.declared.refusal.Trouble.{Trouble}
 use Rattle.cfs_base.specs.declared.refusal.Trouble.TheVariants as trouble
-use Rattle.cfs_base.specs.Refusals.{refused_by}
 use Rattle.cfs_base.specs.Run.{Tells}
 use Rattle.block_tree.specs.declared.root.Root as roots
 use Rattle.block_tree.specs.declared.step.HeldStep.{HeldStep}
@@ -33,7 +32,7 @@ use Rattle.marking.proofs.Steps.{find_on, find_least, find_none}
 use Rattle.vol_image.specs.Part.{part_at, is_committed}
 use Rattle.vol_image.specs.Reading.{IsTree, object_with, leaf_in, held_in, file_bytes, leaf_content, slot_in}
 use Rattle.vol_image.specs.Seen.{Held, held_at, tree_in}
-use Rattle.vol_image.specs.Sight.{source, sight}
+use Rattle.vol_image.specs.Sight.{sight}
 use Rattle.vol_image.specs.Sound.{Holds}
 use Rattle.vol_image.proofs.AtRoot.{read_by_root}
 use Rattle.vol_image.proofs.Views.{held}
@@ -190,7 +189,7 @@ tree_of_index image g holds id i at no_bit =
 
 -- it isn't damaged
 pub sound_index : {D : Type 0} (g : Ghosts D) (old new : D) (r : ℕ) (root : roots.Root) (i : Index) (t : Trouble) → Tells g old → AreBlocks (g.content old) → length (g.content old) ≡ g.blocks old
-    → IsTree (length (g.content old)) r (tree_in (g.content old) (block_at (g.content old) r)) root (objects.Index i) → IsScanTrouble g old new r t → ¬ IsDamaged (refused_by t)
+    → IsTree (length (g.content old)) r (tree_in (g.content old) (block_at (g.content old) r)) root (objects.Index i) → IsScanTrouble g old new r t → ¬ IsDamaged t
 sound_index g old new r root i (trouble.Disk tried) tells blocks size tree is = λ h. h
 sound_index g old new r root i (trouble.Damaged damage) tells blocks size tree (NoRoot code block none) = λ h. none tells root tree.spelled
 sound_index g old new r root i (trouble.Damaged damage) tells blocks size tree (PastDisk code past) =

@@ -1,7 +1,6 @@
 -- How a collector that sweeps goes on.
-use Rattle.std.proofs.Common.{◌≡◌, ℕ, ◌+◌, ◌*◌, ◌/◌, ◌<◌, ◌≤◌, List, length, refl, sym, ap, ◌∙◌, subst, arith, Bool, true, false, cond, nat_lt}
-use Rattle.std.proofs.lemmas.Bool.{false_from_ne_true, both_ways, ltb-true, ltb-false}
-use Rattle.std.proofs.lemmas.Bool.Decides.{nat_tests}
+use Rattle.std.proofs.Common.{◌≡◌, ℕ, ◌+◌, ◌*◌, ◌/◌, ◌<◌, ◌≤◌, List, length, refl, sym, subst, arith, true, false, cond, nat_lt}
+use Rattle.std.proofs.lemmas.Bool.{false_from_ne_true, both_ways, ltb-false}
 use Rattle.cfs_base.specs.Disk.{Image}
 use Rattle.cfs_base.specs.Outside.{count_after}
 use Rattle.cfs_base.specs.declared.identifier.Puid.{Puid}
@@ -29,20 +28,6 @@ ready_below pass phases.Marking blocks spare of ready = absurd of
 ready_below pass (phases.Inner c) blocks spare of ready = ready
 ready_below pass (phases.Roots c) blocks spare of ready = ready
 ready_below pass phases.Swept blocks spare of ready = absurd of
-
--- and so is the next
-pub ready_on : (pass : Pass) (p : Phase) (blocks spare : ℕ) → 0 < blocks → IsPhaseOf pass p → IsReady (next_phase (blocks / 64) p) blocks spare
-ready_on pass phases.Idle blocks spare some of = absurd of
-ready_on pass phases.Marking blocks spare some of = absurd of
-ready_on pass (phases.Inner c) blocks spare some of = elim (nat_lt (c + 1) (blocks / 64)) as (λ t. nat_lt (c + 1) (blocks / 64) ≡ t → IsReady (cond t (phases.Inner (c + 1)) (phases.Roots 0)) blocks spare) [
-  | true ↦ λ less. omega (arith, ltb-true (c + 1) (blocks / 64) less)
-  | false ↦ λ last. omega (arith, some)
-] refl
-ready_on pass (phases.Roots c) blocks spare some of = elim (nat_lt (c + 1) (blocks / 64)) as (λ t. nat_lt (c + 1) (blocks / 64) ≡ t → IsReady (cond t (phases.Roots (c + 1)) phases.Swept) blocks spare) [
-  | true ↦ λ less. omega (arith, ltb-true (c + 1) (blocks / 64) less)
-  | false ↦ λ last. tt
-] refl
-ready_on pass phases.Swept blocks spare some of = absurd of
 
 -- roots are swept last
 pub may_begin : (pass : Pass) (p : Phase) (a : Image) (s : State) (k : Collecting) → IsPhaseOf pass p → length a ≡ volume_of k → IsCollecting p a s k → MayBegin pass a s.graph

@@ -1,16 +1,15 @@
 -- Objects shaded one after another, and what a directory's look-up tells.
-use Rattle.std.proofs.Common.{◌≡◌, ℕ, zero, suc, ◌+◌, ◌-◌, ◌<◌, List, [], ◌∷◌, ◌++◌, drop, get_or, length, refl, sym, ap, ◌∙◌, arith, Bool, true, false, cond, Option, Some, None, nat_lt, ◌&&◌, add-one}
+use Rattle.std.proofs.Common.{◌≡◌, ℕ, suc, ◌+◌, ◌-◌, ◌<◌, List, [], ◌∷◌, refl, sym, arith, true, false, cond, Option, Some, None, nat_lt, ◌&&◌}
 use Rattle.std.specs.Prelude.{map, option_to_list, IfSome}
-use Rattle.std.specs.Ordering.{is_eq}
 use Rattle.std.specs.List.{list_all, filter_map, cons_option, range_with_len}
 use Rattle.std.specs.Map.{keys_of}
 use Rattle.std.proofs.lemmas.Bool.{and_parts}
 use Rattle.std.proofs.lemmas.Bool.Decides.{nat_tests}
 use Rattle.cfs_base.specs.declared.identifier.Puid.{Puid}
 use Rattle.cfs_base.specs.declared.kind.Kind.{Kind}
-use Rattle.ufs_model.specs.Identifier.{puid_cmp, same_puid, rises}
+use Rattle.ufs_model.specs.Identifier.{same_puid, rises}
 use Rattle.ufs_model.proofs.Reached.{same_puid_is}
-use Rattle.marking.specs.Colours.{Colours, all_shaded, shaded_in}
+use Rattle.marking.specs.Colours.{Colours, all_shaded}
 use Rattle.puid_space.specs.Directory.{Listing, is_listing, kind_in, blocks_rise}
 use Rattle.vol_image.specs.Reading.{slot_in}
 use Rattle.collector_steps.specs.Scan.{ids_from}

@@ -1,10 +1,8 @@
 -- What the slots of a leaf hold: told by its bytes, and by the object.
-use Rattle.std.proofs.Common.{◌≡◌, ℕ, zero, suc, ◌+◌, ◌-◌, ◌*◌, ◌<◌, ◌≤◌, refl, sym, ap, ◌∙◌, arith, Bool, true, false, cond, ◌&&◌, ◌⊎◌, inl, inr, List, [], ◌∷◌, ◌++◌, length, get_or, take, drop, replicate, Option, Some, None, ◌==◌}
-use Rattle.std.specs.Prelude.{map, slice_range}
-use Rattle.std.specs.Int.{from_be_bytes, w32}
+use Rattle.std.proofs.Common.{◌≡◌, ℕ, zero, suc, ◌+◌, ◌*◌, ◌<◌, ◌≤◌, refl, sym, ap, ◌∙◌, arith, inl, inr, List, [], ◌∷◌, ◌++◌, length, get_or, take, drop, replicate, Option, Some, None}
+use Rattle.std.specs.Prelude.{map}
 use Rattle.std.specs.List.{filter_map, flat_map, cons_option, range_with_len}
 use Rattle.std.proofs.lemmas.Bool.{cases_lt}
-use Rattle.std.proofs.lemmas.Bool.Decides.{nat_tests}
 use Rattle.std.proofs.lemmas.List.{get_or-drop, get_or-take, get_or_past, get_or_append_left, get_or-append-add, length-take, length-replicate, length-append}
 use Rattle.std.proofs.lemmas.List.FromFn.{get_or-map-range_with_len, length-map-range_with_len}
 use Rattle.cfs_base.specs.declared.identifier.Puid.{Puid}
@@ -14,23 +12,6 @@ use Rattle.vol_image.specs.Seen.{Held}
 use Rattle.collector_steps.specs.Scan.{ids_from}
 
 -- ---- a slot as it is read
-
-number_is : (bytes : List ℕ) (at k : ℕ) → at ≡ 4 * k → from_be_bytes w32 (slice_range bytes at (at + 4)) ≡ number_at bytes k
-number_is bytes at k is = let width : 4 * k + 4 - 4 * k ≡ 4 = omega arith in rw (is, width) refl
-
-none_zero : (block word : ℕ) → ((block ≡ 0) × (word ≡ 0 → ⊥)) ⊎ (block ≡ 0 → ⊥) → ((block == 0) && (word == 0)) ≡ false
-none_zero zero zero (inl h) = elim (h.1 refl) [ ]
-none_zero zero zero (inr h) = elim (h refl) [ ]
-none_zero zero (suc word) h = grind (arith, nat_tests)
-none_zero (suc block) word h = let not_zero : (suc block == 0) ≡ false = grind (arith, nat_tests) in rw not_zero refl
-
-pub slot_some : (bytes : List ℕ) (slot block word : ℕ) → block ≡ from_be_bytes w32 (slice_range bytes (8 * slot) (8 * slot + 4))
-    → word ≡ from_be_bytes w32 (slice_range bytes (8 * slot + 4) (8 * slot + 4 + 4)) → ((block ≡ 0) × (word ≡ 0 → ⊥)) ⊎ (block ≡ 0 → ⊥)
-    → Some (record { block = block; word = word }) ≡ slot_in bytes slot
-slot_some bytes slot block word at then some =
-    let first : block ≡ number_at bytes (2 * slot) = at ∙ number_is bytes (8 * slot) (2 * slot) (omega arith) in
-    let second : word ≡ number_at bytes (2 * slot + 1) = then ∙ number_is bytes (8 * slot + 4) (2 * slot + 1) (omega arith) in
-    rw (sym first, sym second) (rw (none_zero block word some) refl)
 
 -- ---- slots with the same bytes
 

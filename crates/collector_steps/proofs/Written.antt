@@ -1,5 +1,5 @@
 -- A cylinder whose map is written with what went made Free.
-use Rattle.std.proofs.Common.{◌≡◌, ◌≢◌, ℕ, zero, suc, ◌+◌, ◌*◌, ◌/◌, ◌%◌, ◌<◌, List, [], ◌∷◌, length, map, set, get_or, count_by, refl, sym, ap, ◌∙◌, subst, arith, Bool, true, false, cond, ◌&&◌, Some}
+use Rattle.std.proofs.Common.{◌≡◌, ℕ, ◌+◌, ◌*◌, ◌/◌, ◌%◌, ◌<◌, List, [], ◌∷◌, length, set, get_or, count_by, refl, sym, ap, ◌∙◌, arith, Bool, true, false, cond, Some}
 use Rattle.std.specs.Prelude.{option_map}
 use Rattle.std.proofs.lemmas.Bool.{and_parts, both_ways}
 use Rattle.std.proofs.lemmas.List.{get_or-map, get_or-set_other, get_or-set_same, length-map, length-set}
@@ -17,8 +17,7 @@ use Rattle.cyl_map.specs.declared.state.BlockState.TheVariants.{Free, Allocated,
 use Rattle.cyl_map.specs.Entry.{IsEntry}
 use Rattle.cyl_map.specs.Map.{IsMap, entry_at, free_entries, is_free, is_free_state, map_spelling}
 use Rattle.cyl_map.specs.Volume.{entry_in, is_free_entry, map_of}
-use Rattle.puid_space.specs.Directory.{has_root_in}
-use Rattle.vol_owners.specs.Owner.{is_made, is_placed, is_root, is_root_place, is_taken}
+use Rattle.vol_owners.specs.Owner.{is_placed, is_root, is_root_place, is_taken}
 use Rattle.collector_steps.specs.declared.sweep.Pass.{Pass}
 use Rattle.collector_steps.specs.declared.sweep.Pass.TheVariants as passes
 use Rattle.collector_steps.specs.Sweep.{IsSweptOf, goes, is_of_pass, swept, swept_map}

@@ -1,10 +1,10 @@
 -- What a collector keeps, and what holds of it between any two calls.
-use Rattle.std.specs.Prelude.{◌≡◌, ℕ, ◌+◌, ◌-◌, ◌*◌, ◌/◌, ◌^◌, ◌<◌, ◌≤◌, List, [], length}
+use Rattle.std.specs.Prelude.{◌≡◌, ℕ, ◌+◌, ◌-◌, ◌*◌, ◌/◌, ◌^◌, ◌<◌, ◌≤◌, List}
 use Rattle.cfs_base.specs.Disk.{Image}
 use Rattle.cfs_base.specs.declared.disk.Disk.{Ghosts}
 use Rattle.cfs_base.specs.declared.identifier.Puid.{Puid}
 use Rattle.cfs_base.specs.declared.kind.Kind.{Kind}
-use Rattle.collector_marks.specs.Kept.{Marked, Waiting, SameMarks, blocks_of, colours_of}
+use Rattle.collector_marks.specs.Kept.{Marked, Waiting, blocks_of, colours_of}
 use Rattle.marking.specs.declared.memory.Rescue.{Rescue}
 use Rattle.marking.specs.Colours.{Colours}
 use Rattle.marking.specs.Marking.{IsMarking}
@@ -39,7 +39,7 @@ volume_of k = blocks_of k.marks
 
 -- nothing but room may have changed
 pub record IsAsBefore (old new : Collecting) : Type 0 where
-  pub marks : SameMarks old.marks new.marks
+  pub marks : new.marks ≡ old.marks
   pub rescues : waiting_in new ≡ waiting_in old
   pub phase : new.phase ≡ old.phase
   pub steps : new.steps ≡ old.steps

@@ -1,5 +1,5 @@
 -- A leaf of an index as its bytes, a step of the scan, and why one is refused.
-use Rattle.std.specs.Prelude.{◌≡◌, ◌⊎◌, ℕ, ◌+◌, ◌-◌, ◌<◌, ◌≤◌, Bool, List, [], ◌∷◌, ◌++◌, ◌/◌, get_or, map, false, if◌then◌else◌, Option, Some, None}
+use Rattle.std.specs.Prelude.{◌≡◌, ℕ, ◌+◌, ◌-◌, ◌≤◌, List, [], ◌∷◌, ◌++◌, ◌/◌, get_or, map, false, if◌then◌else◌, Option, Some, None}
 use Rattle.std.specs.List.{filter_map, range_with_len}
 use Rattle.cfs_base.specs.Calls.{HasStopped}
 use Rattle.cfs_base.specs.Codes.{no_root, past_disk}
@@ -9,8 +9,6 @@ use Rattle.cfs_base.specs.declared.disk.Disk.{Ghosts}
 use Rattle.cfs_base.specs.declared.identifier.Puid.{Puid}
 use Rattle.cfs_base.specs.declared.kind.Kind.{Kind}
 use Rattle.cfs_base.specs.declared.refusal.Damage.{Damage}
-use Rattle.cfs_base.specs.declared.refusal.Refused.{Refused}
-use Rattle.cfs_base.specs.declared.refusal.Refused.TheVariants as refused
 use Rattle.cfs_base.specs.declared.refusal.Trouble.{Trouble}
 use Rattle.cfs_base.specs.declared.refusal.Trouble.TheVariants as trouble
 use Rattle.block_tree.specs.declared.root.Root.{Root}
@@ -73,15 +71,6 @@ abbrev pub IsScanTrouble : {D : Type 0} → Ghosts D → D → D → ℕ → Tro
 IsScanTrouble g old new r (trouble.Disk tried) = HasStopped g tried old new
 IsScanTrouble g old new r (trouble.Damaged damage) = IsIndexDamage g old r damage
 
--- the same, or want of memory
-abbrev pub IsScanRefusal : {D : Type 0} → Ghosts D → D → D → ℕ → Refused → Type 0
-IsScanRefusal g old new r (refused.Full need) = ⊥
-IsScanRefusal g old new r (refused.Disk tried) = HasStopped g tried old new
-IsScanRefusal g old new r (refused.Damaged damage) = IsIndexDamage g old r damage
-IsScanRefusal g old new r refused.Memory = Unit {0}
-
-abbrev pub IsDamaged : Refused → Type 0
-IsDamaged (refused.Full need) = ⊥
-IsDamaged (refused.Disk tried) = ⊥
-IsDamaged (refused.Damaged damage) = Unit {0}
-IsDamaged refused.Memory = ⊥
+abbrev pub IsDamaged : Trouble → Type 0
+IsDamaged (trouble.Disk tried) = ⊥
+IsDamaged (trouble.Damaged damage) = Unit {0}

@@ -88,7 +88,6 @@ impl Collector {
     {
         kinds_follow_the_graph();
         self.condemned.reserve(self.marks.blocks())?;
-        self.marks.reserve(roots.len())?;
         self.marks.clear();
         self.rescues.clear();
         self.phase = Phase::Marking;
@@ -119,29 +118,26 @@ impl Collector {
         self.added = self.added.saturating_add(1);
     }
 
-    /// Takes the oldest rescue, and shades its object where it has no index or its index is marked.
-    pub fn take(&mut self, names: &Directory) -> Result<(), NoMemory>
+    /// Takes the oldest rescue, and shades its object where it has no index or its index is marked. Takes no memory.
+    pub fn take(&mut self, names: &Directory)
         requires phase { self.old.phase ≡ Phase.Marking }
         requires waits { ¬ (waiting_in self.old ≡ []) }
         requires blocks { names.now.room ≤ volume_of self.old }
-        ensures taken { (r : memory.Rescue) (rest : List memory.Rescue) → waiting_in self.old ≡ r ∷ rest → OnOk result
-            ((waiting_in self.new ≡ rest) × (colours_in self.new ≡ rescued names.now.named r (colours_in self.old))) }
+        ensures taken { (r : memory.Rescue) (rest : List memory.Rescue) → waiting_in self.old ≡ r ∷ rest
+            → (waiting_in self.new ≡ rest) × (colours_in self.new ≡ rescued names.now.named r (colours_in self.old)) }
         ensures phase { self.new.phase ≡ self.old.phase }
-        ensures steps { OnOk result (self.new.steps ≡ count_after self.old.steps) }
+        ensures steps { self.new.steps ≡ count_after self.old.steps }
         ensures added { self.new.added ≡ self.old.added }
         ensures volume { volume_of self.new ≡ volume_of self.old }
-        ensures same { OnErr result (IsAsBefore self.old self.new) }
         ensures keeps { (s : State) (image : Image) → IsState s → names.now.named ≡ kinds_of s.graph
-            → Collects image s self.old → OnOk result (Collects image s self.new) }
+            → Collects image s self.old → Collects image s self.new }
     {
         kinds_follow_the_graph();
-        self.marks.reserve(1)?;
         let Some(rescue) = self.rescues.take() else {
-            return Ok(());
+            unreachable!();
         };
         self.steps = self.steps.saturating_add(1);
         shade_rescued(&mut self.marks, names, rescue);
-        Ok(())
     }
 
     /// The collection ends.

@@ -8,11 +8,11 @@ ghost use Rattle.block_tree.specs.declared.root.Root as roots;
 ghost use Rattle.cfs_base.specs.Calls.{OnlyReads};
 ghost use Rattle.cfs_base.specs.Disk.{block_at};
 ghost use Rattle.cfs_base.specs.Outside.{count_after};
-ghost use Rattle.cfs_base.specs.Refusals.{had_tried, trouble_had_tried};
+ghost use Rattle.cfs_base.specs.Refusals.{trouble_had_tried};
 ghost use Rattle.cfs_base.specs.Run.{Tells};
 ghost use Rattle.collector_marks.specs.Kept.{blocks_of, colours_of};
 ghost use Rattle.collector_steps.specs.Collecting.{Collects, IsAsBefore, Serves, colours_in, volume_of};
-ghost use Rattle.collector_steps.specs.Scan.{IsDamaged, IsLeafTrouble, IsScanRefusal, IsScanTrouble, ids_from, stepped, trouble_of};
+ghost use Rattle.collector_steps.specs.Scan.{IsDamaged, IsLeafTrouble, IsScanTrouble, ids_from, stepped, trouble_of};
 ghost use Rattle.marking.specs.Colours.{first_grey};
 ghost use Rattle.marking.specs.Steps.{scanned};
 ghost use Rattle.marking.specs.declared.memory.Grey as grey;
@@ -26,7 +26,7 @@ use crate::collector::Collector;
 use crate::leaf::shade_leaf;
 use crate::phase::Phase;
 use block_tree::{HeldStep, Root, TreeFault, step_held};
-use cfs_base::{Block, BlockNo, Damage, Disk, Refused, Trouble, code};
+use cfs_base::{Block, BlockNo, Damage, Disk, Trouble, code};
 use collector_marks::Marks;
 use puid_space::{Directory, kinds_follow_the_graph};
 
@@ -123,7 +123,6 @@ fn next_leaf<D: Disk>(
 /// Moves on past a leaf with these bytes, and shades each object in it; or ends the first grey index. Takes no memory.
 fn read_on(marks: &mut Marks, names: &Directory, step: Option<HeldStep>, content: &Block)
     requires inside { IfSome step (λ s. s.held.leaf < 15360) }
-    requires room { 64 ≤ marks.old.room }
     requires blocks { names.now.room ≤ blocks_of marks.old }
     ensures stepped { colours_of marks.new
         ≡ stepped names.now.named step (ids_from content.now 0) (colours_of marks.old) }
@@ -143,8 +142,8 @@ fn read_on(marks: &mut Marks, names: &Directory, step: Option<HeldStep>, content
 
 impl Collector {
     /// Reads the next held leaf of the first grey index, and shades each object in it; where no held leaf follows, the
-    /// index is grey no more. At most 4 device calls, none of which writes.
-    pub fn scan<D: Disk>(&mut self, disk: &mut D, names: &Directory) -> Result<(), Refused>
+    /// index is grey no more. At most 4 device calls, none of which writes. Takes no memory.
+    pub fn scan<D: Disk>(&mut self, disk: &mut D, names: &Directory) -> Result<(), Trouble>
         requires phase { self.old.phase ≡ Phase.Marking }
         requires grey { ¬ (self.old.marks.grey ≡ []) }
         requires blocks { names.now.room ≤ volume_of self.old }
@@ -162,17 +161,16 @@ impl Collector {
         ensures volume { volume_of self.new ≡ volume_of self.old }
         ensures same { OnErr result (IsAsBefore self.old self.new) }
         ensures refused { (e : grey.Grey) → first_grey (colours_in self.old) ≡ Some e
-            → IfErr result (IsScanRefusal D.Disk disk.old disk.new e.id.block) }
+            → IfErr result (IsScanTrouble D.Disk disk.old disk.new e.id.block) }
         ensures sound { (s : State) (ds : List Opened) → Serves D.Disk disk.old names.now.named s ds
             → Collects (D.content disk.old) s self.old → IfErr result (λ error. ¬ IsDamaged error) }
-        ensures untried { IfErr result (λ error. had_tried error ≡ false) }
+        ensures untried { IfErr result (λ error. trouble_had_tried error ≡ false) }
         ensures reads { OnlyReads D.Disk 4 disk.old disk.new }
     {
         kinds_follow_the_graph();
         let Some(grey) = self.marks.next_grey() else {
             return Ok(());
         };
-        self.marks.reserve(64)?;
         let mut content = Block::zero();
         let step = next_leaf(disk, grey.id.block, grey.cursor, &mut content)?;
         self.steps = self.steps.saturating_add(1);

@@ -1,5 +1,5 @@
 //! Objects shaded by their identifiers.
-ghost use Rattle.std.specs.Prelude.{◌≡◌, ◌+◌, ◌<◌, ◌≤◌, length, IfSome};
+ghost use Rattle.std.specs.Prelude.{◌≡◌, ◌<◌, ◌≤◌, IfSome};
 ghost use Rattle.collector_marks.specs.Kept.{blocks_of, colours_of};
 ghost use Rattle.marking.specs.Colours.{all_shaded, shaded_in};
 ghost use Rattle.marking.specs.Steps.{is_live, rescued};
@@ -20,20 +20,17 @@ fn kind_of(names: &Directory, id: Puid) -> Option<Kind>
 
 /// Shades an object; nothing where it isn't there. Takes no memory.
 pub fn shade_one(marks: &mut Marks, names: &Directory, id: Puid)
-    requires room { 0 < marks.old.room }
     requires blocks { names.now.room ≤ blocks_of marks.old }
     ensures shaded { colours_of marks.new ≡ shaded_in names.now.named id (colours_of marks.old) }
     ensures blocks { blocks_of marks.new ≡ blocks_of marks.old }
-    ensures room { marks.old.room ≤ marks.new.room + 1 }
 {
     if let Some(kind) = kind_of(names, id) {
-        marks.shade_reserved(id, kind);
+        marks.shade(id, kind);
     }
 }
 
 /// Shades each of these. Takes no memory.
 pub fn shade_all(marks: &mut Marks, names: &Directory, ids: &[Puid])
-    requires room { length ids.now ≤ marks.old.room }
     requires blocks { names.now.room ≤ blocks_of marks.old }
     ensures shaded { colours_of marks.new ≡ all_shaded names.now.named ids.now (colours_of marks.old) }
     ensures blocks { blocks_of marks.new ≡ blocks_of marks.old }
@@ -55,7 +52,6 @@ fn is_live(marks: &Marks, index: Option<Puid>) -> bool
 
 /// Shades the object of a rescue, where it has no index or its index is marked. Takes no memory.
 pub fn shade_rescued(marks: &mut Marks, names: &Directory, rescue: Rescue)
-    requires room { 0 < marks.old.room }
     requires blocks { names.now.room ≤ blocks_of marks.old }
     ensures shaded { colours_of marks.new ≡ rescued names.now.named rescue (colours_of marks.old) }
     ensures blocks { blocks_of marks.new ≡ blocks_of marks.old }

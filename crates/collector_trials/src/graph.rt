@@ -1,150 +1,147 @@
-//! Small graphs, what is asked of them, and what the definitions remember of a collection. All of it are plain lists.
+//! Small graphs, what is asked of them, and what the definitions remember of a collection.
+ghost use Rattle.std.specs.Prelude.{◌<◌};
+
 use cfs_base::{Kind, Puid};
-use std::alloc::Global;
-use std::test::Fail;
 
-/// The root index.
-pub const ROOT: Puid = Puid { block: 2, word: 7 };
+/// How many objects a graph has at most.
+pub const OBJECTS: usize = 4;
 
-/// An object of a graph.
-#[derive(Clone, Copy, Debug)]
-pub struct Named {
-    pub id: Puid,
-    pub kind: Kind,
+/// How many slots are tried of all indices: the first two of the root index, and of each other the first slot of its
+/// first two leaves.
+pub const SLOTS: usize = 8;
+
+/// An object by its number. The root index is 0.
+#[derive(Clone, Copy)]
+pub struct Object {
+    pub number: usize,
+    ghost small: { number < 4 },
 }
 
-/// A slot of an index that holds an identifier.
-#[derive(Clone, Copy, Debug)]
-pub struct Filled {
-    pub index: Puid,
-    pub slot: u16,
-    pub id: Puid,
+/// A slot that is tried, by its number: 0 and 1 are of the root index, 2 and 3 of object 1, and so on.
+#[derive(Clone, Copy)]
+pub struct Slot {
+    pub number: usize,
+    ghost small: { number < 8 },
 }
 
 /// What is asked while a collection runs.
-#[derive(Clone, Copy, Debug)]
+#[derive(Clone, Copy)]
 pub enum Request {
-    Retain(Filled),
-    Delete { index: Puid, slot: u16 },
-    Open { id: Puid },
-    Close { id: Puid },
+    Retain { slot: Slot, id: Object },
+    Delete { slot: Slot },
+    Open { id: Object },
+    Close { id: Object },
 }
+
+/// Objects.
+pub type Set = [bool; OBJECTS];
+
+/// From which object a slot leads to which.
+pub type Edges = [Set; OBJECTS];
 
 /// A graph, what is open, and what stood at any time since the collection began.
-#[derive(Debug, Drop)]
+#[derive(Clone, Copy)]
 pub struct World {
-    pub objects: Vec<Named>,
-    pub filled: Vec<Filled>,
-    /// The index and the leaf of each slot that was ever filled: its leaf is held.
-    pub held: Vec<(Puid, u16)>,
-    pub open: Vec<Puid>,
-    pub edges: Vec<Filled>,
-    pub starts: Vec<Puid>,
+    /// The kind of each object that is there.
+    pub kinds: [Option<Kind>; OBJECTS],
+    pub filled: [Option<Object>; SLOTS],
+    /// Which slots were ever filled: their leaves are held.
+    pub held: [bool; SLOTS],
+    /// How often each object is open.
+    pub open: [u32; OBJECTS],
+    pub edges: Edges,
+    pub starts: Set,
 }
 
-/// The leaf that has a slot.
-pub const fn leaf_of(slot: u16) -> u16 {
-    slot / 64
+impl Object {
+    pub fn id(self) -> Puid {
+        let number = self.number as u32;
+        Puid {
+            block: 2 + number,
+            word: 7 + number,
+        }
+    }
+}
+
+impl Slot {
+    pub fn index(self) -> Object {
+        Object {
+            number: self.number / 2,
+        }
+    }
 }
 
 impl World {
-    pub fn new(
-        alloc: Global,
-        objects: &[Named],
-        filled: &[Filled],
-        open: &[Puid],
-    ) -> Result<World, Fail> {
-        let mut world = World {
-            objects: Vec::from_slice(alloc, objects)?,
-            filled: Vec::new(alloc),
-            held: Vec::new(alloc),
-            open: Vec::from_slice(alloc, open)?,
-            edges: Vec::new(alloc),
-            starts: Vec::new(alloc),
-        };
-        for slot in filled {
-            world.fill(*slot)?;
-        }
-        Ok(world)
+    /// What stands as a collection begins.
+    pub fn begin(&mut self) {
+        self.edges = self.edges_now();
+        self.starts = self.starts_now();
     }
 
-    /// What stands as a collection begins.
-    pub fn begin(&mut self) -> Result<(), Fail> {
-        self.edges.clear();
-        self.edges.extend_from_slice(&self.filled)?;
-        self.starts.clear();
-        self.starts.push(ROOT)?;
-        self.starts.extend_from_slice(&self.open)?;
-        Ok(())
+    /// The root index, and what is open.
+    pub fn starts_now(&self) -> Set {
+        let mut starts = [true, false, false, false];
+        for n in 1..OBJECTS {
+            starts[n] = self.open[n] > 0;
+        }
+        starts
+    }
+
+    pub fn edges_now(&self) -> Edges {
+        let mut edges = [[false; OBJECTS]; OBJECTS];
+        for n in 0..SLOTS {
+            if let Some(id) = self.filled[n] {
+                edges[n / 2][id.number] = true;
+            }
+        }
+        edges
     }
 
     /// Whether it isn't refused: all that it names is there, and an index that is open isn't changed.
     pub fn allows(&self, request: Request) -> bool {
         match request {
-            Request::Retain(slot) => self.has(slot.index)
-                && self.has(slot.id)
-                && !self.is_open(slot.index),
-            Request::Delete { index, slot } => self.is_filled(index, slot) && !self.is_open(index),
+            Request::Retain { slot, id } => self.has(slot.index())
+                && self.has(id)
+                && !self.is_open(slot.index()),
+            Request::Delete { slot } => self.filled[slot.number].is_some()
+                && !self.is_open(slot.index()),
             Request::Open { id } => self.has(id),
             Request::Close { id } => self.is_open(id),
         }
     }
 
-    pub fn ask(&mut self, request: Request) -> Result<(), Fail> {
+    pub fn ask(&mut self, request: Request) {
         match request {
-            Request::Retain(slot) => {
-                self.edges.push(slot)?;
-                self.fill(slot)?;
+            Request::Retain { slot, id } => {
+                self.edges[slot.index().number][id.number] = true;
+                self.filled[slot.number] = Some(id);
+                self.held[slot.number] = true;
             }
-            Request::Delete { index, slot } => self.empty(index, slot),
+            Request::Delete { slot } => self.filled[slot.number] = None,
             Request::Open { id } => {
-                self.starts.push(id)?;
-                self.open.push(id)?;
+                self.starts[id.number] = true;
+                self.open[id.number] = self.open[id.number].saturating_add(1);
             }
-            Request::Close { id } => self.close(id),
+            Request::Close { id } => self.open[id.number] = self.open[id.number].saturating_sub(1),
         }
-        Ok(())
     }
 
     /// Objects leave the graph, with their slots and leaves.
-    pub fn vanish(&mut self, taken: &[Puid]) {
-        self.objects.retain(|object| !taken.contains(&object.id));
-        self.filled.retain(|slot| !taken.contains(&slot.index));
-        self.held.retain(|leaf| !taken.contains(&leaf.0));
-    }
-
-    pub fn has(&self, id: Puid) -> bool {
-        self.objects.iter().any(|object| object.id == id)
-    }
-
-    pub fn is_open(&self, id: Puid) -> bool {
-        self.open.contains(&id)
-    }
-
-    fn is_filled(&self, index: Puid, slot: u16) -> bool {
-        self.filled
-            .iter()
-            .any(|at| at.index == index && at.slot == slot)
-    }
-
-    fn empty(&mut self, index: Puid, slot: u16) {
-        self.filled
-            .retain(|at| at.index != index || at.slot != slot);
-    }
-
-    fn fill(&mut self, slot: Filled) -> Result<(), Fail> {
-        self.empty(slot.index, slot.slot);
-        self.filled.push(slot)?;
-        let leaf = (slot.index, leaf_of(slot.slot));
-        if !self.held.contains(&leaf) {
-            self.held.push(leaf)?;
+    pub fn vanish(&mut self, taken: &Set) {
+        for n in 0..SLOTS {
+            if taken[n / 2] {
+                self.kinds[n / 2] = None;
+                self.filled[n] = None;
+                self.held[n] = false;
+            }
         }
-        Ok(())
     }
 
-    fn close(&mut self, id: Puid) {
-        if let Some(place) = self.open.iter().position(|open| *open == id) {
-            let _ = self.open.remove(place);
-        }
+    fn has(&self, id: Object) -> bool {
+        self.kinds[id.number].is_some()
+    }
+
+    fn is_open(&self, id: Object) -> bool {
+        self.open[id.number] > 0
     }
 }

@@ -1,53 +1,68 @@
 //! What may vanish, and what must, by the definitions.
-use crate::graph::{Filled, ROOT, World};
-use cfs_base::Puid;
-use std::alloc::Global;
-use std::test::Fail;
+ghost use Rattle.std.specs.Prelude.{◌<◌};
 
-/// What is reached from these objects through these slots: all that was reached and all that its slots hold, as often as
-/// there are slots.
-fn reached(alloc: Global, starts: &[Puid], edges: &[Filled]) -> Result<Vec<Puid>, Fail> {
-    let mut found = Vec::from_slice(alloc, starts)?;
-    for _ in edges {
-        for edge in edges {
-            if found.contains(&edge.index) && !found.contains(&edge.id) {
-                found.push(edge.id)?;
+use crate::graph::{Edges, OBJECTS, Object, Set, World};
+use cfs_base::Puid;
+
+/// The objects of a list, where it names them in rising order and no other.
+pub fn objects_in(ids: &[Puid]) -> Option<Set> {
+    let mut set = [false; OBJECTS];
+    let mut found = 0;
+    for number in 0..OBJECTS {
+        if ids.get(found) == Some(&Object { number }.id()) {
+            set[number] = true;
+            found = usize::saturating_add(found, 1);
+        }
+    }
+    (found == ids.len()).then_some(set)
+}
+
+/// What is reached from these objects: all that was reached and all that its slots hold, as often as there are objects.
+fn reached(starts: &Set, edges: &Edges) -> Set {
+    let mut found = *starts;
+    for _ in 0..OBJECTS {
+        for index in 0..OBJECTS {
+            for id in 0..OBJECTS {
+                if found[index] && edges[index][id] {
+                    found[id] = true;
+                }
             }
         }
     }
-    Ok(found)
-}
-
-/// What is reached from the root or an open object.
-fn kept(alloc: Global, world: &World) -> Result<Vec<Puid>, Fail> {
-    let mut starts = Vec::from_slice(alloc, &world.open)?;
-    starts.push(ROOT)?;
-    reached(alloc, &starts, &world.filled)
-}
-
-fn rises(taken: &[Puid]) -> bool {
-    taken.windows(2).all(|pair| match pair {
-        [one, other] => one.number() < other.number(),
-        _ => false,
-    })
+    found
 }
 
 /// What is wrong with the objects that were taken, if anything is.
-pub fn fault(alloc: Global, world: &World, taken: &[Puid]) -> Result<Option<&'static str>, Fail> {
-    let kept = kept(alloc, world)?;
-    let found = reached(alloc, &world.starts, &world.edges)?;
-    if !rises(taken) || !taken.iter().all(|id| world.has(*id)) {
-        return Ok(Some("no rising list of objects"));
+pub fn fault(world: &World, taken: &Set) -> Option<&'static str> {
+    let edges = world.edges_now();
+    let kept = reached(&world.starts_now(), &edges);
+    let found = reached(&world.starts, &world.edges);
+    for id in 0..OBJECTS {
+        let is_there = world.kinds[id].is_some();
+        if taken[id] && !is_there {
+            return Some("an object is taken that isn't there");
+        }
+        if taken[id] && kept[id] {
+            return Some("an object is taken that is kept");
+        }
+        if is_there && !taken[id] && !found[id] {
+            return Some("an object remains that was cut off throughout");
+        }
+        if taken[id] && is_referred_to(&edges, taken, id) {
+            return Some("an object is taken to which one refers that remains");
+        }
     }
-    if taken.iter().any(|id| kept.contains(id)) {
-        return Ok(Some("an object is taken that is kept"));
+    None
+}
+
+/// Whether an index that remains refers to an object.
+fn is_referred_to(edges: &Edges, taken: &Set, id: usize) -> bool
+    requires { id < 4 }
+{
+    for index in 0..OBJECTS {
+        if edges[index][id] && !taken[index] {
+            return true;
+        }
     }
-    if world.filled.iter().any(|slot| taken.contains(&slot.id) && !taken.contains(&slot.index)) {
-        return Ok(Some("an object is taken to which one refers that remains"));
-    }
-    let missed = |id: &Puid| !found.contains(id) && !taken.contains(id);
-    if world.objects.iter().any(|object| missed(&object.id)) {
-        return Ok(Some("an object remains that was cut off throughout"));
-    }
-    Ok(None)
+    false
 }

@@ -1,9 +1,13 @@
 //! The collector tried on small graphs: each interleaving of its steps with a request or two, beside the definitions
-//! written plainly. Its use is its tests; those of the core take from it what may vanish.
+//! written plainly. Nothing stands above this crate; its use is its tests.
 #![tactic(auto)]
 
-pub mod graph;
-pub mod judge;
+#[cfg(test)]
+mod blocks;
+#[cfg(test)]
+mod graph;
+#[cfg(test)]
+mod judge;
 #[cfg(test)]
 mod run;
 #[cfg(test)]

@@ -2,22 +2,22 @@
 use crate::graph::{Request, World};
 use crate::judge;
 use crate::volume::{Made, Volume};
-use std::alloc::Global;
-use std::test::Fail;
 
 /// More steps than a small collection makes.
-const MANY: u32 = 64;
+pub const MANY: u32 = 64;
 
 /// A request after so many steps of a collection that has begun.
-#[derive(Clone, Copy, Debug)]
+#[derive(Clone, Copy)]
 pub struct Asked {
     pub place: u32,
     pub request: Request,
 }
 
 /// How a run went.
-#[derive(Clone, Copy, Debug, PartialEq, Eq)]
+#[derive(Clone, Copy)]
 pub enum Outcome {
+    /// It goes on.
+    Goes,
     /// A request was refused, so the run is another's.
     Refused,
     /// The collection made no more than so many steps before some request.
@@ -26,73 +26,65 @@ pub enum Outcome {
     Wrong(&'static str),
 }
 
-fn ask(volume: &mut Volume, world: &mut World, request: Request) -> Result<(), Fail> {
+/// Asks what isn't refused. None for want of memory.
+fn ask(volume: &mut Volume, world: &mut World, request: Request) -> Option<()> {
+    world.ask(request);
     match request {
-        Request::Retain(slot) => {
-            volume.put(slot.index, slot.slot, Some(slot.id))?;
-            volume.rescue(Some(slot.index), slot.id)?;
+        Request::Retain { slot, id } => {
+            volume.put(slot, Some(id))?;
+            volume.rescue(Some(slot.index()), id)
         }
-        Request::Delete { index, slot } => volume.put(index, slot, None)?,
-        Request::Open { id } => volume.rescue(None, id)?,
-        Request::Close { .. } => {}
+        Request::Delete { slot } => volume.put(slot, None),
+        Request::Open { id } => volume.rescue(None, id),
+        Request::Close { .. } => Some(()),
     }
-    world.ask(request)
 }
 
-/// Makes the requests of a place, and tells whether none was refused.
-fn ask_at(
-    volume: &mut Volume,
-    world: &mut World,
-    asked: &[Asked],
-    place: u32,
-) -> Result<bool, Fail> {
+/// Makes the requests of a place, and tells whether none was refused. None for want of memory.
+fn ask_at(volume: &mut Volume, world: &mut World, asked: &[Asked], place: u32) -> Option<bool> {
     for at in asked {
         if at.place == place {
             if !world.allows(at.request) {
-                return Ok(false);
+                return Some(false);
             }
             ask(volume, world, at.request)?;
         }
     }
-    Ok(true)
+    Some(true)
 }
 
-/// Makes a step, and tells what is wrong with it or that the collection ended.
-fn step(alloc: Global, volume: &mut Volume, world: &mut World) -> Result<Option<Outcome>, Fail> {
+/// Makes a step of the collection. None for want of memory.
+fn step(volume: &mut Volume, world: &mut World) -> Option<Outcome> {
     match volume.step()? {
-        Made::Marked | Made::Swept => Ok(None),
+        Made::Marked | Made::Swept => Some(Outcome::Goes),
         Made::Condemned(taken) => {
-            let fault = judge::fault(alloc, world, &taken)?;
+            let fault = judge::fault(world, &taken);
             world.vanish(&taken);
-            Ok(fault.map(Outcome::Wrong))
+            Some(fault.map_or(Outcome::Goes, Outcome::Wrong))
         }
-        Made::Ended => Ok(Some(match volume.fault(world)? {
-            Some(fault) => Outcome::Wrong(fault),
-            None => Outcome::Ended,
-        })),
+        Made::Disordered => Some(Outcome::Wrong("what is taken is no rising list of objects")),
+        Made::Ended => Some(match volume.is_right(world)? {
+            true => Outcome::Ended,
+            false => Outcome::Wrong(
+                "the map isn't that of the graph, or its Free blocks are counted otherwise",
+            ),
+        }),
     }
 }
 
-/// A whole collection on a volume that holds the world's graph.
-pub fn run(
-    alloc: Global,
-    volume: &mut Volume,
-    world: &mut World,
-    asked: &[Asked],
-) -> Result<Outcome, Fail> {
-    world.begin()?;
-    volume.begin(&world.open)?;
+/// A whole collection on a volume that holds the world's graph. None for want of memory.
+pub fn run(volume: &mut Volume, world: &mut World, asked: &[Asked]) -> Option<Outcome> {
+    world.begin();
+    volume.begin(&world.starts)?;
     for place in 0..MANY {
         if !ask_at(volume, world, asked, place)? {
-            return Ok(Outcome::Refused);
+            return Some(Outcome::Refused);
         }
-        match step(alloc, volume, world)? {
-            None => {}
-            Some(Outcome::Ended) if asked.iter().any(|at| at.place > place) => return Ok(
-                Outcome::Past,
-            ),
-            Some(outcome) => return Ok(outcome),
+        match step(volume, world)? {
+            Outcome::Goes => {}
+            Outcome::Ended if asked.iter().any(|at| at.place > place) => return Some(Outcome::Past),
+            outcome => return Some(outcome),
         }
     }
-    Ok(Outcome::Wrong("the collection doesn't end"))
+    Some(Outcome::Wrong("the collection doesn't end"))
 }

@@ -1,203 +1,176 @@
 //! All small graphs, each with every request or two at every place of a collection.
-use crate::graph::{Filled, Named, ROOT, Request, World};
-use crate::run::{Asked, Outcome, run};
+use crate::graph::{OBJECTS, Object, Request, SLOTS, Slot, World};
+use crate::run::{Asked, MANY, Outcome, run};
 use crate::volume::Volume;
-use cfs_base::{Block, Kind, Puid};
+use cfs_base::{Block, Kind};
 use std::alloc::Global;
-use std::test::Fail;
 
-/// The root, and so many objects more, of which those in the mask are files.
-fn objects_of(alloc: Global, count: u32, files: u32) -> Result<Vec<Named>, Fail> {
-    let mut objects = Vec::new(alloc);
-    for n in 0..count.min(8) {
-        let id = Puid {
-            block: 2 + n,
-            word: 7 + n,
-        };
-        let kind = match n > 0 && files >> (n - 1) & 1 == 1 {
-            true => Kind::Normal,
-            false => Kind::Index,
-        };
-        objects.push(Named { id, kind })?;
-    }
-    Ok(objects)
+/// What is tried: graphs of so many objects, of which those in the mask are files, with so many slots of each index.
+#[derive(Clone, Copy)]
+struct Shape {
+    objects: usize,
+    files: u32,
+    slots: usize,
 }
 
-/// The slots of these indices that are tried, each in a leaf of its own but for those of the root.
-fn slots_of(alloc: Global, objects: &[Named], count: u16) -> Result<Vec<(Puid, u16)>, Fail> {
-    let mut slots = Vec::new(alloc);
-    for object in objects {
-        for place in 0..count.min(2) {
-            if object.kind == Kind::Index {
-                let slot = if object.id == ROOT { place } else { 64 * place };
-                slots.push((object.id, slot))?;
+impl Shape {
+    /// The kind of an object; None where there is none.
+    fn kind(self, object: Object) -> Option<Kind> {
+        let number = object.number;
+        if number >= self.objects {
+            return None;
+        }
+        if number > 0 && self.files >> (number as u32 - 1) & 1 == 1 {
+            return Some(Kind::Normal);
+        }
+        Some(Kind::Index)
+    }
+
+    /// Whether a slot is tried.
+    fn tries(self, slot: Slot) -> bool {
+        slot.number % 2 < self.slots && self.kind(slot.index()) == Some(Kind::Index)
+    }
+
+    /// The graph with this number, in which nothing is open; None past the last.
+    fn graph(self, number: u64) -> Option<World> {
+        let mut world = World {
+            kinds: [None; OBJECTS],
+            filled: [None; SLOTS],
+            held: [false; SLOTS],
+            open: [0; OBJECTS],
+            edges: [[false; OBJECTS]; OBJECTS],
+            starts: [false; OBJECTS],
+        };
+        for number in 0..OBJECTS {
+            world.kinds[number] = self.kind(Object { number });
+        }
+        let choices = self.objects.min(OBJECTS) as u64 + 1;
+        let mut rest = number;
+        for number in 0..SLOTS {
+            if self.tries(Slot { number }) {
+                let choice = rest % choices;
+                rest = rest / choices;
+                if choice > 0 {
+                    let id = Object {
+                        number: choice as usize - 1,
+                    };
+                    world.ask(Request::Retain {
+                        slot: Slot { number },
+                        id,
+                    });
+                }
             }
         }
+        (rest == 0).then_some(world)
     }
-    Ok(slots)
-}
 
-/// The graph with this number; None past the last.
-fn graph_of(
-    alloc: Global,
-    number: u64,
-    objects: &[Named],
-    slots: &[(Puid, u16)],
-) -> Result<Option<Vec<Filled>>, Fail> {
-    let mut rest = number;
-    let mut filled = Vec::new(alloc);
-    let many = objects.len() as u64;
-    for (index, slot) in slots {
-        let choice = rest % many.saturating_add(1);
-        rest = rest / many.saturating_add(1);
-        if let Some(object) = objects.get(choice as usize) {
-            filled.push(Filled {
-                index: *index,
-                slot: *slot,
-                id: object.id,
-            })?;
+    /// All that may be asked.
+    fn requests(self, alloc: Global) -> Option<Vec<Request>> {
+        let mut requests = Vec::new(alloc);
+        for number in 0..OBJECTS {
+            let id = Object { number };
+            if self.kind(id).is_none() {
+                continue;
+            }
+            for number in 0..SLOTS {
+                let slot = Slot { number };
+                if self.tries(slot) {
+                    requests.push(Request::Retain { slot, id }).ok()?;
+                }
+            }
+            requests.push(Request::Open { id }).ok()?;
+            requests.push(Request::Close { id }).ok()?;
         }
-    }
-    Ok((rest == 0).then_some(filled))
-}
-
-/// All that may be asked.
-fn requests_of(
-    alloc: Global,
-    objects: &[Named],
-    slots: &[(Puid, u16)],
-) -> Result<Vec<Request>, Fail> {
-    let mut requests = Vec::new(alloc);
-    for object in objects {
-        let id = object.id;
-        for (index, slot) in slots {
-            requests.push(Request::Retain(Filled {
-                index: *index,
-                slot: *slot,
-                id,
-            }))?;
+        for number in 0..SLOTS {
+            let slot = Slot { number };
+            if self.tries(slot) {
+                requests.push(Request::Delete { slot }).ok()?;
+            }
         }
-        requests.push(Request::Open { id })?;
-        requests.push(Request::Close { id })?;
+        Some(requests)
     }
-    for (index, slot) in slots {
-        requests.push(Request::Delete {
-            index: *index,
-            slot: *slot,
-        })?;
-    }
-    Ok(requests)
 }
 
-/// More places than a small collection has.
-const MOST: u32 = 64;
+const WANTING: &str = "memory is wanting";
 
-/// What is tried, and how often.
+/// A volume, and how much was tried on it.
 #[derive(Drop)]
 struct Trial {
     alloc: Global,
     volume: Volume,
-    objects: Vec<Named>,
-    slots: Vec<(Puid, u16)>,
     requests: Vec<Request>,
+    /// How many requests are made in a run at most: one or two.
+    most: u32,
     graphs: u64,
     runs: u64,
 }
 
-/// A graph with what is open as the collection begins, and the blocks of its volume.
-#[derive(Drop)]
-struct Start {
-    world: World,
-    blocks: Vec<Block>,
-}
-
 impl Trial {
-    fn new(alloc: Global, count: u32, files: u32, slots: u16) -> Result<Trial, Fail> {
-        let objects = objects_of(alloc, count, files)?;
-        let slots = slots_of(alloc, &objects, slots)?;
-        let requests = requests_of(alloc, &objects, &slots)?;
-        Ok(Trial {
-            alloc,
-            volume: Volume::new(alloc)?,
-            objects,
-            slots,
-            requests,
-            graphs: 0,
-            runs: 0,
-        })
-    }
-
-    fn run(&mut self, start: &Start, asked: &[Asked]) -> Result<Outcome, Fail> {
-        let first = &start.world;
-        let mut world = World::new(self.alloc, &first.objects, &first.filled, &first.open)?;
-        self.volume.reset(&start.blocks, &self.objects)?;
-        let outcome = run(self.alloc, &mut self.volume, &mut world, asked)?;
+    /// A run from a world whose blocks these are: how it ended, or what is wrong.
+    fn run(
+        &mut self,
+        start: &World,
+        blocks: &[Block],
+        asked: &[Asked],
+    ) -> Result<Outcome, &'static str> {
+        let mut world = *start;
+        self.volume.reset(self.alloc, blocks, start).ok_or(WANTING)?;
+        let outcome = run(&mut self.volume, &mut world, asked).ok_or(WANTING)?;
         match outcome {
+            Outcome::Wrong(fault) => return Err(fault),
             Outcome::Ended => self.runs = self.runs.saturating_add(1),
-            Outcome::Refused | Outcome::Past => {}
-            Outcome::Wrong(fault) => {
-                let asked = Vec::from_slice(self.alloc, asked)?;
-                return Err((fault, world, asked))?;
-            }
+            Outcome::Goes | Outcome::Refused | Outcome::Past => {}
         }
         Ok(outcome)
     }
 
-    /// All graphs, with the first so many objects beside the root open, for each such number.
-    fn all(&mut self, requests: u32) -> Result<(), Fail> {
+    /// All graphs of a shape, with the first so many objects beside the root open, for each such number.
+    fn all(&mut self, shape: Shape) -> Result<(), &'static str> {
         for number in 0..u64::MAX {
-            let Some(filled) = graph_of(self.alloc, number, &self.objects, &self.slots)? else {
+            let Some(world) = shape.graph(number) else {
                 return Ok(());
             };
             self.graphs = self.graphs.saturating_add(1);
-            for opened in 0..self.objects.len() {
-                let start = self.start(&filled, opened)?;
-                self.run(&start, &[])?;
-                self.from(&start, requests)?;
-            }
+            self.opened(shape, world)?;
         }
         Ok(())
     }
 
-    fn start(&mut self, filled: &[Filled], opened: usize) -> Result<Start, Fail> {
-        let mut open = Vec::new(self.alloc);
-        for object in self.objects.iter().skip(1).take(opened) {
-            open.push(object.id)?;
+    fn opened(&mut self, shape: Shape, graph: World) -> Result<(), &'static str> {
+        let mut world = graph;
+        for number in 0..OBJECTS {
+            if shape.kind(Object { number }).is_none() {
+                return Ok(());
+            }
+            if number > 0 {
+                world.open[number] = 1;
+            }
+            self.started(&world)?;
         }
-        let world = World::new(self.alloc, &self.objects, filled, &open)?;
-        let blocks = self.volume.laid(&world)?;
-        Ok(Start { world, blocks })
+        Ok(())
+    }
+
+    /// All runs from a world.
+    fn started(&mut self, start: &World) -> Result<(), &'static str> {
+        let blocks = self.volume.laid(self.alloc, start).ok_or(WANTING)?;
+        self.run(start, &blocks, &[])?;
+        self.from(start, &blocks)
     }
 
     /// Each request at each place, alone, and where there are to be two, each other one from there on too.
-    fn from(&mut self, start: &Start, requests: u32) -> Result<(), Fail> {
-        for place in 0..MOST {
+    fn from(&mut self, start: &World, blocks: &[Block]) -> Result<(), &'static str> {
+        for place in 0..MANY {
             for n in 0..self.requests.len() {
                 let Some(first) = self.asked(place, n) else {
                     continue;
                 };
-                if !start.world.allows(first.request) {
+                if !start.allows(first.request) {
                     continue;
                 }
-                match self.run(start, &[first])? {
+                match self.run(start, blocks, &[first])? {
                     Outcome::Past => return Ok(()),
-                    Outcome::Ended if requests == 2 => self.with(start, first)?,
+                    Outcome::Ended if self.most == 2 => self.with(start, blocks, first)?,
                     _ => {}
-                }
-            }
-        }
-        Ok(())
-    }
-
-    /// A request, and each other one at its place and at each place after it.
-    fn with(&mut self, start: &Start, first: Asked) -> Result<(), Fail> {
-        for place in first.place..MOST {
-            for n in 0..self.requests.len() {
-                let Some(second) = self.asked(place, n) else {
-                    continue;
-                };
-                if self.run(start, &[first, second])? == Outcome::Past {
-                    return Ok(());
                 }
             }
         }
@@ -208,47 +181,67 @@ impl Trial {
         let request = self.requests.get(n).copied()?;
         Some(Asked { place, request })
     }
+
+    /// A request, and each other one at its place and at each place after it.
+    fn with(&mut self, start: &World, blocks: &[Block], first: Asked) -> Result<(), &'static str> {
+        for place in first.place..MANY {
+            for n in 0..self.requests.len() {
+                let Some(second) = self.asked(place, n) else {
+                    continue;
+                };
+                if let Outcome::Past = self.run(start, blocks, &[first, second])? {
+                    return Ok(());
+                }
+            }
+        }
+        Ok(())
+    }
 }
 
 /// How many graphs are tried, and in how many runs, with each choice of files.
 fn tried(
     alloc: Global,
-    count: u32,
+    objects: usize,
     files: u32,
-    slots: u16,
-    requests: u32,
-) -> Result<(u64, u64), Fail> {
-    let mut graphs = 0;
-    let mut runs = 0;
+    slots: usize,
+    most: u32,
+) -> Result<(u64, u64), &'static str> {
+    let mut trial = Trial {
+        alloc,
+        volume: Volume::new(alloc).ok_or(WANTING)?,
+        requests: Vec::new(alloc),
+        most,
+        graphs: 0,
+        runs: 0,
+    };
     for files in 0..files {
-        let mut trial = Trial::new(alloc, count, files, slots)?;
-        trial.all(requests)?;
-        graphs = u64::saturating_add(graphs, trial.graphs);
-        runs = u64::saturating_add(runs, trial.runs);
+        let shape = Shape {
+            objects,
+            files,
+            slots,
+        };
+        trial.requests = shape.requests(alloc).ok_or(WANTING)?;
+        trial.all(shape)?;
     }
-    Ok((graphs, runs))
+    Ok((trial.graphs, trial.runs))
 }
 
 #[test]
-fn three_indices_of_two_slots_with_a_request(rt: HostRuntime) -> Result<(), Fail> {
-    assert_eq!(rt; tried(rt.alloc(), 3, 1, 2, 1)?, (4096, 1_576_660));
-    Ok(())
+fn three_indices_of_two_slots_with_a_request(rt: HostRuntime) {
+    assert_eq!(rt; tried(rt.alloc(), 3, 1, 2, 1), Ok((4096, 1_576_660)));
 }
 
 #[test]
-fn four_objects_of_a_slot_with_a_request(rt: HostRuntime) -> Result<(), Fail> {
-    assert_eq!(rt; tried(rt.alloc(), 4, 8, 1, 1)?, (1080, 385_389));
-    Ok(())
+fn four_objects_of_a_slot_with_a_request(rt: HostRuntime) {
+    assert_eq!(rt; tried(rt.alloc(), 4, 8, 1, 1), Ok((1080, 385_389)));
 }
 
 #[test]
-fn three_objects_of_a_slot_with_two_requests(rt: HostRuntime) -> Result<(), Fail> {
-    assert_eq!(rt; tried(rt.alloc(), 3, 4, 1, 2)?, (100, 677_484));
-    Ok(())
+fn three_objects_of_a_slot_with_two_requests(rt: HostRuntime) {
+    assert_eq!(rt; tried(rt.alloc(), 3, 4, 1, 2), Ok((100, 677_484)));
 }
 
 #[test]
-fn two_indices_of_two_slots_with_two_requests(rt: HostRuntime) -> Result<(), Fail> {
-    assert_eq!(rt; tried(rt.alloc(), 2, 2, 2, 2)?, (90, 412_868));
-    Ok(())
+fn two_indices_of_two_slots_with_two_requests(rt: HostRuntime) {
+    assert_eq!(rt; tried(rt.alloc(), 2, 2, 2, 2), Ok((90, 412_868)));
 }

@@ -1,36 +1,30 @@
-//! A volume of one cylinder on which a collector works.
+//! A volume of one cylinder on which a collector works. Its calls answer None for want of memory.
 ghost use Rattle.std.specs.Prelude.{◌≡◌, ◌+◌, ◌<◌, ◌≤◌, length, IfOk, IfSome};
 ghost use Rattle.cfs_fakes.specs.Memory.{contents};
 ghost use Rattle.collector_steps.specs.Collecting.{volume_of};
 
-use crate::graph::{Named, ROOT, World, leaf_of};
-use cfs_base::{Block, BlockNo, Disk, Kind, Puid};
+use crate::blocks::{
+    BLOCKS, USED, enter_leaf, free_in, leaf_of, map_of, node_of, root_block, root_of,
+};
+use crate::graph::{OBJECTS, Object, SLOTS, Set, Slot, World};
+use crate::judge::objects_in;
+use cfs_base::{Block, BlockNo, Disk, Kind};
 use cfs_fakes::MemoryDisk;
 use collector_steps::{Collector, Phase};
 use cyl_alloc::Space;
 use puid_space::Directory;
 use std::alloc::Global;
-use std::test::Fail;
-
-const BLOCKS: u32 = 64;
 
 /// Where the pointers begin in a root.
 const NODES: usize = 32;
 
-/// The first half of a map's entry of a block that no object has, of a root, of node 0 and of leaf 0.
-const RESERVED: u32 = 0x0100_0000;
-
-const ROOT_PLACE: u32 = 0x0101_0000;
-
-const NODE_PLACE: u32 = 0x0103_0000;
-
-const LEAF_PLACE: u32 = 0x0104_0000;
-
 /// What a step of the collector did.
-#[derive(Debug, Drop)]
+#[derive(Clone, Copy)]
 pub enum Made {
     Marked,
-    Condemned(Vec<Puid>),
+    Condemned(Set),
+    /// What was condemned is no rising list of objects.
+    Disordered,
     Swept,
     Ended,
 }
@@ -42,259 +36,198 @@ pub struct Volume {
     space: Space,
     names: Directory,
     collector: Collector,
-    alloc: Global,
     ghost blocks: { length (contents disk) ≡ 64 },
     ghost cylinders: { length space.free ≡ 1 },
     ghost room: { names.room ≤ 64 },
     ghost marks: { volume_of collector ≡ 64 },
 }
 
-/// The root block of a new object. The root index has 64 slots, another 128.
-fn root_block(object: &Named) -> Block {
-    let (kind, size) = match (object.kind, object.id == ROOT) {
-        (Kind::Index, true) => (0x0300, 512),
-        (Kind::Index, false) => (0x0300, 1024),
-        (Kind::Normal | Kind::Special, _) => (0x0100, 0),
-    };
-    let mut block = Block::zero();
-    block.put_u16(0, kind);
-    block.put_u32(4, object.id.word);
-    block.put_u64(8, size);
-    block
-}
-
-/// Enters a block in the map of the cylinder.
-fn enter(map: &mut Block, block: u32, place: u32, owner: u32) {
-    if block < BLOCKS {
-        map.put_u32(8 * block as usize, place);
-        map.put_u32(8 * block as usize + 4, owner);
-    }
-}
-
-/// Whether a block is entered so.
-fn is_entered(map: &Block, block: u32, place: u32, owner: u32) -> bool {
-    let at = 8 * block.min(BLOCKS - 1) as usize;
-    block < BLOCKS && map.u32_at(at) == place && map.u32_at(at + 4) == owner
-}
-
-/// How many blocks a map says are Free.
-fn free_in(map: &Block) -> u32 {
-    let mut free = 0;
-    for block in 0..BLOCKS {
-        free = u32::saturating_add(free, u32::from(is_entered(map, block, 0, 0)));
-    }
-    free
-}
-
 impl Volume {
     /// All is Free, and no object is there.
-    pub fn new(alloc: Global) -> Result<Volume, Fail> {
-        let mut disk = MemoryDisk::new(alloc, BLOCKS)?;
-        let space = Space::counted(alloc, &mut disk, 1)?;
+    pub fn new(alloc: Global) -> Option<Volume> {
+        let mut disk = MemoryDisk::new(alloc, BLOCKS).ok()?;
+        let space = Space::counted(alloc, &mut disk, 1).ok()?;
         let mut names = Directory::new(alloc);
-        names.reserve(BLOCKS)?;
-        let collector = Collector::new(alloc, BLOCKS)?;
-        Ok(Volume {
+        names.reserve(BLOCKS).ok()?;
+        let collector = Collector::new(alloc, BLOCKS).ok()?;
+        Some(Volume {
             disk,
             space,
             names,
             collector,
-            alloc,
         })
     }
 
-    /// The blocks of a world's graph, which are the first of the disk: each object has its root, and of its leaves those
-    /// that are held.
-    pub fn laid(&mut self, world: &World) -> Result<Vec<Block>, Fail> {
-        self.lay_map(&world.objects)?;
-        for object in &world.objects {
-            self.write(object.id.block, &root_block(object))?;
+    /// The blocks of a world's graph, which are the first of the disk: each object has its root, and of its leaves
+    /// those that are held.
+    pub fn laid(&mut self, alloc: Global, world: &World) -> Option<Vec<Block>> {
+        for at in 0..USED {
+            self.write(at, &Block::zero())?;
         }
-        self.space = Space::counted(self.alloc, &mut self.disk, 1)?;
-        for slot in &world.filled {
-            self.put(slot.index, slot.slot, Some(slot.id))?;
+        self.write(0, &map_of(world))?;
+        for number in 0..OBJECTS {
+            if let Some(kind) = world.kinds[number] {
+                let object = Object { number };
+                self.write(root_of(object), &root_block(object, kind))?;
+            }
         }
-        let mut blocks = Vec::new(self.alloc);
-        for at in 0..BLOCKS.saturating_sub(self.space.free()) {
-            blocks.push(self.read(at)?)?;
+        for number in 0..SLOTS {
+            if world.held[number] {
+                self.put(Slot { number }, world.filled[number])?;
+            }
         }
-        Ok(blocks)
+        let mut blocks = Vec::new(alloc);
+        for at in 0..USED {
+            blocks.push(self.read(at)?).ok()?;
+        }
+        Some(blocks)
     }
 
-    /// A map with these objects' roots, and nothing else but the map and the label.
-    fn lay_map(&mut self, objects: &[Named]) -> Result<(), Fail> {
-        let mut map = Block::zero();
-        enter(&mut map, 0, RESERVED, 0);
-        enter(&mut map, 1, RESERVED, 0);
-        for object in objects {
-            enter(&mut map, object.id.block, ROOT_PLACE, object.id.block);
+    /// The disk has these blocks again, the world's objects are there, and no collection runs.
+    pub fn reset(&mut self, alloc: Global, blocks: &[Block], world: &World) -> Option<()> {
+        for (at, block) in (0..USED).zip(blocks) {
+            self.write(at, block)?;
+        }
+        self.space = Space::counted(alloc, &mut self.disk, 1).ok()?;
+        self.collector = Collector::new(alloc, BLOCKS).ok()?;
+        for number in 0..OBJECTS {
+            self.name(Object { number }, world.kinds[number])?;
+        }
+        Some(())
+    }
+
+    /// An object is there with this kind, or isn't there.
+    fn name(&mut self, object: Object, kind: Option<Kind>) -> Option<()> {
+        let id = object.id();
+        let _ = self.names.remove(id);
+        let Some(kind) = kind else {
+            return Some(());
+        };
+        if id.block >= self.names.room() || self.names.has_root(id.block) {
+            return None;
+        }
+        self.names.add(id, kind);
+        Some(())
+    }
+
+    fn read(&mut self, at: u32) -> Option<Block> {
+        if at >= self.disk.blocks() {
+            return None;
+        }
+        let mut block = Block::zero();
+        self.disk.read(BlockNo(at), &mut block).ok()?;
+        Some(block)
+    }
+
+    fn write(&mut self, at: u32, block: &Block) -> Option<()> {
+        if at >= self.disk.blocks() {
+            return None;
+        }
+        self.disk.write(BlockNo(at), block).ok()
+    }
+
+    /// A pointer in a block leads to another.
+    fn point(&mut self, at: u32, byte: usize, to: u32) -> Option<()>
+        requires { byte + 4 ≤ 512 }
+    {
+        let mut block = self.read(at)?;
+        block.put_u32(byte, to);
+        self.write(at, &block)
+    }
+
+    /// A slot of an index is filled or emptied. Its leaf is claimed where it isn't held.
+    pub fn put(&mut self, slot: Slot, id: Option<Object>) -> Option<()> {
+        let (index, (leaf, block, byte)) = (slot.index(), leaf_of(slot));
+        self.hold(slot)?;
+        self.point(root_of(index), NODES, node_of(index))?;
+        self.point(node_of(index), 4 * leaf as usize, block)?;
+        let mut content = self.read(block)?;
+        content.put_u64(byte, id.map_or(0, |id| id.id().number()));
+        self.write(block, &content)
+    }
+
+    /// The leaf that has a slot, and its node, aren't Free.
+    fn hold(&mut self, slot: Slot) -> Option<()> {
+        let mut map = self.read(0)?;
+        let before = free_in(&map);
+        enter_leaf(&mut map, slot);
+        for _ in free_in(&map)..before {
+            self.space.took(BlockNo(0));
         }
         self.write(0, &map)
     }
 
-    /// The disk has these blocks again, these objects are there, and no collection runs.
-    pub fn reset(&mut self, blocks: &[Block], objects: &[Named]) -> Result<(), Fail> {
-        for (at, block) in (0..BLOCKS).zip(blocks) {
-            self.write(at, block)?;
-        }
-        self.space = Space::counted(self.alloc, &mut self.disk, 1)?;
-        self.collector = Collector::new(self.alloc, BLOCKS)?;
-        for object in objects {
-            let _ = self.names.remove(object.id);
-            if object.id.block >= self.names.room() || self.names.has_root(object.id.block) {
-                return Err("no room for a name")?;
-            }
-            self.names.add(object.id, object.kind);
-        }
-        Ok(())
-    }
-
-    fn read(&mut self, at: u32) -> Result<Block, Fail> {
-        if at >= self.disk.blocks() {
-            return Err("past the disk")?;
-        }
-        let mut block = Block::zero();
-        self.disk.read(BlockNo(at), &mut block)?;
-        Ok(block)
-    }
-
-    fn write(&mut self, at: u32, block: &Block) -> Result<(), Fail> {
-        if at >= self.disk.blocks() {
-            return Err("past the disk")?;
-        }
-        self.disk.write(BlockNo(at), block)?;
-        Ok(())
-    }
-
-    /// The least Free block is entered so, and holds zeros.
-    fn claimed(&mut self, place: u32, owner: u32) -> Result<u32, Fail> {
-        let block = self.space.find(&mut self.disk)?;
-        let mut map = self.read(0)?;
-        enter(&mut map, block.0, place, owner);
-        self.write(0, &map)?;
-        self.space.took(block);
-        self.write(block.0, &Block::zero())?;
-        Ok(block.0)
-    }
-
-    /// The block to which a pointer leads; where it is absent, a block is claimed.
-    fn held(&mut self, holder: u32, at: usize, place: u32, owner: u32) -> Result<u32, Fail>
-        requires { at + 4 ≤ 512 }
-    {
-        let mut block = self.read(holder)?;
-        let there = block.u32_at(at);
-        if there != 0 {
-            return Ok(there);
-        }
-        let claimed = self.claimed(place, owner)?;
-        block.put_u32(at, claimed);
-        self.write(holder, &block)?;
-        Ok(claimed)
-    }
-
-    /// A slot of an index is filled or emptied.
-    pub fn put(&mut self, index: Puid, slot: u16, id: Option<Puid>) -> Result<(), Fail> {
-        let leaf = leaf_of(slot) % 128;
-        let node = self.held(index.block, NODES, NODE_PLACE, index.block)?;
-        let place = LEAF_PLACE + u32::from(leaf);
-        let block = self.held(node, 4 * leaf as usize, place, index.block)?;
-        let mut content = self.read(block)?;
-        content.put_u64(8 * (slot as usize % 64), id.map_or(0, |id| id.number()));
-        self.write(block, &content)
-    }
-
     /// While a collection marks, an object that was put into an index or opened is a rescue.
-    pub fn rescue(&mut self, index: Option<Puid>, id: Puid) -> Result<(), Fail> {
+    pub fn rescue(&mut self, index: Option<Object>, id: Object) -> Option<()> {
         if self.collector.phase() == Phase::Marking {
-            self.collector.reserve()?;
-            self.collector.rescue(index, id);
+            self.collector.reserve().ok()?;
+            self.collector
+                .rescue(index.map(|index| index.id()), id.id());
         }
-        Ok(())
+        Some(())
     }
 
-    /// A collection begins with the root and these objects.
-    pub fn begin(&mut self, open: &[Puid]) -> Result<(), Fail> {
-        let mut roots = Vec::from_slice(self.alloc, open)?;
-        roots.push(ROOT)?;
-        if self.collector.phase() != Phase::Idle {
-            return Err("a collection runs")?;
+    /// A collection begins with these objects, of which the root is one.
+    pub fn begin(&mut self, starts: &Set) -> Option<()> {
+        // those that are open, and then the root
+        let mut roots = [Object { number: 0 }.id(); OBJECTS];
+        let mut count = 0;
+        for number in 1..OBJECTS {
+            if starts[number] && count < OBJECTS {
+                roots[count] = Object { number }.id();
+                count += 1;
+            }
         }
-        self.collector.begin(&roots, &self.names)?;
-        Ok(())
+        if self.collector.phase() != Phase::Idle {
+            return None;
+        }
+        self.collector.begin(&roots, &self.names).ok()
     }
 
     /// The next step of the collection.
-    pub fn step(&mut self) -> Result<Made, Fail> {
+    pub fn step(&mut self) -> Option<Made> {
         match self.collector.phase() {
-            Phase::Idle => Err("no collection runs")?,
+            Phase::Idle => None,
             Phase::Marking => self.mark(),
             Phase::Inner { .. } => {
                 self.collector
-                    .sweep_inner(&mut self.disk, &mut self.space, &self.names)?;
-                Ok(Made::Swept)
+                    .sweep_inner(&mut self.disk, &mut self.space, &self.names)
+                    .ok()?;
+                Some(Made::Swept)
             }
             Phase::Roots { .. } => {
                 self.collector
-                    .sweep_roots(&mut self.disk, &mut self.space, &self.names)?;
-                Ok(Made::Swept)
+                    .sweep_roots(&mut self.disk, &mut self.space, &self.names)
+                    .ok()?;
+                Some(Made::Swept)
             }
             Phase::Swept => {
                 self.collector.end();
-                Ok(Made::Ended)
+                Some(Made::Ended)
             }
         }
     }
 
     /// Rescues come first, then what is grey.
-    fn mark(&mut self) -> Result<Made, Fail> {
+    fn mark(&mut self) -> Option<Made> {
         if self.collector.phase() != Phase::Marking {
-            return Err("nothing is marked")?;
+            return None;
         }
         if self.collector.has_rescue() {
-            self.collector.take(&self.names)?;
-            return Ok(Made::Marked);
+            self.collector.take(&self.names);
+            return Some(Made::Marked);
         }
         if self.collector.has_grey() {
-            self.collector.scan(&mut self.disk, &self.names)?;
-            return Ok(Made::Marked);
+            self.collector.scan(&mut self.disk, &self.names).ok()?;
+            return Some(Made::Marked);
         }
-        Ok(Made::Condemned(self.collector.condemn(&mut self.names).into_vec()))
+        let taken = self.collector.condemn(&mut self.names);
+        Some(objects_in(taken.as_slice()).map_or(Made::Disordered, Made::Condemned))
     }
 
-    /// How many blocks an object has, where each has its entry.
-    fn entered(&mut self, map: &Block, id: Puid, world: &World) -> Result<Option<u32>, Fail> {
-        let node = self.read(id.block)?.u32_at(NODES);
-        let mut right = is_entered(map, id.block, ROOT_PLACE, id.block);
-        let mut blocks = 1;
-        if node != 0 {
-            right = right && is_entered(map, node, NODE_PLACE, id.block);
-            blocks = 2;
-        }
-        for (index, leaf) in &world.held {
-            if *index == id {
-                let leaf = *leaf % 128;
-                let block = self.read(node)?.u32_at(4 * leaf as usize);
-                right = right && is_entered(map, block, LEAF_PLACE + u32::from(leaf), id.block);
-                blocks = u32::saturating_add(blocks, 1);
-            }
-        }
-        Ok(right.then_some(blocks))
-    }
-
-    /// What is wrong with the map, if anything is: each block of the world's graph has its entry, and all others are Free.
-    pub fn fault(&mut self, world: &World) -> Result<Option<&'static str>, Fail> {
+    /// Whether each block of the world's graph has its entry, and all others are Free and counted.
+    pub fn is_right(&mut self, world: &World) -> Option<bool> {
         let map = self.read(0)?;
-        let mut used = 2;
-        for object in &world.objects {
-            match self.entered(&map, object.id, world)? {
-                Some(blocks) => used = u32::saturating_add(used, blocks),
-                None => return Ok(Some("a block of an object has another's entry")),
-            }
-        }
-        if BLOCKS.checked_sub(used) != Some(free_in(&map)) {
-            return Ok(Some("the map has another count of Free blocks"));
-        }
-        let is_kept = self.space.free() == free_in(&map);
-        Ok((!is_kept).then_some("another count is kept"))
+        Some(map == map_of(world) && self.space.free() == free_in(&map))
     }
 }

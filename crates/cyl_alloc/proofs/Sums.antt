@@ -116,9 +116,6 @@ sums-zeros n m some most count = record {
 pub none_above : (xs : List ℕ) → IsFirstAbove xs None → sum xs ≡ 0
 none_above xs none = none_sum xs none
 
-pub some_above : (xs : List ℕ) (k : ℕ) → IsFirstAbove xs (Some k) → 0 < sum xs
-some_above xs k first = omega (arith, get_or-le-sum_by itself xs k 0 first.0, first.1)
-
 -- a group of sum 0 has no number above 0
 group_none : (xs : List ℕ) (i : ℕ) → group_sum xs (i / 256) ≡ 0 → get_or xs i 0 ≡ 0
 group_none xs i none = elim (cases_lt i (length xs)) [

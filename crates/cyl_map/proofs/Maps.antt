@@ -1,5 +1,5 @@
 -- 64 entries, one after the other.
-use Rattle.std.proofs.Common.{◌≡◌, ℕ, zero, suc, ◌+◌, ◌*◌, ◌<◌, ◌≤◌, List, [], ◌∷◌, ◌++◌, length, take, drop, map, get_or, Option, Some, None, Result, Err, ◌↔◌, slice_get, set, refl, sym, ◌∙◌, ap, subst, arith, length-drop, length-append, length-set}
+use Rattle.std.proofs.Common.{◌≡◌, ℕ, zero, suc, ◌+◌, ◌*◌, ◌<◌, ◌≤◌, List, [], ◌∷◌, ◌++◌, length, take, drop, map, get_or, Option, Some, None, Result, Err, ◌↔◌, slice_get, set, refl, sym, ◌∙◌, ap, subst, arith, length-drop, length-set}
 use Rattle.std.specs.Prelude.{All, IsSome}
 use Rattle.std.specs.Simd.{first_chunks}
 use Rattle.std.proofs.lemmas.List.Elements.{All-set}
@@ -15,10 +15,6 @@ use Rattle.cyl_map.proofs.Entries.{entry_of-spelling, entry_of_said, said_by-spe
 pub length-spelling : (e : MapEntry) → length (spelling e) ≡ 8
 unfolding spelling
 length-spelling e = refl
-
-pub length-map_spelling : (es : List MapEntry) → length (map_spelling es) ≡ 8 * length es
-length-map_spelling [] = refl
-length-map_spelling (e ∷ es) = omega (arith, length-append (spelling e) (map_spelling es), length-spelling e, length-map_spelling es)
 
 -- ---- the eight bytes of each entry
 

@@ -1,17 +1,24 @@
 //! Workers in threads, and the order that a gate makes them keep: two on a floor, and those of whole services.
+//! And whole services whose sources, sinks and disks fail at some call.
 //! Nothing of the server stands on it.
 #![tactic(auto)]
 
 #[cfg(test)]
-mod crowd;
+mod counting;
 #[cfg(test)]
-mod images;
+mod disks;
+#[cfg(test)]
+mod ends;
+#[cfg(test)]
+mod orders;
 mod rounds;
 #[cfg(test)]
 mod service;
 #[cfg(test)]
+mod sink;
+#[cfg(test)]
 mod tests;
 #[cfg(test)]
-mod twin;
+mod torn;
 
 pub use rounds::Rounds;

@@ -1,87 +1,74 @@
-//! Whole services on volumes in memory.
+//! Whole services: what is to be run, and what came of it.
 ghost use Rattle.cfs_serve.specs.Whole.{FitsVolume, HasDisk, HasPlaces};
 ghost use Rattle.cfs_serve.specs.Words.{asked_by};
-ghost use Rattle.std.specs.Prelude.{◌≡◌, Some, true, ℕ};
+ghost use Rattle.std.specs.Prelude.{◌≡◌, option_map, true};
 
-use cfs_base::{Disk, Gate};
-use cfs_core::Core;
-use cfs_fakes::{Hold, MemoryDisk, MemorySink, MemorySource};
+use crate::sink::{ALL, Taking, TrialSink};
+use cfs_base::Disk;
+use cfs_fakes::{Hold, HoldGate, MemorySource};
 use cfs_serve::{Bay, Ended, Volume, names, top};
-use std::alloc::Global;
+use cfs_trail::Trail;
+use std::alloc::{AllocError, Global};
 use std::process::Abort;
 use std::sync::Wait;
 use std::test::Fail;
 use std::thread::Threads;
+use ufs_model::Event;
 
-pub type Run = Ended<MemoryDisk, MemorySource, MemorySink>;
+/// A session: its request lines, whether its source fails at once, and how its sink takes.
+#[derive(Clone, Copy)]
+pub struct Seat<'a> {
+    pub lines: &'a str,
+    pub is_broken: bool,
+    pub sink: Taking,
+}
 
-/// A hold looks so often at most.
-pub const LOOKS: u64 = 100_000_000;
-
-/// Makes a volume of this disk.
-pub fn format(disk: &mut MemoryDisk) -> Result<(), Fail> {
-    let blocks = disk.blocks();
-    if blocks == 0 || blocks % 64 != 0 || blocks > 65_536 {
-        return Err(Fail::from("64 blocks for each cylinder"));
+/// A session with these lines, whose ends don't fail.
+pub fn session(lines: &str) -> Seat<'_> {
+    Seat {
+        lines,
+        is_broken: false,
+        sink: ALL,
     }
-    Ok(Core::format(disk, 0).ok().ok_or("a failed call")?)
 }
 
-/// Whether this is a volume that is there.
-fn is_there(volume: &Option<Volume>) -> bool
-    ensures { result ≡ true → (blocks : ℕ) → FitsVolume volume.now (Some blocks) }
-{
-    matches!(volume, Some(Volume::Existing { .. }))
+/// What is to be run: the words before those of the sessions, the sessions, and how the report's sink takes.
+#[derive(Clone, Copy)]
+pub struct Service<'a> {
+    pub words: &'a [&'a str],
+    pub seats: &'a [Seat<'a>],
+    pub report: Taking,
 }
 
-/// The words name a volume that is there, and the files of so many sessions.
-fn expect_sessions(rt: &impl Abort, alloc: Global, words: &[String], count: usize)
-    ensures disk { (blocks : ℕ) → HasDisk (asked_by words.now) (Some blocks) }
-    ensures places { HasPlaces (asked_by words.now) count count }
-{
-    match names(alloc, words) {
-        Ok(named) => {
-            let there = is_there(&named.volume);
-            assert!(rt; there);
-            assert_eq!(rt; named.sources.as_slice().len(), count);
-            assert_eq!(rt; named.sinks.as_slice().len(), count);
+/// A service with these words and sessions, whose report's sink doesn't fail.
+pub fn ask_for<'a>(words: &'a [&'a str], seats: &'a [Seat<'a>]) -> Service<'a> {
+    Service {
+        words,
+        seats,
+        report: ALL,
+    }
+}
+
+/// What came of a run: its status, the report and the replies as far as they were taken, and the events.
+#[derive(Drop)]
+pub struct Came {
+    pub status: u8,
+    pub report: Vec<u8>,
+    pub replies: Vec<Vec<u8>>,
+    /// A letter for each event: `u` unread, `a` asked, `l` left, `b` began, `v` vanished, `f` finished, `h` halted.
+    pub events: Vec<u8>,
+    /// The moment at which each was recorded.
+    pub moments: Vec<u64>,
+}
+
+impl Came {
+    /// The replies to the first session.
+    pub fn first(&self) -> &[u8] {
+        match self.replies.first() {
+            Some(replies) => replies.as_slice(),
+            None => b"no session",
         }
-        Err(_) => panic!(rt; "the words are of no form"),
     }
-}
-
-/// Serves these scripts, each as a session, on the volume of this disk, behind this gate. So many collections are
-/// called for.
-pub fn serve<G: Gate + Sync>(
-    rt: &(impl Abort + Threads + Wait + Sync),
-    alloc: Global,
-    gate: &G,
-    disk: MemoryDisk,
-    collections: &str,
-    scripts: &[Vec<u8>],
-) -> Result<Run, Fail> {
-    let mut words = Vec::new(alloc);
-    for text in &["serve", "volume", "0", collections] {
-        words.push(String::from_str(alloc, text)?)?;
-    }
-    let mut sources = Vec::new(alloc);
-    let mut sinks = Vec::new(alloc);
-    for script in scripts {
-        words.push(String::from_str(alloc, "in")?)?;
-        words.push(String::from_str(alloc, "out")?)?;
-        let script = Vec::from_slice(alloc, script.as_slice())?;
-        sources.push(MemorySource::new(script, Vec::new(alloc)))?;
-        sinks.push(MemorySink::new(alloc, Vec::new(alloc)))?;
-    }
-    expect_sessions(rt, alloc, words.as_slice(), sources.len());
-    assert_eq!(rt; sinks.len(), sources.len());
-    let bay = Bay {
-        disk: Some(disk),
-        sources,
-        sinks,
-        report: MemorySink::new(alloc, Vec::new(alloc)),
-    };
-    Ok(top(rt, alloc, words.as_slice(), bay, gate))
 }
 
 /// Before this turn the worker waits until the other worker has finished that turn.
@@ -92,4 +79,175 @@ pub fn hold(worker: u32, turn: u64, until_worker: u32, until_turn: u64) -> Hold 
         until_worker,
         until_turn,
     }
+}
+
+/// A gate with these holds, each of which looks a hundred million times at most.
+pub fn gate_of(alloc: Global, holds: &[Hold]) -> Result<HoldGate, Fail> {
+    let mut copies = Vec::new(alloc);
+    for hold in holds {
+        copies.push(*hold)?;
+    }
+    Ok(HoldGate::new(alloc, copies, 100_000_000)?)
+}
+
+fn words_of(alloc: Global, service: &Service<'_>) -> Result<Vec<String>, AllocError> {
+    let mut words = Vec::new(alloc);
+    for word in service.words {
+        words.push(String::from_str(alloc, word)?)?;
+    }
+    for _ in service.seats {
+        words.push(String::from_str(alloc, "in")?)?;
+        words.push(String::from_str(alloc, "out")?)?;
+    }
+    Ok(words)
+}
+
+fn sources_of(alloc: Global, seats: &[Seat<'_>]) -> Result<Vec<MemorySource>, AllocError> {
+    let mut sources = Vec::new(alloc);
+    for seat in seats {
+        let mut fails = Vec::new(alloc);
+        if seat.is_broken {
+            fails.push(0)?;
+        }
+        let lines = Vec::from_slice(alloc, seat.lines.as_bytes())?;
+        sources.push(MemorySource::new(lines, fails))?;
+    }
+    Ok(sources)
+}
+
+fn sinks_of(alloc: Global, seats: &[Seat<'_>]) -> Result<Vec<TrialSink>, AllocError> {
+    let mut sinks = Vec::new(alloc);
+    for seat in seats {
+        sinks.push(TrialSink::new(alloc, seat.sink))?;
+    }
+    Ok(sinks)
+}
+
+/// How many blocks a disk has, where there is one.
+fn blocks_of<D: Disk>(disk: &Option<D>) -> Option<u32>
+    ensures { result ≡ option_map D.blocks disk.now }
+{
+    match disk {
+        Some(disk) => Some(disk.blocks()),
+        None => None,
+    }
+}
+
+/// Whether a disk of so many blocks is one for this volume; for no volume, no disk.
+fn is_for(volume: &Option<Volume>, blocks: Option<u32>) -> bool
+    ensures { result ≡ true → FitsVolume volume.now blocks }
+{
+    match (volume, blocks) {
+        (None, None) => true,
+        (Some(Volume::Existing { path: _ }), Some(_)) => true,
+        (Some(Volume::Fresh { path: _, cylinders }), Some(blocks)) => {
+            u64::from(blocks) == 64 * u64::from(*cylinders)
+        }
+        _ => false,
+    }
+}
+
+/// The words are of a form: they name so many sources and sinks, and a volume that such a disk is for; or none, where
+/// there is no disk.
+fn expect_form(
+    rt: &impl Abort,
+    alloc: Global,
+    words: &[String],
+    blocks: Option<u32>,
+    sources: usize,
+    sinks: usize,
+)
+    ensures disk { HasDisk (asked_by words.now) blocks }
+    ensures places { HasPlaces (asked_by words.now) sources sinks }
+{
+    match names(alloc, words) {
+        Ok(named) => {
+            let fits = is_for(&named.volume, blocks);
+            assert!(rt; fits);
+            assert_eq!(rt; named.sources.as_slice().len(), sources);
+            assert_eq!(rt; named.sinks.as_slice().len(), sinks);
+        }
+        Err(_) => panic!(rt; "the words are of no form"),
+    }
+}
+
+fn letter(event: &Event) -> u8 {
+    match event {
+        Event::Unread { .. } => b'u',
+        Event::Ask { .. } => b'a',
+        Event::Leave { .. } => b'l',
+        Event::Began => b'b',
+        Event::Vanish { .. } => b'v',
+        Event::Finished => b'f',
+        Event::Halted { .. } => b'h',
+    }
+}
+
+fn events_of(alloc: Global, trail: &Trail) -> Result<Vec<u8>, AllocError> {
+    let mut events = Vec::new(alloc);
+    for at in 0..trail.len() {
+        events.push(letter(trail.event(at)))?;
+    }
+    Ok(events)
+}
+
+fn moments_of(alloc: Global, trail: &Trail) -> Result<Vec<u64>, AllocError> {
+    let mut moments = Vec::new(alloc);
+    for at in 0..trail.len() {
+        moments.push(trail.moment(at))?;
+    }
+    Ok(moments)
+}
+
+fn came_of<D>(
+    alloc: Global,
+    ended: &Ended<D, MemorySource, TrialSink>,
+) -> Result<Came, AllocError> {
+    let mut replies = Vec::new(alloc);
+    for sink in &ended.sinks {
+        replies.push(Vec::from_slice(alloc, &sink.taken)?)?;
+    }
+    Ok(Came {
+        status: ended.status,
+        report: Vec::from_slice(alloc, &ended.report.taken)?,
+        replies,
+        events: events_of(alloc, &ended.trail)?,
+        moments: moments_of(alloc, &ended.trail)?,
+    })
+}
+
+/// Does what the words ask, which are of a form, behind this gate, on the volume of this disk if there is one.
+pub fn serve<D: Disk + Send + Drop>(
+    rt: &(impl Abort + Threads + Wait + Sync),
+    alloc: Global,
+    gate: &HoldGate,
+    disk: &mut Option<D>,
+    service: &Service<'_>,
+) -> Result<Came, Fail> {
+    let words = words_of(alloc, service)?;
+    let sources = sources_of(alloc, service.seats)?;
+    let sinks = sinks_of(alloc, service.seats)?;
+    let blocks = blocks_of(disk);
+    expect_form(rt, alloc, &words, blocks, sources.len(), sinks.len());
+    let bay = Bay {
+        disk: disk.take(),
+        sources,
+        sinks,
+        report: TrialSink::new(alloc, service.report),
+    };
+    let ended = top(rt, alloc, &words, bay, gate);
+    let came = came_of(alloc, &ended)?;
+    *disk = ended.disk;
+    Ok(came)
+}
+
+/// The same with nobody held back.
+pub fn play<D: Disk + Send + Drop>(
+    rt: &(impl Abort + Threads + Wait + Sync),
+    alloc: Global,
+    disk: &mut Option<D>,
+    service: &Service<'_>,
+) -> Result<Came, Fail> {
+    let gate = gate_of(alloc, &[])?;
+    serve(rt, alloc, &gate, disk, service)
 }

@@ -2,17 +2,9 @@
 //! The layer above uses that each call is the model's change of one object, and that a crash leaves it done or not done.
 #![tactic(auto)]
 
-#[cfg(test)]
-mod change_tests;
 mod changing;
 mod creating;
-#[cfg(test)]
-mod image_tests;
 mod reading;
-#[cfg(test)]
-mod volume;
-#[cfg(test)]
-mod watched;
 
 pub use changing::{delete, retain};
 pub use creating::create;

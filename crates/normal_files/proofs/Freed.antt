@@ -15,7 +15,6 @@ use Rattle.cfs_base.specs.declared.refusal.Trouble.{Trouble}
 use Rattle.cfs_base.specs.declared.refusal.Trouble.TheVariants as trouble
 use Rattle.cfs_base.proofs.Calls.{makes_then, reads_make, stopped_after_try, tried_then}
 use Rattle.block_tree.specs.declared.root.Root as roots
-use Rattle.cyl_alloc.specs.Refusals.{IsMapTrouble}
 use Rattle.cyl_alloc.specs.Space.{AreCounts, Kept, free_entry}
 use Rattle.cyl_map.specs.Entry.{IsEntry}
 use Rattle.cyl_map.specs.Volume.{entry_in, is_free_entry, is_free_in, map_of, map_with, with_entry}
@@ -31,7 +30,7 @@ use Rattle.vol_owners.specs.Change.{ChangesOnly, IsOpenTo, of_owner}
 use Rattle.vol_owners.specs.Owner.{is_taken}
 use Rattle.vol_owners.proofs.Changes.{changes_entry, changes_then}
 use Rattle.vol_owners.proofs.Entries.{free_unowned, taken_of}
-use Rattle.normal_files.specs.Frees.{Drops, Follows, FreedLeaf, FreedNode, FreesBlock, FreesTo, GivesEnd, GivesLeaves, GivesNode, GivesNodes, HasBegun, IsDropTrouble, IsDropped, IsFreed, IsFreeing, NoMap, OfFile}
+use Rattle.normal_files.specs.Frees.{Drops, Follows, FreedLeaf, FreedNode, FreesBlock, FreesTo, GivesEnd, GivesLeaves, GivesNode, GivesNodes, HasBegun, IsDropTrouble, IsDropped, IsFreed, IsFreeing, OfFile}
 use Rattle.normal_files.specs.Cuts.{first_gone, last_node}
 use Rattle.normal_files.specs.Laid.{leaf_of, node_of}
 use Rattle.normal_files.specs.Nodes.{IsNear, leaves_at}
@@ -68,14 +67,6 @@ follows_on g at n t m s k r old mid new k0 k1 k2 result few fewer one two = reco
     by : (x : Result (Unit {0}) Trouble) → OnOk x ((b : ℕ) → IsTrue (g.told mid b) → IsTrue (g.told new b)) → OnOk x ((b : ℕ) → IsTrue (g.told old b) → IsTrue (g.told new b))
     by (Ok x) told = λ b was. told b (one.told b was)
     by (Err e) told = tt
-
--- a map couldn't be read or written
-pub map_stops : {D : Type 0} (g : Ghosts D) (at block : ℕ) (old new : D) (t : Trouble) → IsMapTrouble g old new block t → (trouble_had_tried t ≡ false → OnlyReads g 1 old new) → (start : D) → HasBegun g start old → IsDropTrouble g at start new (trouble_after_try t)
-map_stops g at block old new (trouble.Disk tried) is only start begun = stopped_after_try g start old new begun.n begun.t tried begun.makes begun.tried is
-map_stops g at block old new (trouble.Damaged damage) is only start begun = NoMap is.code (λ tells.
-    let bad = is.bad (record { honest = subst IsTrue (sym begun.makes.same.honesty) tells.honest; told = λ n. begun.told n (tells.told n) }) in
-    let same : map_of damage.block ≡ map_of block = omega (arith, is.block) in
-    (bad.0, bad.1, ap (λ (i : Image). entry_in i (map_of damage.block + bad.0)) (only refl).content ∙ ap (λ (m : ℕ). entry_in (g.content old) (m + bad.0)) same ∙ bad.2))
 
 pub not_untried : (t : Trouble) → trouble_after_try t ≢ trouble.Disk false
 not_untried (trouble.Disk tried) same = cc

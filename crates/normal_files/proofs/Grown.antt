@@ -32,7 +32,6 @@ use Rattle.normal_files.specs.Grows.{Grows}
 use Rattle.normal_files.specs.Laid.{leaves_of}
 use Rattle.normal_files.specs.Standing.{BecomesFile, IsPartly}
 use Rattle.normal_files.specs.Steps.{WritesBlock}
-use Rattle.intentions.specs.Store.{StoreHas}
 use Rattle.normal_files.proofs.Owned.{IsOwn, all_there, block_from_own, blocks_stay}
 use Rattle.normal_files.proofs.Trimmed.{IsEitherWay, IsLed, KeepsEntries, a_file, either_begin, entries_begin, gives, pointer_stays, set_content, shrunk_holds, shrunk_partly, shrunk_reads, shrunk_rooted}
 use Rattle.normal_files.proofs.Trees.{each_leaf, stands_at}

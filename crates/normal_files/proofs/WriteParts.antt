@@ -14,10 +14,9 @@ use Rattle.cfs_base.proofs.Runs.{then, wider}
 use Rattle.block_tree.specs.declared.root.Root as roots
 use Rattle.cyl_alloc.specs.Space.{Kept}
 use Rattle.cyl_map.specs.Volume.{entry_in, is_free_entry}
-use Rattle.intentions.specs.Store.{StoreHas}
 use Rattle.ufs_model.specs.declared.object.File.{File}
 use Rattle.ufs_model.specs.declared.object.Object.TheVariants as objects
-use Rattle.ufs_model.specs.Graph.{Graph, with_object}
+use Rattle.ufs_model.specs.Graph.{Graph}
 use Rattle.ufs_model.specs.Object.{leaves_in, written}
 use Rattle.vol_owners.specs.Account.{Opened}
 use Rattle.normal_files.specs.Among.{IsAmong, IsEither}

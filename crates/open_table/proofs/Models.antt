@@ -32,10 +32,6 @@ pub length-table : (grants : List models.Grant) → length (table_of grants) ≡
 length-table [] = refl
 length-table (g ∷ grants) = ap suc (length-table grants)
 
-pub table-push : (grants : List models.Grant) (g : models.Grant) → table_of (grants ++ g ∷ []) ≡ table_of grants ++ shown g ∷ []
-table-push [] g = refl
-table-push (h ∷ grants) g = ap (λ rest. shown h ∷ rest) (table-push grants g)
-
 pub found-any : (p : Grant → Bool) (grants : List models.Grant) → is_some (option_map (λ g. g.mode) (find p (table_of grants))) ≡ list_any (λ g. p (shown g)) grants
 found-any p [] = refl
 found-any p (g ∷ grants) = elim (p (shown g)) as (λ t. is_some (option_map (λ g. g.mode) (cond t (Some (shown g)) (find p (table_of grants)))) ≡ (t || list_any (λ g. p (shown g)) grants)) [

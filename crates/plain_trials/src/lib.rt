@@ -1,16 +1,15 @@
-//! The slow server and the small containers tried on worked values: fakes, grants, identifiers, marks,
-//! trails and runs. Nothing stands above this crate; its use is its tests.
+//! What no clause says of the slow server, the formats, the fakes and the small containers: spellings worked by hand,
+//! and that calls which may want memory are done where there is enough. Nothing stands above this crate; its use is its
+//! tests.
 #![tactic(auto)]
 
 #[cfg(test)]
-mod fakes;
+mod containers;
 #[cfg(test)]
-mod grants;
+mod disks;
 #[cfg(test)]
-mod identifiers;
+mod run;
 #[cfg(test)]
-mod marks;
+mod spellings;
 #[cfg(test)]
-mod runs;
-#[cfg(test)]
-mod trails;
+mod streams;

@@ -50,12 +50,6 @@ pub first_in-none : (number : ℕ) (cells : List (Option Cell)) (n : ℕ) → ge
     → first_in (listed n (drop n cells)) number ≡ first_in (listed (n + 1) (drop (n + 1) cells)) number
 first_in-none number cells n none = rw (listed-drop n cells n, none) refl
 
-pub first_in-small : (number : ℕ) (cells : List (Option Cell)) (n : ℕ) (cell : Cell) → get_or cells n None ≡ Some cell → n ≡ number / 2 ^ 32 → cell.word < number % 2 ^ 32
-    → first_in (listed n (drop n cells)) number ≡ first_in (listed (n + 1) (drop (n + 1) cells)) number
-first_in-small number cells n cell some here small =
-    let no : leb number (number_of (record { block = n; word = cell.word })) ≡ false = number-here number (record { block = n; word = cell.word }) here ∙ grind (arith, nat_tests) in
-    rw (listed-drop n cells n, some, no) refl
-
 pub first_in-found : (number : ℕ) (cells : List (Option Cell)) (n : ℕ) (cell : Cell) → get_or cells n None ≡ Some cell
     → (number / 2 ^ 32 < n) ⊎ ((n ≡ number / 2 ^ 32) × (number % 2 ^ 32 ≤ cell.word))
     → first_in (listed n (drop n cells)) number ≡ Some (record { block = n; word = cell.word })

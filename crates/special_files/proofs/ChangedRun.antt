@@ -60,10 +60,6 @@ pub node_told : (image : Image) (block other : ℕ) (leaves other_leaves old new
     → leaves ≡ leaves_at image block → other_leaves ≡ leaves_at image other → new ≡ old ++ all_unlike (in_node image block) (in_node image other) 129
 node_told image block other leaves other_leaves old new is one two = is ∙ (λ i. old ++ all_unlike (table block (one i)) (table other (two i)) 129)
 
--- the same node twice
-pub alike_adds : (size : ℕ) (ns : List ℕ) → Adds size 129 ns ns
-alike_adds size ns = record { room = omega arith; on_disk = λ had. had }
-
 pub alike_told : (image : Image) (block other : ℕ) (ns : List ℕ) → block ≡ other → ns ≡ ns ++ all_unlike (in_node image block) (in_node image other) 129
 alike_told image block other ns same =
     sym (append-nil ns) ∙ ap (λ (ms : List ℕ). ns ++ ms) (sym (all_alike (in_node image block) (in_node image other) 129 (λ j less. ap (λ (n : ℕ). in_node image n j) same)))

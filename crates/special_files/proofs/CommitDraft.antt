@@ -48,7 +48,7 @@ use Rattle.vol_owners.proofs.Entries.{had_not_meant, stands_meant}
 use Rattle.vol_owners.proofs.Owned.{shadow_apart}
 use Rattle.intentions.specs.Store.{StoreHas}
 use Rattle.special_files.specs.Changed.{AreOnDisk, IsChanged}
-use Rattle.special_files.specs.Committing.{Fails, IsReady, far_root, named}
+use Rattle.special_files.specs.Committing.{Fails, IsReady, far_root}
 use Rattle.special_files.specs.Store.{without_draft}
 use Rattle.special_files.proofs.Begun.{own_tree}
 use Rattle.special_files.proofs.CommitRuns.{fails_after}
@@ -274,10 +274,6 @@ module _ {D : Type 0} (g : Ghosts D) (at : ℕ) (old new : D) (kept : Kept) wher
 pub after_damage : (t : Trouble) → is_damage t ≡ false → is_damage (trouble_after_try t) ≡ false
 after_damage (trouble.Disk tried) is = refl
 after_damage (trouble.Damaged damage) is = is
-
--- the identifier with its root block
-pub named_is : (id : Puid) (at : ℕ) → id.block ≡ at → id ≡ named at id.word
-named_is id at same = ap (λ (n : ℕ). named n id.word) same
 
 pub below_all : (size : ℕ) (ns : List ℕ) → AreOnDisk size ns → All (λ n. n < size) ns
 below_all n ns all = λ k d less. (all k d less).1

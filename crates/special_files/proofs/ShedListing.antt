@@ -2,7 +2,6 @@
 use Rattle.std.proofs.Common.{◌≡◌, inl, ℕ, ◌+◌, ◌-◌, ◌*◌, ◌/◌, ◌<◌, ◌≤◌, Bool, true, false, List, [], ◌++◌, length, Some, refl, sym, ◌∙◌, ap, subst, length-append, arith}
 use Rattle.std.specs.Prelude.{◌==◌, get_or, slice_index}
 use Rattle.std.specs.List.{All}
-use Rattle.std.proofs.lemmas.List.Elements.{All-nil}
 use Rattle.cfs_base.specs.Calls.{OnlyReads}
 use Rattle.cfs_base.specs.Disk.{Image}
 use Rattle.cfs_base.specs.Run.{Tells}
@@ -26,7 +25,7 @@ use Rattle.special_files.specs.declared.node.NodeRead.{NodeRead}
 use Rattle.special_files.proofs.Levels.{Tell}
 use Rattle.special_files.proofs.PutStore.{flags_of, the_draft}
 use Rattle.special_files.proofs.WriteLeaf.{near_there}
-use Rattle.special_files.proofs.ShedLists.{Lists, Upto, all_listed, length-fresh_in, length-one_if, node_below, node_listed, node_skipped, upto_none}
+use Rattle.special_files.proofs.ShedLists.{Lists, Upto, all_listed, length-fresh_in, length-one_if, node_below, node_listed, node_skipped}
 
 module _ {D : Type 0} (g : Ghosts D) (graph : Graph) (ds : List Opened) (space : Kept) (id : Puid) (o : Object) (was : Drafting) (m : models.Draft) (d0 : D)
     (store : StoreHas g graph ds d0 space) (at : object_at graph id ≡ Some o) (opened : IsOpen ds id was m) where
@@ -54,16 +53,6 @@ pub record ListRun {D : Type 0} (g : Ghosts D) (root : roots.Root) (leaves nodes
   pub below : All (λ b. b < g.blocks d0) ns
   pub lists : (graph : Graph) (ds : List Opened) (space : Kept) (id : Puid) (o : Object) (was : Drafting) (m : models.Draft) (store : StoreHas g graph ds d0 space) (at : object_at graph id ≡ Some o) (opened : IsOpen ds id was m)
       → HasParts was root leaves nodes → IsReadIn (g.content d0) root read → Listing g graph ds space id o was m d0 store at opened f n ns
-
-pub run_starts : {D : Type 0} (g : Ghosts D) (root : roots.Root) (leaves nodes : List Bool) (read : NodeRead) (f n : ℕ) (d0 : D) (ns : List ℕ) → ns ≡ [] → n ≡ f / 128 → OnlyReads g 0 d0 d0 → ListRun g root leaves nodes read f n d0 d0 ns
-run_starts g root leaves nodes read f n d0 ns none is reads = record {
-  from = omega (arith, is);
-  reads = subst (λ (k : ℕ). OnlyReads g k d0 d0) (let zero_is : 0 ≡ n - f / 128 = omega (arith, is) in zero_is) reads;
-  room = omega (arith, ap (length {A = ℕ}) none);
-  below = subst (All (λ b. b < g.blocks d0)) (sym none) (All-nil (λ b. b < g.blocks d0));
-  lists = λ graph ds space id o was m store at opened parts is_read. subst (Listing g graph ds space id o was m d0 store at opened f n) (sym none)
-      (upto_none (g.content d0) graph store.account.holds id o at (store.account.objects id o at) was m (the_draft_is g graph ds space id o was m d0 store at opened) f (some_block g graph ds space id o was m d0 store at opened) (told_by g graph ds space id o was m d0 store at opened) n is);
-}
 
 module _ {D : Type 0} (g : Ghosts D) (root : roots.Root) (leaves nodes : List Bool) (read : NodeRead) (f n : ℕ) (d0 d1 : D) (ns : List ℕ) (run : ListRun g root leaves nodes read f n d0 d1 ns) (few : n < 120) where
   pub run_tells : Tells g d0 → Tells g d1

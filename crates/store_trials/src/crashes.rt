@@ -66,7 +66,8 @@ pub fn waiting(alloc: Global, disk: &MemoryDisk, at: u64) -> Result<Choices, Fai
     Ok(last)
 }
 
-/// The choices of the image with this number, of those that a crash may leave; past them all, what is left of the number.
+/// The choices of the image with this number, of those that a crash may leave; past them all, what is left of the
+/// number.
 pub fn choices_of(last: &Choices, number: u64) -> (Choices, u64) {
     let mut rest = number;
     let mut choices = [0; 64];

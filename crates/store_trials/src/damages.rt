@@ -1,11 +1,13 @@
 //! Damaged volumes, which are opened or refused as the plain reader says.
 ghost use Rattle.std.specs.Prelude.{◌<◌};
 
-use crate::crashes::{LAST, blocks_of};
-use crate::images::{disk_of, image, opened};
-use crate::plain::Reading;
-use crate::volume::{FILE, INDEX, ROOT, Volume};
-use cfs_base::{Block, Kind};
+use crate::bench::{Act, Bench};
+use crate::crashes::blocks_of;
+use crate::laid::put;
+use crate::plain::{Reading, Word};
+use crate::volume::ROOT_WORD;
+use cfs_base::{Block, Failed, FileKind, Kind, Puid};
+use cfs_fakes::MemoryDisk;
 use cfs_recover::{RecoverFault, recover};
 use std::alloc::Global;
 use std::process::Abort;
@@ -24,7 +26,8 @@ fn below(state: &mut u64, bound: usize) -> usize
     (*state >> 33) as usize % bound
 }
 
-/// One of four damages: a bit is flipped, two entries are exchanged, a pointer is moved, or a block is copied over another.
+/// One of four damages: a bit is flipped, two entries are exchanged, a pointer is moved, or a block is copied over
+/// another.
 fn damage(blocks: &mut Vec<Block>, sort: u32, state: &mut u64) {
     let (one, other) = (below(state, USED), below(state, USED));
     if blocks.len() < USED {
@@ -50,64 +53,206 @@ fn damage(blocks: &mut Vec<Block>, sort: u32, state: &mut u64) {
     blocks[at] = block;
 }
 
-/// Whether the volume is opened, and reads as it did. If not, it is refused as the plain reader says, and stays as it was: of
-/// several faults any may be named.
-fn is_opened(alloc: Global, blocks: Vec<Block>) -> Result<bool, Fail> {
-    let mut disk = disk_of(alloc, &blocks)?;
-    let refused = recover(alloc, &mut disk).err();
-    let reading = Reading::of(alloc, blocks)?;
-    let stays = blocks_of(alloc, &mut disk)? == reading.blocks;
-    let right = match (reading.label_fault(), refused) {
-        (None, None) => reading.faults.is_empty() && opened(alloc, &mut disk)? == reading.words,
-        (None, Some(RecoverFault::Damaged(damage))) => stays && reading.faults.contains(&damage),
-        (label, _) => stays && refused == label,
-    };
-    if !right {
-        return Err("it is opened or refused otherwise than it should be")?;
+/// Puts these 64 blocks on a disk.
+fn put_all(disk: &mut MemoryDisk, blocks: &Vec<Block>) -> Result<(), Failed> {
+    for at in 0..64u32 {
+        if let Some(block) = blocks.get(at as usize) {
+            put(disk, at, block)?;
+        }
     }
-    Ok(refused.is_none())
-}
-
-/// Two hundred damages of what crashes leave from one moment on to another. Some are harmless.
-fn try_damages(
-    rt: &impl Abort,
-    alloc: Global,
-    volume: &Volume,
-    from: u64,
-    moments: u64,
-) -> Result<(), Fail> {
-    let mut state = 1;
-    let mut harmless = 0u32;
-    for n in 0..200u32 {
-        let at = from.saturating_add(n as u64 % moments.max(1));
-        let mut blocks = image(alloc, &volume.disk, at, &LAST)?;
-        damage(&mut blocks, n % 4, &mut state);
-        harmless = u32::saturating_add(harmless, is_opened(alloc, blocks)? as u32);
-    }
-    assert!(rt; 10 < harmless && harmless < 190);
     Ok(())
 }
 
-#[test]
-fn the_worked_volume_damaged_is_refused_where_it_has_a_fault(rt: HostRuntime) -> Result<(), Fail> {
-    let alloc = rt.alloc();
-    let mut volume = Volume::fresh(alloc)?;
-    volume.create(alloc, 0, Kind::Index, 0, 32, FILE)?;
-    try_damages(&rt, alloc, &volume, volume.moment(), 1)
+/// Whether a volume that was opened has no fault, and these words and objects.
+fn reads_so(
+    alloc: Global,
+    disk: &mut MemoryDisk,
+    words: &Vec<Word>,
+    found: usize,
+) -> Result<bool, Fail> {
+    let now = Reading::of(alloc, blocks_of(alloc, disk)?)?;
+    Ok(now.faults.is_empty() && now.words == *words && now.found.len() == found)
+}
+
+/// Whether what was read may be refused so, of several faults by any.
+fn is_refusal(reading: &Reading, fault: RecoverFault) -> bool {
+    match (reading.label_fault(), fault) {
+        (None, RecoverFault::Damaged(damage)) => reading.faults.contains(&damage),
+        (label, fault) => label == Some(fault),
+    }
+}
+
+/// Opens the volume: whether it is opened where it has no fault, with as many objects, and reads as it did; and else
+/// is refused as it may be, and stays as it was.
+fn is_judged(alloc: Global, disk: &mut MemoryDisk, reading: &Reading) -> Result<bool, Fail> {
+    match recover(alloc, disk) {
+        Ok(recovered) if reading.is_sound() => {
+            reads_so(alloc, disk, &reading.words, recovered.names.len() as usize)
+        }
+        Ok(_) => Ok(false),
+        Err(fault) => Ok(is_refusal(reading, fault) && blocks_of(alloc, disk)? == reading.blocks),
+    }
+}
+
+/// The same of a volume of these blocks, which is put on a disk of zeros. Whether it is opened.
+fn is_opened_on(alloc: Global, disk: &mut MemoryDisk, reading: &Reading) -> Result<bool, Fail> {
+    put_all(disk, &reading.blocks)?;
+    if !is_judged(alloc, disk, reading)? {
+        return Err("it is opened or refused otherwise than it should be")?;
+    }
+    Ok(reading.is_sound())
+}
+
+fn is_opened(alloc: Global, blocks: Vec<Block>) -> Result<bool, Fail> {
+    let reading = Reading::of(alloc, blocks)?;
+    is_opened_on(alloc, &mut MemoryDisk::new(alloc, 64)?, &reading)
+}
+
+/// The worked volume: an index of four slots in slot 0.
+const WORKED: [Act; 1] = [Act::Create {
+    slot: 0,
+    kind: Kind::Index,
+    slots: 4,
+    fill: 0,
+    word: 0x903d_f1a0,
+}];
+
+/// A special file of two nodes, whose root is block 3, and the greatest index, with three slots filled; and a draft
+/// of the file that is about to be committed.
+const BUSY: [Act; 10] = [
+    Act::Create {
+        slot: 0,
+        kind: Kind::Special,
+        slots: 0,
+        fill: 7,
+        word: 9,
+    },
+    Act::Create {
+        slot: 1,
+        kind: Kind::Index,
+        slots: 983_040,
+        fill: 0,
+        word: 8,
+    },
+    Act::Resize {
+        at: 3,
+        kind: FileKind::Special,
+        size: 65_540,
+    },
+    Act::Write {
+        at: 3,
+        kind: FileKind::Special,
+        offset: 0,
+        count: 2,
+        byte: 1,
+    },
+    Act::Put {
+        at: 6,
+        slot: 0,
+        what: Some(Puid { block: 3, word: 9 }),
+    },
+    Act::Put {
+        at: 6,
+        slot: 64,
+        what: Some(Puid {
+            block: 2,
+            word: ROOT_WORD,
+        }),
+    },
+    Act::Put {
+        at: 6,
+        slot: 8192,
+        what: Some(Puid { block: 6, word: 8 }),
+    },
+    Act::Begin(3),
+    Act::Change {
+        offset: 65_534,
+        count: 4,
+        byte: 3,
+    },
+    Act::Change {
+        offset: 65_000,
+        count: 4,
+        byte: 3,
+    },
+];
+
+/// Its commit, and another draft.
+const END: [Act; 3] = [
+    Act::Commit,
+    Act::Begin(3),
+    Act::Change {
+        offset: 510,
+        count: 4,
+        byte: 1,
+    },
+];
+
+/// Of the device calls that the last acts make the first, and how many there are.
+fn calls_on(alloc: Global, bench: &mut Bench, acts: [&[Act]; 2]) -> Result<(u64, u64), Fail> {
+    bench.play(alloc, acts[0])?;
+    let from = bench.calls();
+    bench.play(alloc, acts[1])?;
+    Ok((from, bench.calls().saturating_sub(from)))
+}
+
+fn calls_of(alloc: Global, acts: [&[Act]; 2]) -> Result<(u64, u64), Fail> {
+    let mut bench = Bench::fresh(alloc, 1, Vec::new(alloc))?;
+    calls_on(alloc, &mut bench, acts)
+}
+
+/// What all blocks hold after these acts, of which a call of the disk failed in the last.
+fn left_by(
+    alloc: Global,
+    bench: &mut Bench,
+    before: &[Act],
+    last: &[Act],
+) -> Result<Vec<Block>, Fail> {
+    bench.play(alloc, before)?;
+    if bench.play(alloc, last).is_ok() {
+        return Err("no call failed")?;
+    }
+    let mut blocks = Vec::new(alloc);
+    for at in 0..64u32 {
+        blocks.push(bench.volume.get(at)?)?;
+    }
+    Ok(blocks)
+}
+
+/// Damages what is left where the disk's call with this number fails. Whether that is harmless.
+fn is_harmless(
+    alloc: Global,
+    acts: [&[Act]; 2],
+    call: u64,
+    sort: u32,
+    state: &mut u64,
+) -> Result<bool, Fail> {
+    let mut bench = Bench::fresh(alloc, 1, vec![in alloc; call; 1]?)?;
+    let mut blocks = left_by(alloc, &mut bench, acts[0], acts[1])?;
+    damage(&mut blocks, sort, state);
+    is_opened(alloc, blocks)
+}
+
+/// Two hundred damages of what is on the disk where one of the device calls of the last acts fails, each in turn: how
+/// many are harmless.
+fn count_harmless(alloc: Global, acts: [&[Act]; 2], calls: (u64, u64)) -> Result<u32, Fail> {
+    let mut state = 1;
+    let mut harmless = 0u32;
+    for n in 0..200u32 {
+        let call = calls.0.saturating_add(n as u64 % calls.1.max(1));
+        let is_harmless = is_harmless(alloc, acts, call, n % 4, &mut state)?;
+        harmless = harmless.saturating_add(is_harmless as u32);
+    }
+    Ok(harmless)
 }
 
 #[test]
-fn a_busy_volume_damaged_is_refused_where_it_has_a_fault(rt: HostRuntime) -> Result<(), Fail> {
+fn a_damaged_volume_is_refused_where_it_has_a_fault(rt: HostRuntime) -> Result<(), Fail> {
     let alloc = rt.alloc();
-    let mut volume = Volume::open(alloc, 65_540)?;
-    for (slot, id) in [(0, FILE), (64, ROOT), (8192, INDEX)] {
-        volume.change(alloc, slot, id)?;
+    for acts in [[&WORKED[..], &[Act::Find][..]], [&BUSY[..], &END[..]]] {
+        let calls = calls_of(alloc, acts)?;
+        let harmless = count_harmless(alloc, acts, calls)?;
+        assert!(rt; 10 < harmless && harmless < 190);
     }
-    let writes = [(65_534, [3; 4]), (65_000, [3; 4])];
-    let draft = volume.draft(alloc, 65_540, &writes, 65_540)?;
-    let from = volume.moment();
-    volume.end(draft, true)?;
-    volume.draft(alloc, 65_540, &[(510, [1, 2, 3, 4])], 65_540)?;
-    let moments = volume.moment().saturating_sub(from);
-    try_damages(&rt, alloc, &volume, from, moments)
+    Ok(())
 }

@@ -1,25 +1,30 @@
-//! The store tried on small volumes in memory: whole calls over the crates that make it, and what damage or a crash leaves,
-//! opened and read by a plain reader. Its use is its tests; those of the core take from it what crashes leave.
+//! The store tried on small volumes in memory: worked bytes, which blocks its calls take, how often they read and
+//! write, what calls that fail and damaged blocks come to, and damaged volumes that a plain reader judges. Its use is
+//! its tests; those of whole services take from it what crashes leave.
 #![tactic(auto)]
 
 #[cfg(test)]
-mod changes;
+mod bench;
 pub mod crashes;
 #[cfg(test)]
 mod damages;
 #[cfg(test)]
-mod draft_calls;
+mod device_calls;
 #[cfg(test)]
-mod draft_table;
+mod files;
 #[cfg(test)]
-mod draft_volume;
+mod laid;
 #[cfg(test)]
-mod file_calls;
-#[cfg(test)]
-mod file_images;
-#[cfg(test)]
-mod images;
+mod openings;
 #[cfg(test)]
 mod plain;
 #[cfg(test)]
+mod refusals;
+#[cfg(test)]
+mod taken;
+#[cfg(test)]
 mod volume;
+#[cfg(test)]
+mod watched;
+#[cfg(test)]
+mod worked;

@@ -4,8 +4,8 @@ use cfs_recover::RecoverFault;
 use std::alloc::Global;
 use std::test::Fail;
 
-/// Eight bytes of an object that aren't its fill bytes: its number, the place of which they stand at 8 times, and the bytes;
-/// at the place `HEAD` kind and fill byte and, in the lower half, the size.
+/// Eight bytes of an object that aren't its fill bytes: its number, the place of which they stand at 8 times, and the
+/// bytes; at the place `HEAD` kind and fill byte and, in the lower half, the size.
 pub type Word = (u64, u64, u64);
 
 pub const HEAD: u64 = u64::MAX;
@@ -54,16 +54,27 @@ impl Reading {
             found: Vec::new(alloc),
             words: Vec::new(alloc),
         };
-        reading.map()?;
-        let word = reading.half(1, 16);
-        reading.found.push(Puid { block: 2, word })?;
+        reading.walk()?;
+        Ok(reading)
+    }
+
+    /// The map, the root index, and each object that is found.
+    fn walk(&mut self) -> Result<(), Fail> {
+        self.map()?;
+        let word = self.half(1, 16);
+        self.found.push(Puid { block: 2, word })?;
         for at in 0..128 {
-            let Some(id) = reading.found.get(at).copied() else {
+            let Some(id) = self.found.get(at).copied() else {
                 break;
             };
-            reading.object(id)?;
+            self.object(id)?;
         }
-        Ok(reading)
+        Ok(())
+    }
+
+    /// Whether nothing is wrong.
+    pub fn is_sound(&self) -> bool {
+        self.faults.is_empty() && self.label_fault().is_none()
     }
 
     /// Four bytes of a block; 0 past the end.
@@ -147,8 +158,8 @@ impl Reading {
         Ok(true)
     }
 
-    /// The block from which an object is read: its own, or the last of those that stand for it, where its bit is set; and
-    /// how many those are.
+    /// The block from which an object is read: its own, or the last of those that stand for it, where its bit is set;
+    /// and how many those are.
     fn source(&self, root: u32) -> (u32, u32) {
         let (mut from, mut many) = (root, 0);
         for block in 0..BLOCKS {

@@ -3,203 +3,232 @@ ghost use Rattle.std.specs.Prelude.{◌≡◌, ◌*◌, ◌<◌, ◌≤◌, true
 ghost use Rattle.cfs_fakes.specs.Memory.{contents};
 ghost use Rattle.index_ops.specs.Creates.{MayBeMade};
 
-use cfs_base::{Block, BlockNo, Bytes, Disk, Failed, FileKind, Kind, Puid, Refused, Trouble};
+use crate::laid::{LEAF_ENTRY, NODE_ENTRY, RESERVED, ROOT_ENTRY, block_of, get, put};
+use crate::watched::{Seen, Watched};
+use cfs_base::{
+    Block, BlockNo, Bytes, Disk, Failed, FileKind, Kind, NoMemory, Place, Puid, Refused, Trouble,
+};
 use cfs_fakes::MemoryDisk;
 use cyl_alloc::Space;
-use file_ops::{read, resize, size, write};
-use index_ops::{create, delete, retain};
+use file_ops::{read, resize, write};
+use index_ops::{create, delete, retain, retrieve};
 use special_files::Draft;
 use std::alloc::Global;
 use std::test::Fail;
 use vol_format::format_volume;
 
-/// The numbers of the root index, of a special file, and of the greatest index.
-pub const ROOT: u64 = 0x0000_0002_ade0_b876;
+/// The word of the root index.
+pub const ROOT_WORD: u32 = 0xade0_b876;
 
-pub const FILE: u64 = 0x0000_0003_903d_f1a0;
+/// The most bytes of an object.
+const LIMIT: u64 = 7_864_320;
 
-pub const INDEX: u64 = 0x0000_0006_e56a_5d40;
-
-/// A volume of one or two cylinders with what is Free counted. Its disk records.
+/// A volume of one or two cylinders with what is Free counted.
 #[derive(Drop)]
 pub struct Volume {
-    pub disk: MemoryDisk,
+    pub disk: Watched,
     pub space: Space,
-    ghost size: { length (contents disk) ≡ 64 * length space.free },
+    ghost size: { length (contents disk.memory) ≡ 64 * length space.free },
+}
+
+/// The blocks of a special file of 512 bytes, 1 and 2 and then zeros, and of its map.
+const LAID: [(u32, &[u64]); 4] = [
+    (0, &[RESERVED, RESERVED, ROOT_ENTRY, LEAF_ENTRY, NODE_ENTRY]),
+    (2, &[0x0200_0000_0000_0001, 512, 0, 0, 0x4_0000_0000]),
+    (3, &[0x0102_0000_0000_0000]),
+    (4, &[0x3_0000_0000]),
+];
+
+/// Lays them.
+fn lay_file(memory: &mut MemoryDisk) -> Result<(), Failed> {
+    for (at, numbers) in LAID {
+        put(memory, at, &block_of(numbers))?;
+    }
+    Ok(())
 }
 
 impl Volume {
-    pub fn fresh(alloc: Global) -> Result<Volume, Fail> {
-        Volume::of_cylinders(alloc, 1)
-    }
-
-    /// So many cylinders, at most two.
-    pub fn of_cylinders(alloc: Global, count: u32) -> Result<Volume, Fail> {
-        let cylinders = count.max(1).min(2);
-        let mut disk = MemoryDisk::recording(alloc, 64 * cylinders, Vec::new(alloc))?;
-        format_volume(&mut disk, Puid::of(ROOT).word)?;
+    /// The volume on this disk.
+    pub fn on(alloc: Global, memory: MemoryDisk) -> Result<Volume, Fail> {
+        let seen = Seen::nothing();
+        let mut disk = Watched { memory, seen };
+        let cylinders = disk.blocks() / 64;
+        if disk.blocks() != 64 * cylinders || cylinders == 0 || cylinders > 2 {
+            return Err("a disk of another size")?;
+        }
         let space = Space::counted(alloc, &mut disk, cylinders)?;
         Ok(Volume { disk, space })
     }
 
+    /// A fresh volume. The calls at these moments fail.
+    pub fn fresh(alloc: Global, cylinders: u32, failing: Vec<u64>) -> Result<Volume, Fail> {
+        let mut memory = MemoryDisk::failing(alloc, 64 * cylinders.max(1).min(2), failing)?;
+        format_volume(&mut memory, ROOT_WORD)?;
+        Volume::on(alloc, memory)
+    }
+
+    /// One with a special file alone, of 512 bytes. Its root is block 2, its leaf 3, its node 4.
+    pub fn laid(alloc: Global, cylinders: u32) -> Result<Volume, Fail> {
+        let blocks = 64 * cylinders.max(1).min(2);
+        let mut memory = MemoryDisk::new(alloc, blocks)?;
+        put(&mut memory, blocks - 64, &block_of(&[RESERVED]))?;
+        lay_file(&mut memory)?;
+        Volume::on(alloc, memory)
+    }
+
     /// A block.
-    pub fn block(&mut self, at: u32) -> Result<Block, Failed> {
-        if at >= self.disk.blocks() {
-            return Err(Failed);
-        }
-        let mut block = Block::zero();
-        self.disk.read(BlockNo(at), &mut block)?;
-        Ok(block)
+    pub fn get(&mut self, at: u32) -> Result<Block, Failed> {
+        get(&mut self.disk.memory, at)
     }
 
-    /// How many blocks of each of two cylinders are Free.
-    pub fn free_in_two(&mut self) -> Result<[u32; 2], Trouble> {
-        if self.disk.blocks() != 128 {
-            return Err(Trouble::Disk { tried: false });
-        }
-        let first = Space::count_free(&mut self.disk, 0)?;
-        let second = Space::count_free(&mut self.disk, 1)?;
-        Ok([first, second])
+    pub fn put(&mut self, at: u32, block: &Block) -> Result<(), Failed> {
+        put(&mut self.disk.memory, at, block)
     }
 
-    /// One on which the root index names the file, of this size, of the bytes 1 and 2 and then fill bytes, and the greatest
-    /// index, which is empty.
-    pub fn open(alloc: Global, size: u64) -> Result<Volume, Fail> {
-        let mut volume = Volume::fresh(alloc)?;
-        volume.create(alloc, 0, Kind::Special, 7, 0, FILE)?;
-        volume.create(alloc, 1, Kind::Index, 0, 7_864_320, INDEX)?;
-        let draft = volume.draft(alloc, size, &[(0, [1, 2, 7, 7])], size)?;
-        volume.end(draft, true)?;
-        Ok(volume)
-    }
-
-    pub fn moment(&self) -> u64 {
-        self.disk.moment()
+    /// Device calls are counted from here on.
+    pub fn look(&mut self) {
+        self.disk.seen = Seen::nothing();
     }
 
     /// Whether so many blocks are there and Free that no call asks for more.
     fn is_ready(&self) -> bool
-        ensures { result ≡ true → (8 < length (contents self.now.disk)) × (8 ≤ sum self.now.space.free) }
+        ensures { result ≡ true → (8 < length (contents self.now.disk.memory)) × (8 ≤ sum self.now.space.free) }
     {
         self.disk.blocks() > 8 && self.space.free() >= 8
     }
 
-    /// Makes an object with the word of this number, and puts it into a slot of the root index.
-    pub fn create(
+    /// Makes an object, and puts it into a slot of the root index.
+    fn make(
         &mut self,
         alloc: Global,
         slot: u64,
         kind: Kind,
         fill: u8,
         size: u64,
-        number: u64,
+        word: u32,
     ) -> Result<(), Refused>
         requires { MayBeMade kind fill size }
     {
         if slot >= 64 || !self.is_ready() {
             return Err(Refused::Memory);
         }
-        let word = Puid::of(number).word;
         let (disk, space) = (&mut self.disk, &mut self.space);
         create(alloc, disk, space, BlockNo(2), slot, kind, fill, size, word)?;
         Ok(())
     }
 
-    /// Makes a slot of the greatest index hold what has this number, or nothing.
-    pub fn change(&mut self, alloc: Global, slot: u64, number: u64) -> Result<(), Refused> {
-        if slot >= 983_040 || !self.is_ready() {
+    /// Makes an object in a slot of the root index: an index of so many slots, or a file with this fill byte.
+    pub fn create(
+        &mut self,
+        alloc: Global,
+        slot: u64,
+        kind: Kind,
+        slots: u64,
+        fill: u8,
+        word: u32,
+    ) -> Result<(), Refused> {
+        match kind {
+            Kind::Normal => self.make(alloc, slot, Kind::Normal, fill, 0, word),
+            Kind::Special => self.make(alloc, slot, Kind::Special, fill, 0, word),
+            Kind::Index if 0 < slots && slots <= 983_040 => {
+                self.make(alloc, slot, Kind::Index, 0, 8 * slots, word)
+            }
+            Kind::Index => Err(Refused::Memory),
+        }
+    }
+
+    /// Makes a slot of the index at a block hold this, or nothing.
+    pub fn change_slot(
+        &mut self,
+        alloc: Global,
+        at: BlockNo,
+        slot: u64,
+        what: Option<Puid>,
+    ) -> Result<(), Refused> {
+        if at.0 == 0 || at.0 > 8 || slot >= 983_040 || !self.is_ready() {
             return Err(Refused::Memory);
         }
-        let (at, id) = (BlockNo(6), Puid::of(number));
-        if id.block == 0 {
-            return delete(alloc, &mut self.disk, &mut self.space, at, slot);
+        let (disk, space) = (&mut self.disk, &mut self.space);
+        match what {
+            Some(id) if id.block != 0 => retain(alloc, disk, space, at, slot, id),
+            _ => delete(alloc, disk, space, at, slot),
         }
-        retain(alloc, &mut self.disk, &mut self.space, at, slot, id)
     }
 
-    /// Bytes of the file, and its size.
-    pub fn read(&mut self, alloc: Global, offset: u64, count: usize) -> Result<Bytes, Refused> {
-        if !self.is_ready() || offset > 7_864_320 || count as u64 > 7_864_320 - offset {
-            return Err(Refused::Memory);
-        }
-        read(alloc, &mut self.disk, BlockNo(3), offset, count)
-    }
-
-    pub fn size(&mut self) -> Result<u64, Trouble> {
-        if !self.is_ready() {
-            return Err(Trouble::Disk { tried: false });
-        }
-        size(&mut self.disk, BlockNo(3))
-    }
-
-    /// Writes bytes into the file, which is of this kind.
+    /// Writes bytes into the file at a block.
     pub fn write_file(
         &mut self,
         alloc: Global,
+        at: BlockNo,
         kind: FileKind,
         offset: u64,
         bytes: &[u8],
-        floor: u32,
     ) -> Result<(), Refused> {
         let few = !bytes.is_empty() && bytes.len() <= 4096;
-        if !self.is_ready() || !few || offset > 7_860_224 + 4_096 - bytes.len() as u64 {
+        if at.0 == 0
+            || at.0 > 8
+            || !few
+            || offset > LIMIT - bytes.len() as u64
+            || !self.is_ready()
+        {
             return Err(Refused::Memory);
         }
-        let (disk, space) = (&mut self.disk, &mut self.space);
-        write(alloc, disk, space, BlockNo(3), kind, offset, bytes, floor)
+        write(
+            alloc,
+            &mut self.disk,
+            &mut self.space,
+            at,
+            kind,
+            offset,
+            bytes,
+            4,
+        )
     }
 
-    /// Sets its size.
+    /// Sets the size of the file at a block.
     pub fn resize_file(
         &mut self,
         alloc: Global,
+        at: BlockNo,
         kind: FileKind,
         size: u64,
-        floor: u32,
     ) -> Result<(), Refused> {
-        if !self.is_ready() || size > 7_864_320 {
+        if at.0 == 0 || at.0 > 8 || size > LIMIT || !self.is_ready() {
+            return Err(Refused::Memory);
+        }
+        resize(alloc, &mut self.disk, &mut self.space, at, kind, size, 4)
+    }
+
+    /// Begins a draft of the file at a block, with a shadow root or without one.
+    pub fn begin(&mut self, alloc: Global, at: BlockNo, is_direct: bool) -> Result<Draft, Refused> {
+        if at.0 == 0 || at.0 > 8 || !self.is_ready() {
             return Err(Refused::Memory);
         }
         let (disk, space) = (&mut self.disk, &mut self.space);
-        resize(alloc, disk, space, BlockNo(3), kind, size, floor)
+        if is_direct {
+            return Draft::begin_direct(alloc, disk, space, at);
+        }
+        Draft::begin(alloc, disk, space, at, 4)
     }
 
-    /// A draft of the file, of this size, with these bytes written at their offsets, and then of another size.
-    pub fn draft(
-        &mut self,
-        alloc: Global,
-        from: u64,
-        writes: &[(u64, [u8; 4])],
-        to: u64,
-    ) -> Result<Draft, Refused> {
-        if !self.is_ready() {
+    /// Writes bytes into a draft.
+    pub fn write(&mut self, draft: &mut Draft, offset: u64, bytes: &[u8]) -> Result<(), Refused> {
+        let (count, size) = (bytes.len() as u64, draft.size());
+        if draft.at().0 >= self.disk.blocks() || size < count || size - count < offset {
             return Err(Refused::Memory);
         }
-        let mut draft = Draft::begin(alloc, &mut self.disk, &mut self.space, BlockNo(3), 4)?;
-        self.resize(&mut draft, from)?;
-        for (offset, bytes) in writes {
-            self.write(&mut draft, *offset, *bytes)?;
-        }
-        self.resize(&mut draft, to)?;
-        Ok(draft)
+        draft.write(&mut self.disk, &mut self.space, offset, bytes, 4)
     }
 
-    fn resize(&mut self, draft: &mut Draft, size: u64) -> Result<(), Refused> {
-        if draft.at().0 >= self.disk.blocks() || size > 7_864_320 {
+    /// Sets the size of a draft.
+    pub fn resize(&mut self, draft: &mut Draft, size: u64) -> Result<(), Refused> {
+        if draft.at().0 >= self.disk.blocks() || size > LIMIT {
             return Err(Refused::Memory);
         }
         draft.resize(&mut self.disk, &mut self.space, size, 4)
     }
 
-    fn write(&mut self, draft: &mut Draft, offset: u64, bytes: [u8; 4]) -> Result<(), Refused> {
-        let size = draft.size();
-        if draft.at().0 >= self.disk.blocks() || size < 4 || size - 4 < offset {
-            return Err(Refused::Memory);
-        }
-        draft.write(&mut self.disk, &mut self.space, offset, &bytes, 4)
-    }
-
-    /// Commits or aborts a draft.
+    /// Commits a draft, or aborts it.
     pub fn end(&mut self, draft: Draft, commits: bool) -> Result<(), Trouble> {
         if draft.at().0 >= self.disk.blocks() || self.space.free() == 0 {
             return Err(Trouble::Disk { tried: false });
@@ -208,5 +237,67 @@ impl Volume {
             return draft.commit(&mut self.disk, &mut self.space);
         }
         draft.abort(&mut self.disk, &mut self.space)
+    }
+
+    /// Reads so many bytes of a draft.
+    pub fn see(
+        &mut self,
+        alloc: Global,
+        draft: &Draft,
+        offset: u64,
+        count: usize,
+    ) -> Result<(), Refused> {
+        let size = draft.size();
+        if draft.at().0 >= self.disk.blocks()
+            || size < count as u64
+            || size - (count as u64) < offset
+        {
+            return Err(Refused::Memory);
+        }
+        let mut bytes = vec![in alloc; 0u8; count].map_err(|_| NoMemory)?;
+        draft.read(&mut self.disk, offset, &mut bytes)?;
+        Ok(())
+    }
+
+    /// Bytes of the file at a block.
+    pub fn read(
+        &mut self,
+        alloc: Global,
+        at: BlockNo,
+        offset: u64,
+        count: usize,
+    ) -> Result<Bytes, Refused> {
+        if at.0 >= self.disk.blocks() || offset > LIMIT || count as u64 > LIMIT - offset {
+            return Err(Refused::Memory);
+        }
+        read(alloc, &mut self.disk, at, offset, count)
+    }
+
+    /// What a slot of the index at a block holds.
+    pub fn retrieve(&mut self, at: BlockNo, slot: u64) -> Result<Option<Puid>, Trouble> {
+        if at.0 >= self.disk.blocks() || slot >= 983_040 {
+            return Err(Trouble::Disk { tried: false });
+        }
+        retrieve(&mut self.disk, at, slot)
+    }
+
+    /// Claims a block for leaf 7 of the root index.
+    pub fn claim(&mut self) -> Result<(), Refused> {
+        self.space.claim(&mut self.disk, Place::Leaf(7), 2)?;
+        Ok(())
+    }
+
+    /// Makes a block Free.
+    pub fn release(&mut self, at: BlockNo) -> Result<(), Trouble> {
+        if at.0 >= self.disk.blocks() {
+            return Err(Trouble::Disk { tried: false });
+        }
+        self.space.release(&mut self.disk, at)
+    }
+
+    /// Looks for the least Free block.
+    pub fn find(&mut self) -> Result<(), Refused> {
+        self.space.find(&mut self.disk)?;
+        Ok(())
     }
 }

@@ -34,9 +34,6 @@ changed_alike (SetSize size) (objects.Index i) = refl
 
 -- ---- files
 
-abbrev IsWithin : File → ℕ → ℕ → Type 0
-IsWithin f at byte = (byte < 256) × ((byte ≡ f.fill) ⊎ (has_number (at / 512) f.held ≡ true))
-
 module _ (f : File) where
   may_stand : (at byte : ℕ) → byte_may_stand f at byte ≡ true → (nat_lt byte 256 ≡ true) × (((byte == f.fill) || has_number (at / 512) f.held) ≡ true)
   may_stand at byte h = and_parts (nat_lt byte 256) ((byte == f.fill) || has_number (at / 512) f.held) h

@@ -139,12 +139,6 @@ module _ (seed : ℕ) (s : State) (who : ℕ) (h : IsState s) where
   outcome_has (asks.CreateIndex slots index slot) b none free makes = created_has seed s who index slot _ b (to s who (asks.CreateIndex slots index slot) h none) free
   outcome_has request b none free makes = cc
 
-pub draws_one : (request : Request) → draws request ≤ 1
-draws_one (asks.CreateFile kind fill index slot) = omega arith
-draws_one (asks.CreateIndex slots index slot) = omega arith
-draws_one (asks.OpenFor id mode) = omega arith
-draws_one request = omega arith
-
 -- where a new object takes the first block that is free, the next block is the first that may be
 pub taken_after : (seed : ℕ) (s : State) (who : ℕ) (request : Request) (b c : ℕ) → IsState s → refusal_of s who request ≡ None → creates request ≡ true → IsLeastFreeRoot s.graph.objects b
     → 3 ≤ c → c < b + 1 → has_block (outcome_of seed s who request b).1.graph.objects c ≡ true
@@ -171,9 +165,3 @@ outcome_plain seed s who (asks.Read file offset count) b h none =
     simp (length-take, length-drop) (omega arith)
 outcome_plain seed s who (asks.Retrieve index slot) b h none = slot_plain (slot_of (index_seen s who index) slot)
 outcome_plain seed s who request b h none = tt
-
--- the block counts for a new object alone
-pub other_block : (seed : ℕ) (s : State) (who : ℕ) (request : Request) (b c : ℕ) → creates request ≡ false → outcome_of seed s who request b ≡ outcome_of seed s who request c
-other_block seed s who (asks.CreateFile kind fill index slot) b c makes = cc
-other_block seed s who (asks.CreateIndex slots index slot) b c makes = cc
-other_block seed s who request b c makes = refl

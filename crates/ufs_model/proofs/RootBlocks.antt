@@ -83,12 +83,3 @@ pub found_still : (q k : Puid) (es : List (Puid × Object)) (o v : Object) → l
     → lookup (is_at (puid_cmp q)) (insert_entry puid_cmp es k v) ≡ Some o
 found_still q k es o v found free =
     lookup-insert_entry q k es v (other-blocks q k (λ same. let taken : has_block es k.block ≡ true = rw (← same) (has_block-there q es o found) in cc)) ∙ found
-
--- where a new object takes the first block that is free, the next block is the first that may be
-pub taken_below_next : (k : Puid) (v : Object) (es : List (Puid × Object)) → ((b : ℕ) → 3 ≤ b → b < k.block → has_block es b ≡ true)
-    → (b : ℕ) → 3 ≤ b → b < k.block + 1 → has_block (insert_entry puid_cmp es k v) b ≡ true
-taken_below_next k v es taken b le lt =
-    elim (b == k.block) as (λ t. (b == k.block) ≡ t → has_block (insert_entry puid_cmp es k v) b ≡ true) [
-      | true ↦ λ is. let same : b ≡ k.block = grind (arith, nat_tests) in rw same (has_block-new k v es)
-      | false ↦ λ no. let less : b < k.block = grind (arith, nat_tests) in has_block-still b k v es (taken b le less)
-    ] refl

@@ -2,12 +2,8 @@
 //! The layers above use the law of frames: an image within the frame of a sound one is sound, and reads the same.
 #![tactic(auto)]
 
-mod calls;
-mod carried;
 mod laws;
 
-pub use calls::{flush_within, write_loose, write_within};
-pub use carried::{a_disk_carries, flush_carried, read_carried, write_carried};
 pub use laws::{
     blocks_are_those_held, claims_are_loose, commit_sets_the_bit, entry_written, frames_compose,
     law_of_frames, loose_blocks_change, maps_change, objects_are_made, one_object_changes,

@@ -4,7 +4,5 @@
 #![tactic(auto)]
 
 mod label;
-#[cfg(test)]
-mod tests;
 
 pub use label::{Label, LabelFault};

@@ -1,5 +1,5 @@
 -- Fresh blocks of a draft are those whose pointers differ from the object's own.
-use Rattle.std.proofs.Common.{◌≡◌, ◌≢◌, inl, inr, ℕ, zero, suc, ◌-◌, ◌<◌, List, [], length, get_or, take, Bool, true, false, ◌==◌, Some, refl, sym, ◌∙◌, ap, arith}
+use Rattle.std.proofs.Common.{◌≡◌, ◌≢◌, inl, inr, ℕ, zero, suc, ◌-◌, ◌<◌, List, [], length, take, Bool, true, false, ◌==◌, Some, refl, sym, ◌∙◌, ap}
 use Rattle.std.specs.Prelude.{filter, is_some}
 use Rattle.std.specs.List.{range_with_len}
 use Rattle.std.proofs.Math.Path.{fun_ext}
@@ -13,7 +13,7 @@ use Rattle.cyl_map.specs.declared.entry.MapEntry.{MapEntry}
 use Rattle.cyl_map.specs.Volume.{entry_in}
 use Rattle.ufs_model.specs.declared.object.Object.{Object}
 use Rattle.ufs_model.specs.Graph.{Graph, object_at}
-use Rattle.vol_image.specs.Seen.{Held, Tree, held_at, tree_in}
+use Rattle.vol_image.specs.Seen.{Held, held_at, tree_in}
 use Rattle.vol_image.specs.Sight.{first_or, sight, source}
 use Rattle.vol_image.specs.Sound.{Holds}
 use Rattle.vol_image.specs.Frame.{IsAtRest, IsBlockOf}
@@ -23,7 +23,7 @@ use Rattle.vol_image.proofs.Paths.{held_there}
 use Rattle.vol_image.proofs.Places.{same_levels, same_path}
 use Rattle.vol_image.proofs.Views.{held, held_block, held_is}
 use Rattle.vol_owners.specs.Owner.{is_had, is_of, is_placed}
-use Rattle.vol_owners.specs.Account.{HasDraft, HasItsBlocks, Opened, content_of, differing_at, differs_at, is_meant_for, levels_standing, passes, standing_at}
+use Rattle.vol_owners.specs.Account.{HasDraft, HasItsBlocks, Opened, content_of, differing_at, differs_at, is_meant_for, passes, standing_at}
 use Rattle.vol_owners.proofs.Entries.{had_not_meant, had_or_meant, taken_of}
 
 module _ (image : Image) (g : Graph) (holds : Holds image g) (id : Puid) (o : Object) (at : object_at g id ≡ Some o) (has : HasItsBlocks image id.block) (d : Opened) (draft : HasDraft image id d) where
@@ -88,18 +88,6 @@ module _ (image : Image) (g : Graph) (holds : Holds image g) (id : Puid) (o : Ob
   pub differing_are_fresh : (depth : ℕ) → standing_at (is_meant_for image id.block) (tree_in image (content_of d)) depth ≡ differing_at image own (content_of d) depth
   differing_are_fresh depth =
       ap (λ (P : ℕ → Bool). filter P (range_with_len 0 (width (take depth (levels_of (content_of d)))))) (fun_ext (λ k. differs_is_meant (path_to (take depth (levels_of (content_of d))) k)))
-
--- the blocks so many levels up from the leaves
-level_up : (test : ℕ → Bool) (tree : Tree) (n k : ℕ) → k < n → get_or (levels_standing test tree n) k [] ≡ standing_at test tree (n - k)
-level_up test tree zero k less = absurd (omega arith)
-level_up test tree (suc n) zero less = let top : suc n ≡ suc n - 0 = omega arith in ap (standing_at test tree) top
-level_up test tree (suc n) (suc k) less = (let down : n - k ≡ suc n - suc k = omega arith in level_up test tree n k (omega arith) ∙ ap (standing_at test tree) down)
-
-pub fresh_levels : (image : Image) (g : Graph) (id : Puid) (o : Object) (d : Opened) → Holds image g → object_at g id ≡ Some o → HasItsBlocks image id.block → HasDraft image id d → (k : ℕ) → k < length (levels_of (content_of d))
-    → get_or d.draft.fresh k [] ≡ differing_at image (block_at image id.block) (content_of d) (length (levels_of (content_of d)) - k)
-fresh_levels image g id o d holds at has draft k less =
-    draft.fresh k ∙ level_up (is_meant_for image id.block) (tree_in image (content_of d)) (length (levels_of (content_of d))) k less
-    ∙ differing_are_fresh image g holds id o at has d draft (length (levels_of (content_of d)) - k)
 
 -- an object that has its blocks is at rest
 pub at_rest : (image : Image) (r : ℕ) → HasItsBlocks image r → IsAtRest image r

@@ -19,7 +19,7 @@ use Rattle.vol_image.specs.Sound.{Holds}
 use Rattle.vol_image.proofs.Reached.{same_puid_is, same_puid_itself}
 use Rattle.vol_image.proofs.Graphs.{found, is_there-ids, there_from}
 use Rattle.vol_image.proofs.Changes.{same_block}
-use Rattle.vol_owners.specs.Owner.{is_of, is_placed, owner_of}
+use Rattle.vol_owners.specs.Owner.{is_placed, owner_of}
 use Rattle.vol_owners.specs.Account.{Opened, drafts_of}
 use Rattle.vol_owners.specs.Room.{one_of}
 use Rattle.vol_owners.proofs.Sums.{count_in, run_zeros, sum_both, sum_each}

@@ -1,21 +1,14 @@
 -- Blocks of objects that are gone.
-use Rattle.std.proofs.Common.{◌≡◌, inl, inr, ℕ, ◌+◌, ◌≤◌, List, length, Bool, true, false, not, ◌&&◌, Option, refl, ap, subst, arith}
-use Rattle.std.specs.List.{list_all}
+use Rattle.std.proofs.Common.{◌≡◌, inl, inr, ℕ, ◌+◌, ◌≤◌, length, Bool, true, false, not, ◌&&◌, Option, refl, ap, subst, arith}
 use Rattle.std.proofs.lemmas.Bool.{and_parts, and_from, both_ways, false_from_ne_true, not-true, not_from_false}
 use Rattle.cfs_base.specs.Disk.{Image}
-use Rattle.cfs_base.specs.declared.identifier.Puid.{Puid}
 use Rattle.cyl_map.specs.declared.entry.MapEntry.{MapEntry}
 use Rattle.cyl_map.specs.Volume.{entry_in}
-use Rattle.ufs_model.specs.Identifier.{is_among, rises}
-use Rattle.ufs_model.specs.Graph.{Graph, has_block, ids_of, is_there, without}
-use Rattle.vol_image.proofs.Graphs.{rises-entries}
+use Rattle.ufs_model.specs.Graph.{Graph, has_block}
 use Rattle.vol_owners.specs.Owner.{is_taken, is_placed, owner_of, is_made, is_stray, stray_blocks}
-use Rattle.vol_owners.specs.Account.{Accounts, IsSwept, Opened}
+use Rattle.vol_owners.specs.Account.{IsSwept}
 use Rattle.vol_owners.specs.Change.{ChangesOnly, IsOfThese}
-use Rattle.vol_owners.specs.Room.{blocks_taken}
 use Rattle.vol_owners.proofs.Entries.{free_unplaced}
-use Rattle.vol_owners.proofs.Rooms.{room}
-use Rattle.vol_owners.proofs.Steps.{vanish_goes_on}
 use Rattle.vol_owners.proofs.Sums.{ones_le}
 
 abbrev stray_parts : Graph → Option MapEntry → Type 0
@@ -52,9 +45,3 @@ module _ (T : Option MapEntry → Bool) (a b : Image) (g h : Graph) (changes : C
 
   pub stays_swept : IsSwept a g → IsSwept b h
   stays_swept swept = record { none = λ n. false_from_ne_true _ (λ stray. both_ways _ (swept.none n) (was_stray n stray)) }
-
--- a vanish makes strays of the blocks of what it takes, and the Free blocks stay
-pub vanish_counts : (a : Image) (g : Graph) (ds : List Opened) (ids : List Puid) → Accounts a g ds → rises (ids_of g) ≡ true → list_all (λ d. is_there (without g ids) d.id) ds ≡ true
-    → stray_blocks a (without g ids) (length a) + blocks_taken (without g ids) ds ≡ stray_blocks a g (length a) + blocks_taken g ds
-vanish_counts a g ds ids had up on =
-    omega (arith, room a g ds had up, room a (without g ids) ds (vanish_goes_on a g ds ids had on) (rises-entries (λ x. not (is_among x ids)) g.objects up))

@@ -1,41 +1,37 @@
 use Rattle.std.proofs.Common.{◌≡◌, [], Err, refl, sym, subst, arith}
 use Rattle.std.proofs.lemmas.Bool.{both_ways}
-use Rattle.cfs_base.specs.declared.refusal.Refused.TheVariants as refusals
+use Rattle.cfs_base.specs.Refusals.{refused_by}
 use Rattle.collector_steps.specs.Collecting.{colours_in, waiting_in}
 use Rattle.cfs_core.specs.declared.collecting.Step.TheVariants as steps
 use Rattle.cfs_core.specs.Collect.{StepsSo}
 use Rattle.cfs_core.proofs.Answering.{reads_none}
-use Rattle.cfs_core.proofs.Stepping.{first_there, none_left, scan_calm, scan_cause, steps_condemned, steps_failed, steps_read}
+use Rattle.cfs_core.proofs.Stepping.{first_there, no_want, none_left, scan_calm, scan_cause, steps_condemned, steps_failed, steps_read}
 use Rattle.cfs_core.proofs.collecting.mark.Goals as goal
+
+pub returns-then-has_rescue : goal.returns-then-has_rescue
+returns-then-has_rescue g c = λ kept.
+    let d = c.args.disk.now in
+    steps_read g.D.Disk d kept c.args.names.now c.args.collector.now c.take.new.self c.take.ensures.volume 0 d (reads_none g.D.Disk 0 d) (omega arith) c.requires.marks c.take.ensures.phase steps.Took refl
+    (c.requires.marks, c.has_rescue.ensures.0 c.if-has_rescue.true) (c.take.ensures.steps, c.take.ensures.added)
+    (λ s ds serves col. c.take.ensures.keeps s (g.D.Disk.content d) serves.state serves.named col)
 
 pub returns-in-Ok : goal.returns-in-Ok
 returns-in-Ok g c = λ kept.
-    let d = c.args.disk.now in
-    steps_read g.D.Disk d kept c.args.names.now c.args.collector.now c.take.new.self c.take.ensures.volume 0 d (reads_none g.D.Disk 0 d) (omega arith) c.requires.marks c.take.ensures.phase steps.Took refl
-    (c.requires.marks, c.has_rescue.ensures.0 c.if-has_rescue.true) (c.in-Ok.ensures.steps, c.take.ensures.added)
-    (λ s ds serves col. c.in-Ok.ensures.keeps s (g.D.Disk.content d) serves.state serves.named col)
-
-pub returns-in-Err : goal.returns-in-Err
-returns-in-Err g c = λ kept.
-    let d = c.args.disk.now in
-    subst (λ e. StepsSo g.D.Disk d d kept kept c.args.names.now c.args.names.now c.args.collector.now c.take.new.self (Err e)) (sym c.from.ensures)
-    (steps_failed g.D.Disk d kept c.args.names.now c.args.collector.now c.take.new.self c.take.ensures.volume 0 d (reads_none g.D.Disk 0 d) (omega arith) c.requires.marks c.in-Err.ensures.same refusals.Memory tt (λ s ds serves col. refl))
-
-pub returns-in-Ok-scan : goal.returns-in-Ok-scan
-returns-in-Ok-scan g c = λ kept.
     let k = c.args.collector.now in
     let taken : waiting_in k ≡ [] = none_left (waiting_in k) (λ some. both_ways _ c.if-has_rescue.false (c.has_rescue.ensures.1 some)) in
     steps_read g.D.Disk c.args.disk.now kept c.args.names.now k c.scan.new.self c.scan.ensures.volume 4 c.scan.new.disk c.scan.ensures.reads (omega arith) c.requires.marks c.scan.ensures.phase steps.Scanned refl
-    (c.requires.marks, taken, c.has_grey.ensures.0 c.if-has_grey.true) (c.in-Ok-scan.ensures.steps, c.scan.ensures.added) (λ s ds serves col. c.in-Ok-scan.ensures.keeps s ds serves col)
+    (c.requires.marks, taken, c.has_grey.ensures.0 c.if-has_grey.true) (c.in-Ok.ensures.steps, c.scan.ensures.added) (λ s ds serves col. c.in-Ok.ensures.keeps s ds serves col)
 
-pub returns-in-Err-scan : goal.returns-in-Err-scan
-returns-in-Err-scan g c = λ kept.
+pub returns-in-Err : goal.returns-in-Err
+returns-in-Err g c = λ kept.
     let k = c.args.collector.now in
-    let e = c.in-Err-scan.refused in
+    let d = c.args.disk.now in
+    let t = c.in-Err.trouble in
     let first = first_there k.marks.grey (c.has_grey.ensures.0 c.if-has_grey.true) in
-    let why = c.in-Err-scan.ensures.refused first.0 first.1 in
-    steps_failed g.D.Disk c.args.disk.now kept c.args.names.now k c.scan.new.self c.scan.ensures.volume 4 c.scan.new.disk c.scan.ensures.reads (omega arith) c.requires.marks c.in-Err-scan.ensures.same e
-    (scan_cause g.D.Disk c.args.disk.now c.scan.new.disk _ e why) (λ s ds serves col. scan_calm g.D.Disk c.args.disk.now c.scan.new.disk _ e why (c.in-Err-scan.ensures.sound s ds serves col) c.in-Err-scan.ensures.untried)
+    let why = c.in-Err.ensures.refused first.0 first.1 in
+    subst (λ e. StepsSo g.D.Disk d c.scan.new.disk kept kept c.args.names.now c.args.names.now k c.scan.new.self (Err e)) (sym c.from.ensures)
+    (steps_failed g.D.Disk d kept c.args.names.now k c.scan.new.self c.scan.ensures.volume 4 c.scan.new.disk c.scan.ensures.reads (omega arith) c.requires.marks c.in-Err.ensures.same (refused_by t)
+    (scan_cause g.D.Disk d c.scan.new.disk _ t why) (no_want t) (λ s ds serves col. scan_calm g.D.Disk d c.scan.new.disk _ t why (c.in-Err.ensures.sound s ds serves col) c.in-Err.ensures.untried))
 
 pub condemn-ids-requires-clause-read : goal.condemn-ids-requires-clause-read
 condemn-ids-requires-clause-read g c = none_left c.args.collector.now.marks.grey (λ some. both_ways _ c.if-has_grey.false (c.has_grey.ensures.1 some))

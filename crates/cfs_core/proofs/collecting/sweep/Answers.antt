@@ -1,4 +1,4 @@
-use Rattle.std.proofs.Common.{◌≡◌, sym, ◌∙◌, ap, subst}
+use Rattle.std.proofs.Common.{sym, ◌∙◌, ap, subst}
 use Rattle.collector_marks.specs.Kept.{blocks_of}
 use Rattle.collector_steps.specs.Swept.{IsPhaseOf}
 use Rattle.collector_steps.specs.declared.sweep.Pass.TheVariants as passes

@@ -1,7 +1,5 @@
-use Rattle.std.proofs.Common.{◌≡◌, ◌≢◌, inl, inr, ◌<◌, ◌≤◌, ◌++◌, ◌∙◌, ap, sym, refl, ℕ, List, length, get_or, arith}
+use Rattle.std.proofs.Common.{◌≡◌, ◌≢◌, inl, inr, ◌<◌, ◌≤◌, ◌++◌, ◌∙◌, sym, refl, ℕ, length, get_or, arith}
 use Rattle.std.proofs.lemmas.Bool.{cases_eq}
-use Rattle.block_tree.specs.declared.root.Root.{Root}
-use Rattle.cfs_recover.specs.Copies.{Piece, head_piece, node_pieces}
 use Rattle.cfs_recover.proofs.Pieces.{first_none, first_some, head_fill, head_is, head_rest, head_size, node_fits, none_is, read_all, read_begin, read_one, read_skip, some_is}
 use Rattle.cfs_recover.proofs.copies.first_root.Goals as goal
 

@@ -1,4 +1,4 @@
-use Rattle.std.proofs.Common.{ap, arith}
+use Rattle.std.proofs.Common.{arith}
 use Rattle.cfs_script.proofs.Digits.{read_all, read_step}
 use Rattle.cfs_script.proofs.word.read_digits.Goals as goal
 

@@ -19,7 +19,7 @@ made_on g asked format cause report trail moments old disk new is told there has
 
 pub returns-clause-disk : goal.returns-clause-disk
 returns-clause-disk g c =
-    let format : Format = record { volume = c.in-Some-format_asked.format.volume.now; cylinders = c.in-Some-format_asked.format.cylinders; seed = c.in-Some-format_asked.format.seed } in
+    let format : Format = record { volume = c.in-Some-format_asked.format.volume.now; cylinders = c.in-Some-format_asked.format.cylinders; seed = c.in-Some-format_asked.format.seed; pair = c.in-Some-format_asked.format.pair } in
     let is : asked_by c.args.words.now ≡ Formats format = search rules in
     let result = c.nothing-in-Some-disk.result in
     made_on g.D.Disk (asked_by c.args.words.now) format c.make_volume.result result.report result.trail.events result.trail.moments c.args.disk c.in-Some-disk.disk c.make_volume.new.disk

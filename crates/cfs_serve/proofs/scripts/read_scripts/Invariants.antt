@@ -1,4 +1,4 @@
-use Rattle.std.proofs.Common.{◌≡◌, ◌+◌, ◌*◌, ◌≤◌, ℕ, length, map, slice_get}
+use Rattle.std.proofs.Common.{◌≡◌, ◌*◌, ◌≤◌, ℕ, length, map, slice_get}
 use Rattle.std.specs.Prelude.{vec_capacity}
 use Rattle.cfs_serve.specs.Scripts.{HaveFirst, lines_in}
 use Rattle.cfs_serve.proofs.scripts.read_scripts.Given as goal

@@ -12,7 +12,6 @@ loop-slot-preserved c =
       left = ap (all_shaded c.args.names.now.named (ids_from c.args.content.now (c.loop-slot.slot + 1))) c.shade_slot.ensures.shaded
           ∙ sym (shaded_from c.args.names.now.named c.args.content.now c.loop-slot.slot (colours_of c.loop-slot.marks) c.loop-slot-test.true)
           ∙ before.left;
-      room = omega (arith, c.shade_slot.ensures.room, before.room);
       blocks = c.shade_slot.ensures.blocks ∙ before.blocks;
     }
 

@@ -1,4 +1,4 @@
-use Rattle.std.proofs.Common.{◌≡◌, ◌+◌, ◌≤◌}
+use Rattle.std.proofs.Common.{◌≡◌}
 use Rattle.collector_marks.specs.Kept.{blocks_of, colours_of}
 use Rattle.marking.specs.Colours.{all_shaded}
 use Rattle.collector_steps.specs.Scan.{ids_from}
@@ -7,6 +7,5 @@ use Rattle.collector_steps.proofs.leaf.shade_leaf.Given as goal
 abbrev pub invariant-loop-slot : goal.invariant-loop-slot
 invariant-loop-slot l = record {
   left : all_shaded l.names.named (ids_from l.content l.slot) (colours_of l.marks) ≡ all_shaded l.names.named (ids_from l.content 0) (colours_of l.initial.marks);
-  room : 64 ≤ l.marks.room + l.slot;
   blocks : blocks_of l.marks ≡ blocks_of l.initial.marks;
 }

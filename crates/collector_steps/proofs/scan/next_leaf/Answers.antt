@@ -1,7 +1,6 @@
-use Rattle.std.proofs.Common.{◌≡◌, ◌∙◌, ◌+◌, ◌≤◌, ℕ, subst, sym, arith}
-use Rattle.std.specs.Prelude.{◌<◌, ◌≢◌, IfErr, IfSome, Option}
+use Rattle.std.proofs.Common.{◌≡◌, subst, arith}
+use Rattle.std.specs.Prelude.{◌<◌, ◌≢◌, IfSome, Option}
 use Rattle.std.proofs.lemmas.Result.{err_from_is_err_and}
-use Rattle.cfs_base.specs.Calls.{OnlyReads}
 use Rattle.cfs_base.proofs.Calls.{reads_then, tells_on}
 use Rattle.cfs_base.specs.Disk.{Image}
 use Rattle.cfs_base.specs.Run.{Tells}
@@ -9,8 +8,6 @@ use Rattle.block_tree.specs.Root.{root_spelling}
 use Rattle.block_tree.specs.Tree.{leaf_block}
 use Rattle.block_tree.specs.declared.step.HeldStep.{HeldStep}
 use Rattle.collector_steps.proofs.Damage.{step_refused, leaf_refused}
-use Rattle.collector_steps.specs.Scan.{IsScanTrouble}
-use Rattle.collector_steps.proofs.scan.next_leaf.Given.{Over}
 use Rattle.collector_steps.proofs.scan.next_leaf.Goals as goal
 
 pub returns-in-Err-clause-refused : goal.returns-in-Err-clause-refused

@@ -1,4 +1,4 @@
-use Rattle.std.proofs.Common.{◌≡◌, ◌∙◌, ◌+◌, ap, sym, arith, drop}
+use Rattle.std.proofs.Common.{◌∙◌, ◌+◌, ap, sym, drop}
 use Rattle.marking.specs.Colours.{all_shaded}
 use Rattle.collector_marks.specs.Kept.{colours_of}
 use Rattle.std.proofs.lemmas.List.{at_drop_more}
@@ -11,6 +11,5 @@ loop-id-preserved c =
       left = ap (all_shaded c.args.names.now.named (drop (c.loop-id.id-index + 1) c.args.ids.now)) c.shade_one.ensures.shaded
           ∙ sym (at_drop_more (λ ids. all_shaded c.args.names.now.named ids (colours_of c.loop-id.marks)) c.args.ids.now c.loop-id.id-index _ c.loop-id-test.true)
           ∙ before.left;
-      room = omega (arith, c.shade_one.ensures.room, before.room);
       blocks = c.shade_one.ensures.blocks ∙ before.blocks;
     }

@@ -1,4 +1,4 @@
-use Rattle.std.proofs.Common.{◌≡◌, ◌+◌, ◌≤◌, length, drop}
+use Rattle.std.proofs.Common.{◌≡◌, drop}
 use Rattle.collector_marks.specs.Kept.{blocks_of, colours_of}
 use Rattle.marking.specs.Colours.{all_shaded}
 use Rattle.collector_steps.proofs.shading.shade_all.Given as goal
@@ -6,6 +6,5 @@ use Rattle.collector_steps.proofs.shading.shade_all.Given as goal
 abbrev pub invariant-loop-id : goal.invariant-loop-id
 invariant-loop-id l = record {
   left : all_shaded l.names.named (drop l.id-index l.ids) (colours_of l.marks) ≡ all_shaded l.names.named l.ids (colours_of l.initial.marks);
-  room : length l.ids ≤ l.marks.room + l.id-index;
   blocks : blocks_of l.marks ≡ blocks_of l.initial.marks;
 }

@@ -3,13 +3,9 @@ use Rattle.cfs_base.specs.declared.refusal.Trouble.TheVariants as trouble
 use Rattle.cfs_base.specs.Disk.{Image}
 use Rattle.cfs_base.specs.Run.{Leaves}
 use Rattle.cfs_base.proofs.Calls.{makes_then, reads_make, then_tried}
-use Rattle.std.specs.Prelude.{OnOk}
-use Rattle.intentions.specs.Store.{StoreHas}
 use Rattle.ufs_model.specs.declared.object.Object.TheVariants as objects
-use Rattle.ufs_model.specs.Graph.{with_object}
 use Rattle.ufs_model.specs.Object.{resized}
 use Rattle.normal_files.specs.Cuts.{IsCutRoot, IsEnd}
-use Rattle.normal_files.specs.Frees.{TakesNone}
 use Rattle.normal_files.proofs.Refusals.{stopped_later, tells_after}
 use Rattle.normal_files.proofs.FileCalls.{drop_troubled, free_images, free_sound, free_stores, images_on, images_read, next_root, read_troubled, resized_on, root_images, shrinks_near, shrinks_on, stop_troubled, trim_images}
 use Rattle.normal_files.proofs.WriteParts.{after_is}

@@ -1,7 +1,7 @@
-use Rattle.std.proofs.Common.{◌≡◌, false, Option, refl, sym, ◌∙◌, ap, subst, arith}
+use Rattle.std.proofs.Common.{◌≡◌, Option, refl, ◌∙◌, ap, subst, arith}
 use Rattle.cfs_base.specs.declared.identifier.BlockNo.{BlockNo}
 use Rattle.cfs_base.specs.declared.refusal.Trouble.TheVariants as troubles
-use Rattle.special_files.specs.Committing.{AreParts, far_root}
+use Rattle.special_files.specs.Committing.{AreParts}
 use Rattle.special_files.specs.Drafting.{number_of}
 use Rattle.special_files.proofs.CommitDraft.{far_apart, far_trouble, nothing_made, shadow_below}
 use Rattle.special_files.proofs.CommitStore.{made_below}

@@ -1,4 +1,4 @@
-use Rattle.std.proofs.Common.{◌≡◌, ◌*◌, Some, true, false, refl, sym, ◌∙◌, ◌||◌, ap, subst, arith}
+use Rattle.std.proofs.Common.{◌≡◌, Some, true, false, refl, sym, ◌∙◌, ◌||◌, ap, subst, arith}
 use Rattle.std.specs.Prelude.{IfSome}
 use Rattle.collector_steps.specs.Collecting.{volume_of}
 use Rattle.collector_steps.specs.declared.phase.Phase.{Phase}

@@ -1,9 +1,7 @@
 use Rattle.std.proofs.Common.{ℕ, List, Option, Vec, Global, ap}
 use Rattle.std.specs.Prelude.{Result, Ok, Err, OnOk, IsOk}
 use mathlib.Core.Path.{fun_ext}
-use Rattle.ufs_model.specs.Names.{Names, bind}
 use Rattle.ufs_model.specs.declared.asked.Bound.{Bound}
-use Rattle.cfs_script.specs.NameTable.{names_of}
 use Rattle.cfs_script.proofs.Lookups.{read_at-put, lookup-map}
 use Rattle.cfs_script.proofs.names.Names.bind.Goals as goal
 

@@ -1,8 +1,6 @@
 use Rattle.std.proofs.Common.{ℕ, List, Option, Vec, Global, ap}
 use mathlib.Core.Path.{fun_ext}
-use Rattle.ufs_model.specs.Names.{Names}
 use Rattle.ufs_model.specs.declared.asked.Bound.{Bound}
-use Rattle.cfs_script.specs.NameTable.{names_of}
 use Rattle.cfs_script.proofs.Lookups.{lookup-map, read_at-reordered}
 use Rattle.cfs_script.proofs.names.Names.reserve.Goals as goal
 

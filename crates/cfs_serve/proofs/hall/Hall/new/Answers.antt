@@ -1,4 +1,4 @@
-use Rattle.std.proofs.Common.{◌≡◌, ◌∙◌, arith, ap, length, refl, sym}
+use Rattle.std.proofs.Common.{◌≡◌, arith, ap, length, refl, sym}
 use Rattle.cfs_serve.proofs.Served.{fresh_heard}
 use Rattle.cfs_serve.proofs.hall.Hall.new.Goals as goal
 

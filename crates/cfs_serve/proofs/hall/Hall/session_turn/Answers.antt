@@ -1,4 +1,4 @@
-use Rattle.std.proofs.Common.{◌∷◌, [], arith, ap, length, length-set, length-append, ◌∙◌, refl}
+use Rattle.std.proofs.Common.{◌∷◌, [], arith, ap, length, length-set, length-append, refl}
 use Rattle.cfs_serve.proofs.Sessions.{collected_by, found, some_work, heard_by, work_on}
 use Rattle.cfs_serve.proofs.Raising.{counted_turn}
 use Rattle.cfs_serve.proofs.hall.Hall.session_turn.Goals as goal

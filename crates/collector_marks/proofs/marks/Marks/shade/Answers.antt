@@ -1,6 +1,11 @@
-use Rattle.std.proofs.Common.{◌≡◌, ◌∙◌, ap}
-use Rattle.marking.specs.Colours.{shaded}
+use Rattle.std.proofs.Common.{◌≡◌, ◌∙◌, ◌<◌, ap, arith, false, get_or, length, sym}
+use Rattle.collector_marks.specs.Kept.{Marked, blocks_of}
+use Rattle.collector_marks.proofs.Counts.{fewer}
 use Rattle.collector_marks.proofs.marks.Marks.shade.Goals as goal
 
-pub returns-clause-shaded : goal.returns-clause-shaded
-returns-clause-shaded c = c.shade_reserved.ensures.shaded ∙ ap (shaded c.args.id c.args.kind) c.in_ok-reserve.ensures.same.colours
+pub push_reserved-requires : goal.push_reserved-requires
+push_reserved-requires c =
+    let below : c.args.id.block < length c.self.inside.marked = omega (arith, c.requires, ap (λ (m : Marked). blocks_of m) c.self.view_is) in
+    let is : get_or c.self.inside.marked c.args.id.block false ≡ false =
+    ap (λ (m : Marked). get_or m.marks c.args.id.block false) c.self.view_is ∙ sym c.if-is_marked.ensures in
+    omega (arith, c.self.invariant.1, c.self.invariant.2, fewer c.self.inside.marked c.args.id.block below is)

@@ -1,5 +1,5 @@
-use Rattle.std.proofs.Common.{◌≡◌, ◌∙◌, [], ap, refl, subst}
-use Rattle.marking.specs.Colours.{Colours, all_shaded, none_marked}
+use Rattle.std.proofs.Common.{◌∙◌, [], ap, refl, subst}
+use Rattle.marking.specs.Colours.{all_shaded, none_marked}
 use Rattle.marking.specs.Marking.{IsMarking}
 use Rattle.marking.proofs.Asked.{allowed}
 use Rattle.marking.proofs.Paces.{pace_begin}

@@ -1,4 +1,4 @@
-use Rattle.std.proofs.Common.{◌≡◌, ◌∙◌, ◌+◌, ◌≤◌, ℕ, List, [], ap, arith, refl, subst, sym, vec_len, vec_capacity, length, ◌++◌, Vec, Global, not}
+use Rattle.std.proofs.Common.{◌≡◌, ◌∙◌, List, [], ap, arith, subst, sym, vec_len, vec_capacity, length, ◌++◌, Vec, Global, not}
 use Rattle.std.specs.Prelude.{filter}
 use Rattle.collector_marks.specs.Kept.{blocks_of, colours_of}
 use Rattle.ufs_model.specs.Identifier.{is_among}
@@ -19,7 +19,7 @@ use Rattle.ufs_model.specs.Graph.{without, ids_of}
 use Rattle.ufs_model.specs.State.{State}
 use Rattle.ufs_model.specs.Vanish.{MayVanish}
 use Rattle.cfs_base.specs.Disk.{Image}
-use Rattle.collector_steps.specs.Collecting.{Collecting, Collects, colours_in, volume_of, waiting_in}
+use Rattle.collector_steps.specs.Collecting.{Collecting, Collects, colours_in, volume_of}
 use Rattle.collector_steps.specs.Steady.{IsReady}
 use Rattle.collector_steps.specs.declared.phase.Phase.{Phase}
 use Rattle.collector_steps.proofs.Directories.{few_named, taken_unmarked}

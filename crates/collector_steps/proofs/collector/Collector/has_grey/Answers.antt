@@ -1,5 +1,4 @@
-use Rattle.std.proofs.Common.{◌≡◌, ◌↔◌, ◌∙◌, subst, sym, ap, [], Bool}
-use Rattle.std.specs.Prelude.{is_some, IsTrue}
+use Rattle.std.proofs.Common.{sym}
 use Rattle.collector_steps.proofs.Firsts.{some_first}
 use Rattle.collector_steps.proofs.collector.Collector.has_grey.Goals as goal
 

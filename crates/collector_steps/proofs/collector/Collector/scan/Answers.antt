@@ -1,11 +1,7 @@
-use Rattle.std.proofs.Common.{◌≡◌, ◌∙◌, ℕ, List, refl, sym, ap, subst, Some, Err, Ok, None}
-use Rattle.std.specs.Prelude.{IfErr, Option}
+use Rattle.std.proofs.Common.{◌≡◌, ◌∙◌, List, sym, ap, subst, Some}
 use Rattle.std.proofs.lemmas.Option.{same_Some}
 use Rattle.std.proofs.lemmas.Result.{err_from_is_err_and}
 use Rattle.cfs_base.specs.Disk.{block_at}
-use Rattle.cfs_base.specs.declared.refusal.Trouble.{Trouble}
-use Rattle.cfs_base.specs.declared.refusal.Trouble.TheVariants as trouble
-use Rattle.cfs_base.specs.Refusals.{refused_by}
 use Rattle.collector_marks.specs.Kept.{colours_of}
 use Rattle.marking.specs.Colours.{Colours, first_grey}
 use Rattle.marking.specs.Steps.{scanned}
@@ -18,7 +14,7 @@ use Rattle.vol_owners.specs.Account.{Opened}
 use Rattle.collector_steps.specs.Collecting.{Collecting, Serves, colours_in, waiting_in}
 use Rattle.collector_steps.specs.contracts.collector.Collector.{the_view}
 use Rattle.cfs_base.specs.Outside.{count_after}
-use Rattle.collector_steps.specs.Scan.{IsDamaged, IsScanTrouble, NoRoot, PastDisk, ids_from, stepped}
+use Rattle.collector_steps.specs.Scan.{ids_from, stepped}
 use Rattle.collector_steps.proofs.Firsts.{none_first}
 use Rattle.collector_steps.proofs.Indices.{alive, sound_index, stepped_is, tree_of_index}
 use Rattle.collector_steps.proofs.Kept.{are_names, grey_index, of_marking, scan_kept, as_marking}
@@ -45,7 +41,7 @@ scan_is g c s ds i serves at =
     let t = tree_of_index image s.graph serves.carries.holds id i at (serves.accounts.objects id (objects.Index i) at).no_bit in
     let step = c.in_ok-step.ensures.step tells (alive image blocks id.block content t.0 i t.1) in
     c.read_on.ensures.stepped
-    ∙ ap (λ (colours : Colours). stepped c.args.names.now.named c.in_ok-step.step (ids_from c.next_leaf.new.into 0) colours) (c.in_ok-reserve.ensures.same.colours ∙ ap colours_in c.self.view_is)
+    ∙ ap (λ (colours : Colours). stepped c.args.names.now.named c.in_ok-step.step (ids_from c.next_leaf.new.into 0) colours) (ap colours_in c.self.view_is)
     ∙ stepped_is image blocks id.block content t.0 i t.1 c.args.names.now.named c.in-Some.grey.cursor (colours_in c.args.self.now) c.in_ok-step.step c.next_leaf.new.into step (c.in_ok-step.ensures.content tells)
 
 pub returns-clause-scanned : goal.returns-clause-scanned
@@ -66,7 +62,7 @@ returns-clause-keeps g c = λ s ds serves is.
 
 pub returns-in_err-step-clause-sound : goal.returns-in_err-step-clause-sound
 returns-in_err-step-clause-sound g c = λ s ds serves is.
-    let p = err_from_is_err_and c.from_residual-in_err-step.result c.from_residual-in_err-step.ensures.1 in
+    let p = err_from_is_err_and c.from_residual.result c.from_residual.ensures.1 in
     let d = c.args.disk.now in
     let id = c.in-Some.grey.id in
     let tells = serves.carries.tells in

@@ -14,7 +14,7 @@ returns-clause-taken c = λ r rest is.
     let one = first_of c.self.inside.rescues.list rest r c.in-Some.rescue (ap waiting_in c.self.view_is ∙ is) (sym c.take.ensures.taken ∙ c.in-Some.is) in (
       c.take.ensures.rest ∙ one.1,
       c.shade_rescued.ensures.shaded
-          ∙ ap (rescued c.args.names.now.named c.in-Some.rescue) (c.in_ok-reserve.ensures.same.colours ∙ ap colours_in c.self.view_is)
+          ∙ ap (rescued c.args.names.now.named c.in-Some.rescue) (ap colours_in c.self.view_is)
           ∙ ap (λ (q : Rescue). rescued c.args.names.now.named q (colours_in c.args.self.now)) one.0,
     )
 

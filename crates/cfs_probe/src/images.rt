@@ -1,0 +1,230 @@
+//! The images that a crash may leave of a disk in memory.
+use crate::fault::Fault;
+use crate::listing::listing;
+use cfs_base::{Block, BlockNo, Disk};
+use cfs_core::Core;
+use cfs_fakes::{MemoryDisk, Pick};
+use std::alloc::Global;
+
+/// So many images of a moment are opened at most.
+const MANY: u64 = 4096;
+
+/// No block is written as often between two barriers.
+const OFTEN: u32 = 64;
+
+pub fn block_of(disk: &mut MemoryDisk, at: u32) -> Result<Block, Fault> {
+    if at >= disk.blocks() {
+        return Err(Fault::Place);
+    }
+    let mut block = Block::zero();
+    disk.read(BlockNo(at), &mut block)?;
+    Ok(block)
+}
+
+/// Writes a block, and makes it last.
+pub fn put_block(disk: &mut MemoryDisk, at: u32, block: &Block) -> Result<(), Fault> {
+    if at >= disk.blocks() {
+        return Err(Fault::Place);
+    }
+    disk.write(BlockNo(at), block)?;
+    disk.barrier()?;
+    Ok(())
+}
+
+fn blocks_of(alloc: Global, disk: &mut MemoryDisk) -> Result<Vec<Block>, Fault> {
+    let mut blocks = Vec::new(alloc);
+    for at in 0..disk.blocks() {
+        blocks.push(block_of(disk, at)?)?;
+    }
+    Ok(blocks)
+}
+
+/// The disk that a crash at this moment leaves by these picks.
+fn image(alloc: Global, disk: &MemoryDisk, at: u64, picks: &[Pick]) -> Result<MemoryDisk, Fault> {
+    if !disk.is_recording() || at > disk.moment() {
+        return Err(Fault::Place);
+    }
+    Ok(disk.image(alloc, at, picks)?)
+}
+
+/// The blocks of the image of which each block has this choice.
+fn blocks_by(alloc: Global, disk: &MemoryDisk, at: u64, choice: u32) -> Result<Vec<Block>, Fault> {
+    let mut picks = Vec::new(alloc);
+    for block in 0..disk.blocks() {
+        picks.push(Pick { block, choice })?;
+    }
+    blocks_of(alloc, &mut image(alloc, disk, at, picks.as_slice())?)
+}
+
+/// Of each block, the last of the writes that wait for a barrier at this moment, as far as they change it. The
+/// writes end where one choice more leaves what the last does: no block is written as it is, and then otherwise,
+/// between two barriers.
+pub fn waiting(alloc: Global, disk: &MemoryDisk, at: u64) -> Result<Vec<u32>, Fault> {
+    let mut waits = vec![in alloc; 0u32; disk.blocks() as usize]?;
+    let last = blocks_by(alloc, disk, at, u32::MAX)?;
+    let mut before = blocks_by(alloc, disk, at, 0)?;
+    for choice in 1..OFTEN {
+        let after = blocks_by(alloc, disk, at, choice)?;
+        if after == before && after == last {
+            return Ok(waits);
+        }
+        note(
+            waits.as_mut_slice(),
+            before.as_slice(),
+            after.as_slice(),
+            choice,
+        );
+        before = after;
+    }
+    Err(Fault::Many)
+}
+
+/// This choice is the last so far of each block that it changes.
+fn note(waits: &mut [u32], before: &[Block], after: &[Block], choice: u32) {
+    for (wait, (old, new)) in waits.iter_mut().zip(before.iter().zip(after.iter())) {
+        if old != new {
+            *wait = choice;
+        }
+    }
+}
+
+/// How many images there are, of which each block's choice is one of its own.
+fn count_of(waits: &[u32]) -> Result<u64, Fault> {
+    let mut count = 1u64;
+    for wait in waits {
+        count = count.saturating_mul(u64::from(*wait) + 1);
+    }
+    if count > MANY {
+        return Err(Fault::Many);
+    }
+    Ok(count)
+}
+
+/// The picks of the image with this number.
+fn picks_of(alloc: Global, waits: &[u32], number: u64) -> Result<Vec<Pick>, Fault> {
+    let mut picks = Vec::new(alloc);
+    let mut rest = number;
+    let mut block = 0u32;
+    for wait in waits {
+        let choices = u64::from(*wait) + 1;
+        let choice = (rest % choices) as u32;
+        picks.push(Pick { block, choice })?;
+        rest /= choices;
+        block = block.saturating_add(1);
+    }
+    Ok(picks)
+}
+
+/// What is reached on a disk, once it is opened; why it is not opened else.
+pub fn reading(alloc: Global, disk: MemoryDisk) -> Result<String, Fault> {
+    match Core::open(alloc, disk, 0) {
+        Ok(mut core) => {
+            let root = core.root();
+            listing(&mut core, alloc, root)
+        }
+        Err(fault) => Ok(format!(in alloc; "{}", Fault::Volume(fault.why))?),
+    }
+}
+
+fn put_once(found: &mut Vec<String>, text: String) -> Result<(), Fault> {
+    if !found.contains(&text) {
+        found.push(text)?;
+    }
+    Ok(())
+}
+
+/// What the images of a crash at this moment read as, each once.
+pub fn readings_at(
+    alloc: Global,
+    disk: &MemoryDisk,
+    at: u64,
+    waits: &[u32],
+) -> Result<Vec<String>, Fault> {
+    let mut found = Vec::new(alloc);
+    for number in 0..count_of(waits)? {
+        let picks = picks_of(alloc, waits, number)?;
+        put_once(
+            &mut found,
+            reading(alloc, image(alloc, disk, at, picks.as_slice())?)?,
+        )?;
+    }
+    Ok(found)
+}
+
+/// A disk that records, with these blocks.
+fn recorded(alloc: Global, blocks: &[Block]) -> Result<MemoryDisk, Fault> {
+    let count = u32::try_from(blocks.len()).unwrap_or(0);
+    let mut disk = MemoryDisk::recording(alloc, count, Vec::new(alloc))?;
+    let mut at = 0u32;
+    for block in blocks {
+        if at < disk.blocks() {
+            disk.write(BlockNo(at), block)?;
+        }
+        at = at.saturating_add(1);
+    }
+    disk.barrier()?;
+    Ok(disk)
+}
+
+/// The disk after an opening.
+fn opened(alloc: Global, disk: MemoryDisk) -> MemoryDisk {
+    match Core::open(alloc, disk, 0) {
+        Ok(core) => core.into_disk(),
+        Err(fault) => fault.disk,
+    }
+}
+
+/// What the images of a crash at each moment from one to another read as, each once.
+pub fn readings(
+    alloc: Global,
+    disk: &MemoryDisk,
+    from: u64,
+    to: u64,
+) -> Result<Vec<String>, Fault> {
+    let mut found = Vec::new(alloc);
+    let mut last = Vec::new(alloc);
+    for at in from..=to {
+        let waits = waiting(alloc, disk, at)?;
+        if waits != last {
+            for text in readings_at(alloc, disk, at, waits.as_slice())? {
+                put_once(&mut found, text)?;
+            }
+        }
+        last = waits;
+    }
+    Ok(found)
+}
+
+/// What the images of openings of these images read as, where that is not as the image that was opened.
+pub fn cuts_at(
+    alloc: Global,
+    disk: &MemoryDisk,
+    at: u64,
+    waits: &[u32],
+) -> Result<Vec<String>, Fault> {
+    let mut found = Vec::new(alloc);
+    for number in 0..count_of(waits)? {
+        let picks = picks_of(alloc, waits, number)?;
+        let text = reading(alloc, image(alloc, disk, at, picks.as_slice())?)?;
+        let blocks = blocks_of(alloc, &mut image(alloc, disk, at, picks.as_slice())?)?;
+        put_cuts(alloc, blocks.as_slice(), text.as_str(), &mut found)?;
+    }
+    Ok(found)
+}
+
+fn put_cuts(
+    alloc: Global,
+    blocks: &[Block],
+    text: &str,
+    found: &mut Vec<String>,
+) -> Result<(), Fault> {
+    let disk = recorded(alloc, blocks)?;
+    let from = disk.moment();
+    let disk = opened(alloc, disk);
+    for other in readings(alloc, &disk, from, disk.moment())? {
+        if other.as_str() != text {
+            put_once(found, other)?;
+        }
+    }
+    Ok(())
+}

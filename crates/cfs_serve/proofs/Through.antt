@@ -1,0 +1,57 @@
+-- What is said of a volume that is served through a cache is so of the disk below it.
+use Rattle.std.proofs.Common.{inl, inr, ℕ, List, ap}
+use Rattle.cfs_base.specs.Disk.{Image}
+use Rattle.cfs_base.specs.Run.{IsSettled, Leaves}
+use Rattle.cfs_base.specs.declared.disk.Disk.{Ghosts}
+use Rattle.cfs_recover.specs.Recovered.{IsUntouched}
+use Rattle.map_cache.specs.Cache.{Cache, blocks_of, content_of, faults_of, is_honest, is_telling, is_told, left_of, moment_of, tries_of}
+use Rattle.ufs_model.specs.declared.asked.Event.{Event}
+use Rattle.vol_image.specs.Sound.{IsSoundAs}
+use Rattle.cfs_serve.specs.declared.report.Report.{Report}
+use Rattle.cfs_serve.specs.Disks.{LeavesSinceTry, ServesVolume}
+
+-- the cache as a disk
+abbrev pub cached : {D : Type 0} → Ghosts D → Ghosts (Cache D)
+cached g = record {
+  blocks = blocks_of g;
+  honest = is_honest g;
+  content = content_of g;
+  told = is_told g;
+  tells_images = is_telling g;
+  left_since = left_of g;
+  moment = moment_of g;
+  calls = λ c. c.calls;
+  tries = tries_of g;
+  faults = faults_of g;
+}
+
+module _ {D : Type 0} (g : Ghosts D) where
+  leaves : (old new : Cache D) (P : Image → Type 0) → Leaves (cached g) old new P → Leaves g old.lower new.lower P
+  leaves old new P is = record { later = is.later; since = is.since; now = is.now }
+
+  untouched : (old new : Cache D) → IsUntouched (cached g) old new → IsUntouched g old.lower new.lower
+  untouched old new is = record { content = is.content; images = leaves old new _ is.images }
+
+  settled : (d : Cache D) → IsSettled (cached g) d → IsSettled g d.lower
+  settled d is = record { tells = record { honest = is.tells.honest; told = is.tells.told }; only = is.only }
+
+  since_try : (old new : Cache D) (P : Image → Type 0) → LeavesSinceTry (cached g) old new P → LeavesSinceTry g old.lower new.lower P
+  since_try old new P (inl f) = inl (record { cause = f.0.cause; clock = f.0.clock }, untouched old new f.1, f.2)
+  since_try old new P (inr m) = inr (m.0.lower, settled m.0 m.1, untouched old m.0 m.2, m.3, leaves m.0 new P m.4)
+
+  pub through : (seed : ℕ) (told : Report) (trail : List Event) (moments : List ℕ) (old new : Cache D) → ServesVolume (cached g) seed told trail moments old new
+      → ServesVolume g seed told trail moments old.lower new.lower
+  through seed told trail moments old new is = record {
+    opened = is.opened.lower;
+    opening = λ honest graph sound. elim (is.opening honest graph sound) [
+      | inl same ↦ inl (ap (λ (c : Cache D). c.lower) same)
+      | inr since ↦ inr (since_try old is.opened (λ c. IsSoundAs c graph) since)
+    ];
+    unserved = λ none. ap (λ (c : Cache D). c.lower) (is.unserved none);
+    crashes = λ some honest graph sound. let run = is.crashes some honest graph sound in
+        record { count = run.count; past = run.past; rising = run.rising; each = run.each; now = run.now };
+    sound = is.sound;
+    refused = is.refused;
+    faults = is.faults;
+    stops = is.stops;
+  }

@@ -1,0 +1,49 @@
+//! Volumes in files, of which map blocks are held in memory while they are served.
+ghost use Rattle.std.specs.Prelude.{◌≡◌, ◌≤◌, Some, length, map};
+ghost use Rattle.cfs_serve.specs.Disks.{ServesVolume};
+ghost use Rattle.cfs_serve.specs.Ground.{ground_on};
+ghost use Rattle.cfs_serve.specs.Whole.{AsksSessions};
+
+use crate::limits::HELD_MAPS;
+use crate::play::{Played, nothing, serve_volume};
+use crate::report::Cause;
+use cfs_base::{Disk, Gate, Sink, Source};
+use map_cache::{CacheFault, MapCache};
+use std::alloc::Global;
+use std::sync::Wait;
+use std::thread::Threads;
+
+/// Reads the sources, and serves their scripts on the volume of this disk, which comes back; so many collections are called for.
+/// Map blocks are read of the disk once, and then held.
+pub(crate) fn serve_cached<
+    D: Disk + Send,
+    S: Source,
+    K: Sink + Send,
+    G: Gate + Sync,
+    R: Threads + Wait + Sync,
+>(
+    rt: &R,
+    alloc: Global,
+    gate: &G,
+    seed: u64,
+    collections: u32,
+    disk: D,
+    sources: &mut Vec<S>,
+    sinks: &mut Vec<K>,
+) -> (Played, D)
+    requires count { length sources.old.items ≡ length sinks.old.items }
+    requires sessions { length sinks.old.items ≤ 64 }
+    requires few { collections ≤ 1000 }
+    ensures asks { AsksSessions (ground_on D.Disk disk) seed collections
+        (record { disk = Some (D.faults disk); sources = map S.supply sources.old.items; sinks = map K.intake sinks.old.items })
+        (record { disk = Some (D.faults result.1); sources = map S.supply sources.new.items; sinks = map K.intake sinks.new.items })
+        result.0.report result.0.trail.events }
+    ensures volume { ServesVolume D.Disk seed result.0.report result.0.trail.events result.0.trail.moments disk result.1 }
+{
+    let cache = match MapCache::new(alloc, disk, HELD_MAPS) {
+        Ok(cache) => cache,
+        Err(CacheFault { lower }) => return (nothing(alloc, Cause::Memory), lower),
+    };
+    let (played, cache) = serve_volume(rt, alloc, gate, seed, collections, cache, sources, sinks);
+    (played, cache.into_lower())
+}

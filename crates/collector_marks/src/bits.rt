@@ -1,0 +1,66 @@
+//! Bits.
+ghost use Rattle.std.specs.Prelude.{◌≡◌, ◌<◌, false, true, get_or, length, replicate, set, IfOk};
+
+use cfs_base::NoMemory;
+use std::alloc::Global;
+use std::marker::Model;
+
+/// The bits of a word.
+const WORD: u32 = 64;
+
+/// So many bits, in words of 64. Clauses see their list.
+#[derive(Debug, Drop)]
+pub(crate) struct Bits {
+    words: Vec<u64>,
+    count: u32,
+}
+
+impl Model for Bits {
+    ghost use Rattle.std.specs.Prelude.{◌≤◌, ◌*◌, Bool, List, length};
+    ghost use Rattle.collector_marks.specs.Bits.{bits_of};
+
+    ghost Value = { List Bool };
+
+    ghost view = { λ b. bits_of b.count b.words.items };
+
+    ghost invariant = { λ b. b.count ≤ 64 * length b.words.items };
+}
+
+impl Bits {
+    /// None is set.
+    pub fn new(alloc: Global, count: u32) -> Result<Bits, NoMemory>
+        ensures { IfOk result (λ b. b ≡ replicate count false) }
+    {
+        let words = vec![in alloc; 0u64; count.div_ceil(WORD) as usize]?;
+        Ok(Bits { words, count })
+    }
+
+    /// None is set any more.
+    pub fn clear(&mut self)
+        ensures { self.new ≡ replicate (length self.old) false }
+    {
+        self.words.fill(0);
+    }
+
+    /// How many they are.
+    pub fn len(&self) -> usize
+        ensures { result ≡ length self.now }
+    {
+        self.count as usize
+    }
+
+    /// Whether a bit is set; past the last none is.
+    pub fn has(&self, at: u32) -> bool
+        ensures { result ≡ get_or self.now at false }
+    {
+        at < self.count && self.words[(at / WORD) as usize] >> (at % WORD) & 1 == 1
+    }
+
+    /// Sets a bit.
+    pub fn put(&mut self, at: u32)
+        requires { at < length self.old }
+        ensures { self.new ≡ set self.old at true }
+    {
+        self.words[(at / WORD) as usize] |= 1 << (at % WORD);
+    }
+}

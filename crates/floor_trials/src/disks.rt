@@ -1,0 +1,320 @@
+//! Volumes on disks of which a call fails, and what a crash leaves of one.
+use crate::counting::CountingDisk;
+use crate::service::{Came, Seat, ask_for, gate_of, hold, play, serve, session};
+use crate::sink::{ALL, Taking, failing};
+use cfs_base::Disk;
+use cfs_fakes::{MemoryDisk, Pick};
+use std::alloc::Global;
+use std::process::Abort;
+use std::sync::Wait;
+use std::test::Fail;
+use std::thread::Threads;
+
+/// A volume of one cylinder is made by so many calls of its disk.
+const FORMAT_CALLS: u64 = 7;
+
+const SERVE: [&str; 4] = ["serve", "volume", "0", "0"];
+
+const COLLECT: [&str; 4] = ["serve", "volume", "0", "1"];
+
+/// A disk of one cylinder, of which the call at this moment fails.
+fn disk_failing(alloc: Global, moment: u64) -> Result<Option<MemoryDisk>, Fail> {
+    let mut calls = Vec::new(alloc);
+    calls.push(moment)?;
+    Ok(Some(MemoryDisk::failing(alloc, 64, calls)?))
+}
+
+/// Makes a volume, with a report whose sink takes so.
+fn format(
+    rt: &(impl Abort + Threads + Wait + Sync),
+    alloc: Global,
+    disk: &mut Option<MemoryDisk>,
+    report: Taking,
+) -> Result<Came, Fail> {
+    let mut asked = ask_for(&["format", "volume", "1", "0"], &[]);
+    asked.report = report;
+    play(rt, alloc, disk, &asked)
+}
+
+/// A volume on such a disk.
+fn volume(
+    rt: &(impl Abort + Threads + Wait + Sync),
+    alloc: Global,
+    moment: u64,
+) -> Result<Option<MemoryDisk>, Fail> {
+    let mut disk = disk_failing(alloc, moment)?;
+    let made = format(rt, alloc, &mut disk, ALL)?;
+    assert!(rt; made.status == 0 && calls_of(&disk) == FORMAT_CALLS);
+    Ok(disk)
+}
+
+fn calls_of(disk: &Option<MemoryDisk>) -> u64 {
+    match disk {
+        Some(disk) => disk.moment(),
+        None => 0,
+    }
+}
+
+/// The status of a run, and what its report ends with.
+fn expect_end(rt: &impl Abort, moment: u64, came: &Came, status: u8, end: &str) {
+    assert!(rt; came.status == status, "moment {moment}: its status");
+    assert!(rt;
+        came.report.as_slice().ends_with(end.as_bytes()),
+        "moment {moment}: its report"
+    );
+}
+
+#[test]
+fn each_call_of_a_format_that_fails_is_told(rt: HostRuntime) -> Result<(), Fail> {
+    let alloc = rt.alloc();
+    for moment in 0..=FORMAT_CALLS {
+        let fails = moment < FORMAT_CALLS;
+        let (told, status) = if fails {
+            ("disk\nstatus 4\n", 4)
+        } else {
+            ("status 0\n", 0)
+        };
+        let came = format(&rt, alloc, &mut disk_failing(alloc, moment)?, ALL)?;
+        expect_end(&rt, moment, &came, status, told);
+        // a report that isn't written hides no failed disk
+        let unwritten = format(&rt, alloc, &mut disk_failing(alloc, moment)?, failing(0))?;
+        expect_end(&rt, moment, &unwritten, if fails { 4 } else { 5 }, "");
+    }
+    Ok(())
+}
+
+/// Serves one session, whose sink fails, on a volume of which the call at this moment fails. What came of it, and how
+/// many calls were made.
+fn serve_failing(
+    rt: &(impl Abort + Threads + Wait + Sync),
+    alloc: Global,
+    moment: u64,
+) -> Result<(Came, u64), Fail> {
+    let mut disk = volume(rt, alloc, moment)?;
+    let seat = Seat {
+        lines: "create-index a 4 root 0\n",
+        is_broken: false,
+        sink: failing(0),
+    };
+    let came = play(rt, alloc, &mut disk, &ask_for(&SERVE, &[seat]))?;
+    Ok((came, calls_of(&disk)))
+}
+
+/// The end of the report where a disk failed: `disk` alone, or with the moment if the report has one.
+fn cause_at(alloc: Global, moment: u64, came: &Came) -> Result<String, Fail> {
+    let stopped = format!(in alloc; "\ndisk {moment}\nstatus 4\n")?;
+    if came.report.as_slice().ends_with(stopped.as_bytes()) {
+        return Ok(stopped);
+    }
+    Ok(String::from_str(alloc, "disk\nstatus 4\n")?)
+}
+
+#[test]
+fn a_disk_that_failed_is_told_before_a_sink(rt: HostRuntime) -> Result<(), Fail> {
+    let alloc = rt.alloc();
+    let (came, calls) = serve_failing(&rt, alloc, u64::MAX)?;
+    expect_end(&rt, u64::MAX, &came, 5, "\nsink\nstatus 5\n");
+    for moment in FORMAT_CALLS..calls {
+        let (came, _) = serve_failing(&rt, alloc, moment)?;
+        expect_end(
+            &rt,
+            moment,
+            &came,
+            4,
+            cause_at(alloc, moment, &came)?.as_str(),
+        );
+    }
+    Ok(())
+}
+
+#[test]
+fn the_map_of_a_volume_that_is_served_is_read_once(rt: HostRuntime) -> Result<(), Fail> {
+    let alloc = rt.alloc();
+    let mut disk = match volume(&rt, alloc, u64::MAX)? {
+        Some(lower) => Some(CountingDisk {
+            lower,
+            first_reads: 0,
+        }),
+        None => None,
+    };
+    let lines =
+        "create-index a 4 root 0\nretrieve b root 0\nslots a\nretrieve c root 63\nretrieve c root 64\n";
+    let came = play(&rt, alloc, &mut disk, &ask_for(&SERVE, &[session(lines)]))?;
+    let replies = b"ok 00000003903df1a0\nok 00000003903df1a0\nok 4\nno empty\nno slot\n";
+    assert!(rt; came.status == 0 && came.first() == replies.as_slice());
+    assert!(rt; matches!(disk, Some(CountingDisk { first_reads: 1, .. })));
+    Ok(())
+}
+
+/// A session that puts the root into a slot.
+const FIRST: &str = "slots root\nretain root 0 root\nslots root\n";
+
+/// Another, that looks at it.
+const SECOND: &str = "slots root\nretrieve a root 0\n";
+
+/// What came of these two on a volume of which the call at this moment fails; and what the slot has once the volume is
+/// served again.
+fn serve_two(
+    rt: &(impl Abort + Threads + Wait + Sync),
+    alloc: Global,
+    moment: u64,
+) -> Result<(Came, Came), Fail> {
+    let mut disk = volume(rt, alloc, moment)?;
+    // the second asks once before the retain and once after it, and only then the collector begins
+    let gate = gate_of(
+        alloc,
+        &[hold(0, 1, 1, 0), hold(1, 1, 0, 1), hold(2, 0, 0, 1)],
+    )?;
+    let seats = [session(FIRST), session(SECOND)];
+    let asked = ask_for(&COLLECT, &seats);
+    let came = serve(rt, alloc, &gate, &mut disk, &asked)?;
+    let again = play(
+        rt,
+        alloc,
+        &mut disk,
+        &ask_for(&SERVE, &[session("retrieve a root 0\n")]),
+    )?;
+    Ok((came, again))
+}
+
+/// The service stopped for both sessions and the collector: a turn for each line, and a leave for each session.
+fn expect_stopped(rt: &impl Abort, alloc: Global, moment: u64, came: &Came) -> Result<(), Fail> {
+    let second = format!(in alloc; "ok 64\nno stopped {moment}\n")?;
+    match came.replies.as_slice() {
+        [_, other] => assert_eq!(rt; other.as_slice(), second.as_bytes()),
+        _ => panic!(rt; "two sessions"),
+    }
+    assert!(rt;
+        came.report
+            .as_slice()
+            .starts_with(b"sessions 2\nreplies 5\ncollections 0\n")
+    );
+    let end = format!(in alloc; "\ndisk {moment}\nstatus 4\n")?;
+    expect_end(rt, moment, came, 4, end.as_str());
+    assert!(rt; came.events.len() == 7);
+    Ok(())
+}
+
+/// Served again, the slot is empty, or if `may_be` has the root.
+fn expect_slot(rt: &impl Abort, came: &Came, may_be: bool) {
+    let is_empty = came.first() == b"no empty\n".as_slice();
+    let is_root = came.first() == b"ok 00000002ade0b876\n".as_slice();
+    assert!(rt; came.status == 0);
+    assert!(rt; is_empty || (may_be && is_root));
+}
+
+/// Whether the service stopped at this moment, within the retain.
+fn stops_at(
+    rt: &(impl Abort + Threads + Wait + Sync),
+    alloc: Global,
+    moment: u64,
+    is_first: bool,
+) -> Result<bool, Fail> {
+    let (came, again) = serve_two(rt, alloc, moment)?;
+    let first = format!(in alloc; "ok 64\nno disk {moment}\nno stopped {moment}\n")?;
+    if came.first() != first.as_bytes() {
+        return Ok(false);
+    }
+    expect_stopped(rt, alloc, moment, &came)?;
+    // after a failure of the first write the slot is empty; after that of a later one it may have the root
+    expect_slot(rt, &again, !is_first);
+    Ok(true)
+}
+
+#[test]
+fn a_write_that_fails_stops_the_service_for_all(rt: HostRuntime) -> Result<(), Fail> {
+    let alloc = rt.alloc();
+    let mut stops = 0_u64;
+    // the whole run makes fewer than 200 calls
+    for moment in FORMAT_CALLS..200 {
+        if stops_at(&rt, alloc, moment, stops == 0)? {
+            stops = stops.saturating_add(1);
+        }
+    }
+    assert!(rt; stops > 1);
+    Ok(())
+}
+
+/// Lines of which each changes a slot.
+const MAKING: &str = "create-index a 4 root 0\nretain a 3 root\n";
+
+/// A volume of which what a crash leaves is known, served once; and what came of it.
+fn record(
+    rt: &(impl Abort + Threads + Wait + Sync),
+    alloc: Global,
+) -> Result<(Option<MemoryDisk>, Came), Fail> {
+    let mut disk = Some(MemoryDisk::recording(alloc, 64, Vec::new(alloc))?);
+    format(rt, alloc, &mut disk, ALL)?;
+    let came = play(rt, alloc, &mut disk, &ask_for(&SERVE, &[session(MAKING)]))?;
+    assert!(rt; came.events.as_slice() == b"aal".as_slice());
+    Ok((disk, came))
+}
+
+/// What a crash at this moment leaves: of each block this choice.
+fn left(
+    alloc: Global,
+    disk: &Option<MemoryDisk>,
+    at: u64,
+    choice: u32,
+) -> Result<Option<MemoryDisk>, Fail> {
+    let mut picks = Vec::new(alloc);
+    for block in 0..64 {
+        picks.push(Pick { block, choice })?;
+    }
+    match disk {
+        Some(disk) if disk.is_recording() && at <= disk.moment() => {
+            Ok(Some(disk.image(alloc, at, &picks)?))
+        }
+        _ => Err("no disk that records")?,
+    }
+}
+
+/// What a look at both slots is answered, on a volume that holds so many of the two lines.
+const LOOKS: [&str; 3] = [
+    "no empty\nno name\n",
+    "ok 00000003903df1a0\nno empty\n",
+    "ok 00000003903df1a0\nok 00000002ade0b876\n",
+];
+
+/// How many of the two lines a volume holds, as it is served.
+fn lines_held(
+    rt: &(impl Abort + Threads + Wait + Sync),
+    alloc: Global,
+    mut disk: Option<MemoryDisk>,
+) -> Result<usize, Fail> {
+    let looking = session("retrieve b root 0\nretrieve c b 3\n");
+    let came = play(rt, alloc, &mut disk, &ask_for(&SERVE, &[looking]))?;
+    for (lines, look) in LOOKS.iter().enumerate() {
+        if came.first() == look.as_bytes() {
+            return Ok(lines);
+        }
+    }
+    Err("neither line by line")?
+}
+
+/// How many lines had been answered by this moment.
+fn answered_by(came: &Came, at: u64) -> usize {
+    came.moments
+        .iter()
+        .take(2)
+        .filter(|moment| **moment <= at)
+        .count()
+}
+
+#[test]
+fn what_was_answered_outlasts_a_crash_at_any_moment(rt: HostRuntime) -> Result<(), Fail> {
+    let alloc = rt.alloc();
+    let (disk, came) = record(&rt, alloc)?;
+    for at in FORMAT_CALLS..=calls_of(&disk) {
+        let answered = answered_by(&came, at);
+        // the content at the last barrier, and the last write since then
+        for choice in [0, u32::MAX] {
+            let held = lines_held(&rt, alloc, left(alloc, &disk, at, choice)?)?;
+            assert!(rt;
+                held == answered || held == answered.saturating_add(1),
+                "moment {at}"
+            );
+        }
+    }
+    Ok(())
+}

@@ -1,0 +1,167 @@
+//! Services whose memory is ample, and whose sources and sinks fail at some call or take a byte a call.
+use crate::service::{Came, Seat, ask_for, play, session};
+use crate::sink::{ALL, Taking, failing, slow};
+use cfs_fakes::MemoryDisk;
+use std::alloc::Global;
+use std::process::Abort;
+use std::sync::Wait;
+use std::test::Fail;
+use std::thread::Threads;
+
+/// What must come of a run: the status, the report, the replies to each session, and how many events.
+#[derive(Clone, Copy)]
+struct Want<'a> {
+    status: u8,
+    report: &'a str,
+    replies: &'a [&'a str],
+    events: usize,
+}
+
+const STORED: &str =
+    "create-index a 4 root 0\nretrieve b root 0\nslots a\nretrieve c root 63\nretrieve c root 64\n";
+
+const STORED_REPLIES: &str = "ok 00000003903df1a0\nok 00000003903df1a0\nok 4\nno empty\nno slot\n";
+
+/// The run ended so.
+fn ended<'a>(status: u8, report: &'a str, replies: &'a [&'a str], events: usize) -> Want<'a> {
+    Want {
+        status,
+        report,
+        replies,
+        events,
+    }
+}
+
+/// The stored run: a turn for each line, and the leave.
+const WHOLE: Want<'static> = Want {
+    status: 0,
+    report: "sessions 1\nreplies 5\ncollections 0\nobjects 2\nfree 58\nstatus 0\n",
+    replies: &[STORED_REPLIES],
+    events: 6,
+};
+
+/// The first reply is not written, so the create is the last line that is served.
+const CUT_REPORT: &str =
+    "sessions 1\nreplies 1\ncollections 0\nobjects 2\nfree 58\nsink\nstatus 5\n";
+
+const MAKING: &str = "create-index a 4 root 0\nretain a 3 root\nretrieve r a 3\nslots r\n";
+
+const MADE: &str = "ok 00000003903df1a0\nok\nok 00000002ade0b876\nok 64\n";
+
+const LOOKING: &str = "slots root\nretrieve x root 63\nslots a\nslots 00000002ade0b876\n";
+
+const LOOKED: &str = "ok 64\nno empty\nno name\nok 64\n";
+
+/// These lines, with a sink that takes so.
+fn lines_to(lines: &str, sink: Taking) -> Seat<'_> {
+    Seat {
+        lines,
+        is_broken: false,
+        sink,
+    }
+}
+
+/// The source of these lines fails.
+fn broken(lines: &str) -> Seat<'_> {
+    Seat {
+        lines,
+        is_broken: true,
+        sink: ALL,
+    }
+}
+
+/// Whether these are the replies.
+fn are_replies(came: &[Vec<u8>], want: &[&str]) -> bool {
+    for (replies, wanted) in came.iter().zip(want.iter()) {
+        if replies.as_slice() != wanted.as_bytes() {
+            return false;
+        }
+    }
+    came.len() == want.len()
+}
+
+/// What came is what was wanted.
+fn expect_came(rt: &impl Abort, came: &Came, want: &Want<'_>) {
+    assert_eq!(rt; came.report.as_slice(), want.report.as_bytes());
+    assert!(rt; came.status == want.status);
+    assert!(rt; are_replies(&came.replies, want.replies));
+    assert!(rt; came.events.len() == want.events);
+}
+
+/// Serves these sessions on one cylinder in memory, with a sink of the report that takes so.
+fn expect(
+    rt: &(impl Abort + Threads + Wait + Sync),
+    alloc: Global,
+    seats: &[Seat<'_>],
+    report: Taking,
+    want: &Want<'_>,
+) -> Result<(), Fail> {
+    let mut asked = ask_for(&["play", "1", "0", "0"], seats);
+    asked.report = report;
+    let came = play(rt, alloc, &mut None::<MemoryDisk>, &asked)?;
+    expect_came(rt, &came, want);
+    Ok(())
+}
+
+#[test]
+fn the_stored_run_is_served(rt: HostRuntime) -> Result<(), Fail> {
+    let alloc = rt.alloc();
+    expect(&rt, alloc, &[session(STORED)], ALL, &WHOLE)?;
+    expect(
+        &rt,
+        alloc,
+        &[lines_to(STORED, slow(u64::MAX))],
+        slow(u64::MAX),
+        &WHOLE,
+    )
+}
+
+#[test]
+fn a_sink_that_fails_ends_its_session(rt: HostRuntime) -> Result<(), Fail> {
+    let alloc = rt.alloc();
+    let none = ended(5, CUT_REPORT, &[""], 2);
+    expect(&rt, alloc, &[lines_to(STORED, failing(0))], ALL, &none)?;
+    let part = ended(5, CUT_REPORT, &["o"], 2);
+    expect(&rt, alloc, &[lines_to(STORED, slow(1))], ALL, &part)?;
+    let report = "sessions 1\nreplies 2\ncollections 0\nobjects 2\nfree 58\nsink\nstatus 5\n";
+    let line = ended(5, report, &["ok 00000003903df1a0\n"], 3);
+    expect(&rt, alloc, &[lines_to(STORED, failing(1))], ALL, &line)
+}
+
+#[test]
+fn the_first_source_that_fails_is_told(rt: HostRuntime) -> Result<(), Fail> {
+    let alloc = rt.alloc();
+    let want = ended(6, "source 0\nstatus 6\n", &[""], 0);
+    expect(&rt, alloc, &[broken(STORED)], ALL, &want)?;
+    let seats = [session(MAKING), broken(LOOKING), broken(LOOKING)];
+    let want = ended(6, "source 1\nstatus 6\n", &["", "", ""], 0);
+    expect(&rt, alloc, &seats, ALL, &want)
+}
+
+#[test]
+fn a_report_that_fails_hides_no_worse_status(rt: HostRuntime) -> Result<(), Fail> {
+    let alloc = rt.alloc();
+    let nothing = ended(5, "", &[STORED_REPLIES], 6);
+    expect(&rt, alloc, &[session(STORED)], failing(0), &nothing)?;
+    // the tenth byte is not taken
+    let part = ended(5, "sessions ", &[STORED_REPLIES], 6);
+    expect(&rt, alloc, &[session(STORED)], slow(9), &part)?;
+    let worse = ended(6, "", &[""], 0);
+    expect(&rt, alloc, &[broken(STORED)], failing(0), &worse)
+}
+
+#[test]
+fn a_sink_that_fails_ends_its_session_alone(rt: HostRuntime) -> Result<(), Fail> {
+    let seats = [session(MAKING), lines_to(LOOKING, failing(0))];
+    let report = "sessions 2\nreplies 5\ncollections 0\nobjects 2\nfree 56\nsink\nstatus 5\n";
+    let want = ended(5, report, &[MADE, ""], 7);
+    expect(&rt, rt.alloc(), &seats, ALL, &want)
+}
+
+#[test]
+fn sixty_four_sessions_are_served(rt: HostRuntime) -> Result<(), Fail> {
+    // a turn for each of four lines, and a leave
+    let report = "sessions 64\nreplies 256\ncollections 0\nobjects 1\nfree 61\nstatus 0\n";
+    let want = ended(0, report, &[LOOKED; 64], 320);
+    expect(&rt, rt.alloc(), &[session(LOOKING); 64], ALL, &want)
+}

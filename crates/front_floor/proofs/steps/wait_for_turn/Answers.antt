@@ -1,0 +1,14 @@
+use Rattle.std.proofs.Common.{arith, sum, ap, ◌∙◌}
+use Rattle.front_floor.proofs.Turns.{looks}
+use Rattle.front_floor.proofs.steps.wait_for_turn.Goals as goal
+
+pub load-requires : goal.load-requires
+load-requires g c =
+    let words = c.args.words.now in
+    let seat = c.loop.seat in
+    let at = c.requires.table in
+    let now = c.loop.invariant in (
+      now.table ∙ at.same,
+      omega (arith, at.words),
+      looks g.M.Logged.log (sum words.key.items) words.table_id.slots seat.id seat.me c.args.ticket (ap (λ me. me.0.stand) now.me ∙ c.requires.waits),
+    )

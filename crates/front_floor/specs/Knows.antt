@@ -1,0 +1,88 @@
+-- What a pass knows, and what its calls make of it.
+use Rattle.std.specs.Prelude.{◌≡◌, ℕ, suc, ◌≤◌, ◌⊎◌, List, [], ◌∷◌, ◌++◌, length, Bool, true, false, All}
+use mathlib.Core.List.{IsPrefix}
+use Rattle.atomic_table.specs.Seated.{TableId}
+use Rattle.front_floor.specs.declared.view.Heard.{Heard}
+
+-- the table of its front, its number, its turns that are left, and what it was told of the log
+pub record Knows (E : Type 0) : Type 0 where
+  pub table : TableId
+  pub number : ℕ
+  pub left : ℕ
+  pub heard : Heard E
+
+-- the passes of a front
+pub record Dealt (E : Type 0) : Type 0 where
+  pub table : TableId
+  pub passes : List (Knows E)
+
+-- each is of the front with this table
+pub record AreOf {E : Type 0} (table : TableId) (dealt : Dealt E) : Type 0 where
+  pub together : dealt.table ≡ table
+  pub all : All (λ (pass : Knows E). pass.table ≡ table) dealt.passes
+
+-- places from a on and below b, in increasing order
+abbrev pub Rise : ℕ → List ℕ → ℕ → Type 0
+Rise a [] b = a ≤ b
+Rise a (place ∷ places) b = (a ≤ place) × Rise (suc place) places b
+
+module _ {E : Type 0} where
+  abbrev pub nothing : Heard E
+  nothing = record { seen = []; mine = []; known = 0 }
+
+  -- the passes of these budgets, numbered from n
+  abbrev pub fresh_from : TableId → ℕ → List ℕ → List (Knows E)
+  fresh_from table n [] = []
+  fresh_from table n (left ∷ budgets) =
+      record { table = table; number = n; left = left; heard = nothing } ∷ fresh_from table (suc n) budgets
+
+  -- What was heard fits the log: it begins with all that was seen, the entries that are mine stand in that part, and
+  -- the length that was told is no less than it, and no more than the log's.
+  pub record Fits (log : List E) (heard : Heard E) : Type 0 where
+    pub begins : IsPrefix heard.seen log
+    pub mine : Rise 0 heard.mine (length heard.seen)
+    pub told : length heard.seen ≤ heard.known
+    pub known : heard.known ≤ length log
+
+  -- so many entries were added at the end, one at most
+  abbrev pub Grows : (before after : List E) → ℕ → Type 0
+  Grows before after added =
+      ((after ≡ before) × (added ≡ 0)) ⊎ ((entry : E) × (after ≡ before ++ entry ∷ []) × (added ≡ 1))
+
+  -- where an entry was added its place is mine; where none was, no place is
+  abbrev pub Notes : (before after : List E) → (old new : List ℕ) → Type 0
+  Notes before after old new =
+      ((after ≡ before) × (new ≡ old))
+      ⊎ ((entry : E) × (after ≡ before ++ entry ∷ []) × (new ≡ old ++ length before ∷ []))
+
+  -- some turns were made, and the log was counted
+  pub record Ran (old new : Knows E) : Type 0 where
+    pub table : new.table ≡ old.table
+    pub number : new.number ≡ old.number
+    pub left : new.left ≤ old.left
+    pub seen : IsPrefix old.heard.seen new.heard.seen
+    pub mine : IsPrefix old.heard.mine new.heard.mine
+    pub known : old.heard.known ≤ new.heard.known
+
+-- what a turn of a worker makes of a machine: nothing where the worker is done
+pub record Turns {M : Type 0} (done : M → ℕ → Bool) (turned : M → ℕ → M → Type 0) (worker : ℕ) (before after : M)
+    : Type 0 where
+  pub made : done before worker ≡ false → turned before worker after
+  pub still : done before worker ≡ true → after ≡ before
+
+-- A turn of the worker was made, and it answered whether the worker is done. The log before it had all that was seen,
+-- and as much as was known of, at least. All that was seen is seen still, and at least as much as was known of. Where
+-- the turn added an entry, that is the last one seen, and its place is mine.
+pub record Enters {M E : Type 0} (done : M → ℕ → Bool) (turned : M → ℕ → M → Type 0) (log : M → List E) (worker : ℕ)
+    (answer : Bool) (old new : Heard E) : Type 0 where
+  pub before : M
+  pub after : M
+  pub turns : Turns done turned worker before after
+  pub answers : answer ≡ done after worker
+  pub had : IsPrefix old.seen (log before)
+  pub knew : old.known ≤ length (log before)
+  pub begins : IsPrefix old.seen new.seen
+  pub fresh : old.known ≤ length new.seen
+  pub seen : new.seen ≡ log after
+  pub known : new.known ≡ length new.seen
+  pub mine : Notes (log before) (log after) old.mine new.mine

@@ -1,0 +1,74 @@
+//! All turns of a machine.
+ghost use Rattle.std.specs.Prelude.{◌≡◌, ℕ, ◌-◌, ◌<◌, ◌^◌, true, length, sum};
+
+use crate::desk::run_desk;
+use crate::front::{Desk, Front, FrontFault};
+use cfs_base::{Gate, Logged, NoMemory};
+use cfs_floor::make_turns_left;
+use std::alloc::Global;
+use std::sync::Wait;
+use std::thread::Threads;
+
+/// The turns that each worker of a machine has left.
+fn budgets_of<M: Logged>(alloc: Global, machine: &M) -> Result<Vec<u64>, NoMemory> {
+    let mut budgets = Vec::new(alloc);
+    for worker in 0..machine.workers() {
+        budgets.push(machine.turns_left(worker))?;
+    }
+    Ok(budgets)
+}
+
+/// Whether a front can deal these budgets.
+fn can_deal(budgets: &[u64]) -> bool
+    ensures some { result ≡ true → 0 < length budgets.now }
+    ensures few { result ≡ true → length budgets.now < 2 ^ 32 }
+    ensures sum { result ≡ true → sum budgets.now < 2 ^ 64 - 1 }
+{
+    let mut room = u64::MAX - 1;
+    for left in budgets {
+        if *left > room {
+            return false;
+        }
+        room -= *left;
+    }
+    0 < budgets.len() && budgets.len() < 1 << 32
+}
+
+/// Makes turns of a machine, each worker's in a thread. None are made where memory is wanting for a front, or where
+/// there is no worker, or all together have 2^64 - 1 turns or more.
+fn make_turns_beside<M: Logged + Send, G: Gate + Sync, R: Threads + Wait + Sync>(
+    rt: &R,
+    alloc: Global,
+    gate: &G,
+    machine: M,
+) -> M {
+    let Ok(budgets) = budgets_of(alloc, &machine) else {
+        return machine;
+    };
+    if !can_deal(budgets.as_slice()) {
+        return machine;
+    }
+    match Front::new(alloc, machine, budgets.as_slice()) {
+        Ok(Desk { front, mut passes }) => {
+            run_desk(rt, &front, gate, &mut passes);
+            front.close(passes)
+        }
+        Err(FrontFault { machine }) => machine,
+    }
+}
+
+/// Makes all turns of a machine, each worker's in a thread, behind the gate; what is left then, worker after worker.
+/// Where a front can't be had there are no threads. No more is known of the machine than its type, and that each
+/// worker is done.
+pub fn make_all_turns<M: Logged + Send, G: Gate + Sync, R: Threads + Wait + Sync>(
+    rt: &R,
+    alloc: Global,
+    gate: &G,
+    machine: M,
+) -> M
+    ensures { (w : ℕ) → M.done result w ≡ true }
+{
+    let mut machine = make_turns_beside(rt, alloc, gate, machine);
+    make_turns_left(&mut machine);
+    machine
+}

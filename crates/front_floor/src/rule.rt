@@ -1,0 +1,86 @@
+//! The rule of a front, and what each kind of step tells the seat that makes it.
+use crate::view::View;
+use atomic_table::{Join, Play, Seat, Shared, Split, TableRule};
+use cfs_base::Logged;
+use std::marker::PhantomData;
+
+/// The rule. It is told the budgets when the table is made.
+pub struct Ticketed<M: Logged>(PhantomData<M>);
+
+/// The words and the slot of a front.
+pub type Words<M> = Shared<Option<M>, View<<M as Logged>::Entry>, Vec<u64>, Ticketed<M>>;
+
+/// What a thread makes steps with.
+pub type Place<M> = Seat<Option<M>, View<<M as Logged>::Entry>>;
+
+impl<M: Logged> TableRule<Option<M>, View<M::Entry>, Vec<u64>> for Ticketed<M> {
+    ghost use Rattle.std.specs.Prelude.{sum, ◌^◌};
+    ghost use Rattle.front_floor.specs.Seats.{IsServed, idle};
+
+    ghost holds = { λ budgets s. IsServed M.log (sum budgets.items) s };
+
+    ghost first = { λ budgets. idle (2 ^ 32) 0 budgets.items };
+}
+
+pub struct Draw;
+
+impl<M: Logged> Play<Option<M>, View<M::Entry>> for Draw {
+    ghost use Rattle.front_floor.specs.Seats.{Steps, draw};
+
+    ghost then = { λ s v n w. Steps M.log draw s.first v n w };
+}
+
+pub struct Look;
+
+impl<M: Logged> Play<Option<M>, View<M::Entry>> for Look {
+    ghost use Rattle.front_floor.specs.Seats.{Steps, look};
+
+    ghost then = { λ s v n w. Steps M.log look s.first v n w };
+}
+
+pub struct Count;
+
+impl<M: Logged> Play<Option<M>, View<M::Entry>> for Count {
+    ghost use Rattle.front_floor.specs.Seats.{Steps, count};
+
+    ghost then = { λ s v n w. Steps M.log count s.first v n w };
+}
+
+pub struct PassOn;
+
+impl<M: Logged> Play<Option<M>, View<M::Entry>> for PassOn {
+    ghost use Rattle.front_floor.specs.Seats.{Steps, pass_on};
+
+    ghost then = { λ s v n w. Steps M.log pass_on s.first v n w };
+}
+
+pub struct Tell;
+
+impl<M: Logged> Play<Option<M>, View<M::Entry>> for Tell {
+    ghost use Rattle.front_floor.specs.Seats.{Steps, tell};
+
+    ghost then = { λ s v n w. Steps M.log tell s.first v n w };
+}
+
+/// A pass is dealt.
+pub struct Deal;
+
+impl<E> Split<View<E>> for Deal {
+    ghost use Rattle.front_floor.specs.Seats.{dealer, dealt};
+
+    ghost left = { dealer };
+
+    ghost right = { dealt };
+}
+
+/// A pass is taken in.
+pub struct TakeIn;
+
+impl<E> Join<View<E>> for TakeIn {
+    ghost use Rattle.std.specs.Prelude.{[]};
+    ghost use Rattle.front_floor.specs.Seats.{idle, taken_in};
+
+    ghost both = { taken_in };
+
+    ghost spent = { idle 0 0 [] };
+}

@@ -1,0 +1,72 @@
+-- The map blocks that a cache holds, and what each call makes of them.
+use Rattle.std.specs.Prelude.{◌≡◌, ◌≢◌, ◌⊎◌, ◌%◌, ◌≤◌, ℕ, Bool, false, IsTrue, List, [], Option, Some, is_some, length, nat_eq}
+use Rattle.std.specs.Map.{lookup}
+use Rattle.lru.specs.LruCache.{lru_cache, promoted, put_entries}
+use Rattle.map_cache.specs.declared.held.Stage.{Stage}
+use Rattle.map_cache.specs.declared.held.Stage.TheVariants.{Waiting, Keeping, Over}
+
+-- blocks by their numbers with their bytes, the last used first
+abbrev pub Blocks : Type 0
+Blocks = List (ℕ × List ℕ)
+
+-- what is held, how many blocks there may be at most, and how far the cache has come
+pub record Holding : Type 0 where
+  pub blocks : Blocks
+  pub capacity : ℕ
+  pub stage : Stage
+
+abbrev pub holding : Blocks → ℕ → Stage → Holding
+holding blocks capacity stage = record { blocks = blocks; capacity = capacity; stage = stage }
+
+-- the bytes of a block that is held
+abbrev pub held_block : Holding → ℕ → Option (List ℕ)
+held_block h n = lookup (nat_eq n) h.blocks
+
+-- whether a block is held
+abbrev pub has_map : Holding → ℕ → Bool
+has_map h n = is_some (held_block h n)
+
+-- What is true of every cache.
+pub record IsHolding (h : Holding) : Type 0 where
+  pub room : 1 ≤ h.capacity
+  pub few : length h.blocks ≤ h.capacity
+  -- map blocks alone are held
+  pub maps : (n : ℕ) → IsTrue (has_map h n) → n % 64 ≡ 0
+  -- nothing is held before a barrier is done, nor after a write or a barrier that failed
+  pub none : h.stage ≢ Keeping → h.blocks ≡ []
+
+-- a block was found: where it is held it comes to the front
+abbrev pub found : Holding → ℕ → Holding
+found h n = record h { blocks = promoted (nat_eq n) h.blocks }
+
+-- this block with these bytes in front; one that is new pushes the last out of a full cache
+abbrev pub with_front : Holding → ℕ → List ℕ → Blocks
+with_front h n block = put_entries nat_eq (lru_cache h.blocks h.capacity) n block
+
+-- A block was read or written with these bytes, and the call of the lower disk is done.
+pub record TakesIn (old new : Holding) (n : ℕ) (block : List ℕ) : Type 0 where
+  -- where blocks are kept a map block is put in front; for want of memory all stays, and then it isn't held
+  pub put : old.stage ≡ Keeping → n % 64 ≡ 0 →
+      (new.blocks ≡ with_front old n block) ⊎ ((new.blocks ≡ old.blocks) × (has_map old n ≡ false))
+  pub no_map : n % 64 ≢ 0 → new.blocks ≡ old.blocks
+  pub not_kept : old.stage ≢ Keeping → new.blocks ≡ old.blocks
+  -- the block is held with these bytes, if it is
+  pub this : (bytes : List ℕ) → held_block new n ≡ Some bytes → bytes ≡ block
+  -- another that is held was held before
+  pub others : (m : ℕ) (bytes : List ℕ) → m ≢ n → held_block new m ≡ Some bytes → held_block old m ≡ Some bytes
+  pub capacity : new.capacity ≡ old.capacity
+  pub stage : new.stage ≡ old.stage
+
+-- after a barrier that is done
+abbrev pub stage_after_barrier : Stage → Stage
+stage_after_barrier Waiting = Keeping
+stage_after_barrier Keeping = Keeping
+stage_after_barrier Over = Over
+
+-- blocks are kept from the first barrier on that is done, but never after a write or a barrier that failed
+abbrev pub after_barrier : Holding → Holding
+after_barrier h = record h { stage = stage_after_barrier h.stage }
+
+-- after a write or a barrier that failed nothing is held, for good
+abbrev pub after_failure : Holding → Holding
+after_failure h = record h { blocks = []; stage = Over }

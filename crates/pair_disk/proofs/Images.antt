@@ -1,0 +1,137 @@
+-- What a crash leaves of a disk in memory after one call more.
+use Rattle.std.proofs.Common.{◌≡◌, ◌≢◌, ◌⊎◌, inl, inr, ⊎_elim, ℕ, ◌<◌, ◌≤◌, Bool, true, false, ◌||◌, nat_eq, List, [], length, set, refl, sym, ◌∙◌, ap, subst, arith, length-set, get_or-set_same, get_or-set_other, set-set, ext_get_or, Vec, Global}
+use Rattle.std.proofs.lemmas.List.{set-get_or}
+use Rattle.std.proofs.lemmas.Bool.{cases_eq}
+use Rattle.std.proofs.lemmas.Bool.Decides.{nat_tests}
+use Rattle.cfs_base.specs.declared.block.Block.{Block}
+use Rattle.cfs_base.specs.Disk.{Image, AreBlocks, IsBlock, LeavesOnly, Nothing, block_at}
+use Rattle.pair_disk.specs.declared.kept.Call.TheVariants.{Write, Barrier}
+use Rattle.pair_disk.specs.declared.kept.Kept.{Kept}
+use Rattle.pair_disk.specs.Torn.{Torn}
+use Rattle.pair_disk.specs.declared.history.History.{History}
+use Rattle.pair_disk.specs.Replay.{IsImage, State, after, replay, unwritten}
+use Rattle.pair_disk.specs.History.{clock, left_of, count_of, state_now}
+
+-- a number is itself, and no other
+is_self : (n : ℕ) (b : Bool) → (nat_eq n n || b) ≡ true
+is_self n b = grind (arith, nat_tests)
+
+apart : (k n : ℕ) (b : Bool) → k ≢ n → (nat_eq k n || b) ≡ b
+apart k n b not = grind (arith, nat_tests)
+
+torn_too : (k n : ℕ) (b : Bool) → b ≡ true → (nat_eq k n || b) ≡ true
+torn_too k n b is = elim (cases_eq k n) [
+  | inl same ↦ subst (λ (j : ℕ). (nat_eq j n || b) ≡ true) (sym same) (is_self n b)
+  | inr not ↦ apart k n b not ∙ is
+]
+
+-- a block that isn't torn is another
+not_it : (k n : ℕ) (b : Bool) → (nat_eq k n || b) ≡ false → k ≢ n
+not_it k n b is = λ (e : k ≡ n). let yes : (nat_eq k n || b) ≡ true = subst (λ (j : ℕ). (nat_eq j n || b) ≡ true) (sym e) (is_self n b) in cc
+
+-- a block that is put, in all blocks
+pub blocks_set : (image : Image) (n : ℕ) (b : List ℕ) → AreBlocks image → (n < length image → IsBlock b) → AreBlocks (set image n b)
+blocks_set image n b are is = λ k on.
+    let P : List ℕ → Type 0 = IsBlock in
+    let long : length (set image n b) ≡ length image = length-set image n b in
+    elim (cases_eq k n) [
+      | inl same ↦ subst (λ (j : ℕ). IsBlock (block_at (set image n b) j)) (sym same) (let here : n < length image = omega (arith, on, same, long) in subst P (sym (get_or-set_same image n b [] here)) (is here))
+      | inr not ↦ subst P (sym (get_or-set_other image n k b [] not)) (are k (omega (arith, on, long)))
+    ]
+
+-- a torn block may have any bytes
+pub image_set : (s : State) (c : Image) (n : ℕ) (b : List ℕ) → IsImage s c → s.torn n ≡ true → (n < length c → IsBlock b) → IsImage s (set c n b)
+image_set s c n b is torn block =
+    let P : List ℕ → Type 0 = IsBlock in
+    let long : length (set c n b) ≡ length c = length-set c n b in
+    record {
+      size = long ∙ is.size;
+      whole = λ k whole. get_or-set_other c n k b [] (λ (e : k ≡ n). let same : s.torn k ≡ s.torn n = ap s.torn e in cc) ∙ is.whole k whole;
+      torn = λ k on was. elim (cases_eq k n) [
+        | inl same ↦ subst (λ (j : ℕ). IsBlock (block_at (set c n b) j)) (sym same) (let here : n < length c = omega (arith, on, same, long) in subst P (sym (get_or-set_same c n b [] here)) (block here))
+        | inr not ↦ subst P (sym (get_or-set_other c n k b [] not)) (is.torn k (omega (arith, on, long)) was)
+      ];
+    }
+
+module _ (s : State) (n : ℕ) (c : Image) (on : n < length c) (h : IsImage (after (Write n) s) c) where
+  -- the block was torn before
+  was_torn : s.torn n ≡ true → IsImage s c
+  was_torn torn = record {
+    size = h.size;
+    whole = λ k whole. h.whole k (apart k n (s.torn k) (λ (e : k ≡ n). let same : s.torn k ≡ s.torn n = ap s.torn e in cc) ∙ whole);
+    torn = λ k below was. h.torn k below (torn_too k n (s.torn k) was);
+  }
+
+  -- it is now
+  is_torn : s.torn n ≡ false → Torn (IsImage s) n c
+  is_torn whole =
+      let P : List ℕ → Type 0 = IsBlock in
+      let b : List ℕ = block_at s.base n in
+      let before : Image = set c n b in
+      let long : length before ≡ length c = length-set c n b in (
+        before,
+        record {
+          size = long ∙ h.size;
+          whole = λ k is. elim (cases_eq k n) [
+            | inl same ↦ subst (λ (j : ℕ). block_at before j ≡ block_at s.base j) (sym same) (get_or-set_same c n b [] on)
+            | inr not ↦ get_or-set_other c n k b [] not ∙ h.whole k (apart k n (s.torn k) not ∙ is)
+          ];
+          torn = λ k below is.
+              let not : k ≢ n = λ (e : k ≡ n). let same : s.torn k ≡ s.torn n = ap s.torn e in cc in
+              subst P (sym (get_or-set_other c n k b [] not)) (h.torn k (omega (arith, below, long)) (apart k n (s.torn k) not ∙ is));
+        },
+        (block_at c n, h.torn n on (is_self n (s.torn n)), sym (set-set c n b (block_at c n) ∙ set-get_or c n [])),
+      )
+
+  -- what a crash leaves after a write that was tried: what it left before, or that with the block torn
+  pub tried : IsImage s c ⊎ Torn (IsImage s) n c
+  tried = elim (cases_torn (s.torn n)) [ inl was ↦ inl (was_torn was) | inr whole ↦ inr (is_torn whole) ]
+    where
+      cases_torn : (b : Bool) → (b ≡ true) ⊎ (b ≡ false)
+      cases_torn true = inl refl
+      cases_torn false = inr refl
+
+-- after a barrier it leaves the content
+pub flushed : (s : State) (blocks : Vec Block Global) (c : Image) → IsImage (after (Barrier blocks) s) c → c ≡ blocks.items
+flushed s blocks c h = ext_get_or [] c blocks.items h.size (λ n on. h.whole n refl)
+
+-- the blocks that aren't torn hold what they held at the barrier, after a write that was tried
+pub held_tried : (s : State) (n : ℕ) (content : Image) → ((k : ℕ) → s.torn k ≡ false → block_at content k ≡ block_at s.base k) → (k : ℕ) → (after (Write n) s).torn k ≡ false → block_at content k ≡ block_at s.base k
+held_tried s n content held k is = held k (sym (apart k n (s.torn k) (not_it k n (s.torn k) is)) ∙ is)
+
+-- and one that is done
+pub held_written : (s : State) (n : ℕ) (b : List ℕ) (content : Image) → ((k : ℕ) → s.torn k ≡ false → block_at content k ≡ block_at s.base k) → (k : ℕ) → (after (Write n) s).torn k ≡ false → block_at (set content n b) k ≡ block_at s.base k
+held_written s n b content held k is = get_or-set_other content n k b [] (not_it k n (s.torn k) is) ∙ held_tried s n content held k is
+
+-- nothing was written yet
+pub fresh : (h : History) (t : ℕ) → h.kept.items ≡ [] → (c : Image) → left_of h t c → c ≡ h.first.items
+fresh h t none c left =
+    let is = subst (λ (calls : List Kept). IsImage (replay (unwritten h.first.items) left.0 calls) c) none left.3 in
+    ext_get_or [] c h.first.items is.size (λ n on. is.whole n refl)
+
+-- what a history says of the disk that holds it
+module _ {D : Type 0} (history : D → History) where
+  lifts : {old new : D} {P Q : Image → Type 0} → LeavesOnly clock left_of (history old) (history new) P → ((c : Image) → P c → ((t : ℕ) → t ≤ clock (history old) → left_of (history old) t c) ⊎ Q c)
+      → LeavesOnly (λ d. clock (history d)) (λ d. left_of (history d)) old new Q
+  lifts {old} {new} {P} {Q} images has = record {
+    later = images.later;
+    since = λ t c le h. was t c le (images.since t c le h);
+    now = λ c h. was (clock (history old)) c (omega arith) (images.now c h);
+  }
+    where
+      was : (t : ℕ) (c : Image) → t ≤ clock (history old) → left_of (history old) t c ⊎ P c → left_of (history old) t c ⊎ Q c
+      was t c le h = ⊎_elim (λ before. inl before) (λ p. ⊎_elim (λ may. inl (may t le)) (λ q. inr q) (has c p)) h
+
+  -- a write that was tried
+  pub writes : {old new : D} (n : ℕ) → n < count_of (history old) → LeavesOnly clock left_of (history old) (history new) (IsImage (after (Write n) (state_now (history old))))
+      → LeavesOnly (λ d. clock (history d)) (λ d. left_of (history d)) old new (Torn (left_of (history old) (clock (history old))) n)
+  writes {old} n on images = lifts images (λ c h.
+      let m : ℕ = clock (history old) in
+      let s : State = state_now (history old) in
+      ⊎_elim (λ is. inl (λ t le. (m, le, omega arith, is))) (λ torn. inr (torn.0, (m, omega arith, omega arith, torn.1), torn.2)) (tried s n c (omega (arith, on, h.size, ((history old).sized m).size)) h))
+
+  -- a barrier
+  pub flushes : {old new : D} (blocks : Vec Block Global) → ((t : ℕ) → t ≤ clock (history old) → left_of (history old) t blocks.items) → LeavesOnly clock left_of (history old) (history new) (IsImage (after (Barrier blocks) (state_now (history old))))
+      → LeavesOnly (λ d. clock (history d)) (λ d. left_of (history d)) old new Nothing
+  flushes {old} blocks may images =
+      lifts images (λ c h. inl (λ t le. subst (left_of (history old) t) (sym (flushed (state_now (history old)) blocks c h)) (may t le)))

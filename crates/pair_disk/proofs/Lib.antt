@@ -1,0 +1,4 @@
+mod Pairs
+mod Calls
+mod Replays
+mod Images

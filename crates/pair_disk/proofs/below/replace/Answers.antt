@@ -1,0 +1,43 @@
+use Rattle.std.proofs.Common.{◌≡◌, ℕ, Result, Ok, Err, List, OnOk, set, ◌∙◌, ap, subst}
+use Rattle.cfs_base.specs.Disk.{Image}
+use Rattle.pair_disk.specs.Below.{PutsBelow}
+use Rattle.pair_disk.specs.Pair.{gate_at, half_at, pairs_in}
+use Rattle.pair_disk.proofs.Calls.{half_changes, replaced, replaces}
+use Rattle.pair_disk.proofs.below.replace.Goals as goal
+
+pub returns-in_err-write_through-clause-changes : goal.returns-in_err-write_through-clause-changes
+returns-in_err-write_through-clause-changes g c =
+    let old = c.args.lower.now in
+    let new = c.write_through.new.lower in
+    let laws = g.met.T.TornDisk in
+    half_changes g.T.TornDisk laws.only_honest laws.may_stay c.args.at.0 old new c.requires.flushed c.args.hidden c.requires.hidden (λ i. i ≡ set (pairs_in (g.T.TornDisk.content old)) c.args.at.0 c.args.from.now)
+    (subst (λ (k : ℕ). PutsBelow g.T.TornDisk k old new) c.at.ensures c.write_through.ensures.writes)
+
+pub returns-clause-changes : goal.returns-clause-changes
+returns-clause-changes g c =
+    let old = c.args.lower.now in
+    let mid = c.write_through.new.lower in
+    let new = c.write_through-2.new.lower in
+    let laws = g.met.T.TornDisk in
+    let first : PutsBelow g.T.TornDisk (half_at c.args.hidden c.args.at.0) old mid = subst (λ (k : ℕ). PutsBelow g.T.TornDisk k old mid) c.at.ensures c.write_through.ensures.writes in
+    let put : ℕ → Image = λ k. set (g.T.TornDisk.content old) k c.args.from.now in
+    let written : g.T.TornDisk.content mid ≡ put (half_at c.args.hidden c.args.at.0) = subst (λ (k : ℕ). g.T.TornDisk.content mid ≡ put k) c.at.ensures c.in_ok-write_through.ensures.written in
+    replaces g.T.TornDisk laws.only_honest laws.may_stay laws.sized c.args.at.0 c.args.from.now c.args.hidden old mid new c.requires.on_disk c.requires.flushed c.requires.hidden first written c.in_ok-write_through.ensures.flushed
+    (subst (λ (k : ℕ). PutsBelow g.T.TornDisk k mid new) c.gate_of.ensures c.write_through-2.ensures.writes)
+
+on_ok : {V E P Q : Type 0} (r : Result V E) → OnOk r P → (P → Q) → OnOk r Q
+on_ok (Ok v) p to = to p
+on_ok (Err e) p to = tt
+
+pub returns-clause-replaced : goal.returns-clause-replaced
+returns-clause-replaced g c =
+    let old = c.args.lower.now in
+    let mid = c.write_through.new.lower in
+    let laws = g.met.T.TornDisk in
+    let below : Image = g.T.TornDisk.content mid in
+    let first : PutsBelow g.T.TornDisk (half_at c.args.hidden c.args.at.0) old mid = subst (λ (k : ℕ). PutsBelow g.T.TornDisk k old mid) c.at.ensures c.write_through.ensures.writes in
+    let put : ℕ → Image = λ k. set (g.T.TornDisk.content old) k c.args.from.now in
+    let written : g.T.TornDisk.content mid ≡ put (half_at c.args.hidden c.args.at.0) = subst (λ (k : ℕ). g.T.TornDisk.content mid ≡ put k) c.at.ensures c.in_ok-write_through.ensures.written in
+    on_ok c.write_through-2.result c.write_through-2.ensures.written (λ is tells.
+    replaced g.T.TornDisk laws.only_honest laws.may_stay laws.sized c.args.at.0 c.args.from.now c.args.hidden old mid c.write_through-2.new.lower c.requires.on_disk c.requires.flushed c.requires.hidden first written tells
+    (is ∙ ap (λ (k : ℕ). set below k c.gate.result) c.gate_of.ensures ∙ ap (λ (b : List ℕ). set below (gate_at c.args.at.0) b) c.gate.ensures))

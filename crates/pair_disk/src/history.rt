@@ -1,0 +1,121 @@
+//! The clock of a disk in memory, and the calls that it keeps.
+ghost use Rattle.std.specs.Prelude.{◌≡◌, ◌≤◌, ◌-◌, ◌^◌, ℕ, IsTrue, OnErr, OnOk, IsErr, [], length};
+ghost use Rattle.cfs_base.specs.Disk.{AreBlocks};
+ghost use Rattle.cfs_base.specs.Outside.{Rose, count_after};
+ghost use Rattle.pair_disk.specs.Replay.{HasSize, IsImage, IsOfBlocks, after, all_before, may_tear, replay, unwritten};
+
+use crate::kept::{Call, Kept, TornPick};
+use crate::replay::{base_after, torn_after};
+use crate::store::copy;
+use cfs_base::Block;
+use std::alloc::{AllocError, Global};
+
+/// Counts the calls of a disk, and keeps those that a crash sees.
+#[derive(Drop)]
+pub struct History {
+    /// The content before all calls.
+    first: Vec<Block>,
+    moment: u64,
+    kept: Vec<Kept>,
+    ghost clocked: { moment ≤ 2 ^ 64 - 1 },
+    ghost past: { IsTrue (all_before moment kept.items) },
+    ghost sized: { (t : ℕ) → IsOfBlocks (length first.items) (replay (unwritten first.items) t kept.items) },
+}
+
+impl History {
+    ghost use Rattle.std.specs.Prelude.{IfOk};
+    ghost use Rattle.cfs_base.specs.Disk.{Image, Nothing, LeavesOnly, KeepsLeft};
+    ghost use Rattle.pair_disk.specs.History.{clock, left_of, count_of, state_at, state_now};
+
+    /// Nothing was called yet. Takes no memory.
+    pub fn new(alloc: Global, first: Vec<Block>) -> History
+        requires { AreBlocks first.items }
+        ensures first { result.first ≡ first }
+        ensures moment { result.moment ≡ 0 }
+        ensures kept { result.kept.items ≡ [] }
+    {
+        History {
+            first,
+            moment: 0,
+            kept: Vec::new(alloc),
+        }
+    }
+
+    pub fn moment(&self) -> u64
+        ensures { result ≡ clock self.now }
+    {
+        self.moment
+    }
+
+    /// A call that changes nothing is made.
+    pub fn pass(&mut self)
+        ensures clock { clock self.new ≡ count_after (clock self.old) }
+        ensures rose { Rose (clock self.old) (clock self.new) }
+        ensures state { state_now self.new ≡ state_now self.old }
+        ensures images { LeavesOnly clock left_of self.old self.new Nothing }
+        ensures keeps { KeepsLeft clock left_of self.old self.new }
+        ensures size { count_of self.new ≡ count_of self.old }
+    {
+        self.moment = self.moment.saturating_add(1);
+    }
+
+    /// A call is made that changes the disk or tried to. For want of memory, and once the clock has come to its end,
+    /// it isn't kept.
+    pub fn keep(&mut self, call: Call) -> Result<(), AllocError>
+        requires { HasSize (count_of self.old) call }
+        ensures clock { clock self.new ≡ count_after (clock self.old) }
+        ensures rose { Rose (clock self.old) (clock self.new) }
+        ensures kept { OnOk result (state_now self.new ≡ after call (state_now self.old)) }
+        ensures images { LeavesOnly clock left_of self.old self.new (IsImage (after call (state_now self.old))) }
+        ensures here { OnOk result ((c : Image) → left_of self.new (clock self.new) c
+            → IsImage (after call (state_now self.old)) c) }
+        ensures unkept { OnErr result (state_now self.new ≡ state_now self.old) }
+        ensures keeps { KeepsLeft clock left_of self.old self.new }
+        ensures size { count_of self.new ≡ count_of self.old }
+        ensures last { clock self.old ≡ 2 ^ 64 - 1 → IsErr result }
+    {
+        if self.moment == u64::MAX {
+            self.pass();
+            return Err(AllocError);
+        }
+        let kept = Kept {
+            moment: self.moment,
+            call,
+        };
+        let Ok(()) = self.kept.push(kept) else {
+            self.pass();
+            return Err(AllocError);
+        };
+        self.moment += 1;
+        Ok(())
+    }
+
+    /// The content at the last barrier before this moment.
+    pub fn base(&self, at: u64) -> Result<Vec<Block>, AllocError>
+        ensures { IfOk result (λ v. v.items ≡ (state_at self.now at).base) }
+    {
+        let mut base = &self.first;
+        for kept in &self.kept {
+            base = base_after(base, kept, at);
+        }
+        copy(base)
+    }
+
+    /// Whether a block was written since that barrier, done or not.
+    pub fn is_torn(&self, at: u64, block: u32) -> bool
+        ensures { result ≡ (state_at self.now at).torn block }
+    {
+        let mut torn = false;
+        for kept in &self.kept {
+            torn = torn_after(torn, kept, at, block);
+        }
+        torn
+    }
+
+    /// Whether all these blocks were.
+    pub fn may_tear(&self, at: u64, picks: &[TornPick]) -> bool
+        ensures { result ≡ may_tear (state_at self.now at) picks.now }
+    {
+        picks.iter().all(|pick| self.is_torn(at, pick.block))
+    }
+}

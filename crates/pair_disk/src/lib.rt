@@ -1,0 +1,19 @@
+//! Atomic blocks on a disk whose writes may tear.
+//! The layer above uses that a pair disk over an honest disk that may tear its blocks is a `Disk`, its crash images
+//! included: of each block a crash leaves the old content or the new one.
+#![tactic(auto)]
+
+mod below;
+mod half;
+mod history;
+mod kept;
+mod pair;
+mod replay;
+mod store;
+mod torn_disk;
+mod torn_memory;
+
+pub use kept::TornPick;
+pub use pair::PairDisk;
+pub use torn_disk::TornDisk;
+pub use torn_memory::TornMemory;

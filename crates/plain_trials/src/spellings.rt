@@ -1,0 +1,136 @@
+//! Spellings worked by hand: numbers in a block, entries of a map, labels, and the words of a seed.
+use cfs_base::{Block, Place, Puid};
+use cyl_map::{BadEntry, BlockState, MapEntry};
+use puid_space::{Draw, Drawn, root_word};
+use std::process::Abort;
+use ufs_model::word_of;
+use vol_label::{Label, LabelFault};
+
+/// The first words of the stream of seed 0, of which the root index has the first.
+const WORDS: [u32; 5] = [
+    0xade0_b876,
+    0x903d_f1a0,
+    0xe56a_5d40,
+    0x28bd_8653,
+    0xb819_d2bd,
+];
+
+#[test]
+fn words_are_those_of_the_stated_stream(rt: HostRuntime) {
+    let mut draw = Draw::new(0);
+    assert_eq!(rt; root_word(0), WORDS[0]);
+    for drawn in 0..4 {
+        assert_eq!(rt; draw.drawn(), drawn);
+        let k = drawn + 1;
+        let word = WORDS[k as usize];
+        assert_eq!(rt; draw.next(), Drawn { draw: k, word });
+        assert_eq!(rt; word_of(0, k), word);
+    }
+}
+
+#[test]
+fn numbers_are_big_endian(rt: HostRuntime) {
+    let mut block = Block::zero();
+    block.put_u16(0, 0x0102);
+    block.put_u32(2, 0x0304_0506);
+    block.put_u64(504, 0x0708_090a_0b0c_0d0e);
+    let bytes = block.bytes();
+    assert!(rt;
+        bytes.starts_with(&[1, 2, 3, 4, 5, 6, 0])
+            && bytes.ends_with(&[0, 7, 8, 9, 10, 11, 12, 13, 14])
+    );
+    let read = (block.u16_at(4), block.u32_at(0), block.u64_at(504));
+    assert_eq!(rt; read, (0x0506, 0x0102_0304, 0x0708_090a_0b0c_0d0e));
+}
+
+/// Eight bytes are read as this entry, and spelled so again, or refused at this place.
+fn expect_entry(rt: &impl Abort, bytes: u64, wanted: Result<MapEntry, BadEntry>) {
+    let read = MapEntry::decode(&bytes.to_be_bytes());
+    assert_eq!(rt; read, wanted, "{bytes:#018x}");
+    if let Ok(entry) = read {
+        assert_eq!(rt; u64::from_be_bytes(entry.encode()), bytes);
+    }
+}
+
+#[test]
+fn entries_of_a_small_volume_are_read_and_spelled(rt: HostRuntime) {
+    use BlockState::{Allocated, IntendAllocate};
+    for (bytes, state, committed, place, owner) in [
+        (0x0101_0000_0000_0002, Allocated, false, Place::Root, 2),
+        (0x8101_0000_0000_0002, Allocated, true, Place::Root, 2),
+        (0x0101_0000_0000_0003, Allocated, false, Place::Root, 3),
+        (0x0104_0000_0000_0002, Allocated, false, Place::Leaf(0), 2),
+        (0x0103_0000_0000_0002, Allocated, false, Place::Node(0), 2),
+        (
+            0x0202_0000_0000_0002,
+            IntendAllocate,
+            false,
+            Place::ShadowRoot,
+            2,
+        ),
+    ] {
+        let entry = MapEntry {
+            state,
+            committed,
+            place: Some(place),
+            owner,
+        };
+        expect_entry(&rt, bytes, Ok(entry));
+    }
+    for (bytes, byte) in [
+        (0x0100_0000_0000_0001, 7),
+        (0x0301_0000_0000_0005, 1),
+        (0x8103_0000_0000_0005, 1),
+        (0x0103_0078_0000_0005, 3),
+        (0x0101_0000_0000_0000, 7),
+        (0x0400_0000_0000_0000, 0),
+    ] {
+        expect_entry(&rt, bytes, Err(BadEntry { byte }));
+    }
+}
+
+/// The label of a volume of so many cylinders, whose words are drawn from seed 0.
+fn label_of(cylinders: u32) -> Label {
+    let word = WORDS[0];
+    Label {
+        cylinders,
+        root: Puid { block: 2, word },
+    }
+}
+
+/// The label of a volume of one cylinder, byte by byte.
+fn small_label() -> Block {
+    let mut block = Block::zero();
+    block.put_u64(0, 0x4346_5331_0000_0001);
+    block.put_u64(8, 0x0000_0001_0000_0002);
+    block.put_u32(16, 0xade0_b876);
+    block
+}
+
+#[test]
+fn the_label_of_a_small_volume_is_read_and_refused_where_it_is_changed(rt: HostRuntime) {
+    let none = Err(LabelFault::NotVolume);
+    for (at, number, wanted) in [
+        (0, 0x4346_5331, Ok(label_of(1))),
+        (0, 0x4346_5332, none),
+        (4, 0, Err(LabelFault::Version { found: 0 })),
+        (
+            4,
+            0x0100_0000,
+            Err(LabelFault::Version { found: 0x0100_0000 }),
+        ),
+        (8, 0, none),
+        (8, 65_536, Ok(label_of(65_536))),
+        (8, 65_537, none),
+        (12, 3, none),
+        (508, 1, none),
+    ] {
+        let mut block = small_label();
+        block.put_u32(at, number);
+        let read = Label::decode(&block);
+        assert_eq!(rt; read, wanted, "{number} at {at}");
+        if let Ok(label) = read {
+            assert_eq!(rt; label.encode(), block);
+        }
+    }
+}

@@ -1,0 +1,254 @@
+//! How often calls of the store read and write.
+use crate::bench::{Act, Bench};
+use crate::volume::ROOT_WORD;
+use cfs_base::{FileKind, Kind, Puid};
+use std::alloc::Global;
+use std::process::Abort;
+use std::test::Fail;
+
+/// A call, and how many reads, writes and barriers it makes: of maps, and of other blocks.
+type Row = (Act, [u32; 2], [u32; 2], u32);
+
+fn expect_row(rt: &impl Abort, alloc: Global, bench: &mut Bench, row: &Row) -> Result<(), Fail> {
+    bench.act(alloc, row.0)?;
+    let seen = bench.seen();
+    let is_right = seen.reads == row.1 && seen.writes == row.2 && seen.barriers == row.3;
+    assert!(rt; is_right, "{:?}: {seen:?}", row.0);
+    Ok(())
+}
+
+fn expect_rows(
+    rt: &impl Abort,
+    alloc: Global,
+    bench: &mut Bench,
+    rows: &[Row],
+) -> Result<(), Fail> {
+    for row in rows {
+        expect_row(rt, alloc, bench, row)?;
+    }
+    Ok(())
+}
+
+/// A write of a special file that holds the leaf.
+const BYTE: Act = Act::Write {
+    at: 2,
+    kind: FileKind::Special,
+    offset: 0,
+    count: 1,
+    byte: 0x5a,
+};
+
+const LEAF: Act = Act::Write {
+    at: 2,
+    kind: FileKind::Special,
+    offset: 0,
+    count: 512,
+    byte: 0x5a,
+};
+
+/// Maps: three claims, two marks, the bit set, five entries finished, the bit cleared. Others: a leaf, a node, two
+/// roots.
+const SPECIAL: [Row; 2] = [(BYTE, [12, 6], [12, 4], 5), (LEAF, [12, 5], [12, 4], 5)];
+
+#[test]
+fn a_special_write_of_one_held_leaf_is_16_writes_and_5_barriers(
+    rt: HostRuntime,
+) -> Result<(), Fail> {
+    let alloc = rt.alloc();
+    for row in &SPECIAL {
+        let mut bench = Bench::laid(alloc, 1)?;
+        expect_row(&rt, alloc, &mut bench, row)?;
+    }
+    Ok(())
+}
+
+/// Four kilobytes of a draft, in leaves 126 to 133 of two nodes.
+const EIGHT: Act = Act::Change {
+    offset: 64_512,
+    count: 4096,
+    byte: 0x5a,
+};
+
+fn expect_eight(rt: &impl Abort, alloc: Global, bench: &mut Bench, begin: Act) -> Result<(), Fail> {
+    bench.play(alloc, &[begin, Act::SetSize(70_000), EIGHT])?;
+    // Both nodes are read.
+    expect_row(rt, alloc, bench, &(EIGHT, [0, 2], [0, 8], 0))
+}
+
+#[test]
+fn four_kilobytes_in_fresh_leaves_are_eight_writes(rt: HostRuntime) -> Result<(), Fail> {
+    let alloc = rt.alloc();
+    for begin in [Act::Begin(2), Act::BeginDirect(2)] {
+        let mut bench = Bench::laid(alloc, 2)?;
+        expect_eight(&rt, alloc, &mut bench, begin)?;
+    }
+    Ok(())
+}
+
+/// A draft of several leaves, of which some are cut off again.
+const DRAFT: [Act; 7] = [
+    Act::SetSize(70_000),
+    Act::Change {
+        offset: 64_000,
+        count: 4096,
+        byte: 1,
+    },
+    Act::See {
+        offset: 63_400,
+        count: 5000,
+    },
+    Act::Change {
+        offset: 65_000,
+        count: 3000,
+        byte: 2,
+    },
+    Act::SetSize(66_700),
+    Act::See {
+        offset: 63_400,
+        count: 3300,
+    },
+    Act::SetSize(69_000),
+];
+
+/// A draft, begun and ended so, in which no call reads a block twice but maps.
+fn expect_once(
+    rt: &impl Abort,
+    alloc: Global,
+    bench: &mut Bench,
+    ends: [Act; 2],
+) -> Result<(), Fail> {
+    bench.act(alloc, ends[0])?;
+    for act in DRAFT.iter().chain(&ends[1..]) {
+        bench.act(alloc, *act)?;
+        assert!(rt; !bench.seen().is_twice, "{act:?}");
+    }
+    Ok(())
+}
+
+const ENDS: [[Act; 2]; 4] = [
+    [Act::Begin(2), Act::Commit],
+    [Act::Begin(2), Act::Abort],
+    [Act::BeginDirect(2), Act::Commit],
+    [Act::BeginDirect(2), Act::Abort],
+];
+
+#[test]
+fn no_call_of_a_draft_reads_a_block_twice_but_maps(rt: HostRuntime) -> Result<(), Fail> {
+    let alloc = rt.alloc();
+    for ends in ENDS {
+        let mut bench = Bench::laid(alloc, 2)?;
+        expect_once(&rt, alloc, &mut bench, ends)?;
+    }
+    Ok(())
+}
+
+/// The greatest index, whose root is block 3.
+const INDEX: Act = Act::Create {
+    slot: 0,
+    kind: Kind::Index,
+    slots: 983_040,
+    fill: 0,
+    word: 7,
+};
+
+/// Slots of the greatest index that are filled, or emptied, one after another: what is read and written. Root and
+/// shadow root are read, and the leaf of the slot and its node where they are held; all four are written. Of the maps
+/// 8 entries change, and for each of the two that was held two more: its mark, and that it is Free.
+const SLOTS: [(u64, Option<Puid>, [u32; 2], [u32; 2]); 5] = [
+    (0, TOP, [8, 2], [8, 4]),
+    (4095, TOP, [10, 3], [10, 4]),
+    (8192, TOP, [8, 2], [8, 4]),
+    (983_039, TOP, [8, 2], [8, 4]),
+    (0, None, [12, 4], [12, 4]),
+];
+
+const TOP: Option<Puid> = Some(Puid {
+    block: 2,
+    word: ROOT_WORD,
+});
+
+/// Slots in a leaf that is held, and in one that isn't.
+const FOUND: [Row; 2] = [
+    (Act::Retrieve { at: 3, slot: 0 }, [0, 3], [0, 0], 0),
+    (Act::Retrieve { at: 3, slot: 64 }, [0, 2], [0, 0], 0),
+];
+
+fn expect_slots(rt: &impl Abort, alloc: Global, bench: &mut Bench) -> Result<(), Fail> {
+    bench.act(alloc, INDEX)?;
+    for (slot, what, reads, writes) in SLOTS {
+        let act = Act::Put { at: 3, slot, what };
+        expect_row(rt, alloc, bench, &(act, reads, writes, 5))?;
+        assert!(rt; !bench.seen().is_twice, "slot {slot}");
+    }
+    expect_rows(rt, alloc, bench, &FOUND)
+}
+
+#[test]
+fn of_an_index_one_leaf_and_its_node_alone_are_read_and_written(
+    rt: HostRuntime,
+) -> Result<(), Fail> {
+    let alloc = rt.alloc();
+    let mut bench = Bench::fresh(alloc, 2, Vec::new(alloc))?;
+    expect_slots(&rt, alloc, &mut bench)
+}
+
+/// Changes of a normal file of two leaves, both held, whose root is block 3.
+const HELD: [Act; 3] = [
+    Act::Create {
+        slot: 0,
+        kind: Kind::Normal,
+        slots: 0,
+        fill: 7,
+        word: 9,
+    },
+    Act::Resize {
+        at: 3,
+        kind: FileKind::Normal,
+        size: 1024,
+    },
+    WHOLE,
+];
+
+const WHOLE: Act = Act::Write {
+    at: 3,
+    kind: FileKind::Normal,
+    offset: 0,
+    count: 1024,
+    byte: 1,
+};
+
+const PARTS: Act = Act::Write {
+    at: 3,
+    kind: FileKind::Normal,
+    offset: 500,
+    count: 20,
+    byte: 2,
+};
+
+const CUT: Act = Act::Resize {
+    at: 3,
+    kind: FileKind::Normal,
+    size: 768,
+};
+
+/// The root and the node are read, and a leaf that stays in part. A change ends with a barrier; one is made before
+/// the root of a file that is cut, when its last leaf and node are written.
+const NORMAL: [Row; 5] = [
+    (WHOLE, [0, 2], [0, 2], 1),
+    (PARTS, [0, 4], [0, 2], 1),
+    (Act::Read { at: 3, offset: 511 }, [0, 4], [0, 0], 0),
+    (CUT, [0, 3], [0, 3], 2),
+    (CUT, [0, 1], [0, 1], 1),
+];
+
+fn expect_held(rt: &impl Abort, alloc: Global, bench: &mut Bench) -> Result<(), Fail> {
+    bench.play(alloc, &HELD)?;
+    expect_rows(rt, alloc, bench, &NORMAL)
+}
+
+#[test]
+fn where_all_leaves_are_held_no_map_is_touched(rt: HostRuntime) -> Result<(), Fail> {
+    let alloc = rt.alloc();
+    let mut bench = Bench::fresh(alloc, 1, Vec::new(alloc))?;
+    expect_held(&rt, alloc, &mut bench)
+}

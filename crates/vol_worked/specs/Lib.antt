@@ -1,5 +1,0 @@
-pub mod Worked
-pub mod Damaged
-pub mod Single
-pub mod HalfWritten
-pub mod Drafted
