@@ -1,0 +1,104 @@
+//! What a line of the workload asks, and what it leaves in a slot.
+ghost use Rattle.std.specs.Prelude.{◌≡◌, IfOk};
+ghost use Rattle.std.specs.String.{string_bytes};
+ghost use Rattle.cfs_workload.specs.Workload.{act_of, left_after, line_of, of_file, of_object};
+ghost use Rattle.cfs_workload.specs.declared.act.Act.TheVariants as acts;
+
+use std::alloc::{AllocError, Global};
+
+/// What the last create or delete left in a slot.
+#[derive(Clone, Copy, Debug, PartialEq, Eq)]
+pub enum Left {
+    Nothing,
+    File,
+    Index,
+}
+
+/// What a line asks.
+#[derive(Clone, Copy, Debug, PartialEq, Eq)]
+pub enum Act {
+    CreateNormal,
+    CreateSpecial,
+    CreateIndex,
+    Delete,
+    Resize,
+    Write,
+    Read,
+    Size,
+}
+
+/// What is asked of a slot where this is drawn. What can't be asked of it becomes the create of a normal file.
+pub fn act_of(drawn: u32, left: Left) -> Act
+    ensures { result ≡ act_of drawn left }
+{
+    match drawn {
+        0 => Act::CreateNormal,
+        1 => Act::CreateSpecial,
+        2 => Act::CreateIndex,
+        3 => of_object(left, Act::Delete),
+        4 => of_file(left, Act::Resize),
+        5 => of_file(left, Act::Write),
+        6 => of_file(left, Act::Read),
+        _ => of_file(left, Act::Size),
+    }
+}
+
+fn of_object(left: Left, act: Act) -> Act
+    ensures { result ≡ of_object left act }
+{
+    match left {
+        Left::File | Left::Index => act,
+        Left::Nothing => Act::CreateNormal,
+    }
+}
+
+fn of_file(left: Left, act: Act) -> Act
+    ensures { result ≡ of_file left act }
+{
+    match left {
+        Left::File => act,
+        Left::Nothing | Left::Index => Act::CreateNormal,
+    }
+}
+
+/// What it leaves in the slot.
+pub fn left_after(act: Act, left: Left) -> Left
+    ensures { result ≡ left_after act left }
+{
+    match act {
+        Act::CreateNormal | Act::CreateSpecial => Left::File,
+        Act::CreateIndex => Left::Index,
+        Act::Delete => Left::Nothing,
+        Act::Resize | Act::Write | Act::Read | Act::Size => left,
+    }
+}
+
+/// Its line, for this slot, this size in bytes and this word.
+pub fn line_of(
+    alloc: Global,
+    act: Act,
+    slot: usize,
+    size: u32,
+    word: u32,
+) -> Result<String, AllocError>
+    ensures { IfOk result (λ line. string_bytes line ≡ line_of act slot size word) }
+{
+    match act {
+        Act::CreateNormal => { format!(in alloc; "create-file o{slot} normal 00 top {slot}\n") }
+        Act::CreateSpecial => { format!(in alloc; "create-file o{slot} special 2e top {slot}\n") }
+        Act::CreateIndex => format!(in alloc; "create-index o{slot} 64 top {slot}\n"),
+        Act::Delete => format!(in alloc; "delete top {slot}\n"),
+        Act::Resize => format!(in alloc; "resize o{slot} {size}\n"),
+        Act::Write => write_line(alloc, slot, word),
+        Act::Read => format!(in alloc; "read o{slot} 0 1\n"),
+        Act::Size => format!(in alloc; "size o{slot}\n"),
+    }
+}
+
+/// The line that writes the word at the beginning of a file.
+fn write_line(alloc: Global, slot: usize, word: u32) -> Result<String, AllocError>
+    ensures { IfOk result (λ line. string_bytes line ≡ line_of acts.Write slot 0 word) }
+{
+    let digits = hex::encode(alloc, word.to_be_bytes())?;
+    format!(in alloc; "write o{slot} 0 {digits}\n")
+}

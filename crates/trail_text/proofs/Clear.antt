@@ -1,0 +1,216 @@
+-- No word of an event has a space, so its line is cut into its words.
+use Rattle.std.proofs.Common.{◌≡◌, ℕ, zero, suc, ◌/◌, ◌%◌, ◌<◌, ◌^◌, Bool, true, false, not, ◌==◌, List, [], ◌∷◌, ◌++◌, length, get_or, refl, ap, ◌∙◌, arith, Some, None}
+use Rattle.std.specs.Prelude.{map, slice_index, codes}
+use Rattle.std.proofs.lemmas.Bool.{and_from, ltb-true, lt-ltb, and_parts, not-true}
+use Rattle.std.proofs.lemmas.List.Sums.{AllPass-from_list_all}
+use Rattle.std.proofs.lemmas.List.Folds.{list_all-append}
+use Rattle.std.proofs.lemmas.List.Splits.{slice_split_at, slice_split_none}
+use Rattle.std.proofs.lemmas.Fmt.{digits_decimal}
+use Rattle.std.specs.List.{All, list_all, join_with_byte}
+use Rattle.std.specs.Fmt.{decimal}
+use Rattle.std.specs.Char.{is_ascii_digit}
+use Rattle.std.specs.Str.{all_ascii_digits}
+use Rattle.hex.specs.Hex.{encode_lower, encode_with, lower_digits}
+use Rattle.cfs_base.specs.declared.identifier.Puid.{Puid}
+use Rattle.cfs_base.specs.declared.identifier.Tuid.{Tuid}
+use Rattle.cfs_base.specs.declared.kind.FileKind.{FileKind}
+use Rattle.cfs_base.specs.declared.kind.FileKind.TheVariants as kinds
+use Rattle.cfs_base.specs.declared.kind.Mode.{Mode}
+use Rattle.cfs_base.specs.declared.kind.Mode.TheVariants as modes
+use Rattle.ufs_model.specs.declared.asked.Ref.{Ref}
+use Rattle.ufs_model.specs.declared.asked.Ref.TheVariants.{Direct, Through}
+use Rattle.ufs_model.specs.declared.asked.Request.{Request}
+use Rattle.ufs_model.specs.declared.asked.Request.TheVariants as asks
+use Rattle.ufs_model.specs.declared.asked.Reply.{Reply}
+use Rattle.ufs_model.specs.declared.asked.Reply.TheVariants as replies
+use Rattle.ufs_model.specs.declared.asked.Unread.{Unread}
+use Rattle.ufs_model.specs.declared.asked.Unread.TheVariants as unread
+use Rattle.ufs_model.specs.declared.asked.Event.{Event}
+use Rattle.ufs_model.specs.declared.asked.Event.TheVariants as events
+use Rattle.ufs_model.specs.Printed.{id_digits}
+use Rattle.trail_text.specs.EventLine.{id_word, grant_word, ref_word, kind_word, mode_word, commit_word, unread_word, request_words, reply_words, event_words, event_line}
+use Rattle.trail_text.specs.Fits.{bytes_within, in_8, in_32, in_64, id_within, ref_within, event_within, reply_within, request_within}
+use Rattle.trail_text.specs.Read.{words_in}
+use Rattle.trail_text.proofs.WordsBack.{own, and_3}
+use Rattle.std.specs.Int.{w32, to_be_bytes}
+
+-- ---- a line is cut into its words
+
+abbrev pub is_clear : List ℕ → Bool
+is_clear w = list_all (λ c. not (c == 32)) w
+
+not_space : (w : List ℕ) → is_clear w ≡ true → All (λ c. (c == 32) ≡ false) w
+not_space w h k d less = not-true (get_or w k d == 32) (AllPass-from_list_all (λ c. not (c == 32)) w h k d less)
+
+pub cut : (w : List ℕ) (ws : List (List ℕ)) → list_all is_clear (w ∷ ws) ≡ true → words_in (join_with_byte 32 (w ∷ ws)) ≡ w ∷ ws
+cut w [] h =
+    let parts = and_parts (is_clear w) true h in
+    slice_split_none (λ c. c == 32) w (not_space w parts.0)
+cut w (x ∷ ws) h =
+    let parts = and_parts (is_clear w) (list_all is_clear (x ∷ ws)) h in
+    slice_split_at (λ c. c == 32) w 32 (join_with_byte 32 (x ∷ ws)) (not_space w parts.0) refl
+    ∙ ap (λ (rest : List (List ℕ)). w ∷ rest) (cut x ws parts.1)
+
+-- ---- words
+
+clear_digits : (ds : List ℕ) → all_ascii_digits ds ≡ true → is_clear ds ≡ true
+clear_digits [] h = refl
+clear_digits (c ∷ ds) h =
+    let parts = and_parts (is_ascii_digit c) (all_ascii_digits ds) h in
+    and_from (not (c == 32)) (is_clear ds) (digit c parts.0) (clear_digits ds parts.1)
+  where
+    digit : (c : ℕ) → is_ascii_digit c ≡ true → not (c == 32) ≡ true
+    digit c is = grind (arith)
+
+clear_at : (t : List ℕ) (d : ℕ) → is_clear t ≡ true → not (slice_index t d == 32) ≡ true
+clear_at [] d h = refl
+clear_at (c ∷ t) zero h = (and_parts (not (c == 32)) (is_clear t) h).0
+clear_at (c ∷ t) (suc d) h = clear_at t d (and_parts (not (c == 32)) (is_clear t) h).1
+
+clear_lower : (d : ℕ) → not (slice_index lower_digits d == 32) ≡ true
+clear_lower d = clear_at lower_digits d refl
+
+hex_clear : (bytes : List ℕ) → is_clear (encode_lower bytes) ≡ true
+unfolding encode_with
+hex_clear [] = refl
+hex_clear (b ∷ bytes) = rw (clear_lower (b / 16), clear_lower (b % 16)) (hex_clear bytes)
+
+-- it has no space
+record Clear (w : List ℕ) : Type 0 where
+  is : is_clear w ≡ true
+
+clear_hex : (bytes : List ℕ) → Clear (encode_lower bytes)
+clear_hex bytes = record { is = hex_clear bytes }
+
+clear_number : (n : ℕ) → in_64 n ≡ true → Clear (decimal n)
+clear_number n within = record { is = clear_digits (decimal n) (digits_decimal own n (ltb-true n (2 ^ 64) within)) }
+
+clear_32 : (n : ℕ) → in_32 n ≡ true → Clear (decimal n)
+clear_32 n within = let small = ltb-true n (2 ^ 32) within in clear_number n (lt-ltb n (2 ^ 64) (omega (arith, small)))
+
+clear_8 : (n : ℕ) → in_8 n ≡ true → Clear (decimal n)
+clear_8 n within = let small = ltb-true n (2 ^ 8) within in clear_number n (lt-ltb n (2 ^ 64) (omega (arith, small)))
+
+clear_id : (high low : ℕ) → Clear (id_digits high low)
+clear_id high low = clear_hex (to_be_bytes w32 high ++ to_be_bytes w32 low)
+
+clear_grant : (t : Tuid) → Clear (grant_word t)
+clear_grant t = record { is = (clear_id t.draw t.word).is }
+
+clear_ref : (ref : Ref) → Clear (ref_word ref)
+clear_ref (Direct id) = clear_id id.block id.word
+clear_ref (Through t) = clear_grant t
+
+clear_kind : (kind : FileKind) → Clear (kind_word kind)
+clear_kind kinds.Normal = record { is = refl }
+clear_kind kinds.Special = record { is = refl }
+
+clear_mode : (mode : Mode) → Clear (mode_word mode)
+clear_mode modes.Reading = record { is = refl }
+clear_mode modes.Writing = record { is = refl }
+
+clear_commit : (commit : Bool) → Clear (commit_word commit)
+clear_commit true = record { is = refl }
+clear_commit false = record { is = refl }
+
+clear_unread : (why : Unread) → Clear (unread_word why)
+clear_unread unread.Syntax = record { is = refl }
+clear_unread unread.NoName = record { is = refl }
+clear_unread unread.Memory = record { is = refl }
+
+clear_ids : (ids : List Puid) → list_all is_clear (map id_word ids) ≡ true
+clear_ids [] = refl
+clear_ids (id ∷ ids) = rw (clear_id id.block id.word).is (clear_ids ids)
+
+-- ---- requests, replies and events
+
+abbrev all_clear : List (List ℕ) → Bool
+all_clear ws = list_all is_clear ws
+
+clear_0 : {a : List ℕ} (ws : List (List ℕ)) → Clear a → all_clear ws ≡ true → all_clear (a ∷ ws) ≡ true
+clear_0 {a} ws h clear = and_from (is_clear a) (all_clear ws) h.is clear
+
+clear_1 : {a : List ℕ} → Clear a → all_clear (a ∷ []) ≡ true
+clear_1 {a} h = and_from (is_clear a) true h.is refl
+
+clear_2 : {a b : List ℕ} → Clear a → Clear b → all_clear (a ∷ b ∷ []) ≡ true
+clear_2 {a} {b} h i = and_from (is_clear a) (all_clear (b ∷ [])) h.is (clear_1 i)
+
+clear_3 : {a b c : List ℕ} → Clear a → Clear b → Clear c → all_clear (a ∷ b ∷ c ∷ []) ≡ true
+clear_3 {a} {b} {c} h i j = and_from (is_clear a) (all_clear (b ∷ c ∷ [])) h.is (clear_2 i j)
+
+clear_request : (request : Request) → request_within request ≡ true → all_clear (request_words request) ≡ true
+clear_request (asks.CreateFile kind fill index slot) h =
+    clear_0 (encode_lower (fill ∷ []) ∷ ref_word index ∷ decimal slot ∷ []) (clear_kind kind) (clear_3 (clear_hex (fill ∷ [])) (clear_ref index) (clear_number slot (and_3 (in_8 fill) (ref_within index) (in_64 slot) h).2))
+clear_request (asks.CreateIndex slots index slot) h =
+    let parts = and_3 (in_64 slots) (ref_within index) (in_64 slot) h in clear_3 (clear_number slots parts.0) (clear_ref index) (clear_number slot parts.2)
+clear_request (asks.Retain index slot id) h =
+    clear_3 (clear_ref index) (clear_number slot (and_3 (ref_within index) (in_64 slot) (id_within id) h).1) (clear_id id.block id.word)
+clear_request (asks.Retrieve index slot) h = clear_2 (clear_ref index) (clear_number slot (and_parts (ref_within index) (in_64 slot) h).1)
+clear_request (asks.Delete index slot) h = clear_2 (clear_ref index) (clear_number slot (and_parts (ref_within index) (in_64 slot) h).1)
+clear_request (asks.Slots index) h = clear_1 (clear_ref index)
+clear_request (asks.OpenFor id mode) h = clear_2 (clear_id id.block id.word) (clear_mode mode)
+clear_request (asks.Close grant commit) h = clear_2 (clear_grant grant) (clear_commit commit)
+clear_request (asks.Read file offset count) h =
+    let parts = and_3 (ref_within file) (in_64 offset) (in_64 count) h in clear_3 (clear_ref file) (clear_number offset parts.1) (clear_number count parts.2)
+clear_request (asks.Write file offset bytes) h =
+    clear_3 (clear_ref file) (clear_number offset (and_3 (ref_within file) (in_64 offset) (bytes_within bytes) h).1) (clear_hex bytes)
+clear_request (asks.Size file) h = clear_1 (clear_ref file)
+clear_request (asks.Resize file size) h = clear_2 (clear_ref file) (clear_number size (and_parts (ref_within file) (in_64 size) h).1)
+
+clear_reply : (reply : Reply) → reply_within reply ≡ true → all_clear (reply_words reply) ≡ true
+clear_reply replies.Done h = refl
+clear_reply (replies.Id id) h = clear_1 (clear_id id.block id.word)
+clear_reply (replies.Grant t) h = clear_1 (clear_id t.draw t.word)
+clear_reply (replies.Number n) h = clear_1 (clear_number n h)
+clear_reply (replies.Content bytes) h = clear_1 (clear_hex bytes)
+clear_reply replies.Memory h = refl
+clear_reply (replies.Stopped moment) h = clear_1 (clear_number moment h)
+clear_reply replies.NoGrant h = refl
+clear_reply replies.NoObject h = refl
+clear_reply replies.NotIndex h = refl
+clear_reply replies.NotFile h = refl
+clear_reply replies.ReadOnly h = refl
+clear_reply replies.Locked h = refl
+clear_reply replies.Slot h = refl
+clear_reply replies.Empty h = refl
+clear_reply replies.Range h = refl
+clear_reply replies.Grants h = refl
+clear_reply (replies.Full n) h = let parts = and_parts (in_32 n.free) (in_32 n.need) h in clear_2 (clear_32 n.free parts.0) (clear_32 n.need parts.1)
+clear_reply (replies.Disk None) h = refl
+clear_reply (replies.Disk (Some moment)) h = clear_1 (clear_number moment h)
+clear_reply (replies.Damaged damage moment) h =
+    let parts = and_3 (in_32 damage.block) (in_8 damage.code) (in_64 moment) h in clear_3 (clear_32 damage.block parts.0) (clear_8 damage.code parts.1) (clear_number moment parts.2)
+
+clear_event : (event : Event) → event_within event ≡ true → all_clear (event_words event) ≡ true
+clear_event (events.Unread who why) h = clear_2 (clear_32 who h) (clear_unread why)
+clear_event (events.Ask who request reply) h =
+    let parts = and_3 (in_32 who) (request_within request) (reply_within reply) h in
+    clear_0 (request_words request ++ codes "=" ∷ reply_words reply) (clear_32 who parts.0)
+    (list_all-append is_clear (request_words request) (codes "=" ∷ reply_words reply)
+    ∙ and_from (all_clear (request_words request)) (all_clear (codes "=" ∷ reply_words reply)) (clear_request request parts.1) (clear_reply reply parts.2))
+clear_event (events.Leave who None) h = clear_1 (clear_32 who h)
+clear_event (events.Leave who (Some moment)) h =
+    let parts = and_parts (in_32 who) (in_64 moment) h in clear_2 (clear_32 who parts.0) (clear_number moment parts.1)
+clear_event events.Began h = refl
+clear_event (events.Vanish ids) h = clear_0 (map id_word ids) (clear_number (length ids) (and_parts (in_64 (length ids)) (list_all id_within ids) h).0) (clear_ids ids)
+clear_event events.Finished h = refl
+clear_event (events.Halted moment) h = clear_1 (clear_number moment h)
+
+-- the words of an event's line are its words
+pub line_cut : (event : Event) → event_within event ≡ true → words_in (event_line event) ≡ event_words event
+line_cut event h = by (event_words event) (some event) (clear_event event h)
+  where
+    by : (ws : List (List ℕ)) → 0 < length ws → all_clear ws ≡ true → words_in (join_with_byte 32 ws) ≡ ws
+    by [] none clear = absurd (omega arith)
+    by (w ∷ ws) more clear = cut w ws clear
+
+    some : (event : Event) → 0 < length (event_words event)
+    some (events.Unread who why) = omega arith
+    some (events.Ask who request reply) = omega arith
+    some (events.Leave who None) = omega arith
+    some (events.Leave who (Some moment)) = omega arith
+    some events.Began = omega arith
+    some (events.Vanish ids) = omega arith
+    some events.Finished = omega arith
+    some (events.Halted moment) = omega arith

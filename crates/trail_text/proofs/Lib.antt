@@ -1,0 +1,6 @@
+mod Lines
+mod WordsBack
+mod Clear
+mod Back
+mod Found
+mod Parts

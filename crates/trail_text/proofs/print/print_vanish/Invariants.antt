@@ -1,0 +1,10 @@
+use Rattle.std.proofs.Common.{◌≡◌, drop, map, ◌++◌}
+use Rattle.std.specs.String.{string_bytes}
+use Rattle.ufs_model.specs.declared.asked.Event.TheVariants as events
+use Rattle.trail_text.specs.EventLine.{event_line, id_word}
+use Rattle.trail_text.specs.Spaced.{spaced}
+use Rattle.trail_text.proofs.print.print_vanish.Given as goal
+
+-- what is left is still to be put
+abbrev pub invariant-ids : goal.invariant-ids
+invariant-ids l = string_bytes l.line ++ spaced (map id_word (drop l.id-index l.ids)) ≡ event_line (events.Vanish l.ids)

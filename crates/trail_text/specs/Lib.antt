@@ -1,0 +1,5 @@
+pub mod EventLine
+pub mod Fits
+pub mod Spaced
+pub mod Likely
+pub mod Read

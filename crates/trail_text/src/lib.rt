@@ -1,0 +1,21 @@
+//! The text of a trail: each event is a line, and a line is read as the one event that it is the line of.
+//! The layers above use that an event that fits has one line, and no two of them have the same.
+#![tactic(auto)]
+
+mod fault;
+mod laws;
+mod print;
+mod print_reply;
+mod print_request;
+mod read;
+mod read_reply;
+mod read_request;
+mod read_word;
+mod shape;
+mod word;
+
+pub use fault::TrailFault;
+pub use laws::lines_tell_events;
+pub use print::print_event;
+pub use read::read_event;
+pub use shape::fits;

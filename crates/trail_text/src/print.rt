@@ -1,0 +1,94 @@
+//! Events as lines.
+ghost use Rattle.std.specs.Prelude.{◌≡◌, ◌++◌, ◌∷◌, IfOk, OnOk, codes, map};
+ghost use Rattle.std.specs.String.{string_bytes};
+ghost use Rattle.ufs_model.specs.declared.asked.Event.TheVariants as events;
+ghost use Rattle.trail_text.specs.EventLine.{event_line, unread_word};
+ghost use Rattle.trail_text.specs.Spaced.{letters, spaced};
+
+use crate::print_reply::put_reply;
+use crate::print_request::put_request;
+use crate::word::{Word, put_words};
+use cfs_base::{NoMemory, Puid, Session};
+use std::alloc::Global;
+use ufs_model::{Event, Reply, Request, Unread};
+
+/// The line of an event, without its end. `NoMemory` comes only for want of memory.
+pub fn print_event(alloc: Global, event: &Event) -> Result<String, NoMemory>
+    ensures { IfOk result (λ line. string_bytes line ≡ event_line event.now) }
+{
+    match event {
+        Event::Unread { session, why } => line_of(
+            alloc,
+            "unread",
+            &[
+                Word::Number(u64::from(*session)),
+                Word::Text(unread_word(*why)),
+            ],
+        ),
+        Event::Ask {
+            session,
+            request,
+            reply,
+        } => print_ask(alloc, *session, request, reply),
+        Event::Leave {
+            session,
+            stopped: None,
+        } => line_of(alloc, "leave", &[Word::Number(u64::from(*session))]),
+        Event::Leave {
+            session,
+            stopped: Some(moment),
+        } => line_of(
+            alloc,
+            "leave",
+            &[Word::Number(u64::from(*session)), Word::Number(*moment)],
+        ),
+        Event::Began => line_of(alloc, "began", &[]),
+        Event::Vanish { ids } => print_vanish(alloc, ids.as_slice()),
+        Event::Finished => line_of(alloc, "finished", &[]),
+        Event::Halted { moment } => line_of(alloc, "halted", &[Word::Number(*moment)]),
+    }
+}
+
+/// The line of these words.
+fn line_of(alloc: Global, verb: &str, words: &[Word<'_>]) -> Result<String, NoMemory>
+    ensures { IfOk result (λ line. string_bytes line ≡ verb.now ++ spaced (map letters words.now)) }
+{
+    let mut line = String::from_str(alloc, verb)?;
+    put_words(&mut line, words)?;
+    Ok(line)
+}
+
+fn print_ask(
+    alloc: Global,
+    session: Session,
+    request: &Request,
+    reply: &Reply,
+) -> Result<String, NoMemory>
+    ensures { IfOk result (λ line. string_bytes line ≡ event_line (events.Ask session request.now reply.now)) }
+{
+    let mut line = line_of(alloc, "ask", &[Word::Number(u64::from(session))])?;
+    put_request(&mut line, request)?;
+    put_words(&mut line, &[Word::Text("=")])?;
+    put_reply(&mut line, reply)?;
+    Ok(line)
+}
+
+fn print_vanish(alloc: Global, ids: &[Puid]) -> Result<String, NoMemory>
+    ensures { IfOk result (λ line. string_bytes line ≡ event_line (events.Vanish ids.now)) }
+{
+    let mut line = line_of(alloc, "vanish", &[Word::Number(ids.len() as u64)])?;
+    'ids: for id in ids {
+        put_words(&mut line, &[Word::Id(*id)])?;
+    }
+    Ok(line)
+}
+
+fn unread_word(why: Unread) -> &'static str
+    ensures { result.now ≡ unread_word why }
+{
+    match why {
+        Unread::Syntax => "syntax",
+        Unread::NoName => "name",
+        Unread::Memory => "memory",
+    }
+}
