@@ -4,8 +4,8 @@ ghost use Rattle.std.specs.Prelude.{◌≡◌, ◌≤◌, IfSome};
 use cfs_base::{Block, BlockNo, Disk, Failed, Place};
 use cyl_map::{BlockState, Map, MapEntry};
 
-/// A disk of a volume whose last cylinder alone has Free blocks. It tells nothing, and keeps of what is written the last
-/// cylinder's map.
+/// A disk of a volume whose last cylinder alone has Free blocks. It tells nothing, and keeps of what is written the
+/// last cylinder's map.
 #[derive(Drop)]
 pub struct LastCylinderFree {
     cylinders: u32,

@@ -1,5 +1,5 @@
-//! Claims and releases for a clock to be held to: `alloc_bench CYLINDERS COUNT` counts a volume whose last cylinder alone
-//! has Free blocks, makes COUNT rounds of two claims and two releases, and prints what it did.
+//! Claims and releases for a clock to be held to: `alloc_bench CYLINDERS COUNT` counts a volume whose last cylinder
+//! alone has Free blocks, makes COUNT rounds of two claims and two releases, and prints what it did.
 #![tactic(auto)]
 
 mod disk;

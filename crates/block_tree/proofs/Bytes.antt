@@ -1,13 +1,6 @@
 -- The bytes of a size, the highest first, and the number that its first bytes are.
 use Rattle.std.proofs.Common.{◌≡◌, inl, inr, ℕ, zero, suc, ◌+◌, ◌-◌, ◌*◌, ◌/◌, ◌%◌, ◌^◌, ◌<◌, ◌≤◌, List, [], ◌∷◌, take, refl, sym, ◌∙◌, ap, subst, arith}
-use Rattle.std.specs.Int.{to_be_bytes, w64}
-use Rattle.std.proofs.Math.Nat.{pow-suc, div-div-eq-div-mul, div-one, one-le-pow, div-eq_of_lt, mul-div_cancel, mul-mod_left}
-use Rattle.std.proofs.lemmas.Nat.{div_below, le-div, div-add-mod', mul-le}
-use Rattle.std.proofs.lemmas.Bool.{cases_lt}
-use Rattle.cfs_base.specs.declared.kind.Kind.{Kind}
-use Rattle.block_tree.specs.Prefix.{IsFirstBad}
-use Rattle.block_tree.specs.declared.root.TheConstants.{SIZE_LIMIT}
-use Rattle.block_tree.specs.Root.{IsSize}
+use Rattle.block_tree.proofs.Words.{IsFirstBad, IsSize, Kind, SIZE_LIMIT, cases_lt, div-add-mod', div-div-eq-div-mul, div-eq_of_lt, div-one, div_below, le-div, mul-div_cancel, mul-le, mul-mod_left, one-le-pow, pow-suc, to_be_bytes, w64}
 
 -- one byte more is cut off
 pub cut_more : (n k : ℕ) → n / 256 ^ k / 256 ≡ n / 256 ^ (k + 1)

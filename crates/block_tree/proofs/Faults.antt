@@ -1,13 +1,7 @@
 -- Faults, handed on by the calls above.
 use Rattle.std.proofs.Common.{ℕ, subst}
-use Rattle.std.specs.Prelude.{Result, Ok, Err, IfErr}
-use Rattle.cfs_base.specs.Calls.{OnlyReads}
-use Rattle.cfs_base.specs.Run.{Tells}
-use Rattle.cfs_base.specs.declared.disk.Disk.{Ghosts}
-use Rattle.cfs_base.proofs.Calls.{tells_on, failed_after}
-use Rattle.block_tree.specs.declared.fault.TreeFault.{TreeFault}
+use Rattle.block_tree.proofs.Words.{Err, Ghosts, IfErr, IsFault, IsPast, Ok, OnlyReads, Result, Tells, TreeFault, failed_after, tells_on}
 use Rattle.block_tree.specs.declared.fault.TreeFault.TheVariants as faults
-use Rattle.block_tree.specs.Reads.{IsFault, IsPast}
 
 -- more is said of the pointer
 pub refused_as : {X D : Type 0} (g : Ghosts D) (old new : D) (P Q : ℕ → Type 0) (r : Result X TreeFault) → ((b : ℕ) → IsPast (g.blocks old) b → P b → Q b)

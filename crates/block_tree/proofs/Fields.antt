@@ -1,16 +1,7 @@
 -- A root block part by part: where one part is the first that goes wrong, the block goes wrong there.
 use Rattle.std.proofs.Common.{◌≡◌, ◌≢◌, ℕ, ◌+◌, ◌<◌, ◌≤◌, ◌^◌, List, [], ◌∷◌, ◌++◌, length, take, drop, replicate, get_or, refl, sym, ◌∙◌, ap, subst, arith}
-use Rattle.std.specs.List.{All}
-use Rattle.std.specs.Int.{to_be_bytes, w32, w64}
-use Rattle.std.proofs.Math.Seq.{take-add}
-use Rattle.std.proofs.lemmas.List.{take-take, drop-take, take_more, take-replicate, get_or-take, get_or-drop, get_or-replicate, length-drop, take-append-drop}
-use Rattle.std.proofs.lemmas.List.Elements.{All-replicate}
-use Rattle.cfs_base.specs.declared.kind.Kind.{Kind}
-use Rattle.cfs_base.specs.declared.kind.Kind.TheVariants.{Normal, Special, Index}
-use Rattle.block_tree.specs.declared.root.Root.{Root}
-use Rattle.block_tree.specs.Pointers.{numbers_spelling}
-use Rattle.block_tree.specs.Prefix.{IsFirstBad}
-use Rattle.block_tree.specs.Root.{IsFill, IsSize, IsGoodRoot, IsRootBlock, kind_code, root_spelling, IsFirstBadByte}
+use Rattle.block_tree.proofs.Words.{All, All-replicate, Index, IsFill, IsFirstBad, IsFirstBadByte, IsGoodRoot, IsRootBlock, IsSize, Kind, Normal, Root, Special, drop-take, get_or-drop, get_or-replicate, get_or-take, kind_code, numbers_spelling, root_spelling, take-add, take-append-drop, take-replicate, take-take, take_more, to_be_bytes, w32, w64}
+use Rattle.std.proofs.lemmas.List.{length-drop}
 
 -- ---- parts
 

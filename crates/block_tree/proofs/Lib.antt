@@ -7,3 +7,4 @@ pub mod Faults
 pub mod Walks
 mod Rows
 pub mod Steps
+mod Words

@@ -1,15 +1,7 @@
 -- Numbers of 4 bytes, written one after another and read again.
 use Rattle.std.proofs.Common.{◌≡◌, ℕ, zero, suc, ◌+◌, ◌*◌, ◌<◌, ◌≤◌, ◌^◌, List, [], ◌∷◌, ◌++◌, length, take, drop, get_or, map, refl, sym, ◌∙◌, ap, arith, zero-add, length-append, append_assoc, subst, inl, inr}
-use Rattle.std.specs.List.{All, range_with_len}
-use Rattle.std.specs.Int.{to_be_bytes, from_be_bytes, w32}
-use Rattle.std.proofs.Math.Seq.{take-add}
-use Rattle.std.proofs.lemmas.List.{length-take, take_at, drop_at, drop-drop, take_more, get_or-drop, get_or-take, length-drop, get_or_past}
-use Rattle.std.proofs.lemmas.List.Concat.{flat_map-append}
-use Rattle.std.proofs.lemmas.List.Elements.{All-get_or}
-use Rattle.std.proofs.lemmas.List.FromFn.{fill_by_all, map-range_with_len_more}
-use Rattle.std.proofs.lemmas.Nat.{from_be_bytes-to_be_bytes_4, be_bytes_4}
-use Rattle.std.proofs.lemmas.Bool.{cases_lt}
-use Rattle.block_tree.specs.Pointers.{number_at, numbers_from, numbers_spelling}
+use Rattle.block_tree.proofs.Words.{All, All-get_or, be_bytes_4, cases_lt, drop-drop, drop_at, fill_by_all, flat_map-append, from_be_bytes, from_be_bytes-to_be_bytes_4, get_or-drop, get_or-take, get_or_past, length-take, map-range_with_len_more, number_at, numbers_from, numbers_spelling, range_with_len, take-add, take_at, take_more, to_be_bytes, w32}
+use Rattle.std.proofs.lemmas.List.{length-drop}
 
 pub length-numbers : (ns : List ℕ) → length (numbers_spelling ns) ≡ 4 * length ns
 length-numbers [] = refl

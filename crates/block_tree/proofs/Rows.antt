@@ -1,10 +1,6 @@
 -- The definitions on a worked volume: block 2 is the root index, whose node 0 is block 5 and whose leaf 0 is block 4.
 use Rattle.std.proofs.Common.{◌≡◌, ℕ, List, [], ◌∷◌, ◌++◌, take, replicate, refl}
-use Rattle.cfs_base.specs.Disk.{Image}
-use Rattle.cfs_base.specs.declared.kind.Kind.TheVariants.{Index}
-use Rattle.block_tree.specs.Pointers.{pointers_of}
-use Rattle.block_tree.specs.Root.{root_spelling}
-use Rattle.block_tree.specs.Tree.{levels_of, path_to, tree_of, leaf_block, leaf_bytes, leaf_count, held_leaves}
+use Rattle.block_tree.proofs.Words.{Image, Index, held_leaves, leaf_block, leaf_bytes, leaf_count, levels_of, path_to, pointers_of, root_spelling, tree_of}
 
 zeros : ℕ → List ℕ
 zeros n = replicate n 0

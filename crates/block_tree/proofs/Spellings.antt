@@ -1,16 +1,6 @@
 -- One spelling a root, and one first bad byte a block.
-use Rattle.std.proofs.Common.{◌≡◌, inl, inr, ℕ, ◌+◌, ◌<◌, List, [], take, drop, refl, sym, ◌∙◌, ap, arith}
-use Rattle.std.specs.Prelude.{Result, Ok, Err, MatchResult, IfOk}
-use Rattle.std.specs.Int.{from_be_bytes, w32, w64}
-use Rattle.std.proofs.lemmas.List.{take-take}
-use Rattle.std.proofs.lemmas.Bool.{cases_order}
-use Rattle.std.proofs.lemmas.Nat.{from_be_bytes-to_be_bytes_4, from_be_bytes-to_be_bytes_8}
-use Rattle.block_tree.specs.declared.node.Node.{Node}
-use Rattle.block_tree.specs.declared.root.Root.{Root}
-use Rattle.block_tree.specs.declared.root.BadRoot.{BadRoot}
-use Rattle.block_tree.specs.Pointers.{pointers_of, node_pointers, leaf_pointers}
-use Rattle.block_tree.specs.Node.{IsNode, node_spelling}
-use Rattle.block_tree.specs.Root.{Fits, IsGoodRoot, IsRootBlock, IsFirstBadByte, root_spelling}
+use Rattle.std.proofs.Common.{◌≡◌, inl, inr, ℕ, ◌+◌, ◌<◌, List, [], take, drop, refl, sym, ◌∙◌, ap, arith, IfOk}
+use Rattle.block_tree.proofs.Words.{BadRoot, Err, Fits, IsFirstBadByte, IsGoodRoot, IsNode, IsRootBlock, MatchResult, Node, Ok, Result, Root, cases_order, from_be_bytes, from_be_bytes-to_be_bytes_4, from_be_bytes-to_be_bytes_8, leaf_pointers, node_pointers, node_spelling, pointers_of, root_spelling, take-take, w32, w64}
 use Rattle.block_tree.proofs.Numbers.{numbers_back}
 use Rattle.block_tree.proofs.Fields.{same_kind}
 
@@ -47,9 +37,6 @@ none_bad block root n is bad = bad.here root is.good (ap (take (n + 1)) (sym is.
 pub leaves_of : (node : Node) → IsNode node → node.leaves ≡ pointers_of leaf_pointers (node_spelling node)
 unfolding pointers_of
 leaves_of node is = numbers_back [] node.leaves 0 128 refl is.count is.fit
-
-pub one_node : (m n : Node) → IsNode m → IsNode n → node_spelling m ≡ node_spelling n → m ≡ n
-one_node m n im is e = ap (λ (l : List ℕ). record { leaves = l }) (leaves_of m im ∙ ap (pointers_of leaf_pointers) e ∙ sym (leaves_of n is))
 
 -- ---- what reading gives
 

@@ -1,17 +1,6 @@
 -- One step over the held leaves of a tree: the pointers of its root, and those of each node that is there.
 use Rattle.std.proofs.Common.{◌≡◌, ◌≢◌, inl, inr, ℕ, ◌+◌, ◌*◌, ◌/◌, ◌%◌, ◌^◌, ◌<◌, ◌≤◌, List, [], ◌∷◌, length, get_or, max, sym, ◌∙◌, ap, subst, arith, Some, None, Option}
-use Rattle.std.specs.Prelude.{IfSome}
-use Rattle.std.proofs.lemmas.Bool.{cases_lt}
-use Rattle.std.proofs.lemmas.List.{get_or_past}
-use Rattle.std.proofs.lemmas.List.FromFn.{length-map-range_with_len}
-use Rattle.cfs_base.specs.Disk.{Image, block_at}
-use Rattle.block_tree.specs.declared.root.Root.{Root}
-use Rattle.block_tree.specs.declared.step.HeldStep.{HeldStep}
-use Rattle.block_tree.specs.Pointers.{number_at, pointers_of, leaf_pointers, node_pointers}
-use Rattle.block_tree.specs.Reads.{IsPast}
-use Rattle.block_tree.specs.Root.{root_spelling}
-use Rattle.block_tree.specs.Step.{NoneHeld, SomeHeld, IsStep, IsStepped, IsPastFrom, IsFirstSet, IsStepAt, IsStepIn}
-use Rattle.block_tree.specs.Tree.{levels_of, pointer, end_of, leaf_count, leaf_block, HasNoDeadEnd}
+use Rattle.block_tree.proofs.Words.{HasNoDeadEnd, HeldStep, IfSome, Image, IsFirstSet, IsPast, IsPastFrom, IsStep, IsStepAt, IsStepIn, IsStepped, NoneHeld, Root, SomeHeld, block_at, cases_lt, end_of, get_or_past, leaf_block, leaf_count, leaf_pointers, length-map-range_with_len, levels_of, node_pointers, number_at, pointer, pointers_of, root_spelling}
 use Rattle.block_tree.proofs.Trees.{node_is, leaf_is, end_is, end_none, is_past}
 use Rattle.block_tree.proofs.Walks.{count_is}
 

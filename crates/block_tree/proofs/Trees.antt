@@ -1,13 +1,6 @@
 -- The tree of a root as the calls walk it: a pointer of the root, and then one of a node.
 use Rattle.std.proofs.Common.{◌≡◌, ◌≢◌, inl, inr, replicate, ℕ, zero, suc, ◌+◌, ◌/◌, ◌%◌, ◌<◌, ◌^◌, List, [], ◌∷◌, ◌++◌, length, take, get_or, refl, sym, ◌∙◌, ap, subst, arith}
-use Rattle.std.proofs.Math.Nat.{div-one}
-use Rattle.std.proofs.lemmas.List.FromFn.{get_or-map-range_with_len}
-use Rattle.cfs_base.specs.Disk.{Image, block_at}
-use Rattle.block_tree.specs.declared.root.Root.{Root}
-use Rattle.block_tree.specs.Pointers.{Level, number_at, pointers_of, node_pointers, leaf_pointers}
-use Rattle.block_tree.specs.Reads.{IsPast}
-use Rattle.block_tree.specs.Root.{root_spelling}
-use Rattle.block_tree.specs.Tree.{levels_of, path_to, pointer, end_of, tree_of, leaf_block, leaf_bytes, bytes_in, PastAbove, PastOn}
+use Rattle.block_tree.proofs.Words.{Image, IsPast, Level, PastAbove, PastOn, Root, block_at, bytes_in, div-one, end_of, get_or-map-range_with_len, leaf_block, leaf_bytes, leaf_pointers, levels_of, node_pointers, number_at, path_to, pointer, pointers_of, root_spelling, tree_of}
 use Rattle.block_tree.proofs.Numbers.{number_back}
 
 -- a pointer of the root

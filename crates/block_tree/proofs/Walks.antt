@@ -1,15 +1,6 @@
 -- A walk over the leaves of a tree, node by node.
-use Rattle.std.proofs.Common.{◌≡◌, ◌≢◌, ℕ, ◌+◌, ◌*◌, ◌/◌, ◌%◌, ◌<◌, ◌≤◌, List, [], ◌∷◌, refl, sym, ◌∙◌, ap, subst, arith, inl, inr}
-use Rattle.std.specs.Prelude.{Some}
-use Rattle.std.proofs.lemmas.Bool.{cases_lt}
-use Rattle.std.proofs.lemmas.List.{get_or_past}
-use Rattle.std.proofs.lemmas.List.FromFn.{length-map-range_with_len}
-use Rattle.cfs_base.specs.Disk.{Image, block_at}
-use Rattle.block_tree.specs.declared.walk.HeldLeaf.{HeldLeaf}
-use Rattle.block_tree.specs.Pointers.{number_at, pointers_of, leaf_pointers, node_pointers}
-use Rattle.block_tree.specs.Reads.{IsPast}
-use Rattle.block_tree.specs.Tree.{levels_of, pointer, end_of, leaf_count, leaf_block, AreQuiet, HasNoDeadEnd}
-use Rattle.block_tree.specs.Walk.{IsFirstHeld, IsFirstPast, IsLaterIn, IsFirstOf}
+use Rattle.std.proofs.Common.{◌≡◌, ◌≢◌, ℕ, ◌+◌, ◌*◌, ◌/◌, ◌%◌, ◌<◌, ◌≤◌, List, [], ◌∷◌, refl, sym, ◌∙◌, ap, subst, arith, inl, inr, Some}
+use Rattle.block_tree.proofs.Words.{AreQuiet, HasNoDeadEnd, HeldLeaf, Image, IsFirstHeld, IsFirstOf, IsFirstPast, IsLaterIn, IsPast, block_at, cases_lt, end_of, get_or_past, leaf_block, leaf_count, leaf_pointers, length-map-range_with_len, levels_of, node_pointers, number_at, pointer, pointers_of}
 use Rattle.block_tree.proofs.Trees.{leaf_is, end_is, is_past, none_past}
 
 pub count_is : (root : List ℕ) → leaf_count root ≡ 15360

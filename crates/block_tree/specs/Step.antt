@@ -1,5 +1,6 @@
 -- One step over the held leaves of a tree: the next of them, and whether another follows.
-use Rattle.std.specs.Prelude.{◌≡◌, ◌≢◌, ◌⊎◌, ℕ, ◌+◌, ◌*◌, ◌^◌, ◌<◌, ◌≤◌, true, false, List, length, get_or, Option, Some, None}
+use Rattle.std.specs.Prelude.{◌≡◌, ◌≢◌, ◌⊎◌, ℕ, ◌+◌, ◌*◌, ◌^◌, ◌<◌, ◌≤◌, true, false, List, length, get_or, Option}
+use Rattle.std.specs.Prelude.{Some, None}
 use Rattle.cfs_base.specs.Disk.{Image}
 use Rattle.block_tree.specs.declared.step.HeldStep.{HeldStep}
 use Rattle.block_tree.specs.Tree.{leaf_count, leaf_block, PastAbove}
@@ -42,7 +43,8 @@ pub record IsPastFrom (image : Image) (size : ℕ) (root : List ℕ) (from block
 
 -- the first place from one on with a pointer that isn't 0
 abbrev pub IsFirstSet : List ℕ → ℕ → Option ℕ → Type 0
-IsFirstSet pointers from (Some k) = (from ≤ k) × (k < length pointers) × (get_or pointers k 0 ≢ 0) × (get_or pointers k 0 < 2 ^ 32) × ((i : ℕ) → from ≤ i → i < k → get_or pointers i 0 ≡ 0)
+IsFirstSet pointers from (Some k) = (from ≤ k) × (k < length pointers) × (get_or pointers k 0 ≢ 0)
+    × (get_or pointers k 0 < 2 ^ 32) × ((i : ℕ) → from ≤ i → i < k → get_or pointers i 0 ≡ 0)
 IsFirstSet pointers from None = (i : ℕ) → from ≤ i → get_or pointers i 0 ≡ 0
 
 -- the first leaf of a node from a place on; whether another follows in it, or another node
@@ -51,7 +53,8 @@ pub record IsStepAt (nodes leaves : List ℕ) (node from : ℕ) (step : HeldStep
   pub first : IsFirstSet leaves from (Some place)
   pub leaf : step.held.leaf ≡ 128 * node + place
   pub block : step.held.block ≡ get_or leaves place 0
-  pub follows : step.follows ≡ true → ((k : ℕ) × IsFirstSet leaves (place + 1) (Some k)) ⊎ ((k : ℕ) × IsFirstSet nodes (node + 1) (Some k))
+  pub follows : step.follows ≡ true
+      → ((k : ℕ) × IsFirstSet leaves (place + 1) (Some k)) ⊎ ((k : ℕ) × IsFirstSet nodes (node + 1) (Some k))
   pub last : step.follows ≡ false → IsFirstSet leaves (place + 1) None × IsFirstSet nodes (node + 1) None
 
 abbrev pub IsStepIn : List ℕ → List ℕ → ℕ → ℕ → Option HeldStep → Type 0

@@ -1,5 +1,6 @@
 -- A tree of blocks over an image: what stands at the end of each path of pointers, from a root's content down.
-use Rattle.std.specs.Prelude.{◌≡◌, ◌≢◌, ◌⊎◌, ℕ, zero, suc, ◌*◌, ◌/◌, ◌%◌, ◌<◌, ◌≤◌, List, [], ◌∷◌, ◌++◌, length, get_or, replicate, filter, not, ◌==◌}
+use Rattle.std.specs.Prelude.{◌≡◌, ◌≢◌, ◌⊎◌, ℕ, zero, suc, ◌*◌, ◌/◌, ◌%◌, ◌<◌, ◌≤◌, List, [], ◌∷◌, ◌++◌, length, get_or}
+use Rattle.std.specs.Prelude.{replicate, filter, not, ◌==◌}
 use Rattle.std.specs.List.{range_with_len}
 use Rattle.cfs_base.specs.Disk.{Image, block_at}
 use Rattle.block_tree.specs.Reads.{IsPast}
@@ -27,7 +28,8 @@ path_to (level ∷ levels) leaf = leaf / width levels ∷ path_to levels (leaf %
 abbrev pub pointer : Level → List ℕ → ℕ → ℕ
 pointer level content k = get_or (pointers_of level content) k 0
 
--- The block at the end of a path that begins at block n. Block 0 is no block: pointer 0 leads nowhere, and so does a path with more places than levels.
+-- The block at the end of a path that begins at block n. Block 0 is no block: pointer 0 leads nowhere, and so does a
+-- path with more places than levels.
 abbrev pub end_of : Image → List Level → ℕ → List ℕ → ℕ
 end_of image levels n [] = n
 end_of image levels zero (k ∷ path) = 0
@@ -70,18 +72,21 @@ leaf_bytes image root leaf = bytes_in image (get_or root 1 0) (leaf_block image 
 -- each block of the tree leads on to a leaf, or is one
 abbrev pub HasNoDeadEnd : Image → List ℕ → Type 0
 HasNoDeadEnd image root =
-    (path : List ℕ) → tree_of image root path ≢ 0 → length path < length (levels_of root) → (k : ℕ) × (tree_of image root (path ++ k ∷ []) ≢ 0)
+    (path : List ℕ) → tree_of image root path ≢ 0 → length path < length (levels_of root)
+    → (k : ℕ) × (tree_of image root (path ++ k ∷ []) ≢ 0)
 
 -- ---- pointers past the end
 
 -- a pointer on this leaf's path, but for the last, is past the end
 abbrev pub PastAbove : Image → ℕ → List ℕ → ℕ → ℕ → Type 0
 PastAbove image size root leaf block =
-    (path : List ℕ) × (k : ℕ) × (rest : List ℕ) × (path ++ k ∷ rest ≡ path_to (levels_of root) leaf) × (tree_of image root path ≡ block) × IsPast size block
+    (path : List ℕ) × (k : ℕ) × (rest : List ℕ) × (path ++ k ∷ rest ≡ path_to (levels_of root) leaf)
+    × (tree_of image root path ≡ block) × IsPast size block
 
 -- a pointer on this leaf's path is past the end, be it the last
 abbrev pub PastOn : Image → ℕ → List ℕ → ℕ → ℕ → Type 0
-PastOn image size root leaf block = PastAbove image size root leaf block ⊎ ((leaf_block image root leaf ≡ block) × IsPast size block)
+PastOn image size root leaf block = PastAbove image size root leaf block
+    ⊎ ((leaf_block image root leaf ≡ block) × IsPast size block)
 
 -- the leaf is absent, and no pointer on its path is past the end
 pub record IsQuiet (image : Image) (size : ℕ) (root : List ℕ) (leaf : ℕ) : Type 0 where

@@ -37,5 +37,6 @@ pub record IsLaterIn (from : ℕ) (held : HeldLeaf) : Type 0 where
 -- the first leaf of a node with these pointers, from one on, whose pointer isn't 0
 abbrev pub IsFirstOf : (ℕ → ℕ) → ℕ → Option HeldLeaf → Type 0
 IsFirstOf pointer from (Some held) =
-    (pointer (held.leaf % 128) ≡ held.block) × ((place : ℕ) → from % 128 ≤ place → place < held.leaf % 128 → pointer place ≡ 0)
+    (pointer (held.leaf % 128) ≡ held.block)
+    × ((place : ℕ) → from % 128 ≤ place → place < held.leaf % 128 → pointer place ≡ 0)
 IsFirstOf pointer from None = (place : ℕ) → from % 128 ≤ place → place < 128 → pointer place ≡ 0

@@ -5,7 +5,6 @@
 
 mod fault;
 mod head;
-mod laws;
 mod leaf;
 mod node;
 mod pointers;
@@ -14,7 +13,6 @@ mod step;
 mod walk;
 
 pub use fault::TreeFault;
-pub use laws::{node_again, node_block_again, one_spelling, root_again, root_block_again};
 pub use leaf::{LEAF_LIMIT, leaf_at, leaf_of, node_of, read_leaf};
 pub use node::Node;
 pub use root::{BadRoot, Root, SIZE_LIMIT};

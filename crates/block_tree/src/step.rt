@@ -64,8 +64,8 @@ fn step_in<D: Disk>(
     }))
 }
 
-/// The first held leaf not below the given one, and whether another follows. Makes at most 2 device calls. Of a tree with
-/// a node that leads to no leaf it may tell of fewer leaves than are held.
+/// The first held leaf not below the given one, and whether another follows. Makes at most 2 device calls. Of a tree
+/// with a node that leads to no leaf it may tell of fewer leaves than are held.
 pub fn step_held<D: Disk>(
     disk: &mut D,
     root: &Root,

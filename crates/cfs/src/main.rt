@@ -1,8 +1,8 @@
-//! The Cambridge File Server. `cfs play CYLINDERS SEED COLLECTIONS IN OUT ..` serves 1 to 64 sessions on a new volume in memory, one for
-//! each pair IN OUT: it writes a reply to OUT for each request of the file IN, and a report to standard output. `-` is a standard
-//! stream. `cfs format VOLUME CYLINDERS SEED` makes a volume in a file, and `cfs serve VOLUME SEED COLLECTIONS IN OUT ..` serves it;
-//! `pair-format` and `pair-serve` do so on a file that keeps each block twice, for a device that may tear blocks.
-//! `cfs --help` and `cfs --version` print a page.
+//! The Cambridge File Server. `cfs play CYLINDERS SEED COLLECTIONS IN OUT ..` serves 1 to 64 sessions on a new volume
+//! in memory, one for each pair IN OUT: it writes a reply to OUT for each request of the file IN, and a report to
+//! standard output. `-` is a standard stream. `cfs format VOLUME CYLINDERS SEED` makes a volume in a file, and `cfs
+//! serve VOLUME SEED COLLECTIONS IN OUT ..` serves it; `pair-format` and `pair-serve` do so on a file that keeps each
+//! block twice, for a device that may tear blocks. `cfs --help` and `cfs --version` print a page.
 #![tactic(auto)]
 
 mod opening;
@@ -22,7 +22,8 @@ use std::process::ExitCode;
 use std::sync::Wait;
 use std::thread::Threads;
 
-/// The words after the program's name; none, which is no form of words, where one of them is no text. Nothing for want of memory.
+/// The words after the program's name; none, which is no form of words, where one of them is no text. Nothing for want
+/// of memory.
 fn words(rt: &HostRuntime, alloc: Global) -> Option<Vec<String>> {
     let mut words = Vec::new(alloc);
     let told = match env::args(rt) {
@@ -38,7 +39,8 @@ fn words(rt: &HostRuntime, alloc: Global) -> Option<Vec<String>> {
 
 /// The disk of pairs of blocks in a file, where there is one.
 fn paired(file: Option<FileDisk>) -> Option<PairDisk<FileDisk>>
-    ensures { option_map ⟦<PairDisk<FileDisk> as Disk>⟧.blocks result ≡ option_map (λ f. ⟦<FileDisk as Disk>⟧.blocks f / 3) file }
+    ensures { option_map ⟦<PairDisk<FileDisk> as Disk>⟧.blocks result ≡ option_map
+        (λ f. ⟦<FileDisk as Disk>⟧.blocks f / 3) file }
 {
     match file {
         Some(file) => Some(PairDisk::new(file)),

@@ -55,7 +55,8 @@ fn open_volume(
     pair: bool,
 ) -> Result<Option<FileDisk>, u8>
     requires { IfSome volume.now (HasCylinders pair) }
-    ensures { IfOk result (λ d. FitsVolume volume.now (option_map (λ f. volume_blocks pair (⟦<FileDisk as Disk>⟧.blocks f)) d)) }
+    ensures { IfOk result (λ d. FitsVolume volume.now
+        (option_map (λ f. volume_blocks pair (⟦<FileDisk as Disk>⟧.blocks f)) d)) }
 {
     match volume {
         None => Ok(None),
@@ -104,12 +105,13 @@ fn make_sinks(rt: &HostRuntime, alloc: Global, paths: &[Path]) -> Result<Vec<Any
     Ok(sinks)
 }
 
-/// Opens what the words name, and nothing for a page or for words that are of no form. Where it can't, it tells why and answers the
-/// status.
+/// Opens what the words name, and nothing for a page or for words that are of no form. Where it can't, it tells why and
+/// answers the status.
 pub(crate) fn open(rt: &HostRuntime, alloc: Global, words: &[String]) -> Result<Opened, u8>
     ensures disk { IfOk result (λ o. HasDisk (asked_in (map string_bytes words.now))
         (option_map (λ f. volume_blocks o.pair (⟦<FileDisk as Disk>⟧.blocks f)) o.disk)) }
-    ensures places { IfOk result (λ o. HasPlaces (asked_in (map string_bytes words.now)) (length o.sources.items) (length o.sinks.items)) }
+    ensures places { IfOk result (λ o. HasPlaces (asked_in (map string_bytes words.now)) (length o.sources.items)
+        (length o.sinks.items)) }
 {
     let names = match names(alloc, words) {
         Ok(names) => names,

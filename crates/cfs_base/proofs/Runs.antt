@@ -1,28 +1,14 @@
 -- How a run of calls on a disk goes on: one lemma for each call. Each takes what the call ensures.
-use Rattle.std.proofs.Common.{◌≡◌, ◌⊎◌, inl, inr, ⊎_elim, ℕ, IsTrue, set, List, [], length, length-set, get_or-set_other, refl, sym, ◌∙◌, ap, subst, arith}
-use Rattle.cfs_base.specs.Disk.{Image, IsSameDisk, Nothing, Written, Only, block_at}
-use Rattle.cfs_base.specs.Run.{Tells, Leaves, left_now, IsSettled, Crashes, Comes, OnlyAt, Near}
+use Rattle.std.proofs.Common.{◌≡◌, ◌⊎◌, inl, inr, ⊎_elim, ℕ, IsTrue, set, List, refl, sym, ◌∙◌, ap, subst, arith}
+use Rattle.cfs_base.specs.Disk.{Image, IsSameDisk, Nothing, Written, Only}
+use Rattle.cfs_base.specs.Run.{Tells, Leaves, left_now, IsSettled, Crashes, Comes}
 use Rattle.cfs_base.specs.declared.disk.Disk.{Ghosts}
-
--- a write to a free block
-pub only_at_set : (free : ℕ → Type 0) (image d c : Image) (at : ℕ) (block : List ℕ) → OnlyAt free image d → free at → c ≡ set d at block → OnlyAt free image c
-only_at_set free image d c at block was may is = record {
-  size = ap length is ∙ length-set d at block ∙ was.size;
-  same = λ n not. ap (λ (i : Image). block_at i n) is ∙ get_or-set_other d at n block [] (λ (e : n ≡ at). not (subst free (sym e) may)) ∙ was.same n not;
-}
-
--- a write to a free block, of an image near one of these
-pub near_set : (free : ℕ → Type 0) (images : Image → Type 0) (c : Image) (at : ℕ) (block : List ℕ) → free at → Written (Near free images) at block c → Near free images c
-near_set free images c at block may w = (w.1.0, w.1.1, only_at_set free w.1.0 w.0 c at block w.1.2 may w.2)
+use Rattle.cfs_base.proofs.Stretches.{joined, widened}
 
 module _ {D : Type 0} (g : Ghosts D) where
   -- images left in two stretches
   pub then : (start mid new : D) (P Q : Image → Type 0) → Leaves g start mid P → Leaves g mid new Q → ((c : Image) → Q c → P c) → Leaves g start new P
-  then start mid new P Q run step has = record {
-    later = omega (arith, run.later, step.later);
-    since = λ t c le h. ⊎_elim (λ was. run.since t c le was) (λ q. inr (has c q)) (step.since t c (omega (arith, le, run.later)) h);
-    now = λ c h. ⊎_elim (λ was. run.now c was) (λ q. inr (has c q)) (step.now c h);
-  }
+  then start mid new P Q run step has = joined g.moment g.left_since start mid new P Q run step has
 
   -- a stretch that leaves nothing new
   pub on : (start mid new : D) (P : Image → Type 0) → Leaves g start mid P → Leaves g mid new Nothing → Leaves g start new P
@@ -30,11 +16,7 @@ module _ {D : Type 0} (g : Ghosts D) where
 
   -- more room for what is left
   pub wider : (start new : D) (P Q : Image → Type 0) → Leaves g start new P → ((c : Image) → P c → Q c) → Leaves g start new Q
-  wider start new P Q run has = record {
-    later = run.later;
-    since = λ t c le h. ⊎_elim (λ was. inl was) (λ p. inr (has c p)) (run.since t c le h);
-    now = λ c h. ⊎_elim (λ was. inl was) (λ p. inr (has c p)) (run.now c h);
-  }
+  wider start new P Q run has = widened g.moment g.left_since start new P Q run has
 
   -- no call was made yet
   pub stands : {d : D} {N P : Image → Type 0} → ((c : Image) → left_now g d c → N c) → Crashes g d d N P
@@ -55,12 +37,6 @@ module _ {D : Type 0} (g : Ghosts D) where
     leaves = then start mid new P (Written (left_now g mid) at block) run.leaves images (λ c w. subst P (sym w.2) (has w.0 (run.here w.0 w.1)));
   }
 
-  -- a write to a free block, done or failed
-  pub tries_free : {start mid new : D} {free : ℕ → Type 0} {images : Image → Type 0} (at : ℕ) (block : List ℕ) → Crashes g start mid (Near free images) (Near free images) → Leaves g mid new (Written (left_now g mid) at block) → free at → Crashes g start new (Near free images) (Near free images)
-  tries_free {free = free} {images} at block run left may =
-      let more = tries at block run left (λ d h. near_set free images (set d at block) at block may (d, h, refl)) in
-      record { here = λ c h. ⊎_elim (λ was. was) (λ w. near_set free images c at block may w) (more.here c h); leaves = more.leaves }
-
   -- a barrier that is done
   pub flushes : {start mid new : D} {N P : Image → Type 0} → Crashes g start mid N P → Leaves g mid new Nothing → Only (g.content new) (left_now g new) → Crashes g start new (λ c. c ≡ g.content new) P
   flushes {start} {mid} {new} {N} {P} run images only = record { here = only; leaves = on start mid new P run.leaves images }
@@ -68,10 +44,6 @@ module _ {D : Type 0} (g : Ghosts D) where
   -- a run begins on a disk that tells its content, whatever waits for a barrier
   pub begins : {d : D} {P : Image → Type 0} → Tells g d → Comes g d d (g.content d) (left_now g d) P
   begins tells = record { tells = tells; content = refl; crashes = stands (λ c h. h) }
-
-  -- nothing waits
-  pub begins_settled : {d : D} {P : Image → Type 0} → IsSettled g d → Comes g d d (g.content d) (λ c. c ≡ g.content d) P
-  begins_settled s = record { tells = s.tells; content = refl; crashes = stands s.only }
 
   -- it ends where nothing waits
   pub ends_settled : {start now : D} {image : Image} {P : Image → Type 0} → Comes g start now image (λ c. c ≡ image) P → IsSettled g now
@@ -115,12 +87,4 @@ module _ {D : Type 0} (g : Ghosts D) where
     tells = step.tells;
     content = step.content;
     crashes = record { here = step.crashes.here; leaves = then start mid new P Q run.crashes.leaves step.crashes.leaves has };
-  }
-
-  -- the same image by another name, and more room for what is left
-  pub renamed : {start now : D} {a b : Image} {N M P Q : Image → Type 0} → Comes g start now a N P → a ≡ b → ((c : Image) → N c → M c) → ((c : Image) → P c → Q c) → Comes g start now b M Q
-  renamed {start} {now} {a} {b} {N} {M} {P} {Q} run same here has = record {
-    tells = run.tells;
-    content = run.content ∙ same;
-    crashes = record { here = λ c h. here c (run.crashes.here c h); leaves = wider start now P Q run.crashes.leaves has };
   }

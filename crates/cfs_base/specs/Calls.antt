@@ -25,15 +25,16 @@ pub record HasFailed {D : Type 0} (g : Ghosts D) (old new : D) : Type 0 where
 abbrev pub HasTried : {D : Type 0} → Ghosts D → D → D → Type 0
 HasTried g old new = Rose (g.tries old) (g.tries new)
 
--- A device call failed and stopped a call of the store. Where a write or barrier had been tried in it the tries rose, and else all is as it was.
+-- A device call failed and stopped a call of the store. Where a write or barrier had been tried in it the tries rose,
+-- and else all is as it was.
 pub record HasStopped {D : Type 0} (g : Ghosts D) (tried : Bool) (old new : D) : Type 0 where
   pub failed : HasFailed g old new
   pub tries : tried ≡ true → HasTried g old new
   pub no_try : tried ≡ false → g.tries new ≡ g.tries old
   pub untouched : tried ≡ false → g.content new ≡ g.content old
 
--- at most so many device calls were made, so many of them writes and barriers; what a disk is doesn't change, and nothing
--- that a crash might have left is taken back
+-- at most so many device calls were made, so many of them writes and barriers; what a disk is doesn't change, and
+-- nothing that a crash might have left is taken back
 pub record MakesAtMost {D : Type 0} (g : Ghosts D) (most most_tries : ℕ) (old new : D) : Type 0 where
   pub later : g.moment old ≤ g.moment new
   pub keeps : KeepsLeft g.moment g.left_since old new

@@ -38,7 +38,8 @@ pub record IsSameDisk {D : Type 0} (blocks : D → ℕ) (honest tells_images : D
   pub telling : tells_images new ≡ tells_images old
 
 -- A crash between old and new leaves only what it might have left before, and what has P.
-pub record LeavesOnly {D : Type 0} (moment : D → ℕ) (left_since : D → ℕ → Image → Type 0) (old new : D) (P : Image → Type 0) : Type 0 where
+pub record LeavesOnly {D : Type 0} (moment : D → ℕ) (left_since : D → ℕ → Image → Type 0) (old new : D)
+    (P : Image → Type 0) : Type 0 where
   -- the clock never falls
   pub later : moment old ≤ moment new
   -- at some moment since t, up to now
@@ -59,7 +60,8 @@ pub record CountsRead {D : Type 0} (moment calls tries faults : D → ℕ) (old 
   pub cause : failed → Rose (faults old) (faults new)
 
 -- the counts after a write or a barrier: one call more, one try more, a later moment, and a fault where it failed
-pub record CountsTry {D : Type 0} (moment calls tries faults : D → ℕ) (tells_images : D → Bool) (old new : D) (failed : Type 0) : Type 0 where
+pub record CountsTry {D : Type 0} (moment calls tries faults : D → ℕ) (tells_images : D → Bool) (old new : D)
+    (failed : Type 0) : Type 0 where
   pub clock : Rose (moment old) (moment new)
   pub one_call : calls new ≡ count_after (calls old)
   pub one_try : tries new ≡ count_after (tries old)

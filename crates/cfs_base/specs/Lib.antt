@@ -5,3 +5,4 @@ pub mod Calls
 pub mod Refusals
 pub mod Codes
 pub mod Log
+pub mod Replay

@@ -1,5 +1,6 @@
 -- What a call of a source or a sink means: the bytes that it gives or takes, and the count of faults.
-use Rattle.std.specs.Prelude.{◌≡◌, ℕ, ◌+◌, ◌-◌, ◌^◌, ◌<◌, ◌≤◌, min, List, [], ◌++◌, length, take, drop, Option, Some, Result, Ok, Err}
+use Rattle.std.specs.Prelude.{◌≡◌, ℕ, ◌+◌, ◌-◌, ◌^◌, ◌<◌, ◌≤◌, min, List, [], ◌++◌, length, take, drop}
+use Rattle.std.specs.Prelude.{Option, Some, Result, Ok, Err}
 use Rattle.cfs_base.specs.declared.refusal.Failed.{Failed}
 
 -- one more, or the last number of a u64, where every count stays

@@ -1,6 +1,6 @@
 -- Runs of calls on one disk, as the contracts of the crates above speak of them.
-use Rattle.std.specs.Prelude.{◌≡◌, ℕ, IsTrue, length}
-use Rattle.cfs_base.specs.Disk.{Image, LeavesOnly, Only, block_at}
+use Rattle.std.specs.Prelude.{◌≡◌, ℕ, IsTrue}
+use Rattle.cfs_base.specs.Disk.{Image, LeavesOnly, Only}
 use Rattle.cfs_base.specs.declared.disk.Disk.{Ghosts}
 
 -- what a crash at this moment may leave
@@ -32,12 +32,3 @@ pub record Comes {D : Type 0} (g : Ghosts D) (start now : D) (image : Image) (N 
   pub tells : Tells g now
   pub content : g.content now ≡ image
   pub crashes : Crashes g start now N P
-
--- c is the image but for blocks that are free to change
-pub record OnlyAt (free : ℕ → Type 0) (image c : Image) : Type 0 where
-  pub size : length c ≡ length image
-  pub same : (n : ℕ) → ¬ free n → block_at c n ≡ block_at image n
-
--- one of these images but for blocks that are free to change
-abbrev pub Near : (ℕ → Type 0) → (Image → Type 0) → Image → Type 0
-Near free images c = (d : Image) × images d × OnlyAt free d c

@@ -1,6 +1,8 @@
 //! A disk of blocks, as the server calls it: what it holds, and what a crash may leave of it.
-ghost use Rattle.std.specs.Prelude.{◌≡◌, ◌≢◌, ◌⊎◌, ◌<◌, ℕ, Bool, false, IsTrue, List, [], length, set, OnOk, OnErr, IsErr};
-ghost use Rattle.cfs_base.specs.Disk.{AreBlocks, block_at, Nothing, Written, Only, IsSameDisk, LeavesOnly, KeepsLeft, CountsRead, CountsTry};
+ghost use Rattle.std.specs.Prelude.{◌≡◌, ◌≢◌, ◌⊎◌, ◌<◌, ℕ, Bool, false, List, [], length, set};
+ghost use Rattle.std.specs.Prelude.{IsErr, IsTrue, OnErr, OnOk};
+ghost use Rattle.cfs_base.specs.Disk.{AreBlocks, IsSameDisk, CountsRead, CountsTry, block_at};
+ghost use Rattle.cfs_base.specs.Disk.{Nothing, Written, Only, LeavesOnly, KeepsLeft};
 
 use crate::{Block, BlockNo, Failed};
 
@@ -8,8 +10,8 @@ use crate::{Block, BlockNo, Failed};
 /// whatever it leaves of the others, what it held at the last barrier that was done, or what some write since has put
 /// there, be it a write that failed.
 ///
-/// A disk may tell nothing: then it counts, and promises nothing of its content and its images. That is what it does where
-/// it doesn't say what `honest`, `content`, `told`, `tells_images` and `left_since` are.
+/// A disk may tell nothing: then it counts, and promises nothing of its content and its images. That is what it does
+/// where it doesn't say what `honest`, `content`, `told`, `tells_images` and `left_since` are.
 pub trait Disk {
     /// How many blocks it has.
     ghost blocks: { Self → ℕ };

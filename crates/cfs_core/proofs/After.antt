@@ -1,30 +1,16 @@
 -- A call that reads, and then goes on.
-use Rattle.std.proofs.Common.{◌≡◌, ℕ, ◌<◌, length, true, false, None, Result, Ok, Err, refl, ◌∙◌, subst, arith}
-use Rattle.std.specs.Prelude.{IfErr, sum}
-use Rattle.cfs_base.specs.Calls.{OnlyReads}
-use Rattle.cfs_base.specs.Disk.{Image}
-use Rattle.cfs_base.specs.Run.{Leaves}
-use Rattle.cfs_base.specs.declared.disk.Disk.{Ghosts}
-use Rattle.cfs_base.specs.declared.identifier.Puid.{Puid}
-use Rattle.cfs_base.specs.declared.refusal.Refused.{Refused}
+use Rattle.std.proofs.Common.{◌≡◌, ℕ, ◌<◌, length, true, false, None, Result, Ok, Err, refl, ◌∙◌, subst, sum}
+use Rattle.cfs_core.proofs.Words.{draws, Ghosts, Image, Index, Leaves, OnlyReads, Puid, refusal_of, Refused, Reply, Request, State, then, wider}
 use Rattle.cfs_base.specs.declared.refusal.Refused.TheVariants as refusals
-use Rattle.cfs_base.proofs.Calls.{stopped_after_reads}
-use Rattle.cfs_base.proofs.Runs.{then, wider}
-use Rattle.ufs_model.specs.declared.asked.Reply.{Reply}
 use Rattle.ufs_model.specs.declared.asked.Reply.TheVariants as replies
-use Rattle.ufs_model.specs.declared.asked.Request.{Request}
-use Rattle.ufs_model.specs.declared.object.Index.{Index}
-use Rattle.ufs_model.specs.declared.object.Object.{Object}
 use Rattle.ufs_model.specs.declared.object.Object.TheVariants as objects
-use Rattle.ufs_model.specs.Refusal.{refusal_of}
-use Rattle.ufs_model.specs.State.{State}
-use Rattle.cfs_core.specs.Calls.{AddsNoStray, Answers, EndsSo, IsCause, Owes, Tries, TriesOn}
+use Rattle.cfs_core.specs.Calls.{AddsNoStray, Answers, EndsSo, Owes, Tries, TriesOn}
 use Rattle.cfs_core.specs.Kernel.{Kernel}
 use Rattle.cfs_core.specs.Looks.{ReachesAll}
-use Rattle.cfs_core.specs.Makes.{IsMaking, TriesToMake}
 use Rattle.cfs_core.specs.StandsFor.{Serves}
 use Rattle.cfs_core.specs.Ways.{Reaches}
 use Rattle.cfs_core.proofs.Serving.{serves_on}
+use Rattle.cfs_core.proofs.Went.{went_then}
 
 module _ {D : Type 0} (g : Ghosts D) (n : ℕ) (old : Kernel D) (d : D) (new : Kernel D) (reads : OnlyReads g n old.disk d) (request : Request) where
   abbrev mid : Kernel D
@@ -49,13 +35,6 @@ module _ {D : Type 0} (g : Ghosts D) (n : ℕ) (old : Kernel D) (d : D) (new : K
     ends (Err (refusals.Damaged damage)) is = is
     ends (Err refusals.Memory) is = answers replies.Memory is
 
-  pub cause : (r : Result Reply Refused) → IfErr r (IsCause g d new.disk) → IfErr r (IsCause g old.disk new.disk)
-  cause (Ok reply) is = tt
-  cause (Err (refusals.Full need)) is = tt
-  cause (Err (refusals.Disk tried)) is = stopped_after_reads g old.disk d new.disk n tried reads is
-  cause (Err (refusals.Damaged damage)) is = tt
-  cause (Err refusals.Memory) is = tt
-
   pub tries_then : (index : Puid) (slot : ℕ) (who : ℕ) (result : Result Reply Refused) → ReachesAll g objects.Index old who request index → TriesOn g mid new index slot request result
       → ((s : State) (i : Index) → Serves g old s → Reaches s who request index (objects.Index i) → (slot < length i.slots) × (refusal_of s who request ≡ None)) → Tries g old new who request result
   tries_then index slot who result reaches tries goes = record {
@@ -63,29 +42,5 @@ module _ {D : Type 0} (g : Ghosts D) (n : ℕ) (old : Kernel D) (d : D) (new : K
         let i = reaches s serves in
         let may = goes s i.0 serves i.1 in
         ends s who result (tries.ends s who i.0 (serves_on g n old mid reads refl s serves) none i.1 may.0 may.1);
-    plain = tries.plain;
-    cause = cause result tries.cause;
-    size = tries.size ∙ reads.same.size;
-    faults = omega (arith, reads.faults, tries.faults);
-    stop = tries.stop;
-    collections = tries.collections;
-    seed = tries.seed;
-    kept = tries.kept;
-    drawn = tries.drawn;
+    went = went_then g n old d new reads (draws request) result tries.went;
   }
-
-  -- the same of a request that makes an object
-  pub makes_then : (index : Puid) (slot : ℕ) (o : Object) → IsMaking request slot o → (who : ℕ) (result : Result Reply Refused) → ReachesAll g objects.Index old who request index → TriesToMake g mid new index slot o result
-      → ((s : State) (i : Index) → Serves g old s → Reaches s who request index (objects.Index i) → (slot < length i.slots) × (refusal_of s who request ≡ None)) → Tries g old new who request result
-  makes_then index slot o making who result reaches tries goes = tries_then index slot who result reaches (record {
-    ends = tries.ends request making;
-    plain = tries.plain;
-    cause = tries.cause;
-    size = tries.size;
-    faults = tries.faults;
-    stop = tries.stop;
-    collections = tries.collections;
-    seed = tries.seed;
-    kept = tries.kept;
-    drawn = omega (arith, tries.drawn, making.draw);
-  }) goes

@@ -1,72 +1,26 @@
 -- A file through a grant with a draft: when a request on it is refused, what it is told, and what a change makes of the state.
-use Rattle.std.proofs.Common.{◌≡◌, ◌⊎◌, inl, inr, ℕ, zero, suc, ◌+◌, ◌<◌, ◌≤◌, List, [], ◌∷◌, ◌++◌, length, get_or, Bool, true, false, cond, not, Option, Some, None, Ok, Err, IsTrue, refl, sym, ◌∙◌, ap, subst, arith}
-use Rattle.std.specs.Prelude.{IfErr, IfOk, Result, filter, find, map, nat_lt, option_and_then, option_to_list, sum}
-use Rattle.std.specs.List.{list_all, range_with_len, sum_by}
-use Rattle.std.proofs.lemmas.Bool.{and_parts}
-use Rattle.std.proofs.lemmas.List.Sums.{sum_by-cons}
-use Rattle.cfs_base.specs.Calls.{OnlyReads}
-use Rattle.cfs_base.specs.Disk.{Image}
-use Rattle.cfs_base.specs.Run.{Leaves}
-use Rattle.cfs_base.specs.declared.disk.Disk.{Ghosts}
-use Rattle.cfs_base.specs.declared.identifier.Puid.{Puid}
-use Rattle.cfs_base.specs.declared.identifier.Tuid.{Tuid}
+use Rattle.std.proofs.Common.{◌≡◌, ◌⊎◌, inl, inr, ℕ, zero, suc, ◌+◌, ◌<◌, ◌≤◌, List, [], ◌∷◌, ◌++◌, length, get_or, Bool, true, false, cond, not, Option, Some, None, Ok, Err, IsTrue, refl, sym, ◌∙◌, ap, subst, arith, IfErr, IfOk, Result, filter, find, map, nat_lt, option_and_then, option_to_list, sum}
+use Rattle.cfs_core.proofs.Words.{and_parts, Becomes, blocks_taken, Change, change_need, changed, changed_draft, changed_object, Draft, draft_blocks, draft_of, Drafting, draws, File, file_to_leaves, Fill, filter-rises, first_level, fresh_of, Ghosts, Grant, grant_of, Graph, has_number, HasDraft, held_levels, here, Holds, Image, in_filter, in_with, is_damaged, is_draft_of, is_grant, is_normal}
+use Rattle.cfs_core.proofs.Words.{is_range, is_reading, IsOpen, IsPlainReply, Kept, later, Leaves, list_all, MapEntry, merged, missing, need_beside, need_of, next, next_keeps, next_levels, numbers-rise, numbers_rise, Object, object_at, of_draft, OnlyReads, Opened, opened_as, outcome_legal, Overwrite, Puid, put_draft-at, range_with_len, refusal_of, Refused, replaced, Reply, Request, same_puid}
+use Rattle.cfs_core.proofs.Words.{same_puid_itself, seen, seen_draft, SetSize, shadow_need, shared, State, StoreHas, sum_by, sum_by-cons, target, the_draft, Through, Tuid, wider, with_draft, with_numbers, within, without_draft, written_anew}
 use Rattle.cfs_base.specs.declared.refusal.Need as needs
-use Rattle.cfs_base.specs.declared.refusal.Refused.{Refused}
 use Rattle.cfs_base.specs.declared.refusal.Refused.TheVariants as refusals
-use Rattle.cfs_base.proofs.Runs.{wider}
-use Rattle.cyl_alloc.specs.Space.{Kept}
-use Rattle.intentions.specs.Store.{StoreHas}
-use Rattle.leaf_changes.proofs.Given.{file_to_leaves}
-use Rattle.special_files.specs.Becomes.{Becomes}
-use Rattle.special_files.specs.Drafting.{Drafting, IsOpen, fresh_of, need_beside, opened_as, set_in, shadow_need}
-use Rattle.special_files.specs.Refusal.{IsRefusal, is_damaged}
-use Rattle.special_files.specs.Store.{replaced, without_draft}
-use Rattle.special_files.proofs.PutStore.{the_draft}
+use Rattle.special_files.specs.Drafting.{set_in}
 use Rattle.ufs_model.specs.declared.asked.Event.TheVariants as events
-use Rattle.ufs_model.specs.declared.asked.Ref.TheVariants.{Through}
-use Rattle.ufs_model.specs.declared.asked.Reply.{Reply}
 use Rattle.ufs_model.specs.declared.asked.Reply.TheVariants as replies
-use Rattle.ufs_model.specs.declared.asked.Request.{Request}
 use Rattle.ufs_model.specs.declared.asked.Request.TheVariants as asks
-use Rattle.ufs_model.specs.declared.change.Change.{Change}
-use Rattle.ufs_model.specs.declared.change.Change.TheVariants.{Fill, Overwrite, SetSize}
-use Rattle.ufs_model.specs.declared.object.Draft.{Draft}
-use Rattle.ufs_model.specs.declared.object.File.{File}
-use Rattle.ufs_model.specs.declared.object.Grant.{Grant}
-use Rattle.ufs_model.specs.declared.object.Object.{Object}
 use Rattle.ufs_model.specs.declared.object.Object.TheVariants as objects
-use Rattle.ufs_model.specs.Graph.{Graph, object_at}
-use Rattle.ufs_model.specs.Identifier.{same_puid}
-use Rattle.ufs_model.specs.Need.{change_need, is_normal, need_of}
-use Rattle.ufs_model.specs.Next.{next}
-use Rattle.ufs_model.specs.Numbers.{first_level, has_number, merged, missing, next_levels, numbers_rise, shared, with_numbers, within}
-use Rattle.ufs_model.specs.Object.{changed_object, held_levels, written_anew}
-use Rattle.ufs_model.specs.Outcome.{changed}
-use Rattle.ufs_model.specs.Plain.{IsPlainReply}
-use Rattle.ufs_model.specs.Refusal.{is_range, is_reading, refusal_of, target}
-use Rattle.ufs_model.specs.State.{State, changed_draft, draft_of, grant_of, is_grant, seen, with_draft}
-use Rattle.ufs_model.specs.WellFormed.{is_draft_of, is_open_so}
-use Rattle.ufs_model.proofs.KeepsStates.{next_keeps}
-use Rattle.ufs_model.proofs.Legal.{outcome_legal}
-use Rattle.ufs_model.proofs.Rising.{filter-rises, here, in_filter, in_with, later, numbers-rise}
-use Rattle.ufs_model.proofs.WellStates.{put_draft-at, seen_draft}
-use Rattle.vol_image.specs.Sound.{Holds}
-use Rattle.vol_image.proofs.Reached.{same_puid_itself}
-use Rattle.vol_owners.specs.Account.{HasDraft, Opened}
-use Rattle.vol_owners.specs.Change.{of_draft}
-use Rattle.vol_owners.specs.Room.{blocks_taken, draft_blocks}
-use Rattle.cyl_map.specs.declared.entry.MapEntry.{MapEntry}
-use Rattle.cfs_core.specs.Calls.{Answers, ByOutcome, ByWant, EndsSo, IsCause, IsInDoubt, Tries, Undone, done_or}
-use Rattle.cfs_core.specs.Drafts.{ChangesDraft, KnowsDraft}
+use Rattle.cfs_core.specs.Calls.{Answers, ByOutcome, ByWant, EndsSo, IsInDoubt, Tries, Undone, done_or}
+use Rattle.cfs_core.specs.Drafts.{AltersDraft, ChangesDraft, KnowsDraft}
 use Rattle.cfs_core.specs.Kernel.{Kernel, Seat, is_ready}
 use Rattle.cfs_core.specs.Looks.{IsCalmCause, content_of, measured}
 use Rattle.cfs_core.specs.Seats.{drafting_at, is_drawn, with_drafting}
 use Rattle.cfs_core.specs.StandsFor.{HasDraftOf, Serves, bare, drafts_of_seats}
 use Rattle.cfs_core.proofs.Answering.{disk_failed, memory, owes, reads_none, seen as told, tries_so}
 use Rattle.cfs_core.proofs.Drafted.{changed_drafts, changed_have, drawn, has_draft, place_of, special, with_is, written}
-use Rattle.cfs_core.proofs.Ended as ended
-use Rattle.cfs_core.proofs.Ended.{alone_take, find_drawn, of_its_draft}
+use Rattle.cfs_core.proofs.Ended.{IsHeld, alone_take, block, find_drawn, of_its_draft, open_in, so}
 use Rattle.cfs_core.proofs.Few.{few_more}
+use Rattle.cfs_core.proofs.Went.{went_done}
 use Rattle.cfs_core.proofs.Filed.{IsChanging}
 use Rattle.cfs_core.proofs.Readied.{ready_at, ready_for}
 use Rattle.cfs_core.proofs.Refusing.{IsSeen}
@@ -192,37 +146,18 @@ none_needed was n is = rw is refl
 
 -- ---- a grant with a draft, as the core has it
 
-module _ {D : Type 0} (g : Ghosts D) (k : Kernel D) (s : State) (serves : Serves g k s) (who : ℕ) (t : Tuid) (x : Grant) (found : grant_of s who t ≡ Some x)
-    (was : Drafting) (drafting : drafting_at k.seats t.draw ≡ Some was) where
+module _ {D : Type 0} (g : Ghosts D) (k : Kernel D) (s : State) (serves : Serves g k s) (who : ℕ) (t : Tuid) (was : Drafting) (held : IsHeld g k s who t was) where
   abbrev pub ds : List Opened
-  ds = ended.ds g k s serves who t x found was drafting
+  ds = drafts_of_seats k.seats s.grants
 
   abbrev pub id : Puid
-  id = ended.id g k s serves who t x found was drafting
-
-  abbrev seat : Seat
-  seat = ended.seat g k s serves who t x found was drafting
+  id = held.seat.grant.id
 
   abbrev pub before : Draft
-  before = ended.before g k s serves who t x found was drafting
+  before = held.before
 
-  abbrev o : Object
-  o = (ended.object g k s serves who t x found was drafting).0
-
-  there : object_at s.graph id ≡ Some o
-  there = ended.there_at g k s serves who t x found was drafting
-
-  draft_was : x.draft ≡ Some before
-  draft_was = ended.draft_was g k s serves who t x found was drafting
-
-  open_in : IsOpen ds id was before
-  open_in = ended.open_in g k s serves who t x found was drafting
-
-  there_x : object_at s.graph x.id ≡ Some o
-  there_x = ap (object_at s.graph) (sym (ended.id_is g k s serves who t x found was drafting)) ∙ there
-
-  pub files : ((f : File) × (o ≡ objects.File f)) × ((e : File) × (before.object ≡ objects.File e))
-  files = file_in o before.object (subst (λ (y : Option Object). is_open_so y (Some before) ≡ true) there_x (subst (λ (y : Option Draft). is_open_so (object_at s.graph x.id) y ≡ true) draft_was (ended.so g k s serves who t x found was drafting)))
+  pub files : ((f : File) × (held.object ≡ objects.File f)) × ((e : File) × (before.object ≡ objects.File e))
+  files = file_in held.object before.object (so g k s serves who t was held)
 
   abbrev pub file : File
   file = files.1.0
@@ -230,44 +165,44 @@ module _ {D : Type 0} (g : Ghosts D) (k : Kernel D) (s : State) (serves : Serves
   pub file_is : before.object ≡ objects.File file
   file_is = files.1.1
 
-  is_file_there : object_at s.graph x.id ≡ Some (objects.File files.0.0)
-  is_file_there = there_x ∙ ap (λ (y : Object). Some y) files.0.1
+  is_file_there : object_at s.graph held.x.id ≡ Some (objects.File files.0.0)
+  is_file_there = held.there_x ∙ ap (λ (y : Object). Some y) files.0.1
 
   pub knows : KnowsDraft g s.graph ds k.disk k.space id was before
-  knows = record { store = serves.store; object = o; there = there; is_open = open_in; file = file; is_file = file_is }
+  knows = record { store = serves.store; object = held.object; there = held.there; is_open = open_in g k s serves who t was held; file = file; is_file = file_is }
 
   had : HasDraft (g.content k.disk) id (opened_as id was before)
-  had = the_draft (g.content k.disk) ds id was before open_in (serves.store.account.drafts id o there)
+  had = the_draft (g.content k.disk) ds id was before (open_in g k s serves who t was held) (serves.store.account.drafts id held.object held.there)
 
   -- its size is in the root that the object is to get
   pub size_is : was.root.size ≡ length file.bytes
   size_is = sym (file_to_leaves was.root _ file (had.tree.object ∙ file_is)).size
 
-  written_in : is_reading seat.grant.mode ≡ false
-  written_in = written who t k.seats s.grants seat x (ended.place g k s serves who t x found was drafting) serves.drafts was before (ended.drafting_is g k s serves who t x found was drafting) draft_was
+  written_in : is_reading held.seat.grant.mode ≡ false
+  written_in = written who t k.seats s.grants held.seat held.x held.place serves.drafts was before held.drafting held.draft_was
 
-  writes : is_reading x.mode ≡ false
-  writes = ap is_reading (sym (ap (λ e. e.mode) (ended.place g k s serves who t x found was drafting).here)) ∙ written_in
+  writes : is_reading held.x.mode ≡ false
+  writes = ap is_reading (sym (ap (λ e. e.mode) held.place.here)) ∙ written_in
 
   -- ---- what is asked of it
 
   pub size_told : (seed : ℕ) → IsSeen seed s who (asks.Size (Through t)) (measured file)
-  size_told = size_by s who t x before file files.0.0 found draft_was file_is is_file_there
+  size_told = size_by s who t held.x before file files.0.0 held.found held.draft_was file_is is_file_there
 
   pub read_told : (seed offset count : ℕ) → IsSeen seed s who (asks.Read (Through t) offset count) (content_of file offset count)
-  read_told = read_by s who t x before file files.0.0 found draft_was file_is is_file_there
+  read_told = read_by s who t held.x before file files.0.0 held.found held.draft_was file_is is_file_there
 
   pub write_goes : (offset : ℕ) (bytes : List ℕ) → is_range (length file.bytes) offset (length bytes) ≡ true → refusal_of s who (asks.Write (Through t) offset bytes) ≡ None
-  write_goes = write_by s who t x before file files.0.0 found draft_was file_is is_file_there writes
+  write_goes = write_by s who t held.x before file files.0.0 held.found held.draft_was file_is is_file_there writes
 
   pub write_range : (offset : ℕ) (bytes : List ℕ) → is_range (length file.bytes) offset (length bytes) ≡ false → refusal_of s who (asks.Write (Through t) offset bytes) ≡ Some replies.Range
-  write_range = write_not_by s who t x before file files.0.0 found draft_was file_is is_file_there writes
+  write_range = write_not_by s who t held.x before file files.0.0 held.found held.draft_was file_is is_file_there writes
 
   pub resize_goes : (size : ℕ) → nat_lt 7864320 size ≡ false → refusal_of s who (asks.Resize (Through t) size) ≡ None
-  resize_goes = resize_by s who t x before file files.0.0 found draft_was file_is is_file_there writes
+  resize_goes = resize_by s who t held.x before file files.0.0 held.found held.draft_was file_is is_file_there writes
 
   pub resize_range : (size : ℕ) → nat_lt 7864320 size ≡ true → refusal_of s who (asks.Resize (Through t) size) ≡ Some replies.Range
-  resize_range = resize_not_by s who t x before file files.0.0 found draft_was file_is is_file_there writes
+  resize_range = resize_not_by s who t held.x before file files.0.0 held.found held.draft_was file_is is_file_there writes
 
   -- ---- it is changed
 
@@ -279,18 +214,18 @@ module _ {D : Type 0} (g : Ghosts D) (k : Kernel D) (s : State) (serves : Serves
     after = record s { grants = with_draft who t d s.grants }
 
     changed_is : changed s who (target request) change ≡ after
-    changed_is = ap (λ to. changed s who to change) goes_to ∙ put_draft-at s who t x before (changed_draft change (seen s who (Through t))) found draft_was
-        ∙ ap (λ (e : Draft). record s { grants = with_draft who t (changed_draft change e) s.grants }) (seen_draft s who t x before found draft_was)
+    changed_is = ap (λ to. changed s who to change) goes_to ∙ put_draft-at s who t held.x before (changed_draft change (seen s who (Through t))) held.found held.draft_was
+        ∙ ap (λ (e : Draft). record s { grants = with_draft who t (changed_draft change e) s.grants }) (seen_draft s who t held.x before held.found held.draft_was)
 
     not_normal : is_normal before.object ≡ false
-    not_normal = special who t k.seats s.grants seat x (ended.place g k s serves who t x found was drafting) serves.drafts was before (ended.drafting_is g k s serves who t x found was drafting) draft_was
+    not_normal = special who t k.seats s.grants held.seat held.x held.place serves.drafts was before held.drafting held.draft_was
 
     need_is : need_of s who request ≡ missing (written_anew change before.object before.fresh) before.fresh
-    need_is = is.need s who ∙ ap (λ to. change_need s who to change) goes_to ∙ need_by s who t x before change found draft_was not_normal
+    need_is = is.need s who ∙ ap (λ to. change_need s who to change) goes_to ∙ need_by s who t held.x before change held.found held.draft_was not_normal
 
     beside_is : need_beside change before was ≡ need_of s who request
     beside_is =
-        let shadow = (ready_for k.names.room was (ready_at k.names.room t.draw k.seats ready was drafting)).shadow in
+        let shadow = (ready_for k.names.room was (ready_at k.names.room t.draw k.seats ready was held.at)).shadow in
         omega (arith, none_needed was shadow.0 shadow.1, need_is)
 
     legal : k.stop ≡ None → next k.words.seed s (events.Ask who request replies.Done) ≡ Some after
@@ -325,7 +260,7 @@ module _ {D : Type 0} (g : Ghosts D) (k : Kernel D) (s : State) (serves : Serves
 
       module _ (becomes : Becomes g s.graph ds id d k.disk disk space now) (shadow : now.shadow ≡ was.shadow) (created : now.created ≡ was.created) (room : need_beside change before was + 4 ≤ sum k.space.free) where
         has : HasStepped g k new s s.graph T es
-        has = record { store = becomes.steps.store; only = becomes.steps.only; these = of_its_draft s.graph id (ended.block g k s serves who t x found was drafting) }
+        has = record { store = becomes.steps.store; only = becomes.steps.only; these = of_its_draft s.graph id (block g k s serves who t was held) }
 
         rising : list_all numbers_rise d.fresh ≡ true
         rising = all_rise d.fresh (λ n. ap numbers_rise (becomes.is_open.fresh n) ∙ level n)
@@ -339,7 +274,7 @@ module _ {D : Type 0} (g : Ghosts D) (k : Kernel D) (s : State) (serves : Serves
         few = omega (
           arith,
           alone_take id it es becomes.is_open.alone,
-          alone_take id (opened_as id was before) ds open_in.alone,
+          alone_take id (opened_as id was before) ds (open_in g k s serves who t was held).alone,
           ap (sum_by draft_blocks) (without_replaced it ds),
           fresh_few (written_anew change before.object before.fresh) before.fresh (held_levels (changed_object change before.object)) rising,
           ap (λ (n : Option ℕ). length (option_to_list n)) shadow,
@@ -354,8 +289,8 @@ module _ {D : Type 0} (g : Ghosts D) (k : Kernel D) (s : State) (serves : Serves
             → Answers g k new s who request replies.Done
         altered left_sized wide none leaves = record {
           event = makes_stepped g k new s after s.graph serves T es has stepped (next_keeps k.words.seed s after (events.Ask who request replies.Done) serves.state (is.speaks who) (legal none))
-              (changed_drafts who t k.seats s.grants seat x (ended.place g k s serves who t x found was drafting) serves.drafts was before (ended.drafting_is g k s serves who t x found was drafting) draft_was now d)
-              (changed_have who t k.seats s.grants seat x (ended.place g k s serves who t x found was drafting) serves.drafts was before (ended.drafting_is g k s serves who t x found was drafting) draft_was now d
+              (changed_drafts who t k.seats s.grants held.seat held.x held.place serves.drafts was before held.drafting held.draft_was now d)
+              (changed_have who t k.seats s.grants held.seat held.x held.place serves.drafts was before held.drafting held.draft_was now d
               (record { is_open = becomes.is_open; writes = written_in; special = subst (λ (y : Object). is_normal (changed_object change y) ≡ false) (sym file_is) (still_special change file (subst (λ (y : Object). is_normal y ≡ false) file_is not_normal)) })) four
               left_sized wide (events.Ask who request replies.Done) (legal none) refl leaves;
           still = λ all. let no : true ≡ false = sym all in cc;
@@ -370,9 +305,9 @@ module _ {D : Type 0} (g : Ghosts D) (k : Kernel D) (s : State) (serves : Serves
       -- the seats where it stays as it was
       unchanged : now ≡ was → with_drafting t.draw (Some now) k.seats ≡ k.seats
       unchanged same =
-          let place = ended.place g k s serves who t x found was drafting in
-          with_is who t k.seats s.grants seat x place (Some now)
-          ∙ ap (λ (w : Option Drafting). place.ss1 ++ record { grant = seat.grant; drafting = w } ∷ place.ss2) (ap (λ (w : Drafting). Some w) same ∙ sym (ended.drafting_is g k s serves who t x found was drafting))
+          let place = held.place in
+          with_is who t k.seats s.grants held.seat held.x place (Some now)
+          ∙ ap (λ (w : Option Drafting). place.ss1 ++ record { grant = held.seat.grant; drafting = w } ∷ place.ss2) (ap (λ (w : Drafting). Some w) same ∙ sym held.drafting)
           ∙ sym place.seats_are
 
       as_it_was : (space ≡ k.space) → now ≡ was → new ≡ record k { disk = disk }
@@ -380,6 +315,9 @@ module _ {D : Type 0} (g : Ghosts D) (k : Kernel D) (s : State) (serves : Serves
 
       module _ (left_sized : (c : D) (n : ℕ) (i : Image) → g.left_since c n i → length i ≡ g.blocks c) (sized : (c : D) → IsTrue (g.honest c) → length (g.content c) ≡ g.blocks c) (none : k.stop ≡ None)
           (result : Result (Unit {0}) Refused) (changes : ChangesDraft g change k.disk disk k.space space was now result) where
+        alters : AltersDraft g change s.graph ds id before k.disk disk k.space space was now result
+        alters = changes.alters s.graph ds id before knows
+
         wide : length (g.content k.disk) ≡ g.blocks disk
         wide = sized k.disk serves.store.carries.tells.honest ∙ sym changes.calls.same.size
 
@@ -403,19 +341,19 @@ module _ {D : Type 0} (g : Ghosts D) (k : Kernel D) (s : State) (serves : Serves
           drawn = refl;
           named = refl;
           grants = grants_with t.draw (Some now) k.seats;
-          leaves = wider g k.disk disk _ _ (changes.leaves s.graph ds id before knows) (λ c holds. record { graph = s.graph; may = Undone; fits = fits g k s serves (g.blocks disk) wide; holds = holds });
+          leaves = wider g k.disk disk _ _ alters.leaves (λ c holds. record { graph = s.graph; may = Undone; fits = fits g k s serves (g.blocks disk) wide; holds = holds });
         }
 
         did : (r : Result (Unit {0}) Refused) → r ≡ result → EndsSo g k new s who request (done_or r)
         did (Ok u) same =
-            altered (rw (← same) at (changes.done s.graph ds id before knows)) changes.shadow changes.created (rw (← same) at (changes.room s.graph ds id before knows)) left_sized wide none (changes.leaves s.graph ds id before knows)
+            altered (rw (← same) at alters.done) changes.shadow changes.created (rw (← same) at alters.room) left_sized wide none alters.leaves
         did (Err (refusals.Full n)) same =
-            let told = (rw (← same) at (changes.full s.graph ds id before knows)) refl in
-            let spared = (rw (← same) at (changes.spared s.graph ds id before knows)) refl in
+            let told = (rw (← same) at alters.full) refl in
+            let spared = (rw (← same) at alters.spared) refl in
             full n told.0 told.1 spared.0 spared.1 spared.2
         did (Err (refusals.Disk false)) same = (let two = (rw (← same) at changes.untried) refl in disk_failed g left_sized sized 31092 k new two.0 (as_it_was two.1 two.2) s who serves none request)
         did (Err (refusals.Disk true)) same = doubtful
-        did (Err (refusals.Damaged damage)) same = let no : true ≡ false = rw (← same) at (changes.sound s.graph ds id before knows) in cc
+        did (Err (refusals.Damaged damage)) same = let no : true ≡ false = rw (← same) at alters.sound in cc
         did (Err refusals.Memory) same = absurd (rw (← same) at changes.refused)
 
         pub ends_so : EndsSo g k new s who request (done_or result)
@@ -440,12 +378,11 @@ undrafted g k s serves who t none = at (grant_of s who t) refl
 -- ---- calls that only read
 
 module _ {D : Type 0} (g : Ghosts D) (left_sized : (d : D) (t : ℕ) (c : Image) → g.left_since d t c → length c ≡ g.blocks d) (sized : (d : D) → IsTrue (g.honest d) → length (g.content d) ≡ g.blocks d)
-    (k : Kernel D) (who : ℕ) (t : Tuid) (was : Drafting) (drafting : drafting_at k.seats t.draw ≡ Some was) (the : (s : State) → Serves g k s → (x : Grant) × (grant_of s who t ≡ Some x)) where
+    (k : Kernel D) (who : ℕ) (t : Tuid) (was : Drafting) (the : (s : State) → Serves g k s → IsHeld g k s who t was) where
   pub tries_size : Tries g k k who (asks.Size (Through t)) (Ok (replies.Number was.root.size))
   tries_size = tries_so g left_sized sized 0 k k (reads_none g 0 k.disk) refl who (asks.Size (Through t)) (Ok (replies.Number was.root.size))
-      (λ s serves none. let x = the s serves in
-      told g left_sized sized 0 k k (reads_none g 0 k.disk) refl s who serves none (asks.Size (Through t)) (replies.Number was.root.size) refl refl
-      (subst (IsSeen k.words.seed s who (asks.Size (Through t))) (ap replies.Number (sym (size_is g k s serves who t x.0 x.1 was drafting))) (size_told g k s serves who t x.0 x.1 was drafting k.words.seed)))
+      (λ s serves none. told g left_sized sized 0 k k (reads_none g 0 k.disk) refl s who serves none (asks.Size (Through t)) (replies.Number was.root.size) refl refl
+      (subst (IsSeen k.words.seed s who (asks.Size (Through t))) (ap replies.Number (sym (size_is g k s serves who t was (the s serves)))) (size_told g k s serves who t was (the s serves) k.words.seed)))
       tt tt
 
   module _ (n : ℕ) (d : D) (reads : OnlyReads g n k.disk d) (offset count : ℕ) where
@@ -460,48 +397,29 @@ module _ {D : Type 0} (g : Ghosts D) (left_sized : (d : D) (t : ℕ) (c : Image)
         → IfErr result (IsCalmCause g k.disk d) → Tries g k (record k { disk = d }) who read result
     unfolding knows files
     tries_read (Ok reply) exact plain sound cause = tries_so g left_sized sized n k (record k { disk = d }) reads refl who read (Ok reply)
-        (λ s serves none. let x = the s serves in
-        let knows = knows g k s serves who t x.0 x.1 was drafting in
+        (λ s serves none.
+        let knows = knows g k s serves who t was (the s serves) in
         told g left_sized sized n k (record k { disk = d }) reads refl s who serves none read reply refl refl
-        (subst (IsSeen k.words.seed s who read) (sym (exact s.graph _ k.space _ knows.object _ knows.file knows.store knows.there knows.is_open knows.is_file (sym (size_is g k s serves who t x.0 x.1 was drafting))))
-        (read_told g k s serves who t x.0 x.1 was drafting k.words.seed offset count)))
+        (subst (IsSeen k.words.seed s who read) (sym (exact s.graph _ k.space _ knows.object _ knows.file knows.store knows.there knows.is_open knows.is_file (sym (size_is g k s serves who t was (the s serves)))))
+        (read_told g k s serves who t was (the s serves) k.words.seed offset count)))
         plain tt
     tries_read (Err (refusals.Full need)) exact plain sound cause = absurd cause
     tries_read (Err (refusals.Disk tried)) exact plain sound cause = subst (λ (b : Bool). Tries g k (record k { disk = d }) who read (Err (refusals.Disk b))) (sym cause.0)
         (tries_so g left_sized sized n k (record k { disk = d }) reads refl who read (Err (refusals.Disk false)) (λ s serves none. disk_failed g left_sized sized n k (record k { disk = d }) reads refl s who serves none read) tt cause.1)
     tries_read (Err (refusals.Damaged damage)) exact plain sound cause = tries_so g left_sized sized n k (record k { disk = d }) reads refl who read (Err (refusals.Damaged damage))
-        (λ s serves none. let x = the s serves in let knows = knows g k s serves who t x.0 x.1 was drafting in
+        (λ s serves none. let knows = knows g k s serves who t was (the s serves) in
         let no : true ≡ false = sound s.graph _ k.space _ knows.object _ knows.store knows.there knows.is_open in cc) tt tt
     tries_read (Err refusals.Memory) exact plain sound cause = tries_so g left_sized sized n k (record k { disk = d }) reads refl who read (Err refusals.Memory)
         (λ s serves none. memory g left_sized sized n k (record k { disk = d }) reads refl s who serves none read) tt tt
 
-change_cause : {D : Type 0} (g : Ghosts D) (at : ℕ) (a b : D) (kept : Kept) (result : Result (Unit {0}) Refused) → IfErr result (IsRefusal g at 4 a b kept) → IfErr (done_or result) (IsCause g a b)
-change_cause g at a b kept (Ok u) is = tt
-change_cause g at a b kept (Err (refusals.Full need)) is = tt
-change_cause g at a b kept (Err (refusals.Disk tried)) is = is
-change_cause g at a b kept (Err (refusals.Damaged damage)) is = tt
-change_cause g at a b kept (Err refusals.Memory) is = tt
-
 -- the whole call, of a grant that has a draft
 pub tries_altered : {D : Type 0} (g : Ghosts D) (left_sized : (d : D) (t : ℕ) (c : Image) → g.left_since d t c → length c ≡ g.blocks d) (sized : (d : D) → IsTrue (g.honest d) → length (g.content d) ≡ g.blocks d)
-    (k : Kernel D) (ready : list_all (is_ready k.names.room) k.seats ≡ true) (who : ℕ) (t : Tuid) (was : Drafting) (drafting : drafting_at k.seats t.draw ≡ Some was) (the : (s : State) → Serves g k s → (x : Grant) × (grant_of s who t ≡ Some x))
+    (k : Kernel D) (ready : list_all (is_ready k.names.room) k.seats ≡ true) (who : ℕ) (t : Tuid) (was : Drafting) (the : (s : State) → Serves g k s → IsHeld g k s who t was)
     (change : Change) (request : Request) (is : IsChanging request change) (goes_to : target request ≡ Through t) → ((s : State) → Serves g k s → refusal_of s who request ≡ None)
     → (now : Drafting) (disk : D) (space : Kept) (result : Result (Unit {0}) Refused) → ChangesDraft g change k.disk disk k.space space was now result
     → Tries g k (record k { disk = disk; space = space; seats = with_drafting t.draw (Some now) k.seats }) who request (done_or result)
-tries_altered g left_sized sized k ready who t was drafting the change request is goes_to goes now disk space result changes = record {
-  ends = λ s serves none. let x = the s serves in
-      ends_so g k s serves who t x.0 x.1 was drafting ready change request is goes_to (goes s serves) now disk space left_sized sized none result changes;
-  plain = plain result;
-  cause = change_cause g was.at k.disk disk space result changes.refused;
-  size = changes.calls.same.size;
-  faults = changes.calls.faults;
-  stop = refl;
-  collections = refl;
-  seed = refl;
-  kept = omega arith;
-  drawn = omega arith;
+tries_altered g left_sized sized k ready who t was the change request is goes_to goes now disk space result changes = record {
+  ends = λ s serves none.
+      ends_so g k s serves who t was (the s serves) ready change request is goes_to (goes s serves) now disk space left_sized sized none result changes;
+  went = went_done g k disk space (with_drafting t.draw (Some now) k.seats) changes.calls.same.size changes.calls.faults (draws request) result (λ tried is. rw is at changes.refused);
 }
-  where
-    plain : (r : Result (Unit {0}) Refused) → IfOk (done_or r) IsPlainReply
-    plain (Ok u) = tt
-    plain (Err e) = tt

@@ -1,41 +1,18 @@
 -- How a call ends that only reads: a refusal, what was asked for, or the failure of a device call.
-use Rattle.std.proofs.Common.{◌≡◌, inl, inr, ℕ, [], length, Bool, true, false, Option, Some, None, Result, Ok, Err, IsTrue, refl, sym, ◌∙◌, ap, subst, arith}
-use Rattle.std.specs.Prelude.{IfErr, IfOk, sum}
-use Rattle.cfs_base.specs.Calls.{OnlyReads}
-use Rattle.cfs_base.specs.Disk.{Image}
-use Rattle.cfs_base.specs.declared.disk.Disk.{Ghosts}
-use Rattle.cfs_base.specs.declared.identifier.Puid.{Puid}
-use Rattle.cfs_base.specs.declared.kind.Kind.{Kind}
+use Rattle.std.proofs.Common.{◌≡◌, inl, inr, ℕ, [], length, Bool, true, false, Option, Some, None, Result, Ok, Err, IsTrue, refl, sym, ◌∙◌, ap, subst, arith, IfErr, IfOk, sum}
+use Rattle.cfs_core.proofs.Words.{AFile, AnIndex, answer_legal, creates, drafts_of, draws, Either, Event, Ghosts, Image, Index, is_damaged, IsPlainReply, Kind, need_of, next, Object, object_at, OnlyReads, outcome_legal, outcome_plain, Puid, refusal_of, Refused, refused_answer, refused_plain, Reply, Request, State, Wanted}
 use Rattle.cfs_base.specs.declared.kind.Kind.TheVariants as kinds
-use Rattle.cfs_base.specs.declared.refusal.Refused.{Refused}
 use Rattle.cfs_base.specs.declared.refusal.Refused.TheVariants as refusals
-use Rattle.special_files.specs.Refusal.{is_damaged}
-use Rattle.ufs_model.specs.declared.asked.Event.{Event}
 use Rattle.ufs_model.specs.declared.asked.Event.TheVariants as events
-use Rattle.ufs_model.specs.declared.asked.Reply.{Reply}
 use Rattle.ufs_model.specs.declared.asked.Reply.TheVariants as replies
-use Rattle.ufs_model.specs.declared.asked.Request.{Request}
-use Rattle.ufs_model.specs.declared.asked.Wanted.{Wanted}
-use Rattle.ufs_model.specs.declared.asked.Wanted.TheVariants.{AFile, AnIndex, Either}
-use Rattle.ufs_model.specs.declared.object.Index.{Index}
-use Rattle.ufs_model.specs.declared.object.Object.{Object}
 use Rattle.ufs_model.specs.declared.object.Object.TheVariants as objects
-use Rattle.ufs_model.specs.Graph.{object_at}
-use Rattle.ufs_model.specs.Need.{need_of}
-use Rattle.ufs_model.specs.Next.{next}
-use Rattle.ufs_model.specs.Outcome.{creates}
-use Rattle.ufs_model.specs.Plain.{IsPlainReply}
-use Rattle.ufs_model.specs.Refusal.{refusal_of}
-use Rattle.ufs_model.specs.State.{State}
-use Rattle.ufs_model.proofs.Legal.{answer_legal, outcome_legal, refused_answer, refused_plain}
-use Rattle.ufs_model.proofs.Outcomes.{outcome_plain}
-use Rattle.vol_owners.specs.Account.{drafts_of}
-use Rattle.cfs_core.specs.Calls.{Answers, ByOutcome, ByRefusal, EndsSo, IsCause, IsOwed, Makes, Owes, Tries}
+use Rattle.cfs_core.specs.Calls.{Answers, ByOutcome, ByRefusal, EndsSo, IsCause, IsOwed, Makes, Owes, Tries, Went}
 use Rattle.cfs_core.specs.Kernel.{Kernel}
 use Rattle.cfs_core.specs.Looks.{IsCalm, IsCalmCause, Knows, ReachesAll}
 use Rattle.cfs_core.specs.StandsFor.{Serves, drafts_of_seats}
 use Rattle.cfs_core.specs.Ways.{Reaches, unfit_of}
 use Rattle.cfs_core.proofs.Refusing.{IsSeen}
+use Rattle.cfs_core.proofs.Went.{went_so}
 use Rattle.cfs_core.proofs.Serving.{running, shut, stays}
 
 -- what is owed is so of a reply in which no device call failed
@@ -101,15 +78,7 @@ module _ {D : Type 0} (g : Ghosts D) (left_sized : (d : D) (t : ℕ) (c : Image)
       → IfOk result IsPlainReply → IfErr result (IsCause g old.disk new.disk) → Tries g old new who request result
   tries_so who request result ends plain cause = record {
     ends = ends;
-    plain = plain;
-    cause = cause;
-    size = reads.same.size;
-    faults = reads.faults;
-    stop = ap (λ (k : Kernel D). k.stop) same;
-    collections = ap (λ (k : Kernel D). k.collections) same;
-    seed = ap (λ (k : Kernel D). k.words.seed) same;
-    kept = omega (arith, ap (λ (k : Kernel D). k.words.drawn) same);
-    drawn = omega (arith, ap (λ (k : Kernel D). k.words.drawn) same);
+    went = subst (λ (k : Kernel D). Went g old k (draws request) result) (sym same) (went_so g old new.disk old.space old.seats reads.same.size reads.faults (draws request) result plain cause);
   }
 
   -- a read that failed, where such an object is

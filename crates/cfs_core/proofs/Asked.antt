@@ -1,27 +1,9 @@
 -- A request that was asked: of a core that stopped, answered, or refused by what lies below.
-use Rattle.std.proofs.Common.{◌≡◌, inl, inr, ⊎_elim, ℕ, ◌-◌, List, [], length, true, false, Option, Some, None, Ok, Err, IsTrue, refl, sym, ◌∙◌, ap, subst, arith}
-use Rattle.std.specs.Prelude.{sum}
-use Rattle.std.proofs.lemmas.Bool.{eq-eqb}
-use Rattle.cfs_base.specs.Disk.{Image}
-use Rattle.cfs_base.specs.declared.disk.Disk.{Ghosts}
-use Rattle.cfs_base.specs.declared.refusal.Refused.{Refused}
+use Rattle.std.proofs.Common.{◌≡◌, inl, inr, ⊎_elim, ℕ, ◌-◌, List, [], length, true, false, Option, Some, None, Ok, Err, IsTrue, refl, sym, ◌∙◌, ap, subst, arith, sum, eq-eqb}
+use Rattle.cfs_core.proofs.Words.{After, call, CutInDoubt, Event, Ghosts, Graph, Image, InDoubt, is_done, IsPlainReply, Late, Listing, next, refusal_of, Refused, Reply, Request, Rescue, rescues_of, State, stopped_at, wider}
 use Rattle.cfs_base.specs.declared.refusal.Refused.TheVariants as refusals
-use Rattle.cfs_base.proofs.Runs.{wider}
-use Rattle.marking.specs.declared.memory.Rescue.{Rescue}
-use Rattle.marking.specs.Meanwhile.{is_done, rescues_of}
-use Rattle.puid_space.specs.Directory.{Listing}
-use Rattle.survival.specs.Call.{After, CutInDoubt, InDoubt, Late}
-use Rattle.survival.proofs.Calls.{call}
-use Rattle.ufs_model.specs.declared.asked.Event.{Event}
 use Rattle.ufs_model.specs.declared.asked.Event.TheVariants as events
-use Rattle.ufs_model.specs.declared.asked.Reply.{Reply}
 use Rattle.ufs_model.specs.declared.asked.Reply.TheVariants as replies
-use Rattle.ufs_model.specs.declared.asked.Request.{Request}
-use Rattle.ufs_model.specs.Graph.{Graph}
-use Rattle.ufs_model.specs.Next.{next}
-use Rattle.ufs_model.specs.Plain.{IsPlainReply}
-use Rattle.ufs_model.specs.Refusal.{refusal_of}
-use Rattle.ufs_model.specs.State.{State, stopped_at}
 use Rattle.cfs_core.specs.declared.collecting.Collections.{Collections}
 use Rattle.cfs_core.specs.declared.kernel.Stop.{Stop}
 use Rattle.cfs_core.specs.Asked.{Asks, Happens, IsShortContent, IsToldCause, stopped_by, told}
@@ -30,7 +12,7 @@ use Rattle.cfs_core.specs.Kernel.{Kernel}
 use Rattle.cfs_core.specs.Rescues.{AreRescued}
 use Rattle.cfs_core.specs.StandsFor.{IsFront, Serves, Stands}
 use Rattle.cfs_core.proofs.Collected.{collection_asked, collection_ready, rescued_after, same_rescued}
-use Rattle.cfs_core.proofs.Serving.{fewer_lost, fits, pending, running, serves_from, serves_with, stands_from, stored, stored_beside}
+use Rattle.cfs_core.proofs.Serving.{fewer_lost, fits, pending, running, serves_from, stands_from, stored}
 
 plain_goes_on : (reply : Reply) → IsPlainReply reply → (before : Option Stop) → stopped_by reply before ≡ before
 plain_goes_on (replies.Disk doubt) plain before = absurd plain
@@ -59,19 +41,21 @@ module _ {D : Type 0} (g : Ghosts D) (old : Kernel D) (x : Collections) (ready :
   roomy = record old { collections = x }
 
   pub serves_roomy : (s : State) → Serves g old s → Serves g roomy s
-  serves_roomy s serves = serves_with g roomy s (stored_beside g old x s (stored g old s serves)) (collection_ready (g.content old.disk) s old.collections.collector x.collector ready serves.collecting)
+  serves_roomy s serves = stored g old s serves x (collection_ready (g.content old.disk) s old.collections.collector x.collector ready serves.collecting)
 
   happens : ((d : D) → IsTrue (g.honest d) → length (g.content d) ≡ g.blocks d) → (mid : Kernel D) → g.blocks mid.disk ≡ g.blocks old.disk → (y : Collections) (s : State) (who : ℕ) (request : Request) (reply : Reply) → mid.stop ≡ None → AreRescued x.collector y.collector (rescues_of s who request reply) → Serves g old s
       → Answers g roomy mid s who request reply → Happens g old (record mid { collections = y }) s (events.Ask who request reply)
   happens sized mid size y s who request reply none rescued serves is = record {
     after = is.event.after;
     step = is.event.step;
-    stands = stands_from g (record mid { collections = y }) is.event.after none (serves_with g (record mid { collections = y }) is.event.after (stored_beside g mid y is.event.after is.event.stores)
-        (collection_asked (g.content old.disk) (g.content mid.disk) old.words.seed s is.event.after who request reply is.event.step serves.state is.event.strays x.collector y.collector rescued (serves_roomy s serves).collecting));
+    stands = stands_from g (record mid { collections = y }) is.event.after none now;
     survives = inl is.event.survives;
     lost = λ _. fewer_lost (g.content old.disk) (g.content mid.disk) s.graph is.event.after.graph
-        (sized mid.disk is.event.stores.store.carries.tells.honest ∙ size ∙ sym (sized old.disk serves.store.carries.tells.honest)) is.event.strays;
+        (sized mid.disk now.store.carries.tells.honest ∙ size ∙ sym (sized old.disk serves.store.carries.tells.honest)) is.event.strays;
   }
+    where
+      now : Serves g (record mid { collections = y }) is.event.after
+      now = is.event.stores y (collection_asked (g.content old.disk) (g.content mid.disk) old.words.seed s is.event.after who request reply is.event.step serves.state is.event.strays x.collector y.collector rescued (serves_roomy s serves).collecting)
 
   -- there was no memory for the rescue
   pub asks_starved : x.called ≡ old.collections.called → x.finished ≡ old.collections.finished → (who : ℕ) (request : Request) → old.stop ≡ None → Asks g old roomy who request replies.Memory
@@ -129,26 +113,26 @@ pub asks_answered : {D : Type 0} (g : Ghosts D) → ((d : D) → IsTrue (g.hones
     → Tries g (record old { collections = x }) mid who request (Ok reply) → Asks g old (record mid { collections = y }) who request reply
 asks_answered g sized old x ready called finished mid y who request reply more are rescued called_on finished_on none tries = record {
   event = λ s stands. let serves = serves_from g old s none stands in
-      happens g old x ready sized mid tries.size y s who request reply (tries.stop ∙ none) (all_rescued s serves) serves
+      happens g old x ready sized mid tries.went.size y s who request reply (tries.went.stop ∙ none) (all_rescued s serves) serves
       (tries.ends s (serves_roomy g old x ready s serves) none);
   owed = λ _ s stands. (tries.ends s (serves_roomy g old x ready s (serves_from g old s none stands)) none).owed;
   still = λ _ s stands. (tries.ends s (serves_roomy g old x ready s (serves_from g old s none stands)) none).still;
   stopped = λ stop is. cc;
-  stops = λ _. tries.stop ∙ none ∙ sym (plain_goes_on reply tries.plain None);
-  cause = λ _. plain_cause g old.disk mid.disk reply tries.plain;
+  stops = λ _. tries.went.stop ∙ none ∙ sym (plain_goes_on reply tries.went.plain None);
+  cause = λ _. plain_cause g old.disk mid.disk reply tries.went.plain;
   rescued = λ _ s stands. rescued_after old.collections.collector x.collector y.collector (rescues_of s who request reply) ready (all_rescued s (serves_from g old s none stands));
-  called = called_on ∙ ap (λ (c : Collections). c.called) tries.collections ∙ called;
-  finished = finished_on ∙ ap (λ (c : Collections). c.finished) tries.collections ∙ finished;
-  size = tries.size;
-  faults = tries.faults;
-  short = plain_short reply tries.plain;
-  seed = tries.seed;
-  kept = tries.kept;
-  drawn = tries.drawn;
+  called = called_on ∙ ap (λ (c : Collections). c.called) tries.went.collections ∙ called;
+  finished = finished_on ∙ ap (λ (c : Collections). c.finished) tries.went.collections ∙ finished;
+  size = tries.went.size;
+  faults = tries.went.faults;
+  short = plain_short reply tries.went.plain;
+  seed = tries.went.seed;
+  kept = tries.went.kept;
+  drawn = tries.went.drawn;
 }
   where
     all_rescued : (s : State) → Serves g old s → AreRescued x.collector y.collector (rescues_of s who request reply)
-    all_rescued s serves = subst (AreRescued x.collector y.collector) (are s (serves_roomy g old x ready s serves)) (subst (λ (c : Collections). AreRescued c.collector y.collector more) tries.collections rescued)
+    all_rescued s serves = subst (AreRescued x.collector y.collector) (are s (serves_roomy g old x ready s serves)) (subst (λ (c : Collections). AreRescued c.collector y.collector more) tries.went.collections rescued)
 
 -- one that was refused from below
 module _ {D : Type 0} (g : Ghosts D) (left_sized : (d : D) (t : ℕ) (c : Image) → g.left_since d t c → length c ≡ g.blocks d) (sized : (d : D) → IsTrue (g.honest d) → length (g.content d) ≡ g.blocks d)
@@ -230,20 +214,20 @@ module _ {D : Type 0} (g : Ghosts D) (left_sized : (d : D) (t : ℕ) (c : Image)
 
   pub asks_refused : (refused : Refused) (new : Kernel D) → new ≡ stopped_as (told refused (g.moment mid.disk)) → Tries g (roomy g old x ready) mid who request (Err refused) → Asks g old new who request (told refused (g.moment mid.disk))
   asks_refused refused new is tries = subst (λ (k : Kernel D). Asks g old k who request (told refused (g.moment mid.disk))) (sym is) (record {
-    event = λ s stands. let serves = serves_from g old s none stands in told_happens refused (g.moment mid.disk) s (tries.stop ∙ none) tries.collections serves (tries.ends s (serves_roomy g old x ready s serves) none);
+    event = λ s stands. let serves = serves_from g old s none stands in told_happens refused (g.moment mid.disk) s (tries.went.stop ∙ none) tries.went.collections serves (tries.ends s (serves_roomy g old x ready s serves) none);
     still = λ _ s stands. told_still refused (g.moment mid.disk) s (tries.ends s (serves_roomy g old x ready s (serves_from g old s none stands)) none);
     owed = λ _ s stands. told_owed refused (g.moment mid.disk) s (tries.ends s (serves_roomy g old x ready s (serves_from g old s none stands)) none);
     stopped = λ stop same. cc;
-    stops = λ _. ap (λ (o : Option Stop). stopped_by (told refused (g.moment mid.disk)) o) (tries.stop ∙ none);
-    cause = λ _. told_cause refused tries.cause;
+    stops = λ _. ap (λ (o : Option Stop). stopped_by (told refused (g.moment mid.disk)) o) (tries.went.stop ∙ none);
+    cause = λ _. told_cause refused tries.went.cause;
     rescued = λ _ s stands. subst (λ (more : List Rescue). AreRescued old.collections.collector mid.collections.collector more) (sym (nothing s (told refused (g.moment mid.disk)) (undone refused (g.moment mid.disk))))
-        (subst (λ (c : Collections). AreRescued old.collections.collector c.collector []) (sym tries.collections) ready);
-    called = ap (λ (c : Collections). c.called) tries.collections ∙ called;
-    finished = ap (λ (c : Collections). c.finished) tries.collections ∙ finished;
+        (subst (λ (c : Collections). AreRescued old.collections.collector c.collector []) (sym tries.went.collections) ready);
+    called = ap (λ (c : Collections). c.called) tries.went.collections ∙ called;
+    finished = ap (λ (c : Collections). c.finished) tries.went.collections ∙ finished;
     size = size;
-    faults = tries.faults;
+    faults = tries.went.faults;
     short = told_short refused (g.moment mid.disk);
-    seed = tries.seed;
-    kept = tries.kept;
-    drawn = tries.drawn;
+    seed = tries.went.seed;
+    kept = tries.went.kept;
+    drawn = tries.went.drawn;
   })

@@ -1,27 +1,10 @@
 -- Of what a reference goes to that has no draft, and meets no grant, no grant has a draft.
-use Rattle.std.proofs.Common.{◌≡◌, ℕ, List, [], ◌∷◌, Bool, true, false, cond, not, ◌&&◌, Option, Some, None, refl, sym, ◌∙◌, ap, subst}
-use Rattle.std.specs.Prelude.{find, map, option_and_then}
-use Rattle.std.specs.List.{list_all, list_any}
-use Rattle.std.proofs.lemmas.Bool.{and_parts, or_from, or_parts}
-use Rattle.std.proofs.lemmas.List.Elements.{filter-append}
-use Rattle.cfs_base.specs.declared.identifier.Puid.{Puid}
-use Rattle.cfs_base.specs.declared.identifier.Tuid.{Tuid}
-use Rattle.cfs_base.specs.declared.kind.Mode.{Mode}
-use Rattle.cfs_base.specs.declared.kind.Mode.TheVariants.{Reading, Writing}
+use Rattle.std.proofs.Common.{◌≡◌, ℕ, List, [], ◌∷◌, Bool, true, false, cond, not, ◌&&◌, Option, Some, None, refl, sym, ◌∙◌, ap, subst, find, map, option_and_then}
+use Rattle.cfs_core.proofs.Words.{and_parts, collides, conflicts, differs, Direct, Draft, draft_of, Drafting, drafts_of, Grant, grant_of, is_grant, is_reading, list_all, list_any, meets_a_grant, Mode, named, none_collide, Opened, or_from, or_parts, Puid, Reading, Ref, same_puid, State, Through, Tuid, Writing}
 use Rattle.open_table.specs.declared.grant.Grant as seats
-use Rattle.open_table.specs.Grants.{collides, conflicts, none_collide}
-use Rattle.special_files.specs.Drafting.{Drafting}
-use Rattle.special_files.proofs.Lists.{differs}
-use Rattle.ufs_model.specs.declared.asked.Ref.{Ref}
-use Rattle.ufs_model.specs.declared.asked.Ref.TheVariants.{Direct, Through}
-use Rattle.ufs_model.specs.declared.object.Draft.{Draft}
-use Rattle.ufs_model.specs.declared.object.Grant.{Grant}
-use Rattle.ufs_model.specs.Identifier.{same_puid}
-use Rattle.ufs_model.specs.Refusal.{is_reading, meets_a_grant}
-use Rattle.ufs_model.specs.State.{State, draft_of, grant_of, is_grant, named}
-use Rattle.vol_owners.specs.Account.{Opened, drafts_of}
+use Rattle.cfs_core.proofs.Ways.{adds_none}
 use Rattle.cfs_core.specs.Kernel.{Seat, grants_in}
-use Rattle.cfs_core.specs.StandsFor.{AreDraftsOf, HasDraftOf, bare, drafts_at, drafts_of_seats}
+use Rattle.cfs_core.specs.StandsFor.{AreDraftsOf, HasDraftOf, bare, drafts_of_seats}
 
 -- for writing
 writing : (m : Mode) → is_reading m ≡ false → m ≡ Writing
@@ -54,17 +37,6 @@ apart_before e h none mode = at (same_puid e.id h.id) (subst (λ m. not (same_pu
     at : (b : Bool) → not (b && conflicts Writing h.mode) ≡ true → b ≡ false
     at true is = let no : not (conflicts Writing h.mode) ≡ false = ap not (conflict_before h.mode) in let both : true ≡ false = sym is ∙ no in cc
     at false is = refl
-
--- the seat adds nothing where, should it have a draft, it is of another object
-adds_none : (id : Puid) (seat : Seat) (x : Grant) (ss : List Seat) (grants : List Grant) → drafts_of (drafts_of_seats ss grants) id ≡ [] → ((d : Drafting) (e : Draft) → seat.drafting ≡ Some d → x.draft ≡ Some e → same_puid seat.grant.id id ≡ false)
-    → drafts_of (drafts_of_seats (seat ∷ ss) (x ∷ grants)) id ≡ []
-adds_none id seat x ss grants rest other =
-    filter-append (λ d. same_puid d.id id) (drafts_of_seats ss grants) (drafts_at seat seat.drafting x.draft) ∙ rw rest (at seat.drafting x.draft refl refl)
-  where
-    at : (o : Option Drafting) (d : Option Draft) → seat.drafting ≡ o → x.draft ≡ d → drafts_of (drafts_at seat o d) id ≡ []
-    at None d is was = refl
-    at (Some o) None is was = refl
-    at (Some o) (Some d) is was = rw (other o d is was) refl
 
 module _ (ds : List Opened) (id : Puid) where
   -- ---- straight

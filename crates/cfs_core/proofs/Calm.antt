@@ -1,20 +1,9 @@
 -- Calls that only read a file, as the core has them.
 use Rattle.std.proofs.Common.{◌≡◌, ℕ, ◌+◌, ◌≤◌, Bool, true, false, Err, subst, arith}
-use Rattle.std.proofs.lemmas.Bool.Decides.{nat_tests}
-use Rattle.cfs_base.specs.Calls.{HasStopped, OnlyReads}
-use Rattle.cfs_base.specs.Refusals.{had_tried, refused_by}
-use Rattle.cfs_base.specs.declared.disk.Disk.{Ghosts}
-use Rattle.cfs_base.specs.declared.refusal.Refused.{Refused}
+use Rattle.cfs_core.proofs.Words.{Ghosts, had_tried, HasStopped, is_damaged, is_range, IsReadRefusal, nat_tests, Object, OnlyReads, reads_then, Refused, refused_by, stopped_after_reads, store_reads, Trouble}
 use Rattle.cfs_base.specs.declared.refusal.Refused.TheVariants as refusals
-use Rattle.cfs_base.specs.declared.refusal.Trouble.{Trouble}
 use Rattle.cfs_base.specs.declared.refusal.Trouble.TheVariants as trouble
-use Rattle.cfs_base.proofs.Calls.{reads_then, stopped_after_reads}
-use Rattle.file_ops.specs.Files.{IsReadRefusal}
 use Rattle.normal_files.specs.Refusal.{IsTrouble}
-use Rattle.special_files.specs.Refusal.{is_damaged}
-use Rattle.special_files.proofs.Begun.{store_reads}
-use Rattle.ufs_model.specs.declared.object.Object.{Object}
-use Rattle.ufs_model.specs.Refusal.{is_range}
 use Rattle.cfs_core.specs.Looks.{IsCalm, IsCalmCause, Knows}
 
 -- the store still has the object

@@ -1,37 +1,15 @@
 -- How a call ends that changes one object.
-use Rattle.std.proofs.Common.{◌≡◌, ℕ, ◌+◌, ◌≤◌, [], ◌∷◌, length, true, false, Option, Some, None, IsTrue, refl, sym, ◌∙◌, ap, subst, arith}
-use Rattle.std.specs.Prelude.{option_map, sum}
-use Rattle.std.proofs.lemmas.Bool.{and_parts}
-use Rattle.cfs_base.specs.Disk.{Image}
-use Rattle.cfs_base.specs.declared.disk.Disk.{Ghosts}
-use Rattle.cfs_base.specs.declared.identifier.Puid.{Puid}
-use Rattle.cyl_map.specs.declared.entry.MapEntry.{MapEntry}
-use Rattle.intentions.specs.Store.{StoreHas}
-use Rattle.puid_space.specs.Kinds.{kind_of, kinds_of}
-use Rattle.puid_space.proofs.Graphs.{insert_entry-same, keys_of-kinds_in, kind_in-kinds_in, kinds_in-insert_entry}
+use Rattle.std.proofs.Common.{◌≡◌, ℕ, ◌+◌, ◌≤◌, [], ◌∷◌, length, true, false, Option, Some, None, IsTrue, refl, sym, ◌∙◌, ap, subst, arith, map, option_map, sum}
+use Rattle.cfs_core.proofs.Words.{and_parts, block_there, blocks_of, ChangesOnly, creates, Ghosts, Graph, has_block, has_block-still, has_number, Image, insert_entry-same, is_placed, is_taken, IsOfThese, IsSpeakable, keys_of-kinds_in, kind_in-kinds_in, kind_of, kinds_in-insert_entry, kinds_of, MapEntry, Object, object_at, object_at-with_object, of_owner, outcome_of, owner_of, Puid, refusal_of}
+use Rattle.cfs_core.proofs.Words.{Request, rises, same_puid_itself, State, StoreHas, with_object}
 use Rattle.ufs_model.specs.declared.asked.Event.TheVariants as events
 use Rattle.ufs_model.specs.declared.asked.Reply.TheVariants as replies
-use Rattle.ufs_model.specs.declared.asked.Request.{Request}
-use Rattle.ufs_model.specs.declared.object.Object.{Object}
-use Rattle.ufs_model.specs.Graph.{Graph, has_block, object_at, with_object}
-use Rattle.ufs_model.specs.Identifier.{rises}
-use Rattle.ufs_model.specs.Numbers.{has_number}
-use Rattle.ufs_model.specs.Object.{blocks_of}
-use Rattle.ufs_model.specs.Outcome.{creates, outcome_of}
-use Rattle.ufs_model.specs.Refusal.{refusal_of}
-use Rattle.ufs_model.specs.State.{State}
-use Rattle.ufs_model.specs.WellFormed.{IsSpeakable}
-use Rattle.ufs_model.proofs.Graphs.{object_at-with_object}
-use Rattle.ufs_model.proofs.RootBlocks.{has_block-still}
-use Rattle.vol_image.proofs.Reached.{same_puid_itself}
-use Rattle.vol_owners.specs.Change.{ChangesOnly, IsOfThese, of_owner}
-use Rattle.vol_owners.specs.Owner.{is_placed, is_taken, owner_of}
-use Rattle.vol_owners.proofs.Keys.{block_there}
 use Rattle.cfs_core.specs.Calls.{Answers, IsInDoubt, IsShort}
 use Rattle.cfs_core.specs.Kernel.{Kernel}
-use Rattle.cfs_core.specs.StandsFor.{Serves, drafts_of_seats}
-use Rattle.cfs_core.proofs.Committed.{IsBeside, IsOutcome, LeavesThese, did, in_doubt}
+use Rattle.cfs_core.specs.StandsFor.{Serves, bare, drafts_of_seats}
+use Rattle.cfs_core.proofs.Committed.{IsOutcome, LeavesThese, did, in_doubt}
 use Rattle.cfs_core.proofs.Grown.{replaced_blocks}
+use Rattle.cfs_core.proofs.Moved.{IsStepped}
 use Rattle.cfs_core.proofs.Refusing.{Puts}
 
 -- what is had by an object that is there stays of one that is there
@@ -76,22 +54,22 @@ module _ {D : Type 0} (g : Ghosts D) (left_sized : (d : D) (t : ℕ) (c : Image)
   names_stay = kinds_in-insert_entry s.graph.objects id o
       ∙ insert_entry-same _ id (kind_of o) (ap rises (keys_of-kinds_in s.graph.objects) ∙ serves.store.ordered) (kind_in-kinds_in s.graph.objects id ∙ ap (option_map kind_of) found ∙ ap (λ k. Some k) (sym alike))
 
-  beside : IsBeside old new s after h
-  beside = subst (λ (k : Kernel D). IsBeside old k s after h) (sym same) (record {
-    grants = puts.grants;
+  stepped : IsStepped old new s after h
+  stepped = subst (λ (k : Kernel D). IsStepped old k s after h) (sym same) (record {
+    graph = puts.graph;
+    rooted = refl;
     stopped = puts.stopped;
     sweeping = puts.sweeping;
-    rooted = refl;
-    seats = refl;
-    root = refl;
-    stop = refl;
     drawn = puts.drawn ∙ serves.front.drawn;
     named = serves.front.names ∙ sym names_stay;
+    root = refl;
+    stop = refl;
+    table = serves.front.grants ∙ ap (map bare) (sym puts.grants);
   })
 
   pub object_in_doubt : IsInDoubt g old new s who request
   object_in_doubt = in_doubt g left_sized sized old new size none s after who 0 request replies.Done serves h n outcome leaves same
 
   pub object_did : StoreHas g h (drafts_of_seats old.seats s.grants) new.disk new.space → ChangesOnly (λ entry. of_owner id.block entry) (g.content old.disk) (g.content new.disk) → Answers g old new s who request replies.Done
-  object_did store only = did g left_sized sized old new size none s after who 0 request replies.Done serves h n outcome leaves beside (id.block ∷ [])
+  object_did store only = did g left_sized sized old new size none s after who 0 request replies.Done serves h n outcome leaves stepped (ap (λ (k : Kernel D). k.seats) same) puts.grants (id.block ∷ [])
       (record { store = store; only = only; these = of_this s.graph id o }) tt refl short no_create

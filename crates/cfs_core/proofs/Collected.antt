@@ -1,39 +1,12 @@
 -- How the collector keeps up with what is asked, and with what a session's end drops.
-use Rattle.std.proofs.Common.{◌≡◌, ℕ, ◌+◌, ◌*◌, ◌/◌, List, [], ◌∷◌, ◌++◌, Bool, true, false, not, ◌||◌, cond, Option, Some, None, is_none, refl, sym, ◌∙◌, ap, subst, arith}
-use Rattle.std.proofs.lemmas.Bool.{and_parts, both_ways, false_from_ne_true}
-use Rattle.std.proofs.lemmas.List.{append_assoc, append-nil}
-use Rattle.cfs_base.specs.Disk.{Image}
-use Rattle.collector_marks.specs.Kept.{blocks_of, colours_of}
-use Rattle.collector_steps.specs.Collecting.{Collecting, IsAsBefore, IsCollecting, IsWithin, colours_in, volume_of, waiting_in}
-use Rattle.collector_steps.specs.Sweep.{NoInner, NoStray}
-use Rattle.collector_steps.specs.declared.phase.Phase.{Phase}
+use Rattle.std.proofs.Common.{◌≡◌, ℕ, ◌+◌, ◌*◌, ◌/◌, List, [], ◌∷◌, ◌++◌, Bool, true, false, not, ◌||◌, cond, Option, Some, None, is_none, refl, sym, ◌∙◌, ap, subst, arith, append_assoc, append-nil}
+use Rattle.cfs_core.proofs.Words.{allowed, and_parts, ask_changes, block_named, both_ways, by_outcome, Changes, changes_keep, Collecting, Collection, Colours, colours_in, colours_of, creates, false_from_ne_true, Graph, Image, is_free_root, is_marking, is_outcome, is_root, is_taken, IsAsBefore, IsCollecting, IsMarking, IsOfPart, IsPaced, IsState, IsSwept, IsWithin, less_open, MapEntry, next}
+use Rattle.cfs_core.proofs.Words.{NoInner, NoStray, outcome_leaves, outcome_of, pace_change, pace_rescue, Phase, refusal_of, Reply, Request, Rescue, rescues_of, same_reply, State, stopped_at, volume_of, waiting_in, well}
+use Rattle.collector_marks.specs.Kept.{blocks_of}
 use Rattle.collector_steps.specs.declared.phase.Phase.TheVariants as phases
-use Rattle.cyl_map.specs.declared.entry.MapEntry.{MapEntry}
-use Rattle.marking.specs.declared.memory.Rescue.{Rescue}
-use Rattle.marking.specs.Colours.{Colours}
-use Rattle.marking.specs.Marking.{IsMarking}
-use Rattle.marking.specs.Meanwhile.{Changes, rescues_of}
-use Rattle.marking.specs.Pace.{IsPaced}
-use Rattle.marking.proofs.Asked.{allowed, ask_changes, less_open}
-use Rattle.marking.proofs.Changed.{changes_keep}
-use Rattle.marking.proofs.Paces.{pace_change, pace_rescue}
-use Rattle.marking.proofs.Wells.{well}
 use Rattle.ufs_model.specs.declared.asked.Event.TheVariants as events
-use Rattle.ufs_model.specs.declared.asked.Reply.{Reply}
 use Rattle.ufs_model.specs.declared.asked.Reply.TheVariants as replies
-use Rattle.ufs_model.specs.declared.asked.Request.{Request}
-use Rattle.ufs_model.specs.declared.collection.Collection.{Collection}
 use Rattle.ufs_model.specs.declared.collection.Collection.TheVariants as collections
-use Rattle.ufs_model.specs.Graph.{Graph, is_free_root}
-use Rattle.ufs_model.specs.Next.{by_outcome, is_outcome, next, same_reply}
-use Rattle.ufs_model.specs.Outcome.{block_named, creates, outcome_of}
-use Rattle.ufs_model.specs.Refusal.{refusal_of}
-use Rattle.ufs_model.specs.State.{State, stopped_at}
-use Rattle.ufs_model.specs.Vanish.{is_marking}
-use Rattle.ufs_model.specs.WellFormed.{IsState}
-use Rattle.ufs_model.proofs.Outcomes.{IsOfPart, outcome_leaves}
-use Rattle.vol_owners.specs.Account.{IsSwept}
-use Rattle.vol_owners.specs.Owner.{is_root, is_taken}
 use Rattle.cfs_core.specs.Calls.{AddsNoStray}
 use Rattle.cfs_core.specs.Kernel.{marks_in, sweeps_in}
 use Rattle.cfs_core.specs.Rescues.{AreRescued, HasRescued, added_with, while_marking}

@@ -1,58 +1,18 @@
 -- How a call ends that makes an object, and puts its identifier into a slot, as one commit.
-use Rattle.std.proofs.Common.{◌≡◌, ◌≢◌, ◌⊎◌, inl, inr, ℕ, zero, suc, ◌+◌, ◌<◌, ◌≤◌, List, [], ◌∷◌, length, Bool, true, false, cond, not, ◌||◌, Option, Some, None, refl, sym, ◌∙◌, ap, subst, arith}
-use Rattle.std.specs.Prelude.{◌==◌, option_map, sum}
-use Rattle.std.specs.List.{range_with_len, sum_by}
-use Rattle.std.specs.Ordering.{match_ordering}
-use Rattle.std.specs.BTreeMap.{insert_entry}
-use Rattle.std.specs.declared.cmp.Ordering.TheVariants.{Less, Equal, Greater}
-use Rattle.std.proofs.lemmas.Bool.{and_parts, both_ways, cases_lt, false_from_ne_true, not-true, or_cases}
-use Rattle.std.proofs.lemmas.Bool.Decides.{nat_tests}
-use Rattle.std.proofs.lemmas.List.Sums.{sum_by-cons}
-use Rattle.cfs_base.specs.Disk.{Image}
-use Rattle.cfs_base.specs.declared.disk.Disk.{Ghosts}
-use Rattle.cfs_base.specs.declared.identifier.Puid.{Puid}
-use Rattle.cfs_base.specs.declared.kind.Kind.{Kind}
+use Rattle.std.proofs.Common.{◌≡◌, ◌≢◌, ◌⊎◌, inl, inr, ℕ, zero, suc, ◌+◌, ◌<◌, ◌≤◌, List, [], ◌∷◌, length, Bool, true, false, cond, not, ◌||◌, Option, Some, None, refl, sym, ◌∙◌, ap, subst, arith, ◌==◌, map, option_map, sum, Less, Equal, Greater}
+use Rattle.cfs_core.proofs.Words.{and_parts, block_there, blocks_of, both_ways, cases_lt, changed_draft, created, Draft, edge_stays, entry_in, false_from_ne_true, Fill, free_from, free_is_root, Ghosts, Graph, has_block, has_block-still, has_root_in, Holds, ids_of, Image, in_image, Index, index_with, insert_entry, insert_entry-same, is_free_entry, is_free_in, is_free_root, is_placed, is_taken}
+use Rattle.cfs_core.proofs.Words.{IsLeastFree, IsOfThese, Kept, keys_of-kinds_in, Kind, kind_in-kinds_in, kind_of, kinds_in-insert_entry, kinds_of, MapEntry, match_ordering, named, nat_tests, need_of, not-true, Object, object_at, object_at-with_object, of_owners, or_cases, owner_of, Puid, puid_cmp, put, put_object-at, range_with_len, refusal_of, Request, rises, rises-with_object, same_puid}
+use Rattle.cfs_core.proofs.Words.{same_puid_is, same_puid_itself, seen, seen_object, State, sum_by, sum_by-cons, target, with_made, with_object, word}
 use Rattle.cfs_base.specs.declared.kind.Kind.TheVariants as kinds
-use Rattle.cyl_alloc.specs.Space.{IsLeastFree, Kept}
-use Rattle.cyl_map.specs.declared.entry.MapEntry.{MapEntry}
-use Rattle.cyl_map.specs.Volume.{entry_in, free_from, is_free_entry, is_free_in}
-use Rattle.index_ops.specs.Changes.{index_with}
-use Rattle.index_ops.specs.Creates.{with_made}
-use Rattle.puid_space.specs.Directory.{has_root_in}
-use Rattle.puid_space.specs.Kinds.{kind_of, kinds_of}
-use Rattle.puid_space.proofs.Graphs.{insert_entry-same, keys_of-kinds_in, kind_in-kinds_in, kinds_in-insert_entry}
 use Rattle.ufs_model.specs.declared.asked.Reply.TheVariants as replies
-use Rattle.ufs_model.specs.declared.asked.Request.{Request}
-use Rattle.ufs_model.specs.declared.change.Change.TheVariants.{Fill}
-use Rattle.ufs_model.specs.declared.object.Draft.{Draft}
-use Rattle.ufs_model.specs.declared.object.Index.{Index}
-use Rattle.ufs_model.specs.declared.object.Object.{Object}
 use Rattle.ufs_model.specs.declared.object.Object.TheVariants as objects
-use Rattle.ufs_model.specs.Graph.{Graph, has_block, ids_of, is_free_root, object_at, with_object}
-use Rattle.ufs_model.specs.Identifier.{puid_cmp, rises, same_puid}
-use Rattle.ufs_model.specs.Object.{blocks_of}
-use Rattle.ufs_model.specs.Outcome.{created}
-use Rattle.ufs_model.specs.Need.{need_of}
-use Rattle.ufs_model.specs.Refusal.{refusal_of, target}
-use Rattle.ufs_model.specs.State.{State, changed_draft, named, put, seen}
-use Rattle.ufs_model.specs.Word.{word}
-use Rattle.ufs_model.proofs.Graphs.{object_at-with_object, rises-with_object}
-use Rattle.ufs_model.proofs.Outcomes.{edge_stays}
-use Rattle.ufs_model.proofs.RootBlocks.{has_block-still}
-use Rattle.ufs_model.proofs.WellStates.{put_object-at, seen_object}
-use Rattle.vol_image.specs.Sound.{Holds}
-use Rattle.vol_image.proofs.Parts.{in_image}
-use Rattle.vol_image.proofs.Reached.{same_puid_is, same_puid_itself}
-use Rattle.vol_owners.specs.Change.{IsOfThese, of_owners}
-use Rattle.vol_owners.specs.Owner.{is_placed, is_taken, owner_of}
-use Rattle.vol_owners.proofs.Keys.{block_there}
-use Rattle.vol_owners.proofs.Rooms.{free_is_root}
 use Rattle.cfs_core.specs.Kernel.{Kernel}
 use Rattle.cfs_core.specs.Makes.{IsMaking}
-use Rattle.cfs_core.specs.StandsFor.{Serves, drafts_of_seats, is_sweeping}
+use Rattle.cfs_core.specs.StandsFor.{Serves, bare, drafts_of_seats, is_sweeping}
 use Rattle.cfs_core.specs.Ways.{Reaches}
 use Rattle.cfs_core.proofs.Changed.{of_this}
-use Rattle.cfs_core.proofs.Committed.{IsBeside, IsOutcome}
+use Rattle.cfs_core.proofs.Committed.{IsOutcome}
+use Rattle.cfs_core.proofs.Moved.{IsStepped}
 use Rattle.cfs_core.proofs.Grown.{filled_blocks, replaced_blocks}
 
 -- ---- an object more
@@ -133,7 +93,7 @@ module _ {D : Type 0} (g : Ghosts D) (k : Kernel D) (s : State) (who : ℕ) (ser
   up = rises-with_object s.graph id o serves.store.ordered
 
   -- the identifier is put into the index as it was
-  filled_is : put (record s { graph = with_new; drawn = s.drawn + 1 }) who (target request) (changed_draft (Fill slot (Some id)) (seen s who (target request)))
+  pub filled_is : put (record s { graph = with_new; drawn = s.drawn + 1 }) who (target request) (changed_draft (Fill slot (Some id)) (seen s who (target request)))
       ≡ record s { graph = h; drawn = s.drawn + 1 }
   filled_is =
       let more : State = record s { graph = with_new; drawn = s.drawn + 1 } in
@@ -166,17 +126,17 @@ module _ {D : Type 0} (g : Ghosts D) (k : Kernel D) (s : State) (who : ℕ) (ser
       words = record { seed = k.words.seed; drawn = k.words.drawn + 1 };
     }
 
-    pub beside : IsBeside k new s after h
-    beside = record {
-      grants = ap (λ (t : State). t.grants) filled_is;
+    pub stepped : IsStepped k new s after h
+    stepped = record {
+      graph = ap (λ (t : State). t.graph) filled_is;
+      rooted = refl;
       stopped = ap (λ (t : State). t.stopped) filled_is;
       sweeping = edge_stays is_sweeping (λ a b c d. refl) (named s who (target request)) id s.collection;
-      rooted = refl;
-      seats = refl;
-      root = refl;
-      stop = refl;
       drawn = ap (λ (t : State). t.drawn) filled_is ∙ ap (λ n. n + 1) serves.front.drawn;
       named = names_are;
+      root = refl;
+      stop = refl;
+      table = serves.front.grants ∙ ap (λ (t : State). map bare t.grants) (sym filled_is);
     }
 
   pub theirs : IsOfThese (λ entry. of_owners (index.block ∷ b ∷ []) entry) s.graph h

@@ -1,29 +1,8 @@
 -- The draft of one grant among those of all seats: changed, and gone.
-use Rattle.std.proofs.Common.{◌≡◌, ℕ, ◌+◌, List, [], ◌∷◌, ◌++◌, length, Bool, true, false, cond, not, Option, Some, None, refl, sym, ◌∙◌, ap, subst, arith, append-nil, append_assoc, length-append}
-use Rattle.std.specs.Prelude.{◌==◌, filter, find, map, nat_lt}
-use Rattle.std.specs.List.{list_all, list_any}
-use Rattle.std.proofs.lemmas.Bool.{and_parts, eqb-true, eq-eqb, or_from, or_parts}
-use Rattle.std.proofs.lemmas.Bool.Decides.{nat_tests}
-use Rattle.std.proofs.lemmas.List.Elements.{filter-append}
-use Rattle.cfs_base.specs.declared.identifier.Puid.{Puid}
-use Rattle.cfs_base.specs.declared.identifier.Tuid.{Tuid}
+use Rattle.std.proofs.Common.{◌≡◌, ℕ, ◌+◌, List, [], ◌∷◌, ◌++◌, length, Bool, true, false, cond, not, Option, Some, None, refl, sym, ◌∙◌, ap, subst, arith, append-nil, append_assoc, length-append, ◌==◌, filter, find, map, nat_lt}
+use Rattle.cfs_core.proofs.Words.{and_parts, Draft, Drafting, drafts_of, draws_of, eq-eqb, eqb-true, filter-append, Grant, is_grant, is_normal, is_reading, IsOpen, list_all, list_any, nat_tests, numbers_rise, Opened, opened_as, or_from, or_parts, Puid, replaced, replaced_others, same_puid, same_puid_itself, SameOthers, Tuid, with_draft, without_draft, without_none, without_others}
 use Rattle.open_table.specs.declared.grant.Grant as seats
 use Rattle.open_table.specs.Grants as tables
-use Rattle.special_files.specs.Drafting.{Drafting, IsOpen, opened_as}
-use Rattle.special_files.specs.Store.{replaced, without_draft}
-use Rattle.special_files.proofs.CommitDraft.{without_none, without_others}
-use Rattle.special_files.proofs.Lists.{replaced_others}
-use Rattle.ufs_model.specs.declared.object.Draft.{Draft}
-use Rattle.ufs_model.specs.declared.object.Grant.{Grant}
-use Rattle.ufs_model.specs.Identifier.{same_puid}
-use Rattle.ufs_model.specs.Need.{is_normal}
-use Rattle.ufs_model.specs.Numbers.{numbers_rise}
-use Rattle.ufs_model.specs.Refusal.{is_reading}
-use Rattle.ufs_model.specs.State.{is_grant, with_draft}
-use Rattle.ufs_model.specs.WellFormed.{draws_of}
-use Rattle.vol_image.proofs.Reached.{same_puid_itself}
-use Rattle.vol_owners.specs.Account.{Opened, drafts_of}
-use Rattle.vol_owners.specs.Change.{SameOthers}
 use Rattle.cfs_core.specs.Kernel.{Seat, grants_in}
 use Rattle.cfs_core.specs.Seats.{is_drawn, seats_but, with_drafting}
 use Rattle.cfs_core.specs.StandsFor.{AreDraftsOf, HasDraftOf, IsDraftOf, bare, drafts_at, drafts_of_seats}
@@ -33,6 +12,24 @@ use Rattle.cfs_core.specs.StandsFor.{AreDraftsOf, HasDraftOf, IsDraftOf, bare, d
 nil_of : {X : Type 0} (xs : List X) → length xs ≡ 0 → xs ≡ []
 nil_of [] is = refl
 nil_of (x ∷ xs) is = cc
+
+-- where the test holds of this element alone, it alone is changed, or left out
+module _ {X : Type 0} (P : X → Bool) where
+  changed_none : (f : X → X) (xs : List X) → list_any P xs ≡ false → map (λ z. cond (P z) (f z) z) xs ≡ xs
+  changed_none f [] none = refl
+  changed_none f (z ∷ xs) none = (let two = or_parts (P z) (list_any P xs) none in rw two.0 (ap (λ zs. z ∷ zs) (changed_none f xs two.1)))
+
+  changed_at : (f : X → X) (x : X) (ys xs : List X) → P x ≡ true → list_any P xs ≡ false → list_any P ys ≡ false → map (λ z. cond (P z) (f z) z) (xs ++ x ∷ ys) ≡ xs ++ f x ∷ ys
+  changed_at f x ys [] is none rest = rw is (ap (λ zs. f x ∷ zs) (changed_none f ys rest))
+  changed_at f x ys (z ∷ xs) is none rest = (let two = or_parts (P z) (list_any P xs) none in rw two.0 (ap (λ zs. z ∷ zs) (changed_at f x ys xs is two.1 rest)))
+
+  left_none : (xs : List X) → list_any P xs ≡ false → filter (λ z. not (P z)) xs ≡ xs
+  left_none [] none = refl
+  left_none (z ∷ xs) none = (let two = or_parts (P z) (list_any P xs) none in rw two.0 (ap (λ zs. z ∷ zs) (left_none xs two.1)))
+
+  left_at : (x : X) (ys xs : List X) → P x ≡ true → list_any P xs ≡ false → list_any P ys ≡ false → filter (λ z. not (P z)) (xs ++ x ∷ ys) ≡ xs ++ ys
+  left_at x ys [] is none rest = rw is (left_none ys rest)
+  left_at x ys (z ∷ xs) is none rest = (let two = or_parts (P z) (list_any P xs) none in rw two.0 (ap (λ zs. z ∷ zs) (left_at x ys xs is two.1 rest)))
 
 -- one draft of an object stands between others, which are of other objects
 beside_alone : (id : Puid) (e : Opened) (xs ys : List Opened) → same_puid e.id id ≡ true → drafts_of ((ys ++ e ∷ []) ++ xs) id ≡ e ∷ [] → (drafts_of xs id ≡ []) × (drafts_of ys id ≡ [])
@@ -249,44 +246,9 @@ module _ (who : ℕ) (t : Tuid) where
 
   -- ---- the lists with it changed, and without it
 
-  with_none : (w : Option Drafting) (ss : List Seat) → list_any (is_drawn t.draw) ss ≡ false → with_drafting t.draw w ss ≡ ss
-  with_none w [] none = refl
-  with_none w (seat ∷ ss) none = (let two = or_parts (is_drawn t.draw seat) (list_any (is_drawn t.draw) ss) none in rw two.0 (ap (λ zs. seat ∷ zs) (with_none w ss two.1)))
-
-  with_at : (w : Option Drafting) (seat : Seat) (ss2 ss1 : List Seat) → is_drawn t.draw seat ≡ true → list_any (is_drawn t.draw) ss1 ≡ false → list_any (is_drawn t.draw) ss2 ≡ false
-      → with_drafting t.draw w (ss1 ++ seat ∷ ss2) ≡ ss1 ++ record { grant = seat.grant; drafting = w } ∷ ss2
-  with_at w seat ss2 [] is none rest = rw is (ap (λ zs. record { grant = seat.grant; drafting = w } ∷ zs) (with_none w ss2 rest))
-  with_at w seat ss2 (z ∷ ss1) is none rest = (let two = or_parts (is_drawn t.draw z) (list_any (is_drawn t.draw) ss1) none in rw two.0 (ap (λ zs. z ∷ zs) (with_at w seat ss2 ss1 is two.1 rest)))
-
-  draft_none : (d : Draft) (grants : List Grant) → list_any (is_grant who t) grants ≡ false → with_draft who t d grants ≡ grants
-  draft_none d [] none = refl
-  draft_none d (x ∷ grants) none = (let two = or_parts (is_grant who t x) (list_any (is_grant who t) grants) none in rw two.0 (ap (λ zs. x ∷ zs) (draft_none d grants two.1)))
-
-  draft_at : (d : Draft) (x : Grant) (gs2 gs1 : List Grant) → is_grant who t x ≡ true → list_any (is_grant who t) gs1 ≡ false → list_any (is_grant who t) gs2 ≡ false
-      → with_draft who t d (gs1 ++ x ∷ gs2) ≡ gs1 ++ record x { draft = Some d } ∷ gs2
-  draft_at d x gs2 [] is none rest = rw is (ap (λ zs. record x { draft = Some d } ∷ zs) (draft_none d gs2 rest))
-  draft_at d x gs2 (z ∷ gs1) is none rest = (let two = or_parts (is_grant who t z) (list_any (is_grant who t) gs1) none in rw two.0 (ap (λ zs. z ∷ zs) (draft_at d x gs2 gs1 is two.1 rest)))
-
-  but_none : (grants : List Grant) → list_any (is_grant who t) grants ≡ false → filter (λ x. not (is_grant who t x)) grants ≡ grants
-  but_none [] none = refl
-  but_none (x ∷ grants) none = (let two = or_parts (is_grant who t x) (list_any (is_grant who t) grants) none in rw two.0 (ap (λ zs. x ∷ zs) (but_none grants two.1)))
-
-  but_at : (x : Grant) (gs2 gs1 : List Grant) → is_grant who t x ≡ true → list_any (is_grant who t) gs1 ≡ false → list_any (is_grant who t) gs2 ≡ false
-      → filter (λ y. not (is_grant who t y)) (gs1 ++ x ∷ gs2) ≡ gs1 ++ gs2
-  but_at x gs2 [] is none rest = rw is (but_none gs2 rest)
-  but_at x gs2 (z ∷ gs1) is none rest = (let two = or_parts (is_grant who t z) (list_any (is_grant who t) gs1) none in rw two.0 (ap (λ zs. z ∷ zs) (but_at x gs2 gs1 is two.1 rest)))
-
-  not_these : (ss : List Seat) → list_any (is_drawn t.draw) ss ≡ false → seats_but (tables.is_grant who t) ss ≡ ss
-  not_these [] none = refl
-  not_these (seat ∷ ss) none = (let two = or_parts (is_drawn t.draw seat) (list_any (is_drawn t.draw) ss) none in rw (apart seat.grant two.0) (ap (λ zs. seat ∷ zs) (not_these ss two.1)))
-    where
-      apart : (g : seats.Grant) → (t.draw == g.tuid.draw) ≡ false → tables.is_grant who t g ≡ false
-      apart g other = grind (arith, nat_tests)
-
-  but_this : (seat : Seat) (ss2 ss1 : List Seat) → tables.is_grant who t seat.grant ≡ true → list_any (is_drawn t.draw) ss1 ≡ false → list_any (is_drawn t.draw) ss2 ≡ false
-      → seats_but (tables.is_grant who t) (ss1 ++ seat ∷ ss2) ≡ ss1 ++ ss2
-  but_this seat ss2 [] is none rest = rw is (not_these ss2 rest)
-  but_this seat ss2 (z ∷ ss1) is none rest = (let two = or_parts (is_drawn t.draw z) (list_any (is_drawn t.draw) ss1) none in rw (apart z.grant two.0) (ap (λ zs. z ∷ zs) (but_this seat ss2 ss1 is two.1 rest)))
+  none_these : (ss : List Seat) → list_any (is_drawn t.draw) ss ≡ false → list_any (λ (seat : Seat). tables.is_grant who t seat.grant) ss ≡ false
+  none_these [] none = refl
+  none_these (seat ∷ ss) none = (let two = or_parts (is_drawn t.draw seat) (list_any (is_drawn t.draw) ss) none in or_from (tables.is_grant who t seat.grant) _ (apart seat.grant two.0) (none_these ss two.1))
     where
       apart : (g : seats.Grant) → (t.draw == g.tuid.draw) ≡ false → tables.is_grant who t g ≡ false
       apart g other = grind (arith, nat_tests)
@@ -301,20 +263,20 @@ module _ (who : ℕ) (t : Tuid) where
     mine = ap (tables.is_grant who t) p.here ∙ p.mine
 
     pub with_is : (w : Option Drafting) → with_drafting t.draw w ss ≡ p.ss1 ++ record { grant = seat.grant; drafting = w } ∷ p.ss2
-    with_is w = ap (with_drafting t.draw w) p.seats_are ∙ with_at w seat p.ss2 p.ss1 drawn p.none_first p.none_second
+    with_is w = ap (with_drafting t.draw w) p.seats_are ∙ changed_at (is_drawn t.draw) (λ e. record { grant = e.grant; drafting = w }) seat p.ss2 p.ss1 drawn p.none_first p.none_second
 
     draft_is : (d : Draft) → with_draft who t d grants ≡ p.gs1 ++ record x { draft = Some d } ∷ p.gs2
-    draft_is d = ap (with_draft who t d) p.grants_are ∙ draft_at d x p.gs2 p.gs1 p.mine (not_mine p.ss1 p.gs1 p.first p.none_first) (not_mine p.ss2 p.gs2 p.second p.none_second)
+    draft_is d = ap (with_draft who t d) p.grants_are ∙ changed_at (is_grant who t) (λ e. record e { draft = Some d }) x p.gs2 p.gs1 p.mine (not_mine p.ss1 p.gs1 p.first p.none_first) (not_mine p.ss2 p.gs2 p.second p.none_second)
 
     seats_left : seats_but (tables.is_grant who t) ss ≡ p.ss1 ++ p.ss2
-    seats_left = ap (seats_but (tables.is_grant who t)) p.seats_are ∙ but_this seat p.ss2 p.ss1 mine p.none_first p.none_second
+    seats_left = ap (seats_but (tables.is_grant who t)) p.seats_are ∙ left_at (λ (e : Seat). tables.is_grant who t e.grant) seat p.ss2 p.ss1 mine (none_these p.ss1 p.none_first) (none_these p.ss2 p.none_second)
 
     grants_left : filter (λ y. not (is_grant who t y)) grants ≡ p.gs1 ++ p.gs2
-    grants_left = ap (filter (λ y. not (is_grant who t y))) p.grants_are ∙ but_at x p.gs2 p.gs1 p.mine (not_mine p.ss1 p.gs1 p.first p.none_first) (not_mine p.ss2 p.gs2 p.second p.none_second)
+    grants_left = ap (filter (λ y. not (is_grant who t y))) p.grants_are ∙ left_at (is_grant who t) x p.gs2 p.gs1 p.mine (not_mine p.ss1 p.gs1 p.first p.none_first) (not_mine p.ss2 p.gs2 p.second p.none_second)
 
     -- its seat goes the same once its draft was taken
     pub but_with : seats_but (tables.is_grant who t) (with_drafting t.draw None ss) ≡ seats_but (tables.is_grant who t) ss
-    but_with = ap (seats_but (tables.is_grant who t)) (with_is None) ∙ but_this (record { grant = seat.grant; drafting = None }) p.ss2 p.ss1 mine p.none_first p.none_second ∙ sym seats_left
+    but_with = ap (seats_but (tables.is_grant who t)) (with_is None) ∙ left_at (λ (e : Seat). tables.is_grant who t e.grant) (record { grant = seat.grant; drafting = None }) p.ss2 p.ss1 mine (none_these p.ss1 p.none_first) (none_these p.ss2 p.none_second) ∙ sym seats_left
 
     module _ (are : AreDraftsOf (drafts_of_seats ss grants) ss grants) where
       abbrev ds : List Opened

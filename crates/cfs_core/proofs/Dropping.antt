@@ -1,33 +1,20 @@
 -- A grant of a session that leaves is dropped.
-use Rattle.std.proofs.Common.{◌≡◌, ℕ, List, [], ◌∷◌, Bool, true, false, cond, not, Some, None, refl, sym, ◌∙◌, ap, subst, arith}
-use Rattle.std.specs.Prelude.{◌==◌, filter}
-use Rattle.cfs_base.specs.declared.disk.Disk.{Ghosts}
-use Rattle.cfs_base.specs.declared.identifier.Tuid.{Tuid}
+use Rattle.std.proofs.Common.{◌≡◌, ℕ, List, [], ◌∷◌, Bool, true, false, cond, not, Some, None, refl, sym, ◌∙◌, ap, subst, arith, ◌==◌, filter}
+use Rattle.cfs_core.proofs.Words.{closed, Drafting, Ghosts, Grant, grant_of, Holds, is_grant, next, nothing_left, outcome_legal, State, Tuid, without_session-without_grant}
 use Rattle.open_table.specs.declared.grant.Grant as seats
 use Rattle.open_table.specs.Grants as tables
-use Rattle.open_table.proofs.Lists.{without_session-without_grant}
-use Rattle.special_files.specs.Drafting.{Drafting}
-use Rattle.special_files.proofs.CommitDraft.{nothing_left}
 use Rattle.ufs_model.specs.declared.asked.Event.TheVariants as events
 use Rattle.ufs_model.specs.declared.asked.Reply.TheVariants as replies
 use Rattle.ufs_model.specs.declared.asked.Request.TheVariants as asks
-use Rattle.ufs_model.specs.declared.object.Grant.{Grant}
-use Rattle.ufs_model.specs.Next.{next}
-use Rattle.ufs_model.specs.Outcome.{closed}
-use Rattle.ufs_model.specs.State.{State, grant_of, is_grant}
-use Rattle.ufs_model.proofs.Legal.{outcome_legal}
-use Rattle.ufs_model.proofs.WellStates.{closed_keeps}
-use Rattle.vol_image.specs.Sound.{Holds}
 use Rattle.cfs_core.specs.Kernel.{Kernel, Seat, grants_in}
 use Rattle.cfs_core.specs.Leaving.{GaveUp, GivesUp, ServesFewer, Sheds, of_others}
 use Rattle.cfs_core.specs.Seats.{drafting_at, have_draft, is_at, seats_but, with_drafting}
-use Rattle.cfs_core.specs.StandsFor.{Serves}
+use Rattle.cfs_core.specs.StandsFor.{Serves, drafts_of_seats}
 use Rattle.cfs_core.proofs.Collected.{collection_asked, same_rescued}
-use Rattle.cfs_core.proofs.Ended.{aborted, ds, gone_is, id, open_in, stores_aborted, strays_aborted, there_at}
-use Rattle.cfs_core.proofs.Granted.{close_goes}
-use Rattle.cfs_core.proofs.Regranted.{but_keeps, but_table, stores_after}
-use Rattle.cfs_core.proofs.Seated.{grants_with, none_of_grant}
-use Rattle.cfs_core.proofs.Serving.{none_more, running, serves_with}
+use Rattle.cfs_core.proofs.Ended.{IsHeld, gone_is, held_by, open_in, stores_aborted, strays_aborted}
+use Rattle.cfs_core.proofs.Granted.{close_goes, stores_closed}
+use Rattle.cfs_core.proofs.Seated.{grants_with}
+use Rattle.cfs_core.proofs.Serving.{none_more, running}
 
 -- ---- lists
 
@@ -72,10 +59,7 @@ module _ {D : Type 0} (g : Ghosts D) (k : Kernel D) (who : ℕ) (t : Tuid) (the 
     leaves = λ s serves none. nothing_left g k.disk (λ c. Holds c s.graph);
     serves = λ s serves none runs. record {
       grants = (closed s who t false).grants;
-      serves = serves_with g (record k { seats = seats_but (tables.is_grant who t) k.seats }) (closed s who t false)
-          (stores_after g k (seats_but (tables.is_grant who t) k.seats) k.words s (closed s who t false)
-          (record { graph = refl; sweeping = refl; stopped = refl; drawn_is = serves.front.drawn; table = but_table (tables.is_grant who t) k.seats s.grants serves.front.grants })
-          (closed_keeps s who t false serves.state) (but_keeps (tables.is_grant who t) _ k.seats s.grants serves.front.grants serves.drafts (none_of_grant who t k.seats none_drawn)) serves)
+      serves = let x = the s serves in stores_closed g k s serves who t false x.0 x.1 none_drawn k.collections
           (collection_asked (g.content k.disk) (g.content k.disk) k.words.seed s (closed s who t false) who (asks.Close t false) replies.Done (step s serves none) serves.state (none_more (g.content k.disk) (g.content k.disk) s.graph refl)
           k.collections.collector k.collections.collector (same_rescued k.collections.collector) serves.collecting);
       others = others_stay who t s.grants;
@@ -91,24 +75,25 @@ module _ {D : Type 0} (g : Ghosts D) (k : Kernel D) (who : ℕ) (t : Tuid) (the 
     mid = record k { seats = seats_but (tables.is_grant who t) (with_drafting t.draw None k.seats) }
 
     module _ (gives : GivesUp g was mid new) where
-      gave : (s : State) (serves : Serves g k s) → k.stop ≡ None → let x = the s serves in GaveUp g s.graph (ds g k s serves who t x.0 x.1 was drafting) (id g k s serves who t x.0 x.1 was drafting) was.created mid new
-      gave s serves none = (let x = the s serves in gives.ends s.graph _ _ _ _ serves.store (there_at g k s serves who t x.0 x.1 was drafting) (open_in g k s serves who t x.0 x.1 was drafting) none)
+      held : (s : State) → Serves g k s → IsHeld g k s who t was
+      held s serves = held_by g k s serves who t was drafting (the s serves)
+
+      gave : (s : State) (serves : Serves g k s) → k.stop ≡ None → GaveUp g s.graph (drafts_of_seats k.seats s.grants) (held s serves).seat.grant.id was.created mid new
+      gave s serves none = gives.ends s.graph _ _ _ _ serves.store (held s serves).there (open_in g k s serves who t was (held s serves)) none
 
       new_is : (s : State) (serves : Serves g k s) → k.stop ≡ None → new.stop ≡ None → new ≡ record k { disk = new.disk; space = new.space; seats = seats_but (tables.is_grant who t) k.seats }
       new_is s serves none runs =
-          let x = the s serves in
-          gives.same ∙ ap (λ ss. record k { disk = new.disk; space = new.space; seats = ss; stop = new.stop }) (sym (gone_is g k s serves who t x.0 x.1 was drafting new.disk new.space))
+          gives.same ∙ ap (λ ss. record k { disk = new.disk; space = new.space; seats = ss; stop = new.stop }) (sym (gone_is g k s serves who t was (held s serves) new.disk new.space))
           ∙ ap (λ o. record k { disk = new.disk; space = new.space; seats = seats_but (tables.is_grant who t) k.seats; stop = o }) (runs ∙ sym none)
 
       fewer : (s : State) → Serves g k s → k.stop ≡ None → new.stop ≡ None → ServesFewer g new s who
       fewer s serves none runs =
-          let x = the s serves in
           let dropped = (gave s serves none).dropped runs in
           subst (λ (j : Kernel D). ServesFewer g j s who) (sym (new_is s serves none runs)) (record {
             grants = (closed s who t false).grants;
-            serves = serves_with g (aborted g k s serves who t x.0 x.1 was drafting new.disk new.space) (closed s who t false) (stores_aborted g k s serves who t x.0 x.1 was drafting new.disk new.space bare dropped)
+            serves = stores_aborted g k s serves who t was (held s serves) new.disk new.space bare dropped k.collections
                 (collection_asked (g.content k.disk) (g.content new.disk) k.words.seed s (closed s who t false) who (asks.Close t false) replies.Done (step s serves none) serves.state
-                (strays_aborted g k s serves who t x.0 x.1 was drafting new.disk new.space bare dropped)
+                (strays_aborted g k s serves who t was (held s serves) new.disk new.space bare dropped)
                 k.collections.collector k.collections.collector (same_rescued k.collections.collector) serves.collecting);
             others = others_stay who t s.grants;
           })
@@ -125,7 +110,7 @@ module _ {D : Type 0} (g : Ghosts D) (k : Kernel D) (who : ℕ) (t : Tuid) (the 
         idle = λ stop is. let same = gives.idle stop is in (ap (λ (j : Kernel D). j.stop) same ∙ is, ap (λ (j : Kernel D). j.disk) same);
         leaves = λ s serves none. (gave s serves none).leaves;
         serves = fewer;
-        strays = λ s serves none runs. let x = the s serves in strays_aborted g k s serves who t x.0 x.1 was drafting new.disk new.space bare ((gave s serves none).dropped runs);
+        strays = λ s serves none runs. strays_aborted g k s serves who t was (held s serves) new.disk new.space bare ((gave s serves none).dropped runs);
         halts = gives.halts;
         sound = λ s serves none. (gave s serves none).sound;
       }

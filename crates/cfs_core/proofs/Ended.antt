@@ -1,68 +1,26 @@
 -- A grant is closed that has a draft: the draft is given up, or becomes the object.
-use Rattle.std.proofs.Common.{◌≡◌, ℕ, ◌+◌, ◌/◌, ◌≤◌, List, [], ◌∷◌, ◌++◌, length, Bool, true, false, cond, not, ◌≢◌, Option, Some, None, Ok, Err, refl, sym, ◌∙◌, ap, subst, arith, ⊎_elim}
-use Rattle.std.specs.Prelude.{Result, find, option_and_then, option_map, option_to_list, sum}
-use Rattle.std.specs.List.{list_any, sum_by}
-use Rattle.std.proofs.lemmas.Bool.{and_parts, or_parts}
-use Rattle.std.proofs.lemmas.Bool.Decides.{nat_tests}
-use Rattle.std.proofs.lemmas.List.Sums.{sum_by-cons}
-use Rattle.cfs_base.specs.Disk.{Image}
-use Rattle.cfs_base.specs.Run.{Leaves}
-use Rattle.cfs_base.proofs.Runs.{wider}
-use Rattle.cfs_base.specs.declared.disk.Disk.{Ghosts}
-use Rattle.cfs_base.specs.declared.identifier.Puid.{Puid}
-use Rattle.cfs_base.specs.declared.identifier.Tuid.{Tuid}
-use Rattle.cfs_base.specs.declared.kind.FileKind.{FileKind}
+use Rattle.std.proofs.Common.{◌≡◌, ℕ, ◌+◌, ◌/◌, ◌≤◌, List, [], ◌∷◌, ◌++◌, length, Bool, true, false, cond, not, ◌≢◌, Option, Some, None, Ok, Err, refl, sym, ◌∙◌, ap, subst, arith, ⊎_elim, find, option_and_then, option_map, option_to_list, sum}
+use Rattle.cfs_core.proofs.Words.{and_parts, block_there, ChangesOnly, closed, closed_graph, closed_keeps, Committed, committed, Draft, draft_blocks, Drafting, drafts_of, Dropped, FileKind, Fits, Ghosts, Grant, grant_found, grant_of, Graph, graph_blocks, has_block, has_number, Holds, Image, insert_entry-same, is_draft_of, is_meant, is_open_so, is_placed, IsClosedGraph, IsOfThese, IsOldOrNew}
+use Rattle.cfs_core.proofs.Words.{IsOpen, IsState, Kept, keys_of-kinds_in, kind_in-kinds_in, kind_of, kinds_in-insert_entry, kinds_of, Leaves, list_any, MapEntry, nat_tests, next, Object, object_at, of_drafts, of_owners, open_there, Opened, opened_as, or_parts, outcome_legal, owner_of, Puid, refusal_of, refused_by, rises, room, same_kind, same_puid, State, sum_by, sum_by-cons, sum_is, the_draft}
+use Rattle.cfs_core.proofs.Words.{Trouble, Tuid, wider, with_object, without_draft}
 use Rattle.cfs_base.specs.declared.kind.FileKind.TheVariants as file_kinds
-use Rattle.cfs_base.specs.Refusals.{refused_by}
-use Rattle.cfs_base.specs.declared.refusal.Trouble.{Trouble}
 use Rattle.cfs_base.specs.declared.refusal.Trouble.TheVariants as troubles
-use Rattle.cyl_alloc.specs.Space.{Kept}
-use Rattle.cyl_alloc.proofs.Counted.{sum_is}
-use Rattle.cyl_map.specs.declared.entry.MapEntry.{MapEntry}
 use Rattle.open_table.specs.Grants as tables
-use Rattle.puid_space.specs.Kinds.{kind_of, kinds_of}
-use Rattle.puid_space.proofs.Graphs.{insert_entry-same, keys_of-kinds_in, kind_in-kinds_in, kinds_in-insert_entry}
-use Rattle.intentions.specs.Store.{StoreHas}
-use Rattle.special_files.specs.Committing.{AbortEnds, CommitEnds, Committed, Dropped, IsOldOrNew, Makes}
-use Rattle.special_files.specs.Drafting.{Drafting, IsOpen, opened_as}
-use Rattle.special_files.specs.Store.{without_draft}
-use Rattle.special_files.proofs.PutStore.{the_draft}
-use Rattle.survival.specs.Held.{Fits}
+use Rattle.open_table.specs.declared.grant.Grant as seats
 use Rattle.ufs_model.specs.declared.asked.Event.TheVariants as events
 use Rattle.ufs_model.specs.declared.asked.Reply.TheVariants as replies
 use Rattle.ufs_model.specs.declared.asked.Request.TheVariants as asks
-use Rattle.ufs_model.specs.declared.object.Draft.{Draft}
-use Rattle.ufs_model.specs.declared.object.Grant.{Grant}
-use Rattle.ufs_model.specs.declared.object.Object.{Object}
 use Rattle.ufs_model.specs.declared.object.Object.TheVariants as objects
-use Rattle.ufs_model.specs.Graph.{Graph, has_block, object_at, with_object}
-use Rattle.ufs_model.specs.Identifier.{rises, same_puid}
-use Rattle.ufs_model.specs.Numbers.{has_number}
-use Rattle.ufs_model.specs.Next.{next}
-use Rattle.ufs_model.specs.Outcome.{committed, closed}
-use Rattle.ufs_model.specs.Refusal.{refusal_of}
-use Rattle.ufs_model.specs.State.{State, grant_of}
-use Rattle.ufs_model.specs.WellFormed.{IsState, is_draft_of, is_open_so, same_kind}
-use Rattle.ufs_model.proofs.Legal.{outcome_legal}
-use Rattle.ufs_model.proofs.WellGraphs.{closed_graph}
-use Rattle.ufs_model.proofs.WellStates.{closed_keeps, grant_found, open_there}
-use Rattle.vol_image.specs.Sound.{Holds, IsClosedGraph, graph_blocks}
-use Rattle.vol_owners.specs.Account.{Opened, drafts_of}
-use Rattle.vol_owners.specs.Change.{ChangesOnly, IsOfThese, of_drafts, of_owners}
-use Rattle.vol_owners.specs.Owner.{is_meant, is_placed, owner_of}
-use Rattle.vol_owners.specs.Room.{draft_blocks}
-use Rattle.vol_owners.proofs.Keys.{block_there}
-use Rattle.vol_owners.proofs.Rooms.{room}
 use Rattle.cfs_core.specs.Calls.{AddsNoStray, Answers, ByOutcome, EndsSo, IsInDoubt, MayStand, Owes, Undone, Whole}
+use Rattle.cfs_core.specs.Drafts.{DraftEnds, EndsDraft}
 use Rattle.cfs_core.specs.Kernel.{Kernel, Seat}
 use Rattle.cfs_core.specs.Seats.{drafting_at, is_drawn, seats_but, with_drafting}
 use Rattle.cfs_core.specs.StandsFor.{AreDraftsOf, HasDraftOf, Serves, Stores, drafts_of_seats}
 use Rattle.cfs_core.proofs.Answering.{owes}
 use Rattle.cfs_core.proofs.Changed.{of_this}
 use Rattle.cfs_core.proofs.Drafted.{Place, but_with, drawn, gone_drafts, gone_have, has_draft, opened, place_of}
-use Rattle.cfs_core.proofs.Granted.{close_goes}
+use Rattle.cfs_core.proofs.Granted.{close_goes, closed_stepped}
 use Rattle.cfs_core.proofs.Grown.{replaced_blocks}
-use Rattle.cfs_core.proofs.Regranted.{but_table}
 use Rattle.cfs_core.proofs.Seated.{grants_with}
 use Rattle.cfs_core.proofs.Serving.{fits, running}
 use Rattle.cfs_core.proofs.Moved.{HasStepped, IsStepped, fewer_take, four_left, makes_committed, makes_stepped, stores_stepped, strays_stepped}
@@ -109,73 +67,89 @@ alone_take id e ds is = omega (arith, split ds, ap (sum_by draft_blocks) is, sum
 committed_by : (graph : Graph) (o : Option Grant) (x : Grant) (d : Draft) → o ≡ Some x → x.draft ≡ Some d → committed o graph ≡ with_object graph x.id d.object
 committed_by graph o x d found has = rw (found, has) refl
 
-module _ {D : Type 0} (g : Ghosts D) (k : Kernel D) (s : State) (serves : Serves g k s) (who : ℕ) (t : Tuid) (x : Grant) (found : grant_of s who t ≡ Some x) (was : Drafting) (drafting : drafting_at k.seats t.draw ≡ Some was) where
-  abbrev pub ds : List Opened
+-- The session's grant has a seat, which holds this draft; and the draft is the state's, of an object that is there.
+pub record IsHeld {D : Type 0} (g : Ghosts D) (k : Kernel D) (s : State) (who : ℕ) (t : Tuid) (was : Drafting) : Type 0 where
+  pub at : drafting_at k.seats t.draw ≡ Some was
+  pub x : Grant
+  pub found : grant_of s who t ≡ Some x
+  pub seat : Seat
+  pub place : Place who t k.seats s.grants seat x
+  pub drafting : seat.drafting ≡ Some was
+  pub before : Draft
+  pub draft_was : x.draft ≡ Some before
+  pub object : Object
+  pub there : object_at s.graph seat.grant.id ≡ Some object
+  pub there_x : object_at s.graph x.id ≡ Some object
+
+pub held_by : {D : Type 0} (g : Ghosts D) (k : Kernel D) (s : State) → Serves g k s → (who : ℕ) (t : Tuid) (was : Drafting) → drafting_at k.seats t.draw ≡ Some was → (x : Grant) × (grant_of s who t ≡ Some x) → IsHeld g k s who t was
+held_by g k s serves who t was drafting found = record {
+  at = drafting;
+  x = found.0;
+  found = found.1;
+  seat = two.0;
+  place = two.1;
+  drafting = drafting_is;
+  before = there.0;
+  draft_was = there.1;
+  object = object.0;
+  there = ap (λ (e : seats.Grant). object_at s.graph e.id) two.1.here ∙ object.1;
+  there_x = object.1;
+}
+  where
+    two : (seat : Seat) × Place who t k.seats s.grants seat found.0
+    two = place_of who t k.seats s.grants found.0 serves.front.grants serves.state.rising found.1
+
+    drafting_is : two.0.drafting ≡ Some was
+    drafting_is = sym (ap (option_and_then (λ (e : Seat). e.drafting)) (ap (find (is_drawn t.draw)) two.1.seats_are ∙ find_drawn t.draw two.0 two.1.ss2 two.1.ss1 (drawn who t k.seats s.grants two.0 found.0 two.1) two.1.none_first)) ∙ drafting
+
+    there : (d : Draft) × (found.0.draft ≡ Some d)
+    there = at two.0.drafting found.0.draft drafting_is (has_draft who t k.seats s.grants two.0 found.0 two.1 serves.drafts)
+      where
+        at : (o : Option Drafting) (d : Option Draft) → o ≡ Some was → HasDraftOf (drafts_of_seats k.seats s.grants) two.0 o d → (e : Draft) × (d ≡ Some e)
+        at None d is has = cc
+        at (Some o) None is has = absurd has
+        at (Some o) (Some d) is has = (d, refl)
+
+    object : (o : Object) × (object_at s.graph found.0.id ≡ Some o)
+    object = open_there (object_at s.graph found.0.id) found.0.draft (grant_found s who t found.0 serves.state found.1).1
+
+module _ {D : Type 0} (g : Ghosts D) (k : Kernel D) (s : State) (serves : Serves g k s) (who : ℕ) (t : Tuid) (was : Drafting) (held : IsHeld g k s who t was) where
+  abbrev ds : List Opened
   ds = drafts_of_seats k.seats s.grants
 
-  pub two : (seat : Seat) × Place who t k.seats s.grants seat x
-  two = place_of who t k.seats s.grants x serves.front.grants serves.state.rising found
+  abbrev id : Puid
+  id = held.seat.grant.id
 
-  abbrev pub seat : Seat
-  seat = two.0
+  abbrev before : Draft
+  before = held.before
 
-  abbrev pub place : Place who t k.seats s.grants seat x
-  place = two.1
-
-  abbrev pub id : Puid
-  id = seat.grant.id
-
-  pub id_is : id ≡ x.id
-  id_is = ap (λ e. e.id) place.here
-
-  pub drafting_is : seat.drafting ≡ Some was
-  drafting_is = sym (ap (option_and_then (λ (e : Seat). e.drafting)) (ap (find (is_drawn t.draw)) place.seats_are ∙ find_drawn t.draw seat place.ss2 place.ss1 (drawn who t k.seats s.grants seat x place) place.none_first)) ∙ drafting
-
-  pub there : (d : Draft) × (x.draft ≡ Some d)
-  there = at seat.drafting x.draft drafting_is (has_draft who t k.seats s.grants seat x place serves.drafts)
-    where
-      at : (o : Option Drafting) (d : Option Draft) → o ≡ Some was → HasDraftOf ds seat o d → (e : Draft) × (d ≡ Some e)
-      at None d is has = cc
-      at (Some o) None is has = absurd has
-      at (Some o) (Some d) is has = (d, refl)
-
-  abbrev pub before : Draft
-  before = there.0
-
-  pub draft_was : x.draft ≡ Some before
-  draft_was = there.1
+  abbrev object : Object
+  object = held.object
 
   pub open_in : IsOpen ds id was before
-  open_in = opened who t k.seats s.grants seat x place serves.drafts was before drafting_is draft_was
+  open_in = opened who t k.seats s.grants held.seat held.x held.place serves.drafts was before held.drafting held.draft_was
 
-  pub so : is_open_so (object_at s.graph x.id) x.draft ≡ true
-  so = (grant_found s who t x serves.state found).1
+  pub so : is_open_so (Some object) (Some before) ≡ true
+  so = subst (λ (o : Option Object). is_open_so o (Some before) ≡ true) held.there_x (subst (λ (o : Option Draft). is_open_so (object_at s.graph held.x.id) o ≡ true) held.draft_was (grant_found s who t held.x serves.state held.found).1)
 
-  pub object : (o : Object) × (object_at s.graph id ≡ Some o)
-  object = let o = open_there (object_at s.graph x.id) x.draft so in (o.0, ap (object_at s.graph) id_is ∙ o.1)
-
-  pub there_at : object_at s.graph id ≡ Some object.0
-  there_at = object.1
-
-  alike : kind_of before.object ≡ kind_of object.0
-  alike = kind_alike object.0 before.object (subst (λ (o : Option Object). is_open_so o (Some before) ≡ true) (ap (object_at s.graph) (sym id_is) ∙ there_at)
-      (subst (λ (o : Option Draft). is_open_so (object_at s.graph x.id) o ≡ true) draft_was so))
+  alike : kind_of before.object ≡ kind_of object
+  alike = kind_alike object before.object so
 
   pub block : has_block s.graph.objects id.block ≡ true
-  block = block_there s.graph id object.0 there_at
+  block = block_there s.graph id object held.there
 
   abbrev left : List Opened
   left = without_draft id ds
 
   allowed : (commit : Bool) → refusal_of s who (asks.Close t commit) ≡ None
-  allowed commit = close_goes 0 s who t commit x found
+  allowed commit = close_goes 0 s who t commit held.x held.found
 
   -- the grants that are left are the same with and without a commit
   drafts_left : (commit : Bool) → drafts_of_seats (seats_but (tables.is_grant who t) k.seats) (closed s who t commit).grants ≡ left
-  drafts_left commit = gone_drafts who t k.seats s.grants seat x place serves.drafts was before drafting_is draft_was
+  drafts_left commit = gone_drafts who t k.seats s.grants held.seat held.x held.place serves.drafts was before held.drafting held.draft_was
 
   have_left : (commit : Bool) → AreDraftsOf left (seats_but (tables.is_grant who t) k.seats) (closed s who t commit).grants
-  have_left commit = gone_have who t k.seats s.grants seat x place serves.drafts was before drafting_is draft_was
+  have_left commit = gone_have who t k.seats s.grants held.seat held.x held.place serves.drafts was before held.drafting held.draft_was
 
   -- nothing is owed but the outcome
   owed : (commit : Bool) → Owes k.words.seed s who (asks.Close t commit) (g.content k.disk) (sum k.space.free) replies.Done
@@ -195,17 +169,7 @@ module _ {D : Type 0} (g : Ghosts D) (k : Kernel D) (s : State) (serves : Serves
     T entry = of_drafts (id.block ∷ []) entry
 
     stepped : IsStepped k aborted s (closed s who t false) s.graph
-    stepped = record {
-      graph = refl;
-      rooted = refl;
-      stopped = refl;
-      sweeping = refl;
-      drawn = serves.front.drawn;
-      named = serves.front.names;
-      root = refl;
-      stop = refl;
-      table = but_table (tables.is_grant who t) k.seats s.grants serves.front.grants;
-    }
+    stepped = closed_stepped g k s serves who t false d space s.graph refl refl refl
 
     module _ (bare : was.created ≡ None) (dropped : Dropped g s.graph ds id was.created k.disk d space) where
       has : HasStepped g k aborted s s.graph T left
@@ -251,16 +215,16 @@ module _ {D : Type 0} (g : Ghosts D) (k : Kernel D) (s : State) (serves : Serves
     h = with_object s.graph id before.object
 
     graph_is : (closed s who t true).graph ≡ h
-    graph_is = committed_by s.graph (grant_of s who t) x before found draft_was ∙ ap (λ n. with_object s.graph n before.object) (sym id_is)
+    graph_is = committed_by s.graph (grant_of s who t) held.x before held.found held.draft_was ∙ ap (λ (e : seats.Grant). with_object s.graph e.id before.object) (sym held.place.here)
 
     fresh : ℕ
     fresh = sum_by length before.fresh
 
     few : graph_blocks h ≤ graph_blocks s.graph + fresh
     unfolding fresh
-    few = replaced_blocks s.graph id object.0 before.object (sum_by length before.fresh) serves.store.ordered there_at
-        (replaced_few (g.content k.disk) s.graph serves.store.account.holds id object.0 there_at (serves.store.account.objects id object.0 there_at) (opened_as id was before)
-        (the_draft (g.content k.disk) ds id was before open_in (serves.store.account.drafts id object.0 there_at)))
+    few = replaced_blocks s.graph id object before.object (sum_by length before.fresh) serves.store.ordered held.there
+        (replaced_few (g.content k.disk) s.graph serves.store.account.holds id object held.there (serves.store.account.objects id object held.there) (opened_as id was before)
+        (the_draft (g.content k.disk) ds id was before open_in (serves.store.account.drafts id object held.there)))
 
     takes : sum_by draft_blocks left + fresh ≤ sum_by draft_blocks ds
     unfolding fresh
@@ -268,7 +232,7 @@ module _ {D : Type 0} (g : Ghosts D) (k : Kernel D) (s : State) (serves : Serves
 
     names_stay : kinds_of h ≡ kinds_of s.graph
     names_stay = kinds_in-insert_entry s.graph.objects id before.object
-        ∙ insert_entry-same _ id (kind_of before.object) (ap rises (keys_of-kinds_in s.graph.objects) ∙ serves.store.ordered) (kind_in-kinds_in s.graph.objects id ∙ ap (option_map kind_of) there_at ∙ ap (λ n. Some n) (sym alike))
+        ∙ insert_entry-same _ id (kind_of before.object) (ap rises (keys_of-kinds_in s.graph.objects) ∙ serves.store.ordered) (kind_in-kinds_in s.graph.objects id ∙ ap (option_map kind_of) held.there ∙ ap (λ n. Some n) (sym alike))
 
     state : IsState (closed s who t true)
     state = closed_keeps s who t true serves.state
@@ -280,17 +244,7 @@ module _ {D : Type 0} (g : Ghosts D) (k : Kernel D) (s : State) (serves : Serves
     }
 
     steps : IsStepped k aborted s (closed s who t true) h
-    steps = record {
-      graph = graph_is;
-      rooted = refl;
-      stopped = refl;
-      sweeping = refl;
-      drawn = serves.front.drawn;
-      named = serves.front.names ∙ sym names_stay;
-      root = refl;
-      stop = refl;
-      table = but_table (tables.is_grant who t) k.seats s.grants serves.front.grants;
-    }
+    steps = closed_stepped g k s serves who t true d space h graph_is refl names_stay
 
     abbrev U : Option MapEntry → Bool
     U entry = of_owners (id.block ∷ []) entry
@@ -330,38 +284,22 @@ module _ {D : Type 0} (g : Ghosts D) (k : Kernel D) (s : State) (serves : Serves
     gone = record k { disk = d; space = space; seats = seats_but (tables.is_grant who t) (with_drafting t.draw None k.seats) }
 
     pub gone_is : seats_but (tables.is_grant who t) k.seats ≡ seats_but (tables.is_grant who t) (with_drafting t.draw None k.seats)
-    gone_is = sym (but_with who t k.seats s.grants seat x place)
+    gone_is = sym (but_with who t k.seats s.grants held.seat held.x held.place)
 
-    abbrev pub Aborts : Result (Unit {0}) Trouble → Type 0
-    Aborts r = (graph : Graph) (xs : List Opened) (y : Puid) (o : Object) (dr : Draft) → StoreHas g graph xs k.disk k.space → object_at graph y ≡ Some o → IsOpen xs y was dr → AbortEnds g graph xs y was.created k.disk d space r
+    module _ (bare : was.created ≡ None) (left_sized : (c : D) (n : ℕ) (i : Image) → g.left_since c n i → length i ≡ g.blocks c) (wide : length (g.content k.disk) ≡ g.blocks d) (none : k.stop ≡ None) (commit : Bool) where
+      pub ended_ok : EndsDraft g commit was k.disk d k.space space (Ok tt) → Answers g k gone s who (asks.Close t commit) replies.Done
+      ended_ok is = subst (λ ss. Answers g k (record k { disk = d; space = space; seats = ss }) s who (asks.Close t commit) replies.Done) gone_is (by commit (is.ends s.graph ds id object before serves.store held.there open_in))
+        where
+          by : (b : Bool) → DraftEnds g b s.graph ds id before was k.disk d space (Ok tt) → Answers g k (aborted d space) s who (asks.Close t b) replies.Done
+          by true e = commits d space e.done left_sized wide none e.leaves
+          by false e = aborts d space bare e.done left_sized wide none e.leaves
 
-    abbrev pub Commits : Result (Unit {0}) Trouble → Type 0
-    Commits r = (graph : Graph) (xs : List Opened) (y : Puid) (o : Object) (dr : Draft) → StoreHas g graph xs k.disk k.space → object_at graph y ≡ Some o → IsOpen xs y was dr → Makes (g.content k.disk) was.created None
-        → CommitEnds g graph xs y dr.object None k.disk d space r
-
-    this_abort : (r : Result (Unit {0}) Trouble) → Aborts r → AbortEnds g s.graph ds id was.created k.disk d space r
-    this_abort r ends = ends s.graph ds id object.0 before serves.store there_at open_in
-
-    this_commit : (r : Result (Unit {0}) Trouble) → was.created ≡ None → Commits r → CommitEnds g s.graph ds id before.object None k.disk d space r
-    this_commit r bare ends = ends s.graph ds id object.0 before serves.store there_at open_in bare
-
-    module _ (bare : was.created ≡ None) (left_sized : (c : D) (n : ℕ) (i : Image) → g.left_since c n i → length i ≡ g.blocks c) (wide : length (g.content k.disk) ≡ g.blocks d) (none : k.stop ≡ None) where
-      pub abort_ok : Aborts (Ok tt) → Answers g k gone s who (asks.Close t false) replies.Done
-      abort_ok ends =
-          let e = this_abort (Ok tt) ends in
-          subst (λ ss. Answers g k (record k { disk = d; space = space; seats = ss }) s who (asks.Close t false) replies.Done) gone_is (aborts d space bare e.done left_sized wide none e.leaves)
-
-      pub abort_err : (e : Trouble) → e ≢ troubles.Disk false → Aborts (Err e) → EndsSo g k (doubtful d space) s who (asks.Close t false) (Err (refused_by e))
-      abort_err (troubles.Disk true) tried ends = abort_in_doubt d space wide (this_abort (Err (troubles.Disk true)) ends).leaves
-      abort_err (troubles.Disk false) tried ends = absurd (tried refl)
-      abort_err (troubles.Damaged damage) tried ends = (let no : true ≡ false = (this_abort (Err (troubles.Damaged damage)) ends).sound in cc)
-
-      pub commit_ok : Commits (Ok tt) → Answers g k gone s who (asks.Close t true) replies.Done
-      commit_ok ends =
-          let e = this_commit (Ok tt) bare ends in
-          subst (λ ss. Answers g k (record k { disk = d; space = space; seats = ss }) s who (asks.Close t true) replies.Done) gone_is (commits d space e.done left_sized wide none e.leaves)
-
-      pub commit_err : (e : Trouble) → e ≢ troubles.Disk false → Commits (Err e) → EndsSo g k (doubtful d space) s who (asks.Close t true) (Err (refused_by e))
-      commit_err (troubles.Disk true) tried ends = commit_in_doubt d space wide (this_commit (Err (troubles.Disk true)) bare ends).leaves
-      commit_err (troubles.Disk false) tried ends = absurd (tried refl)
-      commit_err (troubles.Damaged damage) tried ends = (let no : true ≡ false = (this_commit (Err (troubles.Damaged damage)) bare ends).sound in cc)
+      pub ended_err : (e : Trouble) → EndsDraft g commit was k.disk d k.space space (Err e) → EndsSo g k (doubtful d space) s who (asks.Close t commit) (Err (refused_by e))
+      ended_err e is = by commit e is.tried (is.ends s.graph ds id object before serves.store held.there open_in)
+        where
+          by : (b : Bool) (x : Trouble) → x ≢ troubles.Disk false → DraftEnds g b s.graph ds id before was k.disk d space (Err x) → EndsSo g k (doubtful d space) s who (asks.Close t b) (Err (refused_by x))
+          by true (troubles.Disk true) tried e = commit_in_doubt d space wide e.leaves
+          by false (troubles.Disk true) tried e = abort_in_doubt d space wide e.leaves
+          by b (troubles.Disk false) tried e = absurd (tried refl)
+          by true (troubles.Damaged damage) tried e = let no : true ≡ false = e.sound in cc
+          by false (troubles.Damaged damage) tried e = let no : true ≡ false = e.sound in cc

@@ -1,39 +1,18 @@
 -- How a call ends that closes a grant with a draft, on any disk.
-use Rattle.std.proofs.Common.{◌≡◌, ◌≢◌, ℕ, List, length, Bool, true, false, Option, Some, None, Ok, Err, IsTrue, refl, sym, ◌∙◌, subst, arith}
-use Rattle.std.specs.Prelude.{IfErr, IfOk, IsSome, OnErr, OnOk, Result, option_map}
-use Rattle.cfs_base.specs.Calls.{MakesAtMost}
-use Rattle.cfs_base.specs.Disk.{Image}
-use Rattle.cfs_base.specs.Refusals.{refused_by}
-use Rattle.cfs_base.specs.declared.disk.Disk.{Ghosts}
-use Rattle.cfs_base.specs.declared.identifier.Puid.{Puid}
-use Rattle.cfs_base.specs.declared.identifier.Tuid.{Tuid}
-use Rattle.cfs_base.specs.declared.refusal.Refused.{Refused}
-use Rattle.cfs_base.specs.declared.refusal.Trouble.{Trouble}
+use Rattle.std.proofs.Common.{◌≡◌, ℕ, List, length, Bool, Option, Some, None, Ok, Err, IsTrue, refl, sym, ◌∙◌, ap, subst, IsSome, OnErr, OnOk, Result, option_map}
+use Rattle.cfs_core.proofs.Words.{Drafting, Ghosts, Grant, grant_of, Image, IsTrouble, Kept, MakesAtMost, NoGrant, refused_by, shown, State, table_of, Trouble, Tuid}
 use Rattle.cfs_base.specs.declared.refusal.Trouble.TheVariants as troubles
-use Rattle.cyl_alloc.specs.Space.{Kept}
-use Rattle.intentions.specs.Store.{StoreHas}
 use Rattle.open_table.specs.Grants as tables
-use Rattle.open_table.specs.Model.{shown}
-use Rattle.open_table.specs.declared.fault.NoGrant.{NoGrant}
 use Rattle.open_table.specs.declared.grant.Grant as seats
-use Rattle.special_files.specs.Committing.{AbortEnds, CommitEnds, Makes}
-use Rattle.special_files.specs.Drafting.{Drafting, IsOpen}
-use Rattle.special_files.specs.Refusal.{IsTrouble}
-use Rattle.ufs_model.specs.declared.asked.Reply.{Reply}
 use Rattle.ufs_model.specs.declared.asked.Reply.TheVariants as replies
 use Rattle.ufs_model.specs.declared.asked.Request.TheVariants as asks
-use Rattle.ufs_model.specs.declared.object.Draft.{Draft}
-use Rattle.ufs_model.specs.declared.object.Grant.{Grant}
-use Rattle.ufs_model.specs.declared.object.Object.{Object}
-use Rattle.ufs_model.specs.Graph.{Graph, object_at}
-use Rattle.ufs_model.specs.State.{State, grant_of}
-use Rattle.vol_owners.specs.Account.{Opened}
-use Rattle.cfs_core.specs.Calls.{EndsSo, IsCause, Tries}
-use Rattle.ufs_model.specs.Plain.{IsPlainReply}
+use Rattle.cfs_core.specs.Calls.{IsCause, Tries}
+use Rattle.cfs_core.specs.Drafts.{EndsDraft}
 use Rattle.cfs_core.specs.Kernel.{Kernel, Seat, grants_in}
 use Rattle.cfs_core.specs.Seats.{drafting_at, seats_but, with_drafting}
 use Rattle.cfs_core.specs.StandsFor.{Serves}
-use Rattle.cfs_core.proofs.Ended.{abort_err, abort_ok, commit_err, commit_ok}
+use Rattle.cfs_core.proofs.Ended.{IsHeld, ended_err, ended_ok, held_by}
+use Rattle.cfs_core.proofs.Went.{went_so}
 
 -- a device call failed, or a block is damaged
 pub trouble_cause : {D : Type 0} (g : Ghosts D) (at : ℕ) (old new : D) (kept : Kept) (e : Trouble) → IsTrouble g at old new kept e → IsCause g old new (refused_by e)
@@ -57,46 +36,25 @@ pub closed_seats : (who : ℕ) (t : Tuid) (r : Result seats.Grant NoGrant) (old 
 closed_seats who t (Ok x) old new some done none = done
 closed_seats who t (Err e) old new some done none = let no = subst (λ (o : Option seats.Grant). IsSome o) none some in cc
 
-module _ {D : Type 0} (g : Ghosts D) (left_sized : (d : D) (t : ℕ) (c : Image) → g.left_since d t c → length c ≡ g.blocks d) (sized : (d : D) → IsTrue (g.honest d) → length (g.content d) ≡ g.blocks d)
-    (k : Kernel D) (who : ℕ) (t : Tuid) (was : Drafting) (drafting : drafting_at k.seats t.draw ≡ Some was) (bare : was.created ≡ None) (the : (s : State) → Serves g k s → (x : Grant) × (grant_of s who t ≡ Some x))
-    (d : D) (space : Kept) (n m : ℕ) (calls : MakesAtMost g n m k.disk d) where
-  wide : (s : State) → Serves g k s → length (g.content k.disk) ≡ g.blocks d
-  wide s serves = sized k.disk serves.store.carries.tells.honest ∙ sym calls.same.size
+-- a grant that the core finds, and of which it has the draft
+pub held_in : {D : Type 0} (g : Ghosts D) (k : Kernel D) (who : ℕ) (t : Tuid) (was : Drafting) → drafting_at k.seats t.draw ≡ Some was → IsSome (tables.grant_in (grants_in k.seats) who t)
+    → ((s : State) → tables.grant_in (table_of s.grants) who t ≡ option_map shown (grant_of s who t)) → (s : State) → Serves g k s → IsHeld g k s who t was
+held_in g k who t was has some law s serves = held_by g k s serves who t was has (the_grant (tables.grant_in (grants_in k.seats) who t) _ some (ap (λ gs. tables.grant_in gs who t) serves.front.grants ∙ law s))
 
-  tried : (now : List Seat) (commit : Bool) (r : Result Reply Refused) → ((s : State) → Serves g k s → k.stop ≡ None → EndsSo g k (record k { disk = d; space = space; seats = now }) s who (asks.Close t commit) r)
-      → IfOk r IsPlainReply → IfErr r (IsCause g k.disk d) → Tries g k (record k { disk = d; space = space; seats = now }) who (asks.Close t commit) r
-  tried now commit r ends plain cause = record {
-    ends = ends;
-    plain = plain;
-    cause = cause;
-    size = calls.same.size;
-    faults = calls.faults;
-    stop = refl;
-    collections = refl;
-    seed = refl;
-    kept = omega arith;
-    drawn = omega arith;
+module _ {D : Type 0} (g : Ghosts D) (left_sized : (d : D) (t : ℕ) (c : Image) → g.left_since d t c → length c ≡ g.blocks d) (sized : (d : D) → IsTrue (g.honest d) → length (g.content d) ≡ g.blocks d)
+    (k : Kernel D) (who : ℕ) (t : Tuid) (was : Drafting) (bare : was.created ≡ None) (the : (s : State) → Serves g k s → IsHeld g k s who t was)
+    (d : D) (space : Kept) (commit : Bool) where
+  wide : MakesAtMost g 93138 46452 k.disk d → (s : State) → Serves g k s → length (g.content k.disk) ≡ g.blocks d
+  wide calls s serves = sized k.disk serves.store.carries.tells.honest ∙ sym calls.same.size
+
+  pub tries_ended : EndsDraft g commit was k.disk d k.space space (Ok tt) → Tries g k (record k { disk = d; space = space; seats = seats_but (tables.is_grant who t) (with_drafting t.draw None k.seats) }) who (asks.Close t commit) (Ok replies.Done)
+  tries_ended is = record {
+    ends = λ s serves none. ended_ok g k s serves who t was (the s serves) d space bare left_sized (wide is.calls s serves) none commit is;
+    went = went_so g k d space (seats_but (tables.is_grant who t) (with_drafting t.draw None k.seats)) is.calls.same.size is.calls.faults 0 (Ok replies.Done) tt tt;
   }
 
-  -- a draft is given up
-  abbrev Aborts : Result (Unit {0}) Trouble → Type 0
-  Aborts r = (graph : Graph) (xs : List Opened) (y : Puid) (o : Object) (dr : Draft) → StoreHas g graph xs k.disk k.space → object_at graph y ≡ Some o → IsOpen xs y was dr → AbortEnds g graph xs y was.created k.disk d space r
-
-  pub aborted : Aborts (Ok tt) → Tries g k (record k { disk = d; space = space; seats = seats_but (tables.is_grant who t) (with_drafting t.draw None k.seats) }) who (asks.Close t false) (Ok replies.Done)
-  aborted ends = tried _ false (Ok replies.Done) (λ s serves none. let x = the s serves in abort_ok g k s serves who t x.0 x.1 was drafting d space bare left_sized (wide s serves) none ends) tt tt
-
-  pub not_aborted : (e : Trouble) → e ≢ troubles.Disk false → IsTrouble g was.at k.disk d space e → Aborts (Err e) → Tries g k (record k { disk = d; space = space; seats = with_drafting t.draw None k.seats }) who (asks.Close t false) (Err (refused_by e))
-  not_aborted e first why ends = tried _ false (Err (refused_by e)) (λ s serves none. let x = the s serves in abort_err g k s serves who t x.0 x.1 was drafting d space bare left_sized (wide s serves) none e first ends)
-      tt (trouble_cause g was.at k.disk d space e why)
-
-  -- it becomes its object
-  abbrev Commits : Result (Unit {0}) Trouble → Type 0
-  Commits r = (graph : Graph) (xs : List Opened) (y : Puid) (o : Object) (dr : Draft) → StoreHas g graph xs k.disk k.space → object_at graph y ≡ Some o → IsOpen xs y was dr → Makes (g.content k.disk) was.created None
-      → CommitEnds g graph xs y dr.object None k.disk d space r
-
-  pub committed : Commits (Ok tt) → Tries g k (record k { disk = d; space = space; seats = seats_but (tables.is_grant who t) (with_drafting t.draw None k.seats) }) who (asks.Close t true) (Ok replies.Done)
-  committed ends = tried _ true (Ok replies.Done) (λ s serves none. let x = the s serves in commit_ok g k s serves who t x.0 x.1 was drafting d space bare left_sized (wide s serves) none ends) tt tt
-
-  pub not_committed : (e : Trouble) → e ≢ troubles.Disk false → IsTrouble g was.at k.disk d space e → Commits (Err e) → Tries g k (record k { disk = d; space = space; seats = with_drafting t.draw None k.seats }) who (asks.Close t true) (Err (refused_by e))
-  not_committed e first why ends = tried _ true (Err (refused_by e)) (λ s serves none. let x = the s serves in commit_err g k s serves who t x.0 x.1 was drafting d space bare left_sized (wide s serves) none e first ends)
-      tt (trouble_cause g was.at k.disk d space e why)
+  pub tries_unended : (e : Trouble) → EndsDraft g commit was k.disk d k.space space (Err e) → Tries g k (record k { disk = d; space = space; seats = with_drafting t.draw None k.seats }) who (asks.Close t commit) (Err (refused_by e))
+  tries_unended e is = record {
+    ends = λ s serves none. ended_err g k s serves who t was (the s serves) d space bare left_sized (wide is.calls s serves) none commit e is;
+    went = went_so g k d space (with_drafting t.draw None k.seats) is.calls.same.size is.calls.faults 0 (Err (refused_by e)) tt (trouble_cause g was.at k.disk d space e is.refused);
+  }

@@ -1,15 +1,7 @@
 -- How many blocks a file takes, by the leaves that it may hold.
-use Rattle.std.proofs.Common.{◌≡◌, ◌⊎◌, inl, inr, ℕ, ◌+◌, ◌/◌, ◌≤◌, List, [], ◌∷◌, ◌++◌, length, true, false, cond, not, refl, ap, subst, arith}
-use Rattle.std.specs.Prelude.{◌==◌, filter, map, nat_lt}
-use Rattle.std.specs.List.{list_all, sum_by}
-use Rattle.std.proofs.lemmas.Bool.{and_parts}
-use Rattle.std.proofs.lemmas.Bool.Decides.{nat_tests}
-use Rattle.std.proofs.lemmas.List.Sums.{sum_by-cons}
-use Rattle.ufs_model.specs.declared.object.File.{File}
+use Rattle.std.proofs.Common.{◌≡◌, ◌⊎◌, inl, inr, ℕ, ◌+◌, ◌/◌, ◌≤◌, List, [], ◌∷◌, ◌++◌, length, true, false, cond, not, refl, ap, subst, arith, ◌==◌, filter, map, nat_lt}
+use Rattle.cfs_core.proofs.Words.{above, and_parts, blocks_of, branches, File, first_level, has_number, here, in_cons, in_map, in_withs, lacking, later, list_all, missing, nat_tests, next_levels, numbers_rise, parents, sum_by, sum_by-cons, to_filter, to_map, to_withs, with_numbers-rise}
 use Rattle.ufs_model.specs.declared.object.Object.TheVariants as objects
-use Rattle.ufs_model.specs.Numbers.{branches, first_level, has_number, lacking, missing, next_levels, numbers_rise, parents}
-use Rattle.ufs_model.specs.Object.{blocks_of}
-use Rattle.ufs_model.proofs.Rising.{above, here, in_cons, in_map, in_withs, later, to_filter, to_map, to_withs, with_numbers-rise}
 
 -- ---- numbers that rise are no more than those among which they are
 

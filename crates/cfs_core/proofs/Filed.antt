@@ -1,59 +1,22 @@
 -- How a call ends that changes a file which has no draft: a normal one in place, a special one as one commit.
-use Rattle.std.proofs.Common.{◌≡◌, ◌⊎◌, inl, inr, ℕ, ◌+◌, ◌<◌, ◌≤◌, [], length, true, false, cond, Some, None, Result, Ok, Err, IsTrue, refl, sym, ◌∙◌, ap, subst, arith}
-use Rattle.std.specs.Prelude.{IfErr, IfOk, List, ◌∷◌, nat_lt, sum}
-use Rattle.std.specs.List.{list_all}
-use Rattle.std.proofs.lemmas.Bool.{and_parts, eq-eqb}
-use Rattle.std.proofs.lemmas.Bool.Decides.{nat_tests}
-use Rattle.cfs_base.specs.Calls.{OnlyReads}
-use Rattle.cfs_base.specs.Disk.{Image}
-use Rattle.cfs_base.specs.Run.{Leaves}
-use Rattle.cfs_base.specs.declared.disk.Disk.{Ghosts}
-use Rattle.cfs_base.specs.declared.identifier.Puid.{Puid}
-use Rattle.cfs_base.specs.declared.kind.FileKind.{FileKind}
+use Rattle.std.proofs.Common.{◌≡◌, ◌⊎◌, inl, inr, ℕ, ◌+◌, ◌<◌, ◌≤◌, [], length, true, false, cond, Some, None, Result, Ok, Err, IsTrue, refl, sym, ◌∙◌, ap, subst, arith, List, ◌∷◌, nat_lt, sum}
+use Rattle.cfs_core.proofs.Words.{and_parts, blocks_of, byte_may_stand, Change, change_need, change_of, changed, changed_object, ChangesFile, closed_graph, creates, draft_of, drafts_of, draws, each_from, eq-eqb, File, FileKind, Fill, filter-rises, Fits, Ghosts, Graph, has_number, held_levels, here, Holds, HoldsOfEither, Image, in_filter, in_with, index_has_pair, is_among, is_object, is_running}
+use Rattle.cfs_core.proofs.Words.{is_there, IsInside, IsPartly, IsSpeakable, Kept, kind_of, later, Leaves, leaves_in, list_all, MayChange, MayLeave, named, nat_tests, Need, need_for, need_of, next, numbers_rise, Object, object_at, object_at-with_object, object_whole, OnlyReads, Opened, outcome_of, Overwrite, pair_from_index, Puid, Ref, referred, refusal_of, Refused, Request, resized}
+use Rattle.cfs_core.proofs.Words.{rises-with_object, same_puid, same_puid_is, SetSize, State, still_there, target, touched, wider, with_numbers, with_object, withs-rise, written}
 use Rattle.cfs_base.specs.declared.kind.FileKind.TheVariants as kinds
-use Rattle.cfs_base.specs.declared.refusal.Need.{Need}
-use Rattle.cfs_base.specs.declared.refusal.Refused.{Refused}
 use Rattle.cfs_base.specs.declared.refusal.Refused.TheVariants as refusals
-use Rattle.cfs_base.proofs.Runs.{wider}
-use Rattle.cyl_alloc.specs.Space.{Kept}
-use Rattle.file_ops.specs.Changes.{ChangesFile, IsFileRefusal, MayChange, MayLeave, need_for}
-use Rattle.normal_files.specs.Standing.{HoldsOfEither, IsPartly}
-use Rattle.puid_space.specs.Kinds.{kind_of}
-use Rattle.survival.specs.Held.{Fits}
 use Rattle.ufs_model.specs.declared.asked.Event.TheVariants as events
-use Rattle.ufs_model.specs.declared.asked.Ref.{Ref}
 use Rattle.ufs_model.specs.declared.asked.Reply.TheVariants as replies
-use Rattle.ufs_model.specs.declared.asked.Request.{Request}
 use Rattle.ufs_model.specs.declared.asked.Request.TheVariants as asks
-use Rattle.ufs_model.specs.declared.change.Change.{Change}
-use Rattle.ufs_model.specs.declared.change.Change.TheVariants.{Fill, Overwrite, SetSize}
-use Rattle.ufs_model.specs.declared.object.File.{File}
-use Rattle.ufs_model.specs.declared.object.Object.{Object}
 use Rattle.ufs_model.specs.declared.object.Object.TheVariants as objects
-use Rattle.ufs_model.specs.Graph.{Graph, IsClosedGraph, is_there, object_at, referred, with_object}
-use Rattle.ufs_model.specs.Identifier.{is_among, same_puid}
-use Rattle.ufs_model.specs.Need.{change_need, need_of}
-use Rattle.ufs_model.specs.Next.{next}
-use Rattle.ufs_model.specs.Numbers.{has_number, numbers_rise, with_numbers}
-use Rattle.ufs_model.specs.Object.{IsInside, blocks_of, byte_may_stand, changed_object, each_from, held_levels, is_object, leaves_in, resized, touched, written}
-use Rattle.ufs_model.specs.Outcome.{changed, creates, outcome_of}
-use Rattle.ufs_model.specs.Plain.{IsPlainReply}
-use Rattle.ufs_model.specs.Refusal.{refusal_of, target}
-use Rattle.ufs_model.specs.State.{State, draft_of, is_running, named}
-use Rattle.ufs_model.specs.WellFormed.{IsSpeakable}
-use Rattle.ufs_model.proofs.Graphs.{index_has_pair, object_at-with_object, pair_from_index, rises-with_object}
-use Rattle.ufs_model.proofs.Rising.{filter-rises, here, in_filter, in_with, later, withs-rise}
-use Rattle.ufs_model.proofs.WellGraphs.{closed_graph, object_whole, still_there}
-use Rattle.vol_image.specs.Sound.{Holds}
-use Rattle.vol_image.specs.Survives.{change_of}
-use Rattle.vol_image.proofs.Reached.{same_puid_is}
-use Rattle.vol_owners.specs.Account.{Opened, drafts_of}
-use Rattle.cfs_core.specs.Calls.{Answers, ByWant, EndsSo, IsCause, IsInDoubt, IsShort, Tries, Undone, done_or, is_delete}
+use Rattle.ufs_model.specs.Graph.{IsClosedGraph}
+use Rattle.cfs_core.specs.Calls.{Answers, ByWant, EndsSo, IsInDoubt, IsShort, Tries, Undone, done_or, is_delete}
 use Rattle.cfs_core.specs.Kernel.{Kernel}
 use Rattle.cfs_core.specs.Looks.{Knows, ReachesAll}
 use Rattle.cfs_core.specs.StandsFor.{Serves, drafts_of_seats}
 use Rattle.cfs_core.specs.Ways.{Reaches}
-use Rattle.cfs_core.proofs.After.{cause, ends}
+use Rattle.cfs_core.proofs.Went.{went_done, went_then}
+use Rattle.cfs_core.proofs.After.{ends}
 use Rattle.cfs_core.proofs.Answering.{disk_failed, knows_that, memory}
 use Rattle.cfs_core.proofs.Changed.{object_did, object_in_doubt}
 use Rattle.cfs_core.proofs.Committed.{IsCut, LeavesThese}
@@ -200,13 +163,6 @@ same_need a b is = cc
 
 -- ---- the call
 
-file_cause : {D : Type 0} (g : Ghosts D) (at : ℕ) (kind : FileKind) (floor : ℕ) (change : Change) (old new : D) (after : Kept) (result : Result (Unit {0}) Refused) → IfErr result (IsFileRefusal g at kind floor change old new after) → IfErr (done_or result) (IsCause g old new)
-file_cause g at kind floor change old new after (Ok u) is = tt
-file_cause g at kind floor change old new after (Err (refusals.Full need)) is = tt
-file_cause g at kind floor change old new after (Err (refusals.Disk tried)) is = is
-file_cause g at kind floor change old new after (Err (refusals.Damaged damage)) is = tt
-file_cause g at kind floor change old new after (Err refusals.Memory) is = tt
-
 module _ {D : Type 0} (g : Ghosts D) (left_sized : (d : D) (t : ℕ) (c : Image) → g.left_since d t c → length c ≡ g.blocks d) (sized : (d : D) → IsTrue (g.honest d) → length (g.content d) ≡ g.blocks d)
     (k : Kernel D) (d : D) (space : Kept) (id : Puid) (kind : FileKind) (change : Change) (request : Request) (is : IsChanging request change)
     (result : Result (Unit {0}) Refused) (changes : ChangesFile g id.block kind 4 change k.disk d k.space space result) where
@@ -325,17 +281,6 @@ tries_changed g left_sized sized n k mid d space reads id kind change request is
       let may = goes s r.0 serves r.1 (knows_that g k s serves id (objects.File r.0) r.1.there r.2) in
       ends g n k mid (record k { disk = d; space = space }) reads request s who (done_or result)
       (did g left_sized sized (record k { disk = mid }) d space id kind change request is result changes s who r.0 (serves_on g n k (record k { disk = mid }) reads refl s serves) none r.1 r.2 may.0 may.1 may.2);
-  plain = plain result;
-  cause = cause g n k mid (record k { disk = d; space = space }) reads request (done_or result) (file_cause g id.block kind 4 change mid d space result changes.refused);
-  size = changes.calls.same.size ∙ reads.same.size;
-  faults = omega (arith, reads.faults, changes.calls.faults);
-  stop = refl;
-  collections = refl;
-  seed = refl;
-  kept = omega arith;
-  drawn = omega arith;
+  went = went_then g n k mid (record k { disk = d; space = space }) reads (draws request) (done_or result)
+      (went_done g (record k { disk = mid }) d space k.seats changes.calls.same.size changes.calls.faults (draws request) result (λ tried is. rw is at changes.refused));
 }
-  where
-    plain : (r : Result (Unit {0}) Refused) → IfOk (done_or r) IsPlainReply
-    plain (Ok u) = tt
-    plain (Err e) = tt

@@ -1,22 +1,7 @@
 -- How a draft is given up while a session leaves.
 use Rattle.std.proofs.Common.{◌≡◌, ◌≢◌, ℕ, List, true, false, Some, None, refl, sym, ◌∙◌, ap}
-use Rattle.cfs_base.specs.Calls.{HasFailed, MakesAtMost}
-use Rattle.cfs_base.specs.Refusals.{refused_by}
-use Rattle.cfs_base.specs.Run.{Leaves}
-use Rattle.cfs_base.specs.declared.disk.Disk.{Ghosts}
-use Rattle.cfs_base.specs.declared.identifier.Puid.{Puid}
-use Rattle.cfs_base.specs.declared.refusal.Trouble.{Trouble}
+use Rattle.cfs_core.proofs.Words.{Draft, Drafting, Dropped, Ghosts, Graph, HasFailed, Holds, is_damage, IsOpen, IsTrouble, Kept, Leaves, MakesAtMost, Object, object_at, Opened, Puid, refused_by, StoreHas, Trouble}
 use Rattle.cfs_base.specs.declared.refusal.Trouble.TheVariants as troubles
-use Rattle.cyl_alloc.specs.Space.{Kept}
-use Rattle.intentions.specs.Store.{StoreHas}
-use Rattle.special_files.specs.Committing.{Dropped}
-use Rattle.special_files.specs.Drafting.{Drafting, IsOpen}
-use Rattle.special_files.specs.Refusal.{IsTrouble, is_damage}
-use Rattle.ufs_model.specs.declared.object.Draft.{Draft}
-use Rattle.ufs_model.specs.declared.object.Object.{Object}
-use Rattle.ufs_model.specs.Graph.{Graph, object_at}
-use Rattle.vol_image.specs.Sound.{Holds}
-use Rattle.vol_owners.specs.Account.{Opened}
 use Rattle.cfs_core.specs.declared.kernel.Stop.{Stop}
 use Rattle.cfs_core.specs.Asked.{stopped_by, told}
 use Rattle.cfs_core.specs.Kernel.{Kernel}

@@ -1,87 +1,21 @@
 -- How an opening for reading ends, and a closing of a grant that has no draft.
-use Rattle.std.proofs.Common.{◌≡◌, ℕ, ◌+◌, ◌≤◌, List, [], ◌∷◌, ◌++◌, length, Bool, true, false, cond, Option, Some, None, is_some, IsTrue, Ok, refl, sym, ◌∙◌, subst, arith}
-use Rattle.std.specs.Prelude.{◌==◌, map, nat_le, sum}
-use Rattle.std.proofs.lemmas.Bool.Decides.{nat_tests}
-use Rattle.std.specs.List.{list_all, list_any}
-use Rattle.std.proofs.lemmas.Bool.{and_parts}
-use Rattle.std.proofs.lemmas.List.Folds.{list_all-append}
-use Rattle.cfs_base.specs.Disk.{Image}
-use Rattle.cfs_base.specs.declared.disk.Disk.{Ghosts}
-use Rattle.cfs_base.specs.declared.identifier.Tuid.{Tuid}
-use Rattle.cfs_base.specs.declared.kind.Mode.{Mode}
-use Rattle.open_table.specs.declared.fault.AcquireFault.{AcquireFault}
+use Rattle.std.proofs.Common.{◌≡◌, ℕ, ◌+◌, List, [], ◌∷◌, ◌++◌, length, Bool, true, false, cond, Option, Some, None, is_some, IsTrue, Ok, refl, sym, ◌∙◌, arith, ◌==◌, nat_le, sum}
+use Rattle.cfs_core.proofs.Words.{AcquireFault, and_parts, closed, closed_keeps, committed, fault_by, Ghosts, Grant, grant_of, Graph, Image, Kept, kinds_of, list_all, list_all-append, list_any, Mode, MOST_GRANTS, nat_tests, outcome_legal, refusal_of, State, Tuid}
 use Rattle.open_table.specs.declared.fault.AcquireFault.TheVariants as faults
 use Rattle.open_table.specs.Grants as tables
-use Rattle.open_table.specs.Grants.{fault_by}
-use Rattle.ufs_model.specs.declared.limits.TheConstants.{MOST_GRANTS}
-use Rattle.vol_owners.specs.Account.{Opened}
-use Rattle.puid_space.specs.Draw.{Draws}
 use Rattle.ufs_model.specs.declared.asked.Event.TheVariants as events
-use Rattle.ufs_model.specs.declared.asked.Reply.{Reply}
 use Rattle.ufs_model.specs.declared.asked.Reply.TheVariants as replies
-use Rattle.ufs_model.specs.declared.asked.Request.{Request}
 use Rattle.ufs_model.specs.declared.asked.Request.TheVariants as asks
-use Rattle.ufs_model.specs.declared.object.Grant.{Grant}
-use Rattle.ufs_model.specs.Need.{need_of}
-use Rattle.ufs_model.specs.Outcome.{closed, committed, creates, draws, outcome_of}
-use Rattle.ufs_model.specs.Plain.{IsPlainReply}
-use Rattle.ufs_model.specs.Refusal.{refusal_of}
-use Rattle.ufs_model.specs.State.{State, grant_of}
-use Rattle.ufs_model.specs.WellFormed.{IsState}
-use Rattle.ufs_model.proofs.Legal.{outcome_legal}
-use Rattle.cfs_core.specs.Calls.{Answers, ByOutcome, Makes, Tries}
-use Rattle.cfs_core.specs.Kernel.{Kernel, Seat, grants_in, is_drawn_by}
+use Rattle.cfs_core.specs.Calls.{Answers, ByOutcome, Tries}
+use Rattle.cfs_core.specs.Kernel.{Kernel, Seat, is_drawn_by}
 use Rattle.cfs_core.specs.Seats.{have_draft, is_at, is_drawn, seats_but}
-use Rattle.cfs_core.specs.StandsFor.{AreDraftsOf, Serves, bare}
+use Rattle.cfs_core.specs.StandsFor.{Serves, Stores}
 use Rattle.cfs_core.proofs.Answering.{owes}
-use Rattle.cfs_core.proofs.Regranted.{IsRegranted, KeepsDrafts, but_keeps, but_table, draft_none, drawn_more, makes_after}
+use Rattle.cfs_core.proofs.Moved.{IsStepped}
+use Rattle.cfs_core.proofs.Regranted.{KeepsDrafts, but_keeps, but_table, draft_none, drawn_more, makes_after, stores_after}
 use Rattle.cfs_core.proofs.Seated.{none_of_grant}
+use Rattle.cfs_core.proofs.Went.{went_so}
 use Rattle.cfs_core.proofs.Serving.{running}
-
--- ---- an outcome that changes the grants alone
-
-never : {A : Type 0} (b : Bool) → b ≡ false → b ≡ true → A
-never b is made = let no : true ≡ false = sym made ∙ is in cc
-
-module _ {D : Type 0} (g : Ghosts D) (left_sized : (d : D) (t : ℕ) (c : Image) → g.left_since d t c → length c ≡ g.blocks d) (sized : (d : D) → IsTrue (g.honest d) → length (g.content d) ≡ g.blocks d)
-    (k : Kernel D) (left : List Seat) (words : Draws) (who : ℕ) (request : Request) (reply : Reply) where
-  abbrev new : Kernel D
-  new = record k { words = words; seats = left }
-
-  -- what the state is then
-  pub record Regrants (s : State) : Type 0 where
-    pub allowed : refusal_of s who request ≡ None
-    pub told : (outcome_of k.words.seed s who request 0).0 ≡ reply
-    pub is : IsRegranted s (outcome_of k.words.seed s who request 0).1 left words.drawn
-    pub state : IsState (outcome_of k.words.seed s who request 0).1
-    pub keeps : KeepsDrafts k.seats left s.grants (outcome_of k.words.seed s who request 0).1.grants
-    pub need : need_of s who request ≡ 0
-
-  module _ (makes : creates request ≡ false) (plain : IsPlainReply reply) (seed : words.seed ≡ k.words.seed) (kept : k.words.drawn ≤ words.drawn) where
-    answers : (s : State) → Serves g k s → k.stop ≡ None → Regrants s → Answers g k new s who request reply
-    answers s serves none to =
-        record {
-          event = subst (λ (r : Reply). Makes g k new s (events.Ask who request r)) to.told
-              (makes_after g k left words s (outcome_of k.words.seed s who request 0).1 to.is to.state to.keeps serves left_sized (sized k.disk serves.store.carries.tells.honest)
-              (events.Ask who request (outcome_of k.words.seed s who request 0).0) (outcome_legal k.words.seed s who request 0 (running g k s serves none) to.allowed (λ made. never (creates request) makes made)));
-          still = λ all. refl;
-          owed = owes k.words.seed s who request (g.content k.disk) (sum k.space.free) reply plain
-              (ByOutcome to.allowed (record { block = 0; least = λ made. never (creates request) makes made; reply_is = sym to.told; room = λ short. omega (arith, short.few, serves.four, to.need) }));
-        }
-
-    pub tries_regranted : ((s : State) → Serves g k s → Regrants s) → words.drawn ≤ k.words.drawn + draws request → Tries g k new who request (Ok reply)
-    tries_regranted to few = record {
-      ends = λ s serves none. answers s serves none (to s serves);
-      plain = plain;
-      cause = tt;
-      size = refl;
-      faults = omega arith;
-      stop = refl;
-      collections = refl;
-      seed = seed;
-      kept = kept;
-      drawn = few;
-    }
 
 -- ---- why a grant isn't acquired
 
@@ -112,36 +46,74 @@ none_by None count is = (refl, at (nat_le MOST_GRANTS count) is)
 -- ---- a grant is closed
 
 module _ (seed : ℕ) (s : State) (who : ℕ) (t : Tuid) (commit : Bool) where
-  abbrev closing : Request
-  closing = asks.Close t commit
-
-  pub close_none : grant_of s who t ≡ None → refusal_of s who closing ≡ Some replies.NoGrant
+  pub close_none : grant_of s who t ≡ None → refusal_of s who (asks.Close t commit) ≡ Some replies.NoGrant
   close_none none = rw none refl
 
-  module _ (x : Grant) (found : grant_of s who t ≡ Some x) where
-    pub close_goes : refusal_of s who closing ≡ None
-    close_goes = rw found refl
+  pub close_goes : (x : Grant) → grant_of s who t ≡ Some x → refusal_of s who (asks.Close t commit) ≡ None
+  close_goes x found = rw found refl
 
-    -- where its seat has no draft
-    module _ (ds : List Opened) (ss : List Seat) (table : grants_in ss ≡ map bare s.grants) (are : AreDraftsOf ds ss s.grants) (none : have_draft (is_at t.draw) ss ≡ false) where
-      found_bare : x.draft ≡ None
-      found_bare = draft_none ds who t ss s.grants table are (none_of_grant who t ss none) x found
+-- the state without it, of which these are the objects
+pub closed_stepped : {D : Type 0} (g : Ghosts D) (k : Kernel D) (s : State) → Serves g k s → (who : ℕ) (t : Tuid) (commit : Bool) (d : D) (space : Kept) (h : Graph) → (closed s who t commit).graph ≡ h → h.root ≡ s.graph.root → kinds_of h ≡ kinds_of s.graph
+    → IsStepped k (record k { disk = d; space = space; seats = seats_but (tables.is_grant who t) k.seats }) s (closed s who t commit) h
+closed_stepped g k s serves who t commit d space h graph rooted kinds = record {
+  graph = graph;
+  rooted = rooted;
+  stopped = refl;
+  sweeping = refl;
+  drawn = serves.front.drawn;
+  named = serves.front.names ∙ sym kinds;
+  root = refl;
+  stop = refl;
+  table = but_table (tables.is_grant who t) k.seats s.grants serves.front.grants;
+}
 
-      closed_graph : (closed s who t commit).graph ≡ s.graph
-      closed_graph = at commit
-        where
-          kept : committed (grant_of s who t) s.graph ≡ s.graph
-          kept = rw (found, found_bare) refl
+-- where its seat has no draft
+module _ {D : Type 0} (g : Ghosts D) (k : Kernel D) (s : State) (serves : Serves g k s) (who : ℕ) (t : Tuid) (commit : Bool) (x : Grant) (found : grant_of s who t ≡ Some x) (bare : have_draft (is_at t.draw) k.seats ≡ false) where
+  abbrev left : List Seat
+  left = seats_but (tables.is_grant who t) k.seats
 
-          at : (b : Bool) → (closed s who t b).graph ≡ s.graph
-          at true = kept
-          at false = refl
+  none_of_it : have_draft (tables.is_grant who t) k.seats ≡ false
+  none_of_it = none_of_grant who t k.seats bare
 
-      pub closed_so : (drawn : ℕ) → drawn ≡ s.drawn → IsRegranted s (closed s who t commit) (seats_but (tables.is_grant who t) ss) drawn
-      closed_so drawn count = record { graph = closed_graph; sweeping = refl; stopped = refl; drawn_is = sym count; table = but_table (tables.is_grant who t) ss s.grants table }
+  closed_graph : (closed s who t commit).graph ≡ s.graph
+  closed_graph = at commit
+    where
+      kept : committed (grant_of s who t) s.graph ≡ s.graph
+      kept = let none = draft_none _ who t k.seats s.grants serves.front.grants serves.drafts none_of_it x found in rw (found, none) refl
 
-      pub closed_keeps_drafts : KeepsDrafts ss (seats_but (tables.is_grant who t) ss) s.grants (closed s who t commit).grants
-      closed_keeps_drafts = but_keeps (tables.is_grant who t) ds ss s.grants table are (none_of_grant who t ss none)
+      at : (b : Bool) → (closed s who t b).graph ≡ s.graph
+      at true = kept
+      at false = refl
+
+  stepped : IsStepped k (record k { seats = left }) s (closed s who t commit) s.graph
+  stepped = closed_stepped g k s serves who t commit k.disk k.space s.graph closed_graph refl refl
+
+  keeps : KeepsDrafts k.seats left s.grants (closed s who t commit).grants
+  keeps = but_keeps (tables.is_grant who t) _ k.seats s.grants serves.front.grants serves.drafts none_of_it
+
+  pub stores_closed : Stores g (record k { seats = left }) (closed s who t commit)
+  stores_closed = stores_after g k left s (closed s who t commit) serves stepped (closed_keeps s who t commit serves.state) keeps
+
+  pub answers_closed : ((d : D) (t : ℕ) (c : Image) → g.left_since d t c → length c ≡ g.blocks d) → ((d : D) → IsTrue (g.honest d) → length (g.content d) ≡ g.blocks d) → k.stop ≡ None
+      → Answers g k (record k { seats = left }) s who (asks.Close t commit) replies.Done
+  answers_closed left_sized sized none = record {
+    event = makes_after g k left s (closed s who t commit) serves stepped (closed_keeps s who t commit serves.state) keeps left_sized (sized k.disk serves.store.carries.tells.honest)
+        (events.Ask who (asks.Close t commit) replies.Done) (outcome_legal k.words.seed s who (asks.Close t commit) 0 (running g k s serves none) goes (λ made. let no : true ≡ false = sym made in cc));
+    still = λ all. refl;
+    owed = owes k.words.seed s who (asks.Close t commit) (g.content k.disk) (sum k.space.free) replies.Done tt
+        (ByOutcome goes (record { block = 0; least = λ made. let no : true ≡ false = sym made in cc; reply_is = refl; room = λ short. omega (arith, short.few, serves.four) }));
+  }
+    where
+      goes : refusal_of s who (asks.Close t commit) ≡ None
+      goes = close_goes 0 s who t commit x found
+
+pub tries_closed : {D : Type 0} (g : Ghosts D) → ((d : D) (t : ℕ) (c : Image) → g.left_since d t c → length c ≡ g.blocks d) → ((d : D) → IsTrue (g.honest d) → length (g.content d) ≡ g.blocks d)
+    → (k : Kernel D) (who : ℕ) (t : Tuid) (commit : Bool) → have_draft (is_at t.draw) k.seats ≡ false → ((s : State) → Serves g k s → (x : Grant) × (grant_of s who t ≡ Some x))
+    → Tries g k (record k { seats = seats_but (tables.is_grant who t) k.seats }) who (asks.Close t commit) (Ok replies.Done)
+tries_closed g left_sized sized k who t commit bare the = record {
+  ends = λ s serves none. let x = the s serves in answers_closed g k s serves who t commit x.0 x.1 bare left_sized sized none;
+  went = went_so g k k.disk k.space (seats_but (tables.is_grant who t) k.seats) refl (omega arith) 0 (Ok replies.Done) tt tt;
+}
 
 -- ---- what is drawn next is of no grant yet
 

@@ -1,22 +1,7 @@
 -- How many blocks the objects take once an index has another slot filled, or emptied.
-use Rattle.std.proofs.Common.{◌≡◌, inl, inr, ℕ, ◌+◌, ◌/◌, ◌≤◌, List, [], ◌∷◌, length, Bool, true, false, cond, Option, Some, None, ◌∙◌, ap, subst, arith}
-use Rattle.std.specs.Prelude.{◌==◌, map, nat_lt}
-use Rattle.std.specs.List.{sum_by}
-use Rattle.std.specs.BTreeMap.{is_at}
-use Rattle.std.specs.Map.{lookup, set_value}
-use Rattle.std.proofs.lemmas.List.Sums.{sum_by-cons}
-use Rattle.cfs_base.specs.declared.identifier.Puid.{Puid}
-use Rattle.ufs_model.specs.declared.object.Index.{Index}
-use Rattle.ufs_model.specs.declared.object.Object.{Object}
+use Rattle.std.proofs.Common.{◌≡◌, inl, inr, ℕ, ◌+◌, ◌/◌, ◌≤◌, List, [], ◌∷◌, length, Bool, true, false, cond, Option, Some, None, ◌∙◌, ap, subst, arith, ◌==◌, map, nat_lt, sum_by}
+use Rattle.cfs_core.proofs.Words.{blocks_of, filled, Graph, graph_blocks, has_number, ids_of, in_map, in_with, in_withs, Index, insert_entry-there, is_at, lookup, Object, object_at, parents, Puid, puid_cmp, rises, same_numbers, set_value, sorted_from_rises, sum_by-cons, to_map, to_withs, with_itself, with_number, with_number-rises, with_numbers-rise, with_object, with_others}
 use Rattle.ufs_model.specs.declared.object.Object.TheVariants as objects
-use Rattle.ufs_model.specs.Graph.{Graph, ids_of, object_at, with_object}
-use Rattle.ufs_model.specs.Identifier.{puid_cmp, rises}
-use Rattle.ufs_model.specs.Numbers.{has_number, parents, with_number}
-use Rattle.ufs_model.specs.Object.{blocks_of, filled}
-use Rattle.ufs_model.proofs.Entries.{insert_entry-there}
-use Rattle.ufs_model.proofs.Graphs.{sorted_from_rises}
-use Rattle.ufs_model.proofs.Rising.{in_map, in_with, in_withs, same_numbers, to_map, to_withs, with_itself, with_number-rises, with_numbers-rise, with_others}
-use Rattle.vol_image.specs.Sound.{graph_blocks}
 
 -- ---- a number more
 

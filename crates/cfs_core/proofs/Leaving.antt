@@ -1,20 +1,9 @@
 -- A session's grants are dropped, one after the other, and then it has left.
-use Rattle.std.proofs.Common.{◌≡◌, inl, inr, ℕ, List, [], ◌∷◌, length, Bool, true, false, cond, not, Option, Some, None, IsTrue, refl, sym, ◌∙◌, ap, subst, arith}
-use Rattle.std.specs.Prelude.{◌==◌, find, map, option_map}
-use Rattle.cfs_base.specs.Calls.{HasFailed}
-use Rattle.cfs_base.specs.Disk.{Image}
-use Rattle.cfs_base.specs.Run.{Leaves}
-use Rattle.cfs_base.specs.declared.disk.Disk.{Ghosts}
-use Rattle.cfs_base.proofs.Runs.{then}
+use Rattle.std.proofs.Common.{◌≡◌, inl, inr, ℕ, List, [], ◌∷◌, length, Bool, true, false, cond, not, Option, Some, None, IsTrue, refl, sym, ◌∙◌, ap, subst, arith, ◌==◌, find, map, option_map}
+use Rattle.cfs_core.proofs.Words.{after_leave, Ghosts, Grant, HasFailed, Holds, Image, Leaves, loose, nothing_left, State, stopped_at, then, without_session-none}
 use Rattle.open_table.specs.declared.grant.Grant as seats
 use Rattle.open_table.specs.Grants as tables
-use Rattle.open_table.proofs.Lists.{without_session-none}
-use Rattle.special_files.proofs.CommitDraft.{nothing_left}
-use Rattle.survival.proofs.Calls.{loose}
 use Rattle.ufs_model.specs.declared.asked.Event.TheVariants as events
-use Rattle.ufs_model.specs.declared.object.Grant.{Grant}
-use Rattle.ufs_model.specs.State.{State, after_leave, stopped_at}
-use Rattle.vol_image.specs.Sound.{Holds}
 use Rattle.cfs_core.specs.declared.kernel.Stop.{Stop}
 use Rattle.cfs_core.specs.Asked.{Happens, halted}
 use Rattle.cfs_core.specs.Calls.{AddsNoStray}

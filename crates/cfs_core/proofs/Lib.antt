@@ -1,8 +1,10 @@
+mod Words
 mod Seated
 mod Readied
 pub mod Serving
 mod Ways
 mod Refusing
+mod Went
 mod Answering
 mod Calm
 mod Grown

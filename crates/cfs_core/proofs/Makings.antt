@@ -1,21 +1,11 @@
 -- The two requests that make an object.
-use Rattle.std.proofs.Common.{◌≡◌, ℕ, ◌*◌, ◌<◌, ◌||◌, true, false, length, None, Some, refl, sym, ◌∙◌, subst, arith}
-use Rattle.std.specs.Prelude.{◌==◌, nat_lt}
-use Rattle.std.proofs.lemmas.Bool.Decides.{nat_tests}
-use Rattle.cfs_base.specs.declared.identifier.Puid.{Puid}
-use Rattle.cfs_base.specs.declared.kind.FileKind.{FileKind}
+use Rattle.std.proofs.Common.{◌≡◌, ℕ, ◌*◌, ◌<◌, ◌||◌, true, false, length, None, Some, refl, sym, ◌∙◌, subst, arith, ◌==◌, nat_lt}
+use Rattle.cfs_core.proofs.Words.{FileKind, Index, Kind, made_of, nat_tests, new_file, new_index, Puid, Ref, refusal_of, State}
 use Rattle.cfs_base.specs.declared.kind.FileKind.TheVariants as file_kinds
-use Rattle.cfs_base.specs.declared.kind.Kind.{Kind}
 use Rattle.cfs_base.specs.declared.kind.Kind.TheVariants as kinds
-use Rattle.index_ops.specs.Creates.{made_of}
-use Rattle.ufs_model.specs.declared.asked.Ref.{Ref}
 use Rattle.ufs_model.specs.declared.asked.Reply.TheVariants as replies
 use Rattle.ufs_model.specs.declared.asked.Request.TheVariants as asks
-use Rattle.ufs_model.specs.declared.object.Index.{Index}
 use Rattle.ufs_model.specs.declared.object.Object.TheVariants as objects
-use Rattle.ufs_model.specs.Object.{new_file, new_index}
-use Rattle.ufs_model.specs.Refusal.{refusal_of}
-use Rattle.ufs_model.specs.State.{State}
 use Rattle.cfs_core.specs.Makes.{IsMaking, file_kind}
 use Rattle.cfs_core.specs.Ways.{Reaches}
 use Rattle.cfs_core.proofs.Refusing.{within}

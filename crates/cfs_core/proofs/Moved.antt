@@ -1,28 +1,6 @@
 -- What a step of a draft, its commit or its end makes of the state.
-use Rattle.std.proofs.Common.{◌≡◌, ◌⊎◌, ℕ, ◌+◌, ◌/◌, ◌≤◌, List, [], ◌∷◌, length, Bool, true, false, cond, Option, Some, sym, ◌∙◌, ap, subst, arith}
-use Rattle.std.specs.Prelude.{filter, map, sum, option_map}
-use Rattle.std.specs.List.{sum_by}
-use Rattle.std.proofs.lemmas.List.Sums.{sum_by-cons}
-use Rattle.cfs_base.specs.Disk.{Image}
-use Rattle.cfs_base.specs.Run.{IsSettled, Leaves}
-use Rattle.cfs_base.specs.declared.disk.Disk.{Ghosts}
-use Rattle.cyl_alloc.proofs.Counted.{sum_is}
-use Rattle.cyl_map.specs.declared.entry.MapEntry.{MapEntry}
-use Rattle.intentions.specs.Store.{StoreHas}
-use Rattle.puid_space.specs.Kinds.{kinds_of}
-use Rattle.survival.specs.Held.{Fits}
-use Rattle.survival.proofs.Calls.{done, loose}
-use Rattle.ufs_model.specs.declared.asked.Event.{Event}
-use Rattle.ufs_model.specs.Graph.{Graph}
-use Rattle.ufs_model.specs.Next.{next}
-use Rattle.ufs_model.specs.State.{State}
-use Rattle.ufs_model.specs.WellFormed.{IsState}
-use Rattle.vol_image.specs.Sound.{Holds}
-use Rattle.vol_owners.specs.Account.{IsSwept, Opened}
-use Rattle.vol_owners.specs.Change.{ChangesOnly, IsOfThese}
-use Rattle.vol_owners.specs.Room.{blocks_taken, draft_blocks}
-use Rattle.vol_owners.proofs.Rooms.{room}
-use Rattle.vol_owners.proofs.Strays.{stays_swept, stray_was, strays_stay}
+use Rattle.std.proofs.Common.{◌≡◌, ◌⊎◌, ℕ, ◌+◌, ◌/◌, ◌≤◌, List, [], ◌∷◌, length, Bool, true, false, cond, Option, Some, sym, ◌∙◌, ap, subst, arith, filter, map, sum, option_map, sum_by}
+use Rattle.cfs_core.proofs.Words.{blocks_taken, ChangesOnly, done, draft_blocks, Event, Fits, Ghosts, Graph, Holds, Image, IsOfThese, IsSettled, IsState, IsSwept, kinds_of, Leaves, loose, MapEntry, next, Opened, room, State, stays_swept, StoreHas, stray_was, strays_stay, sum_by-cons, sum_is}
 use Rattle.cfs_core.specs.declared.kernel.Stop.{Stop}
 use Rattle.cfs_core.specs.Calls.{AddsNoStray, Makes}
 use Rattle.cfs_core.specs.Kernel.{Kernel, grants_in}
@@ -66,7 +44,7 @@ module _ {D : Type 0} (g : Ghosts D) (old new : Kernel D) (s after : State) (h :
 
   module _ (is : IsStepped old new s after h) (state : IsState after) (drafts_are : drafts_of_seats new.seats after.grants ≡ es) (have : AreDraftsOf es new.seats after.grants) (four : 4 ≤ sum new.space.free) where
     pub stores_stepped : Stores g new after
-    stores_stepped = record {
+    stores_stepped = λ c collecting. record {
       front = record {
         drawn = is.drawn;
         names = is.named ∙ ap kinds_of (sym is.graph);
@@ -81,6 +59,7 @@ module _ {D : Type 0} (g : Ghosts D) (old new : Kernel D) (s after : State) (h :
       swept = λ rests. subst (IsSwept (g.content new.disk)) (sym is.graph)
           (stays_swept T (g.content old.disk) (g.content new.disk) s.graph h has.only has.these (serves.swept (sym is.sweeping ∙ rests)));
       four = four;
+      collecting = collecting;
     }
 
     pub strays_stepped : AddsNoStray (g.content old.disk) (g.content new.disk) s.graph after.graph

@@ -1,23 +1,6 @@
 -- A core on a volume that was opened stands for what the volume reads as.
-use Rattle.std.proofs.Common.{◌≡◌, ℕ, [], Bool, true, false, None, refl, sym, ◌∙◌, ap, subst, arith}
-use Rattle.std.specs.Prelude.{◌==◌}
-use Rattle.std.specs.List.{list_any}
-use Rattle.std.proofs.lemmas.Bool.{false_from_ne_true}
-use Rattle.cfs_base.specs.declared.identifier.Puid.{Puid}
-use Rattle.puid_space.proofs.Graphs.{keys_of-kinds_in}
-use Rattle.cfs_base.specs.Disk.{AreBlocks, Image}
-use Rattle.cfs_base.specs.declared.disk.Disk.{Ghosts}
-use Rattle.cyl_alloc.specs.Space.{Kept}
-use Rattle.cyl_alloc.proofs.Counted.{sum_is}
-use Rattle.cfs_recover.specs.Recovered.{IsRecovered}
-use Rattle.puid_space.specs.Directory.{Listing, has_root_in}
-use Rattle.ufs_model.specs.Graph.{Graph}
-use Rattle.ufs_model.proofs.KeepsStates.{opening_state}
-use Rattle.vol_image.specs.Sound.{IsSoundAs}
-use Rattle.vol_image.proofs.Unique.{reading_is_one}
-use Rattle.vol_label.specs.declared.label.Label.{Label}
-use Rattle.vol_owners.proofs.Keys.{object_of_block}
-use Rattle.vol_owners.proofs.Rooms.{no_strays, room}
+use Rattle.std.proofs.Common.{◌≡◌, ℕ, [], Bool, true, false, None, refl, sym, ◌∙◌, ap, subst, arith, ◌==◌}
+use Rattle.cfs_core.proofs.Words.{AreBlocks, false_from_ne_true, Ghosts, Graph, has_root_in, Image, IsRecovered, IsSoundAs, Kept, keys_of-kinds_in, Label, list_any, Listing, no_strays, object_of_block, opening_state, Puid, reading_is_one, room, sum_is}
 use Rattle.cfs_core.specs.Kernel.{Kernel}
 use Rattle.cfs_core.specs.Opened.{IsOpened}
 use Rattle.cfs_core.proofs.SoundGraph.{sound_graph, root_some}

@@ -1,71 +1,18 @@
 -- How an opening ends.
-use Rattle.std.proofs.Common.{◌≡◌, ℕ, ◌+◌, ◌<◌, ◌≤◌, List, [], ◌∷◌, ◌++◌, length, Bool, true, false, cond, get_or, Option, Some, None, Ok, Err, IsTrue, refl, sym, ◌∙◌, ap, subst, arith}
-use Rattle.std.specs.Prelude.{IfSome, Result, is_some, map, nat_le, nat_lt, option_to_list, sum}
-use Rattle.std.specs.List.{list_any}
-use Rattle.std.proofs.lemmas.Bool.{or_parts}
-use Rattle.std.proofs.lemmas.List.Elements.{filter-append}
-use Rattle.std.proofs.lemmas.List.Sums.{sum_by-cons}
-use Rattle.std.proofs.lemmas.Bool.Decides.{nat_tests}
-use Rattle.cfs_base.specs.Calls.{OnlyReads}
-use Rattle.cfs_base.specs.Disk.{Image}
-use Rattle.cfs_base.specs.Run.{Leaves}
-use Rattle.cfs_base.specs.declared.disk.Disk.{Ghosts}
-use Rattle.cfs_base.specs.declared.identifier.Puid.{Puid}
-use Rattle.cfs_base.specs.declared.identifier.Tuid.{Tuid}
-use Rattle.cfs_base.specs.declared.kind.FileKind.{FileKind}
+use Rattle.std.proofs.Common.{◌≡◌, ℕ, ◌+◌, ◌<◌, ◌≤◌, List, [], ◌∷◌, ◌++◌, length, Bool, true, false, cond, get_or, Option, Some, None, Ok, Err, IsTrue, refl, sym, ◌∙◌, ap, subst, arith, IfSome, Result, is_some, map, nat_le, nat_lt, option_to_list, sum}
+use Rattle.cfs_core.proofs.Words.{AcquireFault, begun_at, begun_fresh, block_there, changes_begin, differs, draft_blocks, Drafting, drafts_of, Draws, fault_by, FileKind, first_draft, first_here, first_others, fresh_of, Ghosts, Grant, granted, granted_keeps, Graph, had_tried, has_all_grants, Holds, Image, is_damaged, is_full, is_locked, is_normal, is_reading, is_there, is_unwanted_index, IsOpen}
+use Rattle.cfs_core.proofs.Words.{IsPlainReply, IsState, Kept, Kind, kind_in, kind_of, Leaves, length-none, list_any, Mode, MOST_GRANTS, nat_tests, need_of, next, nothing_left, Object, object_at, of_draft, one_if, OnlyReads, Opened, opened_as, or_parts, outcome_legal, outcome_of, Puid, Reading, refusal_of, Refused, Reply, Request, same_puid, start_stays, State, sum_by-cons, takes_draft, Tuid}
+use Rattle.cfs_core.proofs.Words.{wanted, wider, word, Writing}
 use Rattle.cfs_base.specs.declared.kind.FileKind.TheVariants as file_kinds
-use Rattle.cfs_base.specs.declared.kind.Kind.{Kind}
 use Rattle.cfs_base.specs.declared.kind.Kind.TheVariants as kinds
-use Rattle.cfs_base.specs.declared.kind.Mode.{Mode}
-use Rattle.cfs_base.specs.declared.kind.Mode.TheVariants.{Reading, Writing}
-use Rattle.cfs_base.specs.declared.refusal.Refused.{Refused}
 use Rattle.cfs_base.specs.declared.refusal.Refused.TheVariants as refusals
-use Rattle.cfs_base.specs.Refusals.{had_tried}
-use Rattle.cfs_base.proofs.Runs.{wider}
-use Rattle.cyl_alloc.specs.Space.{Kept}
-use Rattle.open_table.specs.declared.fault.AcquireFault.{AcquireFault}
 use Rattle.open_table.specs.declared.fault.AcquireFault.TheVariants as faults
-use Rattle.open_table.specs.Grants.{fault_by}
 use Rattle.open_table.specs.declared.grant.Grant as seats
-use Rattle.puid_space.specs.Directory.{kind_in}
-use Rattle.puid_space.specs.Draw.{Draws}
-use Rattle.puid_space.specs.Kinds.{kind_of}
-use Rattle.special_files.specs.Drafting.{Drafting, IsOpen, begun_at, fresh_of, opened_as}
-use Rattle.special_files.proofs.CommitDraft.{nothing_left}
-use Rattle.special_files.proofs.Lists.{differs, first_here, first_others}
-use Rattle.special_files.specs.Refusal.{IsRefusalOrMemory, is_damaged, is_full}
-use Rattle.special_files.proofs.Begun.{begun_fresh}
-use Rattle.special_files.proofs.Levels.{length-none}
 use Rattle.ufs_model.specs.declared.asked.Event.TheVariants as events
-use Rattle.ufs_model.specs.declared.asked.Reply.{Reply}
 use Rattle.ufs_model.specs.declared.asked.Reply.TheVariants as replies
-use Rattle.ufs_model.specs.declared.asked.Request.{Request}
 use Rattle.ufs_model.specs.declared.asked.Request.TheVariants as asks
-use Rattle.ufs_model.specs.declared.limits.TheConstants.{MOST_GRANTS}
-use Rattle.ufs_model.specs.declared.object.Draft as models
-use Rattle.ufs_model.specs.declared.object.Grant.{Grant}
-use Rattle.ufs_model.specs.declared.object.Object.{Object}
 use Rattle.ufs_model.specs.declared.object.Object.TheVariants as objects
-use Rattle.ufs_model.specs.Graph.{Graph, is_there, object_at}
-use Rattle.ufs_model.specs.Identifier.{same_puid}
-use Rattle.ufs_model.specs.Need.{is_normal, need_of, one_if, takes_draft}
-use Rattle.ufs_model.specs.Next.{next}
-use Rattle.ufs_model.specs.Outcome.{first_draft, granted, outcome_of}
-use Rattle.ufs_model.specs.Plain.{IsPlainReply}
-use Rattle.ufs_model.specs.Refusal.{has_all_grants, is_locked, is_reading, is_unwanted_index, refusal_of, wanted}
-use Rattle.ufs_model.specs.State.{State}
-use Rattle.ufs_model.specs.WellFormed.{IsState}
-use Rattle.ufs_model.specs.Word.{word}
-use Rattle.ufs_model.proofs.Legal.{outcome_legal}
-use Rattle.ufs_model.proofs.Outcomes.{start_stays}
-use Rattle.ufs_model.proofs.WellStates.{granted_keeps}
-use Rattle.vol_image.specs.Sound.{Holds}
-use Rattle.vol_owners.specs.Account.{Opened, drafts_of}
-use Rattle.vol_owners.specs.Change.{of_draft}
-use Rattle.vol_owners.specs.Room.{draft_blocks}
-use Rattle.vol_owners.proofs.Changes.{changes_begin}
-use Rattle.vol_owners.proofs.Keys.{block_there}
-use Rattle.cfs_core.specs.Calls.{Answers, ByOutcome, ByWant, EndsSo, IsCause, Owes, Tries, Undone}
+use Rattle.cfs_core.specs.Calls.{Answers, ByOutcome, ByWant, EndsSo, Owes, Tries, Undone}
 use Rattle.cfs_core.specs.Kernel.{Kernel, Seat, grants_in, is_ready}
 use Rattle.cfs_core.specs.Opening.{Begins, BeginsSo, IsBegun, gets_draft, is_unfit, told_of}
 use Rattle.cfs_core.specs.StandsFor.{HasDraftOf, Serves, bare, drafts_at, drafts_of_seats, is_sweeping}
@@ -75,7 +22,9 @@ use Rattle.cfs_core.proofs.Ended.{of_its_draft}
 use Rattle.cfs_core.proofs.Readied.{for_ready}
 use Rattle.cfs_core.proofs.Regranted.{grants_push, push_drafts, push_have}
 use Rattle.cfs_core.proofs.Granted.{locked_by, many_by, none_by}
+use Rattle.cfs_core.proofs.Went.{went_so}
 use Rattle.cfs_core.proofs.Serving.{fits, kind_is, object_listed, running, stays}
+use Rattle.cfs_core.proofs.Ways.{adds_none}
 use Rattle.cfs_core.proofs.Moved.{HasStepped, IsStepped, four_left, makes_stepped}
 
 -- ---- by its kind
@@ -202,21 +151,9 @@ unopened id (seat ∷ ss) (x ∷ grants) table none =
     let head : seat.grant ≡ bare x = cc in
     let tail : grants_in ss ≡ map bare grants = cc in
     let two = or_parts (same_puid id x.id) (list_any (λ y. same_puid id y.id) grants) none in
-    filter-append (λ d. same_puid d.id id) (drafts_of_seats ss grants) (drafts_at seat seat.drafting x.draft)
-    ∙ rw (unopened id ss grants tail two.1) (at (differs id seat.grant.id (ap (same_puid id) (ap (λ (e : seats.Grant). e.id) head) ∙ two.0)) seat.drafting x.draft)
-  where
-    at : same_puid seat.grant.id id ≡ false → (o : Option Drafting) (d : Option models.Draft) → drafts_of (drafts_at seat o d) id ≡ []
-    at other None d = refl
-    at other (Some o) None = refl
-    at other (Some o) (Some d) = rw other refl
+    adds_none id seat x ss grants (unopened id ss grants tail two.1) (λ d e has was. differs id seat.grant.id (ap (same_puid id) (ap (λ (e : seats.Grant). e.id) head) ∙ two.0))
 
 -- one that couldn't be begun
-pub refusal_cause : {D : Type 0} (g : Ghosts D) (at floor : ℕ) (old new : D) (kept : Kept) (e : Refused) → IsRefusalOrMemory g at floor old new kept e → IsCause g old new e
-refusal_cause g at floor old new kept (refusals.Full need) is = tt
-refusal_cause g at floor old new kept (refusals.Disk tried) is = is
-refusal_cause g at floor old new kept (refusals.Damaged damage) is = tt
-refusal_cause g at floor old new kept refusals.Memory is = tt
-
 pub refusal_so : {D : Type 0} (g : Ghosts D) (graph : Graph) (ds : List Opened) (id : Puid) (o : Object) (old new : D) (before after : Kept) (wanted_draft : Bool) → wanted_draft ≡ true → (e : Refused)
     → (is_full e ≡ true → (e ≡ refusals.Full (record { free = sum before.free; need = 1 })) × (sum before.free < 5) × (new ≡ old)) → (had_tried e ≡ false → (after ≡ before) × OnlyReads g 2 old new)
     → is_damaged e ≡ false → Leaves g old new (λ c. Holds c graph) → BeginsSo g graph ds id o wanted_draft old new before after (Err e)
@@ -431,15 +368,17 @@ module _ {D : Type 0} (g : Ghosts D) (left_sized : (d : D) (t : ℕ) (c : Image)
         → Tries g k (record k { disk = d; space = space; words = words; seats = k.seats ++ seat_with drafting ∷ [] }) who (asks.OpenFor id mode) (Ok (replies.Grant tuid))
     tries_open drafting begins = record {
       ends = λ s serves none. ends drafting s serves none (begins_so (Ok drafting) begins s serves);
-      plain = tt;
-      cause = tt;
-      size = begins.calls.same.size;
-      faults = begins.calls.faults;
-      stop = refl;
-      collections = refl;
-      seed = ap (λ (w : Draws). w.seed) words_are;
-      kept = omega (arith, ap (λ (w : Draws). w.drawn) words_are);
-      drawn = omega (arith, ap (λ (w : Draws). w.drawn) words_are);
+      went = record {
+        plain = tt;
+        cause = tt;
+        size = begins.calls.same.size;
+        faults = begins.calls.faults;
+        stop = refl;
+        collections = refl;
+        seed = ap (λ (w : Draws). w.seed) words_are;
+        kept = omega (arith, ap (λ (w : Draws). w.drawn) words_are);
+        drawn = omega (arith, ap (λ (w : Draws). w.drawn) words_are);
+      };
     }
       where
         ends : (o : Option Drafting) (s : State) (serves : Serves g k s) → k.stop ≡ None → BeginsSo g s.graph (drafts_of_seats k.seats s.grants) id (the_object g k s serves id kind listed).0 (gets_draft kind mode) k.disk d k.space space (Ok o)
@@ -458,13 +397,5 @@ module _ {D : Type 0} (g : Ghosts D) (left_sized : (d : D) (t : ℕ) (c : Image)
   tries_not e begins = record {
     ends = λ s serves none. let o = the_object g k s serves id kind listed in
         not_opened g left_sized sized k who id mode (gets_draft kind mode) tuid tuid_is s serves none o.0 o.1 (gets_now g k s serves id kind listed mode) (goes s serves).0 d space begins.calls.same.size e (begins_so (Err e) begins s serves);
-    plain = tt;
-    cause = begins.cause;
-    size = begins.calls.same.size;
-    faults = begins.calls.faults;
-    stop = refl;
-    collections = refl;
-    seed = refl;
-    kept = omega arith;
-    drawn = omega arith;
+    went = went_so g k d space k.seats begins.calls.same.size begins.calls.faults 1 (Err e) tt begins.cause;
   }

@@ -1,50 +1,21 @@
 -- What the store says of an object that is made, as the core has it.
-use Rattle.std.proofs.Common.{◌≡◌, ◌⊎◌, inl, inr, ⊎_elim, ℕ, ◌+◌, ◌<◌, ◌≤◌, List, [], ◌∷◌, length, true, false, None, Result, Ok, Err, IsTrue, refl, sym, ◌∙◌, ap, subst, arith}
-use Rattle.std.specs.Prelude.{◌==◌, IfErr, sum}
-use Rattle.std.specs.List.{list_any}
-use Rattle.std.specs.BTreeMap.{insert_entry}
-use Rattle.cfs_base.specs.Calls.{OnlyReads}
-use Rattle.cfs_base.specs.Disk.{Image}
-use Rattle.cfs_base.specs.declared.disk.Disk.{Ghosts}
-use Rattle.cfs_base.specs.declared.identifier.Puid.{Puid}
-use Rattle.cfs_base.specs.declared.kind.Kind.{Kind}
-use Rattle.cfs_base.specs.declared.refusal.Need.{Need}
-use Rattle.cfs_base.specs.declared.refusal.Refused.{Refused}
+use Rattle.std.proofs.Common.{Bool, ◌≡◌, ◌⊎◌, inl, inr, ⊎_elim, ℕ, ◌+◌, ◌<◌, ◌≤◌, List, [], ◌∷◌, length, true, false, None, Result, Ok, Err, IsTrue, refl, sym, ◌∙◌, ap, subst, arith, ◌==◌, IfErr, sum}
+use Rattle.cfs_core.proofs.Words.{blocks_of, created, draws, Ghosts, Graph, has_block, has_root_in, HasSlot, HasStopped, Holds, Image, Index, insert_entry, is_damaged, IsIndexRefusal, IsLeastFree, IsOpenMap, Kept, keys_of-kinds_in, Kind, kind_of, kinds_of, list_any, Need, Object, OnlyReads, Puid, puid_cmp, PutsObject, refusal_of, Refused, Reply, Request, State, StoreHas, sum_is, target, wider}
+use Rattle.cfs_core.proofs.Words.{with_made, word}
 use Rattle.cfs_base.specs.declared.refusal.Refused.TheVariants as refusals
-use Rattle.cfs_base.proofs.Runs.{wider}
-use Rattle.cyl_alloc.specs.Space.{IsLeastFree, Kept}
-use Rattle.cyl_alloc.proofs.Counted.{sum_is}
-use Rattle.index_ops.specs.Changes.{HasSlot, IsIndexRefusal}
-use Rattle.index_ops.specs.Creates.{IsOpenMap, PutsObject, with_made}
-use Rattle.puid_space.specs.Directory.{has_root_in}
-use Rattle.puid_space.specs.Kinds.{kind_of, kinds_of}
-use Rattle.puid_space.proofs.Graphs.{keys_of-kinds_in}
-use Rattle.intentions.specs.Store.{StoreHas}
 use Rattle.special_files.specs.Committing.{named}
-use Rattle.special_files.specs.Refusal.{is_damaged}
-use Rattle.ufs_model.specs.declared.asked.Reply.{Reply}
 use Rattle.ufs_model.specs.declared.asked.Reply.TheVariants as replies
-use Rattle.ufs_model.specs.declared.asked.Request.{Request}
-use Rattle.ufs_model.specs.declared.object.Index.{Index}
-use Rattle.ufs_model.specs.declared.object.Object.{Object}
 use Rattle.ufs_model.specs.declared.object.Object.TheVariants as objects
-use Rattle.ufs_model.specs.Graph.{Graph, has_block}
-use Rattle.ufs_model.specs.Identifier.{puid_cmp}
-use Rattle.ufs_model.specs.Outcome.{created}
 use Rattle.ufs_model.specs.declared.asked.Event.TheVariants as events
-use Rattle.ufs_model.specs.Object.{blocks_of}
-use Rattle.ufs_model.specs.Refusal.{refusal_of, target}
-use Rattle.ufs_model.specs.State.{State}
-use Rattle.ufs_model.specs.Word.{word}
-use Rattle.vol_image.specs.Sound.{Holds}
-use Rattle.cfs_core.specs.Calls.{Answers, ByWant, EndsSo, IsCause, IsInDoubt, IsShort}
+use Rattle.cfs_core.specs.Calls.{Answers, ByWant, EndsSo, IsCause, IsInDoubt, IsShort, TriesOn}
 use Rattle.cfs_core.specs.Kernel.{Kernel}
-use Rattle.cfs_core.specs.Makes.{IsMaking, Names, TriesToMake}
+use Rattle.cfs_core.specs.Makes.{IsMaking, Names}
 use Rattle.cfs_core.specs.StandsFor.{Serves, drafts_of_seats}
 use Rattle.cfs_core.specs.Ways.{Reaches}
 use Rattle.cfs_core.proofs.Answering.{disk_failed, memory, reads_none}
 use Rattle.cfs_core.proofs.Committed.{LeavesThese, did, in_doubt, uncut}
-use Rattle.cfs_core.proofs.Created.{beside, inside, least_one, least_there, need_is, no_root, not_zero, outcome, theirs}
+use Rattle.cfs_core.proofs.Created.{filled_is, inside, least_one, least_there, need_is, no_root, not_zero, outcome, stepped, theirs}
+use Rattle.cfs_core.proofs.Went.{cause_of, went_so}
 use Rattle.cfs_core.proofs.Serving.{running, shut, stays}
 
 root_is : (named : List (Puid × Kind)) (g : Graph) (b : ℕ) → named ≡ kinds_of g → has_root_in named b ≡ has_block g.objects b
@@ -61,12 +32,9 @@ if_astray : {D : Type 0} (g : Ghosts D) (old new : D) (result : Result Reply Ref
 if_astray g old new (Ok reply) is = tt
 if_astray g old new (Err e) is = astray_cause g old new e is
 
-refusal_cause : {D : Type 0} (g : Ghosts D) (at slot : ℕ) (old new : D) (before after : Kept) (e : Refused) → IsIndexRefusal g at slot old new after e ⊎ IsOpenMap g old before e → IsCause g old new e
-refusal_cause g at slot old new before after (refusals.Full need) is = tt
-refusal_cause g at slot old new before after (refusals.Disk tried) (inl is) = is
-refusal_cause g at slot old new before after (refusals.Disk tried) (inr map) = let no = map.is in cc
-refusal_cause g at slot old new before after (refusals.Damaged damage) is = tt
-refusal_cause g at slot old new before after refusals.Memory is = tt
+stopped_so : {D : Type 0} (g : Ghosts D) (at slot : ℕ) (old new : D) (before after : Kept) (e : Refused) → IsIndexRefusal g at slot old new after e ⊎ IsOpenMap g old before e → (tried : Bool) → e ≡ refusals.Disk tried → HasStopped g tried old new
+stopped_so g at slot old new before after e (inl is) tried same = subst (IsIndexRefusal g at slot old new after) same is
+stopped_so g at slot old new before after e (inr map) tried same = let no = sym map.is ∙ same in cc
 
 never_full : {D : Type 0} (g : Ghosts D) (at slot : ℕ) (old new : D) (before after : Kept) (need : Need) → IsIndexRefusal g at slot old new after (refusals.Full need) ⊎ IsOpenMap g old before (refusals.Full need) → ⊥
 never_full g at slot old new before after need (inl none) = none
@@ -114,7 +82,8 @@ module _ {D : Type 0} (g : Ghosts D) (left_sized : (d : D) (t : ℕ) (c : Image)
         let named_so = names.named (not_zero g k s who serves index i slot o one request making reach goes enough b least) (omega (arith, there, room, sized k.disk serves.store.carries.tells.honest))
         (root_is k.names.named s.graph b serves.front.names ∙ no_root g k s who serves index i slot o one request making reach goes enough b least) in
         let answers = did g left_sized sized k (kernel_with (id_at b)) size none s (created k.words.seed s who (target request) slot o b).1 who b request (replies.Id (id_at b)) serves (with_made s.graph index i slot (id_at b) o) 3
-        (outcome g k s who serves index i slot o one request making reach goes enough b least) (leaves_at b least) (beside g k s who serves index i slot o one request making reach goes enough b least d space) (index.block ∷ b ∷ [])
+        (outcome g k s who serves index i slot o one request making reach goes enough b least) (leaves_at b least) (stepped g k s who serves index i slot o one request making reach goes enough b least d space) refl
+        (ap (λ (t : State). t.grants) (filled_is g k s who serves index i slot o one request making reach goes enough b least)) (index.block ∷ b ∷ [])
         (record {
           store = subst (λ (q : Puid). StoreHas g (with_made s.graph index i slot q o) (drafts_of_seats k.seats s.grants) d space) (sym same) two.1.store;
           only = two.1.only;
@@ -153,37 +122,32 @@ module _ {D : Type 0} (g : Ghosts D) (left_sized : (d : D) (t : ℕ) (c : Image)
     sound_at : (e : Refused) → r ≡ Err e → is_damaged e ≡ false
     sound_at e is = subst (λ (x : Result Puid Refused). IfErr x (λ f. is_damaged f ≡ false)) is (puts.sound s.graph (drafts_of_seats k.seats s.grants) index i has)
 
-  pub tries_made : (p : Puid) → r ≡ Ok p → (new : Kernel D) (result : Result Reply Refused) → Names mid new p (kind_of o) result → TriesToMake g k new index slot o result
-  tries_made p is new result names = record {
-    ends = λ request making s who i serves none reach within goes. made request making s who i serves none reach within goes p is new result names;
-    plain = names.plain;
-    cause = if_astray g k.disk new.disk result names.astray;
-    size = ap g.blocks names.disk ∙ size;
-    faults = omega (arith, ap g.faults names.disk, puts.calls.faults);
-    stop = names.stop;
-    collections = names.collections;
-    seed = names.seed;
-    kept = names.kept;
-    drawn = names.drawn;
-  }
+  module _ (request : Request) (making : IsMaking request slot o) where
+    pub tries_made : (p : Puid) → r ≡ Ok p → (new : Kernel D) (result : Result Reply Refused) → Names mid new p (kind_of o) result → TriesOn g k new index slot request result
+    tries_made p is new result names = record {
+      ends = λ s who i serves none reach within goes. made request making s who i serves none reach within goes p is new result names;
+      went = record {
+        plain = names.plain;
+        cause = if_astray g k.disk new.disk result names.astray;
+        size = ap g.blocks names.disk ∙ size;
+        faults = omega (arith, ap g.faults names.disk, puts.calls.faults);
+        stop = names.stop;
+        collections = names.collections;
+        seed = names.seed;
+        kept = names.kept;
+        drawn = omega (arith, names.drawn, making.draw);
+      };
+    }
 
-  pub tries_unmade : (e : Refused) → r ≡ Err e → TriesToMake g k mid index slot o (Err e)
-  tries_unmade e is = record {
-    ends = λ request making s who i serves none reach within goes. failed request making s who i serves none reach within goes e
-        (subst (λ (x : Result Puid Refused). IfErr x (λ f. f ≡ refusals.Disk false → (space ≡ k.space) × OnlyReads g 9 k.disk d)) is puts.untried)
-        (subst (λ (x : Result Puid Refused). IfErr x (λ f. f ≡ refusals.Memory → (space ≡ k.space) × OnlyReads g 9 k.disk d)) is puts.memory)
-        (subst (λ (x : Result Puid Refused). IfErr x (λ f. IsIndexRefusal g index.block slot k.disk d space f ⊎ IsOpenMap g k.disk k.space f)) is puts.refused)
-        (sound_at request making s who i serves none reach within goes e is);
-    plain = tt;
-    cause = refusal_cause g index.block slot k.disk d k.space space e (rw is at puts.refused);
-    size = size;
-    faults = puts.calls.faults;
-    stop = refl;
-    collections = refl;
-    seed = refl;
-    kept = omega arith;
-    drawn = omega arith;
-  }
+    pub tries_unmade : (e : Refused) → r ≡ Err e → TriesOn g k mid index slot request (Err e)
+    tries_unmade e is = record {
+      ends = λ s who i serves none reach within goes. failed request making s who i serves none reach within goes e
+          (subst (λ (x : Result Puid Refused). IfErr x (λ f. f ≡ refusals.Disk false → (space ≡ k.space) × OnlyReads g 9 k.disk d)) is puts.untried)
+          (subst (λ (x : Result Puid Refused). IfErr x (λ f. f ≡ refusals.Memory → (space ≡ k.space) × OnlyReads g 9 k.disk d)) is puts.memory)
+          (subst (λ (x : Result Puid Refused). IfErr x (λ f. IsIndexRefusal g index.block slot k.disk d space f ⊎ IsOpenMap g k.disk k.space f)) is puts.refused)
+          (sound_at request making s who i serves none reach within goes e is);
+      went = went_so g k d space k.seats size puts.calls.faults (draws request) (Err e) tt (cause_of g k.disk d e (stopped_so g index.block slot k.disk d k.space space e (rw is at puts.refused)));
+    }
 
 -- ---- too few blocks are Free
 
@@ -192,22 +156,14 @@ module _ {D : Type 0} (g : Ghosts D) (left_sized : (d : D) (t : ℕ) (c : Image)
   reads : OnlyReads g 0 k.disk d
   reads = subst (λ x. OnlyReads g 0 k.disk x) (sym same_disk) (reads_none g 0 k.disk)
 
-  pub tries_short : TriesToMake g k (record k { disk = d; space = space }) index slot o (Err (refusals.Full (record { free = sum k.space.free; need = 4 })))
-  tries_short = record {
-    ends = λ request making s who i serves none reach within goes.
+  pub tries_short : (request : Request) → IsMaking request slot o → TriesOn g k (record k { disk = d; space = space }) index slot request (Err (refusals.Full (record { free = sum k.space.free; need = 4 })))
+  tries_short request making = record {
+    ends = λ s who i serves none reach within goes.
         let need = need_is s who index i slot o request making reach in record {
           event = stays g 0 k (record k { disk = d; space = space }) reads (ap (λ (x : Kept). record k { disk = d; space = x }) same_space) s serves left_sized (sized k.disk serves.store.carries.tells.honest)
               (events.Ask who request (replies.Full (record { free = sum k.space.free; need = 4 }))) (making.full k.words.seed s who (sum k.space.free) (running g k s serves none) goes need few);
           still = λ all. reads.content;
           owed = ByWant goes (record { delete = making.delete; few = omega (arith, few, need) }) (ap (λ (n : ℕ). replies.Full (record { free = sum k.space.free; need = n })) (sym need));
         };
-    plain = tt;
-    cause = tt;
-    size = ap g.blocks same_disk;
-    faults = reads.faults;
-    stop = refl;
-    collections = refl;
-    seed = refl;
-    kept = omega arith;
-    drawn = omega arith;
+    went = went_so g k d space k.seats (ap g.blocks same_disk) reads.faults (draws request) (Err (refusals.Full (record { free = sum k.space.free; need = 4 }))) tt tt;
   }

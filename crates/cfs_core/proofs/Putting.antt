@@ -1,28 +1,12 @@
 -- What the store says of a slot that is filled or emptied, as the core has it.
-use Rattle.std.proofs.Common.{◌≡◌, ℕ, ◌+◌, ◌<◌, ◌≤◌, length, true, false, Option, None, Result, Ok, Err, IsTrue, refl, sym, ap, subst, arith}
-use Rattle.std.specs.Prelude.{IfErr, IfOk, sum}
-use Rattle.cfs_base.specs.Calls.{OnlyReads}
-use Rattle.cfs_base.specs.Disk.{Image}
-use Rattle.cfs_base.specs.declared.disk.Disk.{Ghosts}
-use Rattle.cfs_base.specs.declared.identifier.Puid.{Puid}
-use Rattle.cfs_base.specs.declared.refusal.Refused.{Refused}
+use Rattle.std.proofs.Common.{◌≡◌, ℕ, ◌+◌, ◌<◌, ◌≤◌, length, true, false, Option, None, Result, Ok, Err, IsTrue, refl, sym, ap, subst, arith, sum}
+use Rattle.cfs_core.proofs.Words.{creates, draws, Ghosts, HasSlot, Image, Index, index_with, IsSpeakable, Kept, Need, OnlyReads, outcome_of, Puid, PutsSlot, Ref, refusal_of, Refused, Request, State, with_object}
 use Rattle.cfs_base.specs.declared.refusal.Refused.TheVariants as refusals
-use Rattle.cyl_alloc.specs.Space.{Kept}
-use Rattle.index_ops.specs.Changes.{HasSlot, IsIndexRefusal, PutsSlot, index_with}
 use Rattle.ufs_model.specs.declared.asked.Event.TheVariants as events
-use Rattle.cfs_base.specs.declared.refusal.Need.{Need}
-use Rattle.ufs_model.specs.declared.asked.Ref.{Ref}
 use Rattle.ufs_model.specs.declared.asked.Reply.TheVariants as replies
-use Rattle.ufs_model.specs.declared.asked.Request.{Request}
 use Rattle.ufs_model.specs.declared.asked.Request.TheVariants as asks
-use Rattle.ufs_model.specs.declared.object.Index.{Index}
 use Rattle.ufs_model.specs.declared.object.Object.TheVariants as objects
-use Rattle.ufs_model.specs.Graph.{with_object}
-use Rattle.ufs_model.specs.Outcome.{creates, outcome_of}
-use Rattle.ufs_model.specs.Refusal.{refusal_of}
-use Rattle.ufs_model.specs.State.{State}
-use Rattle.ufs_model.specs.WellFormed.{IsSpeakable}
-use Rattle.cfs_core.specs.Calls.{ByWant, EndsSo, IsCause, IsShort, TriesOn, done_or}
+use Rattle.cfs_core.specs.Calls.{ByWant, EndsSo, IsShort, TriesOn, done_or}
 use Rattle.cfs_core.specs.Kernel.{Kernel}
 use Rattle.cfs_core.specs.StandsFor.{Serves, drafts_of_seats}
 use Rattle.cfs_core.specs.Ways.{Reaches}
@@ -31,17 +15,8 @@ use Rattle.cfs_core.proofs.Changed.{object_did, object_in_doubt}
 use Rattle.cfs_core.proofs.Committed.{LeavesThese, uncut}
 use Rattle.cfs_core.proofs.Grown.{added_by, filled_blocks}
 use Rattle.cfs_core.proofs.Refusing.{Puts, retain_full, retain_need}
+use Rattle.cfs_core.proofs.Went.{went_done, went_so}
 use Rattle.cfs_core.proofs.Serving.{running, shut, stays}
-
-refusal_cause : {D : Type 0} (g : Ghosts D) (at slot : ℕ) (old new : D) (after : Kept) (e : Refused) → IsIndexRefusal g at slot old new after e → IsCause g old new e
-refusal_cause g at slot old new after (refusals.Full need) is = tt
-refusal_cause g at slot old new after (refusals.Disk tried) is = is
-refusal_cause g at slot old new after (refusals.Damaged damage) is = tt
-refusal_cause g at slot old new after refusals.Memory is = tt
-
-done_cause : {D : Type 0} (g : Ghosts D) (at slot : ℕ) (old new : D) (after : Kept) (result : Result (Unit {0}) Refused) → IfErr result (IsIndexRefusal g at slot old new after) → IfErr (done_or result) (IsCause g old new)
-done_cause g at slot old new after (Ok u) is = tt
-done_cause g at slot old new after (Err e) is = refusal_cause g at slot old new after e is
 
 module _ {D : Type 0} (g : Ghosts D) (left_sized : (d : D) (t : ℕ) (c : Image) → g.left_since d t c → length c ≡ g.blocks d) (sized : (d : D) → IsTrue (g.honest d) → length (g.content d) ≡ g.blocks d)
     (k : Kernel D) (d : D) (space : Kept) (index : Puid) (slot : ℕ) (what : Option Puid) (request : Request) (makes : creates request ≡ false)
@@ -85,20 +60,8 @@ module _ {D : Type 0} (g : Ghosts D) (left_sized : (d : D) (t : ℕ) (c : Image)
   pub tries_put : TriesOn g k new index slot request (done_or result)
   tries_put = record {
     ends = λ s who i serves none reach inside goes. ends s who i serves none reach inside goes result refl;
-    plain = plain result;
-    cause = done_cause g index.block slot k.disk d space result puts.refused;
-    size = puts.calls.same.size;
-    faults = puts.calls.faults;
-    stop = refl;
-    collections = refl;
-    seed = refl;
-    kept = omega arith;
-    drawn = omega arith;
+    went = went_done g k d space k.seats puts.calls.same.size puts.calls.faults (draws request) result (λ tried is. rw is at puts.refused);
   }
-    where
-      plain : (r : Result (Unit {0}) Refused) → IfOk (done_or r) Rattle.ufs_model.specs.Plain.IsPlainReply
-      plain (Ok u) = tt
-      plain (Err e) = tt
 
 -- ---- too few blocks are Free
 
@@ -125,13 +88,5 @@ module _ {D : Type 0} (g : Ghosts D) (left_sized : (d : D) (t : ℕ) (c : Image)
       owed = ByWant goes (record { delete = refl; few = omega (arith, few, retain_need k.words.seed s who to index i slot id reach) })
           (ap (λ (n : ℕ). replies.Full (record { free = sum k.space.free; need = n })) (sym (retain_need k.words.seed s who to index i slot id reach)));
     };
-    plain = tt;
-    cause = tt;
-    size = ap g.blocks same_disk;
-    faults = reads.faults;
-    stop = refl;
-    collections = refl;
-    seed = refl;
-    kept = omega arith;
-    drawn = omega arith;
+    went = went_so g k d space k.seats (ap g.blocks same_disk) reads.faults (draws request) (Err (refusals.Full need)) tt tt;
   }

@@ -1,20 +1,13 @@
 -- Drafts as they stand between two calls.
-use Rattle.std.proofs.Common.{◌≡◌, ℕ, ◌<◌, List, [], ◌∷◌, ◌++◌, Bool, true, false, cond, ◌&&◌, length, Option, Some, None, refl, sym, ◌∙◌, ap, subst, arith}
-use Rattle.std.specs.Prelude.{find, is_none, is_some, nat_lt, option_and_then, option_to_list}
-use Rattle.std.specs.List.{list_all, sum_by}
-use Rattle.std.proofs.lemmas.Bool.{and_parts}
-use Rattle.std.proofs.lemmas.Bool.Decides.{nat_tests}
-use Rattle.std.proofs.lemmas.List.Folds.{list_all-append}
-use Rattle.std.proofs.lemmas.List.Sums.{sum_by-append, sum_by-cons}
-use Rattle.special_files.specs.Drafting.{Drafting, opened_as}
-use Rattle.ufs_model.specs.declared.object.Draft.{Draft}
-use Rattle.ufs_model.specs.declared.object.Grant.{Grant}
-use Rattle.vol_owners.specs.Account.{Opened}
+use Rattle.std.proofs.Common.{◌≡◌, ℕ, ◌*◌, ◌<◌, List, [], ◌∷◌, ◌++◌, Bool, true, false, cond, ◌&&◌, length, Option, Some, None, refl, sym, ◌∙◌, ap, subst, arith, filter, find, is_none, not, is_some, nat_lt, option_and_then, option_to_list}
+use Rattle.cfs_core.proofs.Words.{and_parts, Draft, Drafting, Grant, Kept, list_all, list_all-append, Listing, nat_tests, Opened, opened_as, sum_by, sum_by-append, sum_by-cons}
+use Rattle.open_table.specs.declared.grant.Grant as seats
 use Rattle.vol_owners.specs.Room as owners
+use Rattle.cfs_core.specs.declared.collecting.Collections.{Collections}
 use Rattle.cfs_core.specs.Room.{draft_blocks}
 use Rattle.cfs_core.specs.StandsFor.{AreDraftsOf, HasDraftOf, drafts_at, drafts_of_seats}
-use Rattle.cfs_core.specs.Kernel.{Seat, is_drawn_by, is_ready, is_ready_for}
-use Rattle.cfs_core.specs.Seats.{drafting_at, is_drawn, with_drafting}
+use Rattle.cfs_core.specs.Kernel.{IsSized, Seat, is_drawn_by, is_ready, is_ready_for}
+use Rattle.cfs_core.specs.Seats.{drafting_at, is_drawn, seats_but, with_drafting}
 
 pub record IsReadyFor (blocks : ℕ) (d : Drafting) : Type 0 where
   pub on_disk : d.at < blocks
@@ -104,6 +97,36 @@ drawn_taken n draw ss all = all_taken (is_drawn_by n) draw (λ seat is. is) ss a
 
 pub all_push : (test : Seat → Bool) (ss : List Seat) (x : Seat) → list_all test ss ≡ true → test x ≡ true → list_all test (ss ++ x ∷ []) ≡ true
 all_push test ss x all is = list_all-append test ss (x ∷ []) ∙ rw (all, is) refl
+
+pub all_filter : {X : Type 0} (P M : X → Bool) (xs : List X) → list_all P xs ≡ true → list_all P (filter M xs) ≡ true
+all_filter P M [] is = refl
+all_filter P M (x ∷ xs) is =
+    let two = and_parts (P x) (list_all P xs) is in
+    elim (M x) as (λ b. list_all P (cond b (x ∷ filter M xs) (filter M xs)) ≡ true) [
+      | true ↦ rw (two.0, all_filter P M xs two.1) refl
+      | false ↦ all_filter P M xs two.1
+    ]
+
+-- ---- what a core keeps on any disk
+
+module _ {D : Type 0} {blocks : D → ℕ} {d : D} {names : Listing} {before : Kept} {ss : List Seat} {drawn : ℕ} {c : Collections} (sized : IsSized blocks d names before ss drawn c) where
+  -- with other seats, on a disk of its size
+  pub sized_with : (e : D) (after : Kept) (new : List Seat) (more : ℕ) → blocks e ≡ blocks d → length after.free ≡ length before.free → list_all (is_drawn_by more) new ≡ true → list_all (is_ready names.room) new ≡ true → IsSized blocks e names after new more c
+  sized_with e after new more size cylinders drawn_all ready = record {
+    size = size ∙ sized.size ∙ ap (λ (n : ℕ). 64 * n) (sym cylinders);
+    room = sized.room ∙ sym size;
+    some = sized.some;
+    kept = sized.kept;
+    drawn_all = drawn_all;
+    ready = ready;
+  }
+
+  -- without a draft, and with fewer seats
+  pub sized_taken : (draw : ℕ) (new : List Seat) → new ≡ with_drafting draw None ss → IsSized blocks d names before new drawn c
+  sized_taken draw new is = sized_with d before new drawn refl refl (ap (list_all (is_drawn_by drawn)) is ∙ drawn_taken drawn draw ss sized.drawn_all) (ap (list_all (is_ready names.room)) is ∙ ready_taken names.room draw ss sized.ready)
+
+  pub sized_but : (test : seats.Grant → Bool) (new : List Seat) → new ≡ seats_but test ss → IsSized blocks d names before new drawn c
+  sized_but test new is = sized_with d before new drawn refl refl (ap (list_all (is_drawn_by drawn)) is ∙ all_filter (is_drawn_by drawn) _ ss sized.drawn_all) (ap (list_all (is_ready names.room)) is ∙ all_filter (is_ready names.room) _ ss sized.ready)
 
 -- ---- what drafts take
 

@@ -1,37 +1,12 @@
 -- Requests on an index that they reach: when they are refused, and what they do.
-use Rattle.std.proofs.Common.{◌≡◌, ◌⊎◌, inl, inr, ℕ, List, ◌<◌, length, Bool, true, false, Option, Some, None, refl, sym, ◌∙◌, ap, subst, arith}
-use Rattle.std.specs.Prelude.{nat_le, nat_lt}
-use Rattle.std.proofs.lemmas.Bool.Decides.{nat_tests}
-use Rattle.cfs_base.specs.declared.identifier.Puid.{Puid}
-use Rattle.cfs_base.specs.declared.kind.FileKind.{FileKind}
+use Rattle.std.proofs.Common.{◌≡◌, ◌⊎◌, inl, inr, ℕ, List, ◌<◌, length, Bool, true, false, Option, Some, None, refl, sym, ◌∙◌, ap, subst, arith, nat_le, nat_lt}
+use Rattle.cfs_core.proofs.Words.{AFile, AnIndex, Change, changed, changed_draft, changed_object, Draft, draft_of, edge_stays, File, FileKind, Fill, has_no_slot, Index, index_with, is_id, is_range, is_running, kind_of, named, nat_tests, need_of, next, Object, object_at, outcome_of, Puid, put_object-at, Ref, refusal_of, Reply, Request, seen, seen_object, slot_named, slot_of, State, with_object}
 use Rattle.cfs_base.specs.declared.kind.FileKind.TheVariants as file_kinds
-use Rattle.puid_space.specs.Kinds.{kind_of}
-use Rattle.ufs_model.specs.declared.asked.Ref.{Ref}
-use Rattle.ufs_model.specs.declared.asked.Reply.{Reply}
 use Rattle.ufs_model.specs.declared.asked.Reply.TheVariants as replies
-use Rattle.ufs_model.specs.declared.asked.Request.{Request}
 use Rattle.ufs_model.specs.declared.asked.Request.TheVariants as asks
-use Rattle.ufs_model.specs.declared.asked.Wanted.TheVariants.{AFile, AnIndex}
-use Rattle.ufs_model.specs.declared.change.Change.{Change}
-use Rattle.ufs_model.specs.declared.change.Change.TheVariants.{Fill}
-use Rattle.ufs_model.specs.declared.object.Draft.{Draft}
-use Rattle.ufs_model.specs.declared.object.File.{File}
-use Rattle.ufs_model.specs.declared.object.Index.{Index}
-use Rattle.ufs_model.specs.declared.object.Object.{Object}
 use Rattle.ufs_model.specs.declared.object.Object.TheVariants as objects
-use Rattle.ufs_model.specs.Graph.{object_at, with_object}
-use Rattle.ufs_model.specs.Need.{need_of}
-use Rattle.ufs_model.specs.Object.{changed_object, slot_of}
-use Rattle.ufs_model.specs.Outcome.{changed, outcome_of}
-use Rattle.ufs_model.specs.Plain.{is_id}
-use Rattle.ufs_model.specs.Refusal.{has_no_slot, is_range, refusal_of, slot_named}
-use Rattle.ufs_model.specs.State.{State, changed_draft, draft_of, is_running, named, seen}
-use Rattle.ufs_model.specs.Next.{next}
 use Rattle.ufs_model.specs.declared.asked.Event.TheVariants as events
-use Rattle.index_ops.specs.Changes.{index_with}
 use Rattle.cfs_core.specs.Calls.{looked}
-use Rattle.ufs_model.proofs.Outcomes.{edge_stays}
-use Rattle.ufs_model.proofs.WellStates.{put_object-at, seen_object}
 use Rattle.cfs_core.specs.Looks.{content_of, counted, measured}
 use Rattle.cfs_core.specs.Makes.{file_kind}
 use Rattle.cfs_core.specs.StandsFor.{is_sweeping}

@@ -1,43 +1,13 @@
 -- Calls that change the grants, and no draft.
-use Rattle.std.proofs.Common.{◌≡◌, ℕ, List, [], ◌∷◌, ◌++◌, length, Bool, true, false, cond, ◌&&◌, Option, Some, None, is_some, refl, sym, ◌∙◌, ap, subst, arith, ◌+◌, append-nil, append_assoc}
-use Rattle.std.specs.Prelude.{filter, find, map, nat_le, not}
-use Rattle.std.proofs.lemmas.Bool.Decides.{nat_tests}
-use Rattle.std.specs.List.{list_all}
-use Rattle.std.proofs.lemmas.Bool.{and_parts, or_parts}
-use Rattle.cfs_base.specs.Disk.{Image}
-use Rattle.cfs_base.specs.declared.disk.Disk.{Ghosts}
-use Rattle.cfs_base.specs.declared.identifier.Tuid.{Tuid}
-use Rattle.intentions.specs.Store.{StoreHas}
+use Rattle.std.proofs.Common.{◌≡◌, ℕ, List, [], ◌∷◌, ◌++◌, length, Bool, true, false, cond, ◌&&◌, Option, Some, None, is_some, refl, sym, ◌∙◌, ap, subst, arith, ◌+◌, append-nil, append_assoc, filter, find, map, nat_le, not}
+use Rattle.cfs_core.proofs.Words.{and_parts, changes_begin, Draft, Drafting, Event, Ghosts, Grant, Holds, Image, is_grant, IsState, list_all, nat_tests, next, nothing_left, Opened, or_parts, State, Tuid}
 use Rattle.open_table.specs.declared.grant.Grant as seats
 use Rattle.open_table.specs.Grants as tables
-use Rattle.puid_space.specs.Draw.{Draws}
-use Rattle.puid_space.specs.Kinds.{kinds_of}
-use Rattle.special_files.specs.Drafting.{Drafting}
-use Rattle.survival.proofs.Calls.{loose}
-use Rattle.cfs_base.proofs.Runs.{wider}
-use Rattle.ufs_model.specs.declared.asked.Event.{Event}
-use Rattle.ufs_model.specs.declared.object.Draft.{Draft}
-use Rattle.ufs_model.specs.declared.object.Grant.{Grant}
-use Rattle.ufs_model.specs.Graph.{Graph}
-use Rattle.ufs_model.specs.Next.{next}
-use Rattle.ufs_model.specs.State.{State, is_grant}
-use Rattle.ufs_model.specs.WellFormed.{IsState}
-use Rattle.vol_owners.specs.Account.{IsSwept, Opened}
-use Rattle.cfs_core.specs.Calls.{AddsNoStray, Makes}
+use Rattle.cfs_core.specs.Calls.{Makes}
 use Rattle.cfs_core.specs.Kernel.{Kernel, Seat, grants_in, is_drawn_by}
 use Rattle.cfs_core.specs.Seats.{have_draft, seats_but}
-use Rattle.cfs_core.specs.StandsFor.{AreDraftsOf, HasDraftOf, IsFront, Serves, Stores, bare, drafts_at, drafts_of_seats, is_sweeping}
-use Rattle.cfs_core.proofs.Answering.{reads_none}
-use Rattle.cfs_core.proofs.Serving.{fits, none_more, pending}
-
-pub all_filter : {X : Type 0} (P M : X → Bool) (xs : List X) → list_all P xs ≡ true → list_all P (filter M xs) ≡ true
-all_filter P M [] is = refl
-all_filter P M (x ∷ xs) is =
-    let two = and_parts (P x) (list_all P xs) is in
-    elim (M x) as (λ b. list_all P (cond b (x ∷ filter M xs) (filter M xs)) ≡ true) [
-      | true ↦ rw (two.0, all_filter P M xs two.1) refl
-      | false ↦ all_filter P M xs two.1
-    ]
+use Rattle.cfs_core.specs.StandsFor.{AreDraftsOf, HasDraftOf, Serves, Stores, bare, drafts_at, drafts_of_seats}
+use Rattle.cfs_core.proofs.Moved.{HasStepped, IsStepped, makes_stepped, stores_stepped}
 
 -- each is drawn where more are drawn
 pub drawn_more : (ss : List Seat) (n m : ℕ) → m ≡ n + 1 → list_all (is_drawn_by n) ss ≡ true → list_all (is_drawn_by m) ss ≡ true
@@ -153,45 +123,22 @@ module _ (test : seats.Grant → Bool) where
 
 -- ---- the state with these grants
 
-pub record IsRegranted (s after : State) (left : List Seat) (drawn : ℕ) : Type 0 where
-  pub graph : after.graph ≡ s.graph
-  pub sweeping : is_sweeping after.collection ≡ is_sweeping s.collection
-  pub stopped : after.stopped ≡ s.stopped
-  pub drawn_is : after.drawn ≡ drawn
-  pub table : grants_in left ≡ map bare after.grants
-
-module _ {D : Type 0} (g : Ghosts D) (k : Kernel D) (left : List Seat) (words : Draws) (s after : State) (is : IsRegranted s after left words.drawn) where
+module _ {D : Type 0} (g : Ghosts D) (k : Kernel D) (left : List Seat) (s after : State) (serves : Serves g k s) (is : IsStepped k (record k { seats = left }) s after s.graph) (state : IsState after) (keeps : KeepsDrafts k.seats left s.grants after.grants) where
   abbrev new : Kernel D
-  new = record k { words = words; seats = left }
+  new = record k { seats = left }
 
-  front_after : IsFront k s → IsFront new after
-  front_after front = record {
-    drawn = is.drawn_is;
-    names = front.names ∙ ap kinds_of (sym is.graph);
-    grants = is.table;
-    stopped = is.stopped ∙ front.stopped;
+  abbrev ds : List Opened
+  ds = drafts_of_seats k.seats s.grants
+
+  has : HasStepped g k new s s.graph (λ entry. false) ds
+  has = record {
+    store = serves.store;
+    only = changes_begin (λ entry. false) (g.content k.disk) s.graph serves.store.account.holds;
+    these = record { there = λ entry is made. let no : true ≡ false = sym is in cc; more = λ r had. had };
   }
 
-  module _ (state : IsState after) (keeps : KeepsDrafts k.seats left s.grants after.grants) (serves : Serves g k s) where
-    pub stores_after : Stores g new after
-    stores_after = record {
-      front = front_after serves.front;
-      state = state;
-      root = ap (λ (h : Graph). h.root) is.graph ∙ serves.root;
-      store = subst (λ (h : Graph). StoreHas g h (drafts_of_seats left after.grants) k.disk k.space) (sym is.graph)
-          (subst (λ (ds : List Opened). StoreHas g s.graph ds k.disk k.space) (sym keeps.same) serves.store);
-      drafts = subst (λ (ds : List Opened). AreDraftsOf ds left after.grants) (sym keeps.same) (keeps.have _ serves.drafts);
-      swept = λ calm. subst (IsSwept (g.content k.disk)) (sym is.graph) (serves.swept (sym is.sweeping ∙ calm));
-      four = serves.four;
-    }
+  pub stores_after : Stores g new after
+  stores_after = stores_stepped g k new s after s.graph serves (λ entry. false) ds has is state keeps.same (keeps.have ds serves.drafts) serves.four
 
-    module _ (left_sized : (d : D) (t : ℕ) (c : Image) → g.left_since d t c → length c ≡ g.blocks d) (wide : length (g.content k.disk) ≡ g.blocks k.disk) where
-      pub makes_after : (e : Event) → next k.words.seed s e ≡ Some after → Makes g k new s e
-      makes_after e step = record {
-        after = after;
-        step = step;
-        stores = stores_after;
-        strays = subst (AddsNoStray (g.content k.disk) (g.content k.disk) s.graph) (sym is.graph) (none_more (g.content k.disk) (g.content k.disk) s.graph refl);
-        survives = loose g left_sized k.words.seed s k.disk k.disk (fits g k s serves (g.blocks k.disk) wide) e after step is.graph
-            (wider g k.disk k.disk _ _ (reads_none g 0 k.disk).images (λ c stays. absurd stays)) (pending g k s serves);
-      }
+  pub makes_after : ((d : D) (t : ℕ) (c : Image) → g.left_since d t c → length c ≡ g.blocks d) → length (g.content k.disk) ≡ g.blocks k.disk → (e : Event) → next k.words.seed s e ≡ Some after → Makes g k new s e
+  makes_after left_sized wide e step = makes_stepped g k new s after s.graph serves (λ entry. false) ds has is state keeps.same (keeps.have ds serves.drafts) serves.four left_sized wide e step refl (nothing_left g k.disk (λ c. Holds c s.graph))

@@ -1,36 +1,14 @@
 -- A draft that is written or resized, as the core asks for it.
-use Rattle.std.proofs.Common.{◌≡◌, ℕ, ◌+◌, ◌-◌, ◌/◌, ◌<◌, ◌≤◌, Bool, true, false, [], Some, Ok, Err, refl, sym, subst, arith}
-use Rattle.std.specs.Prelude.{IfErr, Result, sum}
-use Rattle.cfs_base.specs.Calls.{HasStopped, MakesAtMost, OnlyReads}
-use Rattle.cfs_base.specs.Refusals.{refused_by, trouble_had_tried}
-use Rattle.cfs_base.specs.declared.disk.Disk.{Ghosts}
-use Rattle.cfs_base.specs.declared.refusal.Refused.{Refused}
-use Rattle.cfs_base.specs.declared.refusal.Trouble.{Trouble}
+use Rattle.std.proofs.Common.{◌≡◌, ℕ, ◌+◌, ◌-◌, ◌/◌, ◌<◌, ◌≤◌, Bool, true, false, [], Some, Ok, Err, refl, sym, subst, arith, IfErr, Result, sum}
+use Rattle.cfs_core.proofs.Words.{Drafting, Ends, Ghosts, HasStopped, is_damage, is_damaged, is_full, IsTrouble, Kept, OnlyReads, reads_within, Refused, refused_by, Resizes, Trouble, trouble_had_tried}
 use Rattle.cfs_base.specs.declared.refusal.Trouble.TheVariants as troubles
 use Rattle.cfs_base.specs.declared.refusal.Refused.TheVariants as refusals
-use Rattle.cfs_base.proofs.Calls.{reads_within}
-use Rattle.cyl_alloc.specs.Space.{Kept}
-use Rattle.special_files.specs.Drafting.{Drafting}
-use Rattle.special_files.specs.Ends.{Ends}
-use Rattle.special_files.specs.Refusal.{IsTrouble, is_damage, is_damaged, is_full}
-use Rattle.special_files.specs.Shed.{Resizes}
 use Rattle.cfs_core.specs.Looks.{IsCalmCause}
 use Rattle.cfs_core.proofs.Answering.{reads_none}
 
 -- 4,096 bytes touch nine leaves at most
 pub few_leaves : (offset count : ℕ) → count ≤ 4096 → (offset + count + 512 - 1) / 512 - offset / 512 ≤ 9
 few_leaves offset count few = omega (arith, few)
-
-pub fewer_calls : {D : Type 0} (g : Ghosts D) (n t m u : ℕ) (old new : D) → n ≤ m → t ≤ u → MakesAtMost g n t old new → MakesAtMost g m u old new
-fewer_calls g n t m u old new less fewer calls = record {
-  later = calls.later;
-  keeps = calls.keeps;
-  same = calls.same;
-  faults = calls.faults;
-  calls = omega (arith, calls.calls, less);
-  tries = omega (arith, calls.tries, fewer);
-  no_fewer = calls.no_fewer;
-}
 
 module _ {D A : Type 0} (g : Ghosts D) (at n t k : ℕ) (old new : D) (before after : Kept) (was now : Drafting) where
   -- where it failed and nothing had been tried, all is as it was

@@ -1,15 +1,8 @@
 -- What is seated: grants with the drafts that are held for their draws.
-use Rattle.std.proofs.Common.{◌≡◌, ℕ, List, [], ◌∷◌, ◌++◌, Bool, true, false, cond, not, ◌||◌, ◌&&◌, Option, Some, None, Result, Ok, Err, is_some, refl, sym, ◌∙◌, ap, subst, arith}
-use Rattle.std.specs.Prelude.{◌==◌, IfSome, IsOk, OnErr, OnOk, filter}
-use Rattle.std.specs.List.{list_any}
-use Rattle.std.proofs.lemmas.Bool.Decides.{nat_tests}
-use Rattle.std.proofs.lemmas.Bool.{and_right, eq-eqb, eqb-true, false_from_ne_true, or_from, or_parts, true≢false}
-use Rattle.std.proofs.lemmas.List.Folds.{list_any-append}
-use Rattle.cfs_base.specs.declared.identifier.Tuid.{Tuid}
+use Rattle.std.proofs.Common.{◌≡◌, ℕ, List, [], ◌∷◌, ◌++◌, Bool, true, false, cond, not, ◌||◌, ◌&&◌, Option, Some, None, Result, Ok, Err, is_some, refl, sym, ◌∙◌, ap, subst, arith, ◌==◌, IfSome, IsOk, OnErr, OnOk, filter}
+use Rattle.cfs_core.proofs.Words.{and_right, Drafting, eq-eqb, eqb-true, false_from_ne_true, list_any, list_any-append, nat_tests, or_from, or_parts, same_tuid, true≢false, Tuid}
 use Rattle.open_table.specs.declared.grant.Grant.{Grant}
 use Rattle.open_table.specs.Grants.{is_grant}
-use Rattle.special_files.specs.Drafting.{Drafting}
-use Rattle.ufs_model.specs.Identifier.{same_tuid}
 use Rattle.cfs_core.specs.Kernel.{Seat, grants_in}
 use Rattle.cfs_core.specs.Seats.{AreOfGrants, drafting_at, have_draft, is_at, is_drawn, seated, seats_but, with_drafting}
 

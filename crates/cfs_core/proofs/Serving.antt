@@ -1,40 +1,8 @@
 -- What a core that serves knows of its disk, and what it goes on to know after calls that only read.
-use Rattle.std.proofs.Common.{◌≡◌, ◌≢◌, cond, ℕ, ◌+◌, ◌*◌, ◌/◌, ◌≤◌, List, [], ◌∷◌, length, Bool, true, false, Option, Some, None, refl, sym, ◌∙◌, ap, subst, arith}
-use Rattle.std.specs.Prelude.{◌==◌, ◌||◌, is_some, option_map, sum}
-use Rattle.std.proofs.lemmas.Bool.{eq-eqb}
-use Rattle.cfs_base.specs.Calls.{OnlyReads}
-use Rattle.cfs_base.specs.Disk.{Image}
-use Rattle.cfs_base.specs.Run.{left_now}
-use Rattle.cfs_base.specs.declared.disk.Disk.{Ghosts}
-use Rattle.cfs_base.specs.declared.identifier.Puid.{Puid}
-use Rattle.cfs_base.specs.declared.kind.Kind.{Kind}
-use Rattle.cfs_base.proofs.Runs.{wider}
-use Rattle.cyl_alloc.proofs.Counted.{sum_is}
-use Rattle.cyl_map.specs.Volume.{entry_in}
-use Rattle.puid_space.specs.Directory.{has_root_in, kind_in}
-use Rattle.puid_space.specs.Kinds.{kind_of}
-use Rattle.puid_space.proofs.Graphs.{kind_in-kinds_in}
-use Rattle.special_files.proofs.Begun.{store_reads}
-use Rattle.survival.specs.Held.{Fits}
-use Rattle.survival.proofs.Calls.{loose}
-use Rattle.ufs_model.specs.declared.asked.Event.{Event}
-use Rattle.ufs_model.specs.declared.object.Index.{Index}
-use Rattle.ufs_model.specs.declared.object.Object.{Object}
+use Rattle.std.proofs.Common.{◌≡◌, ◌≢◌, cond, ℕ, ◌+◌, ◌*◌, ◌/◌, ◌≤◌, List, [], ◌∷◌, length, Bool, true, false, Option, Some, None, refl, sym, ◌∙◌, ap, subst, arith, ◌==◌, ◌||◌, is_some, option_map, sum, eq-eqb}
+use Rattle.cfs_core.proofs.Words.{blocks_taken, closed_graph, drafts_of, entry_in, Event, Fits, frames_hold, Ghosts, Graph, graph_blocks, has_root_in, Holds, Image, Index, is_running, is_stray, is_there, IsClosedGraph, IsSwept, Kind, kind_in, kind_in-kinds_in, kind_of, left_now, loose, next, no_strays, Object, object_at, ones_le, OnlyReads, Opened, Puid, room, same_puid, same_puid_is, State}
+use Rattle.cfs_core.proofs.Words.{store_reads, stray_blocks, sum_is, wider}
 use Rattle.ufs_model.specs.declared.object.Object.TheVariants as objects
-use Rattle.ufs_model.specs.Graph.{Graph, is_there, object_at}
-use Rattle.ufs_model.specs.Identifier.{same_puid}
-use Rattle.ufs_model.specs.Next.{next}
-use Rattle.ufs_model.specs.State.{State, is_running}
-use Rattle.ufs_model.proofs.WellGraphs.{closed_graph}
-use Rattle.vol_image.specs.Sound.{Holds, IsClosedGraph, graph_blocks}
-use Rattle.vol_image.proofs.Law.{frames_hold}
-use Rattle.vol_image.proofs.Reached.{same_puid_is}
-use Rattle.vol_owners.specs.Account.{IsSwept, Opened, drafts_of}
-use Rattle.vol_owners.specs.Owner.{is_stray, stray_blocks}
-use Rattle.vol_owners.specs.Room.{blocks_taken}
-use Rattle.vol_owners.proofs.Rooms.{no_strays, room}
-use Rattle.vol_owners.proofs.Sums.{ones_le}
-use Rattle.cfs_core.specs.declared.collecting.Collections.{Collections}
 use Rattle.cfs_core.specs.Calls.{AddsNoStray, Makes}
 use Rattle.cfs_core.specs.Kernel.{Kernel}
 use Rattle.cfs_core.specs.Room.{lost_blocks}
@@ -66,40 +34,16 @@ serves_from g k s none stands = subst (Stands g k s) none stands
 pub stands_from : {D : Type 0} (g : Ghosts D) (k : Kernel D) (s : State) → k.stop ≡ None → Serves g k s → StandsFor g k s
 stands_from g k s none serves = subst (Stands g k s) (sym none) serves
 
--- all but the collection, and the collection
 pub stored : {D : Type 0} (g : Ghosts D) (k : Kernel D) (s : State) → Serves g k s → Stores g k s
-stored g k s serves = record {
-  front = serves.front;
+stored g k s serves = λ c has. record {
+  front = record { drawn = serves.front.drawn; names = serves.front.names; grants = serves.front.grants; stopped = serves.front.stopped };
   state = serves.state;
   root = serves.root;
   store = serves.store;
   drafts = serves.drafts;
   swept = serves.swept;
   four = serves.four;
-}
-
-pub serves_with : {D : Type 0} (g : Ghosts D) (k : Kernel D) (s : State) → Stores g k s → HasCollection (g.content k.disk) s k.collections.collector → Serves g k s
-serves_with g k s stores has = record {
-  front = stores.front;
-  state = stores.state;
-  root = stores.root;
-  store = stores.store;
-  drafts = stores.drafts;
-  swept = stores.swept;
-  four = stores.four;
   collecting = has;
-}
-
--- with another collector, or none
-pub stored_beside : {D : Type 0} (g : Ghosts D) (k : Kernel D) (c : Collections) (s : State) → Stores g k s → Stores g (record k { collections = c }) s
-stored_beside g k c s stores = record {
-  front = record { drawn = stores.front.drawn; names = stores.front.names; grants = stores.front.grants; stopped = stores.front.stopped };
-  state = stores.state;
-  root = stores.root;
-  store = stores.store;
-  drafts = stores.drafts;
-  swept = stores.swept;
-  four = stores.four;
 }
 
 -- what leaves image and graph as they were adds no stray

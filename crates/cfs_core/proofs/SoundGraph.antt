@@ -1,38 +1,11 @@
 -- What a sound image of blocks reads as is a well-formed graph.
-use Rattle.std.proofs.Common.{◌≡◌, ◌≢◌, ◌⊎◌, inl, inr, ℕ, suc, ◌+◌, ◌*◌, ◌/◌, ◌%◌, ◌<◌, ◌≤◌, List, [], ◌∷◌, length, get_or, refl, sym, ◌∙◌, ap, subst, arith, Bool, true, false, cond, not, Option, Some, None, is_some}
-use Rattle.std.specs.Prelude.{◌==◌, is_none}
-use Rattle.std.specs.List.{list_all, range_with_len}
-use Rattle.std.specs.Map.{keys_of}
-use Rattle.std.specs.Ordering.{is_lt, is_eq}
-use Rattle.std.specs.declared.cmp.Ordering.{Ordering}
-use Rattle.std.specs.declared.cmp.Ordering.TheVariants.{Less, Equal, Greater}
-use Rattle.std.proofs.lemmas.Bool.{and_parts, and_from, or_left, or_right, lt-ltb, le-leb, eq-eqb, eqb-true, ne_eqb, false_from_ne_true}
-use Rattle.cfs_base.specs.Disk.{Image, AreBlocks, block_at}
-use Rattle.cfs_base.specs.declared.identifier.Puid.{Puid}
-use Rattle.ufs_model.specs.declared.object.File.{File}
-use Rattle.ufs_model.specs.declared.object.Index.{Index}
-use Rattle.ufs_model.specs.declared.object.Object.{Object}
+use Rattle.std.proofs.Common.{◌≡◌, ◌≢◌, ◌⊎◌, inl, inr, ℕ, suc, ◌+◌, ◌*◌, ◌/◌, ◌%◌, ◌<◌, ◌≤◌, List, [], ◌∷◌, length, get_or, refl, sym, ◌∙◌, ap, subst, arith, Bool, true, false, cond, not, Option, Some, None, is_some, ◌==◌, is_none, is_lt, is_eq, Ordering, Less, Equal, Greater}
+use Rattle.cfs_core.proofs.Words.{absent_byte, all_among, all_filter, all_numbers, all_pairs, and_from, and_parts, AreBlocks, block_at, blocks_differ, byte_may_stand, each_among, each_from, eq-eqb, eqb-true, false_from_ne_true, File, file_to_leaves, found, GivesFile, GivesIndex, Graph, graph_pairs, has_number, Held, held-rise, held_byte, held_in, held_is, Holds, ids_of, Image, Index}
+use Rattle.cfs_core.proofs.Words.{index_to_leaves, is_among, is_object, is_root_index, is_there, is_there-ids, IsGraph, IsSoundAs, IsTree, keys_of, le-leb, leaf_content, leaf_in, leaves_in, list_all, lt-ltb, ne_eqb, Object, object_at, object_there, or_left, or_right, part_at, part_of, Puid, puid_cmp, range_with_len, ReadsAs, reserved, rises, same_block, same_puid, same_slot, slot_get, slot_in}
+use Rattle.cfs_core.proofs.Words.{slot_may_stand, source, to_held, tree_in}
 use Rattle.ufs_model.specs.declared.object.Object.TheVariants as objects
-use Rattle.ufs_model.specs.Graph.{Graph, IsGraph, ids_of, is_there, object_at, blocks_differ, is_root_index, graph_pairs}
-use Rattle.ufs_model.specs.Identifier.{puid_cmp, same_puid, is_among, rises}
-use Rattle.ufs_model.specs.Numbers.{has_number}
-use Rattle.ufs_model.specs.Object.{is_object, each_from, byte_may_stand, slot_may_stand, leaves_in}
-use Rattle.ufs_model.proofs.Graphs.{found, is_there-ids, object_there}
-use Rattle.ufs_model.proofs.Reached.{all_among, all_pairs, each_among, same_puid_is, same_puid_itself}
-use Rattle.ufs_model.proofs.Rising.{all_numbers}
-use Rattle.ufs_model.proofs.Tests.{all_filter}
-use Rattle.leaf_changes.specs.Gives.{GivesFile, GivesIndex}
-use Rattle.leaf_changes.proofs.Contents.{absent_byte, held_byte}
-use Rattle.leaf_changes.proofs.Given.{file_to_leaves, index_to_leaves, slot_get}
-use Rattle.leaf_changes.proofs.HeldNumbers.{held-rise, to_held}
-use Rattle.leaf_changes.proofs.SlotBytes.{same_slot}
-use Rattle.vol_image.specs.Part.{part_at, part_of, reserved}
-use Rattle.vol_image.specs.Reading.{IsTree, held_in, leaf_content, leaf_in, slot_in}
-use Rattle.vol_image.specs.Seen.{Held, tree_in}
-use Rattle.vol_image.specs.Sight.{sight, source}
-use Rattle.vol_image.specs.Sound.{Holds, IsSoundAs, ReadsAs}
-use Rattle.vol_image.proofs.Changes.{same_block}
-use Rattle.vol_image.proofs.Views.{held_is}
+use Rattle.ufs_model.proofs.Reached.{same_puid_is, same_puid_itself}
+use Rattle.vol_image.specs.Sight.{sight}
 
 -- ---- one object
 

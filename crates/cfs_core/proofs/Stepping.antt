@@ -1,68 +1,27 @@
--- The steps of the collector, on what a disk has of a state.
-use Rattle.std.proofs.Common.{IsTrue, ◌≡◌, inl, inr, ℕ, ◌+◌, ◌*◌, ◌/◌, ◌≤◌, List, [], ◌∷◌, length, Bool, true, false, not, ◌||◌, cond, Result, Option, Some, None, Ok, Err, refl, sym, ◌∙◌, ap, subst, arith}
-use Rattle.std.specs.Prelude.{◌==◌, nat_lt, option_map, slice_get}
-use Rattle.std.specs.List.{list_all}
-use Rattle.std.proofs.lemmas.Bool.{and_from, and_parts, both_ways, or_cases, or_left, or_right}
+-- The steps of the collector: where each leaves a core, and a step of a collection that runs, on any disk.
+use Rattle.std.proofs.Common.{IsTrue, ◌≡◌, inl, inr, ℕ, ◌+◌, ◌*◌, ◌/◌, ◌≤◌, List, [], ◌∷◌, length, Bool, true, false, not, ◌||◌, cond, Result, Option, Some, None, Ok, Err, refl, sym, ◌∙◌, ap, subst, append-nil, arith, ◌==◌, nat_lt, map, option_map, slice_get}
+use Rattle.cfs_core.proofs.Words.{Accounts, all_among, and_from, and_parts, AreCounts, blocks_taken, both_ways, carries_fewer, Collecting, Collection, Collects, count_after, cylinder_of, Draft, Drafting, entry_in, Event, Ghosts, goes, Grant, Graph, graph_blocks, had_tried, has_root_in, HasSwept, Holds, Image, is_among, is_running, is_stray, is_there, IsAsBefore, IsCollecting, IsDamaged}
+use Rattle.cfs_core.proofs.Words.{IsMapTrouble, IsPhaseOf, IsScanTrouble, IsSpeakable, IsState, IsSwept, IsSweptOf, joined_has, joined_has_new, joined_within, Kept, kept_by, kept_stays, Kind, kinds_of, Leaves, list_all, list_all-append, Listing, MakesAtMost, MapEntry, may_vanish_test, MayVanish, next, next_keeps, next_phase, nothing_left, Object, object_at, object_at-without, ones_le, OnlyReads}
+use Rattle.cfs_core.proofs.Words.{open_ids, open_kept, Opened, opened_as, or_cases, or_left, or_right, pairs_of, Pass, Phase, Puid, reads_make, reads_within, Refused, refused_by, rises-without, room, same_puid, starts_now, State, stray_blocks, sum_is, swept, Trouble, trouble_had_tried, vanish_goes_on, volume_of, wider, without}
 use Rattle.std.specs.Cmp as cmp
-use Rattle.cfs_base.specs.Calls.{MakesAtMost, OnlyReads}
-use Rattle.cfs_base.specs.Refusals.{had_tried, refused_by, trouble_had_tried}
-use Rattle.cfs_base.specs.declared.kind.Kind.{Kind}
-use Rattle.cfs_base.specs.declared.refusal.Refused.{Refused}
-use Rattle.cfs_base.specs.declared.refusal.Trouble.{Trouble}
 use Rattle.cfs_base.specs.declared.refusal.Trouble.TheVariants as trouble
 use Rattle.cfs_base.specs.declared.refusal.Refused.TheVariants as refusals
-use Rattle.cfs_base.proofs.Calls.{reads_make, reads_within}
-use Rattle.cfs_base.specs.Disk.{Image}
-use Rattle.cfs_base.specs.Run.{Leaves}
-use Rattle.cfs_base.specs.declared.disk.Disk.{Ghosts}
-use Rattle.cfs_base.specs.declared.identifier.Puid.{Puid}
-use Rattle.cfs_base.proofs.Runs.{wider}
-use Rattle.collector_steps.specs.Collecting.{Collecting, Collects, IsAsBefore, IsCollecting, Serves, volume_of}
-use Rattle.collector_steps.specs.Scan.{IsDamaged, IsScanTrouble}
-use Rattle.collector_steps.specs.Sweep.{IsSweptOf, goes, swept}
-use Rattle.collector_steps.specs.Swept.{HasSwept, IsPhaseOf, cylinder_of, next_phase}
-use Rattle.cyl_alloc.specs.Refusals.{IsMapTrouble}
-use Rattle.collector_steps.specs.declared.phase.Phase.{Phase}
+use Rattle.collector_steps.specs.Collecting.{Serves as IsServed}
 use Rattle.collector_steps.specs.declared.phase.Phase.TheVariants as phases
-use Rattle.collector_steps.specs.declared.sweep.Pass.{Pass}
-use Rattle.cyl_alloc.specs.Space.{AreCounts, Kept}
-use Rattle.cyl_alloc.proofs.Counted.{sum_is}
-use Rattle.cyl_map.specs.declared.entry.MapEntry.{MapEntry}
-use Rattle.cyl_map.specs.Volume.{entry_in}
-use Rattle.puid_space.specs.Directory.{Listing, has_root_in, kept_by}
-use Rattle.puid_space.specs.Kinds.{kinds_of}
-use Rattle.special_files.proofs.Begun.{store_reads}
 use Rattle.ufs_model.specs.declared.asked.Event.TheVariants as events
 use Rattle.ufs_model.specs.declared.collection.Collection.TheVariants as collections
-use Rattle.ufs_model.specs.declared.object.Object.{Object}
-use Rattle.ufs_model.specs.Graph.{Graph, is_there, object_at, without}
-use Rattle.ufs_model.specs.Identifier.{is_among, same_puid}
-use Rattle.ufs_model.specs.Next.{next}
-use Rattle.ufs_model.specs.Reach.{starts_now}
-use Rattle.ufs_model.proofs.Reached.{joined_has, joined_has_new, joined_within}
-use Rattle.ufs_model.specs.State.{State, open_ids, pairs_of}
-use Rattle.ufs_model.specs.Vanish.{MayVanish}
-use Rattle.ufs_model.specs.WellFormed.{IsState}
-use Rattle.ufs_model.proofs.Graphs.{object_at-without, rises-without}
-use Rattle.ufs_model.proofs.KeepsStates.{next_keeps}
-use Rattle.ufs_model.proofs.Vanishing.{kept_stays, may_vanish_test, open_kept}
-use Rattle.vol_image.specs.Sound.{Holds, graph_blocks}
-use Rattle.vol_image.proofs.Carries.{carries_fewer}
-use Rattle.vol_owners.specs.Account.{Accounts, IsSwept, Opened}
-use Rattle.vol_owners.specs.Owner.{is_stray, stray_blocks}
-use Rattle.vol_owners.specs.Room.{blocks_taken}
-use Rattle.vol_owners.proofs.Rooms.{room}
-use Rattle.vol_owners.proofs.Steps.{vanish_goes_on}
-use Rattle.vol_owners.proofs.Sums.{ones_le}
+use Rattle.cfs_core.specs.declared.collecting.Collections.{Collections}
 use Rattle.cfs_core.specs.declared.collecting.Step.{Step}
 use Rattle.cfs_core.specs.declared.collecting.Step.TheVariants as steps
 use Rattle.cfs_core.specs.Calls.{IsCause}
-use Rattle.cfs_core.specs.Collect.{ComesBy, EndsStep, HasBegun, HasState, IsCounted, IsNext, Moves, StepsSo, event_of, is_want, phase_of, sweeps_blocks, told_as}
-use Rattle.cfs_core.specs.Kernel.{marks_in, sweeps_in}
-use Rattle.cfs_core.specs.Room.{MayLoseBy, lost_blocks}
-use Rattle.cfs_core.specs.StandsFor.{HasCollection, HasCollector, is_sweeping}
+use Rattle.cfs_core.specs.Collect.{EndsUnmade, HasBegun, IsMade, IsMadeOrNot, IsNext, MovesTo, StepsSo, is_want, phase_of, sweeps_blocks, told_as, with_parts}
+use Rattle.cfs_core.specs.Kernel.{Kernel, Seat, marks_in, runs, sweeps_in}
+use Rattle.cfs_core.specs.Room.{MayLose, lost_blocks}
+use Rattle.cfs_core.specs.StandsFor.{HasCollection, HasCollector, Serves, bare, drafts_of_seats, is_sweeping}
 use Rattle.cfs_core.proofs.Answering.{reads_none}
 use Rattle.cfs_core.proofs.Collected.{as_before, collection_ready, none_is}
+use Rattle.cfs_core.proofs.Serving.{running, serves_on, stored}
+use Rattle.cfs_core.proofs.Went.{fewer_calls}
 
 -- ---- a sweep
 
@@ -92,51 +51,60 @@ in_sweep pass (phases.Inner c) is = (refl, refl)
 in_sweep pass (phases.Roots c) is = (refl, refl)
 in_sweep pass phases.Swept is = absurd is
 
--- ---- each step
+-- ---- where a step leaves the state
 
-module _ {D : Type 0} (g : Ghosts D) (old : D) (space : Kept) (names : Listing) (s : State) (ds : List Opened) (has : HasState g old space names s ds) (k : Collecting) (col : HasCollector (g.content old) s k) where
-  pub served : Serves g old names.named s ds
-  served = record { state = has.state; named = has.named; carries = has.store.carries; accounts = has.store.account }
+-- a draft is of an object that is open
+drafts_open : (all : List Puid) (seats : List Seat) (grants : List Grant) → map (λ (x : Seat). x.grant) seats ≡ map bare grants → list_all (λ id. is_among id all) (map (λ (x : Grant). x.id) grants) ≡ true
+    → list_all (λ d. is_among d.id all) (drafts_of_seats seats grants) ≡ true
+drafts_open all [] grants are opened = refl
+drafts_open all (x ∷ seats) [] are opened = refl
+drafts_open all (x ∷ seats) (y ∷ grants) are opened =
+    let two = and_parts (is_among y.id all) _ opened in
+    let here : x.grant ≡ bare y = cc in
+    let rest : map (λ (z : Seat). z.grant) seats ≡ map bare grants = cc in
+    at x.drafting y.draft (ap (λ z. is_among z.id all) here ∙ two.0) (drafts_open all seats grants rest two.1)
+  where
+    at : (o : Option Drafting) (d : Option Draft) → is_among x.grant.id all ≡ true → list_all (λ e. is_among e.id all) (drafts_of_seats seats grants) ≡ true
+        → list_all (λ e. is_among e.id all) (drafts_of_seats ((record { grant = x.grant; drafting = o }) ∷ seats) ((record y { draft = d }) ∷ grants)) ≡ true
+    at (Some drafting) (Some d) one rest = list_all-append (λ e. is_among e.id all) (drafts_of_seats seats grants) (opened_as x.grant.id drafting d ∷ []) ∙ and_from _ _ rest (and_from _ _ one refl)
+    at (Some drafting) None one rest = ap (list_all (λ e. is_among e.id all)) (append-nil (drafts_of_seats seats grants)) ∙ rest
+    at None d one rest = ap (list_all (λ e. is_among e.id all)) (append-nil (drafts_of_seats seats grants)) ∙ rest
 
-  nothing_left : Leaves g old old (λ c. Holds c s.graph)
-  nothing_left = wider g old old _ _ (reads_none g 0 old).images (λ c no. absurd no)
+-- A core with a collector `col`, of a state that it serves; and where its step leaves it.
+module _ {D : Type 0} (g : Ghosts D) (k : Kernel D) (old : D) (space : Kept) (names : Listing) (col : Collecting) (s : State) (serves : Serves g (with_parts k old space names col) s) (l : Collecting) where
+  abbrev core : Kernel D
+  core = with_parts k old space names col
+
+  abbrev ds : List Opened
+  ds = drafts_of_seats k.seats s.grants
+
+  pub served : IsServed g old names.named s ds
+  served = record { state = serves.state; named = serves.front.names; carries = serves.store.carries; accounts = serves.store.account }
 
   -- one that reads at most
-  pub read_on : (n : ℕ) (new : D) → OnlyReads g n old new → (l : Collecting) → l.phase ≡ k.phase → Collects (g.content new) s l → (step : Step) → event_of step ≡ None → Moves g old new space names (Some l) s ds step
-  read_on n new reads l phase collects step quiet = record {
+  pub read_on : (n : ℕ) (new : D) → OnlyReads g n old new → l.phase ≡ col.phase → Collects (g.content new) s l → MovesTo g core (with_parts k new space names l) s None
+  read_on n new reads phase collects = record {
     after = s;
-    comes = subst (λ e. ComesBy s e s) (sym quiet) refl;
-    lost = subst (λ e. MayLoseBy e s.graph s.graph (lost_blocks (g.content old) s.graph) (lost_blocks (g.content new) s.graph)) (sym quiet) (omega (arith, ap (λ (i : Image). lost_blocks i s.graph) reads.content));
-    has = record {
-      runs = has.runs;
-      state = has.state;
-      named = has.named;
-      store = store_reads g s.graph ds old new space n has.store reads;
-      opened = has.opened;
-      swept = λ calm. subst (λ (i : Image). IsSwept i s.graph) (sym reads.content) (has.swept calm);
-      four = has.four;
-    };
-    collecting = record { marking = col.marking ∙ ap marks_in (sym phase); sweeping = col.sweeping ∙ ap sweeps_in (sym phase); collects = collects };
+    comes = refl;
+    serves = stored g (with_parts k new space names col) s (serves_on g n core (with_parts k new space names col) reads refl s serves) (record k.collections { collector = Some l })
+        (record { marking = serves.collecting.marking ∙ ap marks_in (sym phase); sweeping = serves.collecting.sweeping ∙ ap sweeps_in (sym phase); collects = collects });
     leaves = wider g old new _ _ reads.images (λ c no. absurd no);
-    root = refl;
-    grants = refl;
-    drawn = refl;
-    stopped = refl;
+    lost = omega (arith, ap (λ (i : Image). lost_blocks i s.graph) reads.content);
   }
 
   -- one that failed, with nothing tried
-  pub stayed : (n : ℕ) (new : D) → OnlyReads g n old new → (l : Collecting) → IsAsBefore k l → Moves g old new space names (Some l) s ds steps.Idle
-  stayed n new reads l same =
-      read_on n new reads l same.phase (subst (λ (i : Image). Collects i s l) (sym reads.content) (collection_ready (g.content old) s (Some k) (Some l) (as_before k l same) col).collects) steps.Idle refl
+  pub stayed : (n : ℕ) (new : D) → OnlyReads g n old new → IsAsBefore col l → MovesTo g core (with_parts k new space names l) s None
+  stayed n new reads same =
+      read_on n new reads same.phase (subst (λ (i : Image). Collects i s l) (sym reads.content) (collection_ready (g.content old) s (Some col) (Some l) (as_before col l same) serves.collecting).collects)
 
   -- ---- objects are condemned
 
-  module _ (ids : List Puid) (legal : MayVanish s ids) where
+  module _ (ids : List Puid) (legal : MayVanish s ids) (runs : is_running s ≡ true) where
     abbrev gone : State
     gone = record s { graph = without s.graph ids; collection = collections.Sweeping }
 
     pub condemns : (seed : ℕ) → next seed s (events.Vanish ids) ≡ Some gone
-    condemns seed = rw (has.runs, may_vanish_test s ids has.state.graph legal) refl
+    condemns seed = rw (runs, may_vanish_test s ids serves.state.graph legal) refl
 
     still_there : (es : List Opened) → list_all (λ d. is_among d.id (open_ids s)) es ≡ true → list_all (λ d. is_there s.graph d.id) es ≡ true → list_all (λ d. is_there (without s.graph ids) d.id) es ≡ true
     still_there [] opened there = refl
@@ -153,38 +121,35 @@ module _ {D : Type 0} (g : Ghosts D) (old : D) (space : Kept) (names : Listing) 
     ] (sym (object_at-without s.graph ids x) ∙ found)
 
     accounts : Accounts (g.content old) (without s.graph ids) ds
-    accounts = vanish_goes_on (g.content old) s.graph ds ids has.store.account (still_there ds has.opened has.store.account.on_objects)
+    accounts = vanish_goes_on (g.content old) s.graph ds ids serves.store.account
+        (still_there ds (drafts_open (open_ids s) k.seats s.grants serves.front.grants (all_among (λ id. is_among id (open_ids s)) (open_ids s) (λ x h. h))) serves.store.account.on_objects)
 
-    pub condemned : (left : Listing) (l : Collecting) → l.phase ≡ phases.Inner 0 → left.named ≡ kinds_of (without s.graph ids) → Collects (g.content old) gone l → Moves g old old space left (Some l) s ds (steps.Condemned ids)
-    condemned left l phase named collects = record {
+    pub condemned : (left : Listing) → l.phase ≡ phases.Inner 0 → left.named ≡ kinds_of (without s.graph ids) → Collects (g.content old) gone l → MovesTo g core (with_parts k old space left l) s (Some (events.Vanish ids))
+    condemned left phase named collects = record {
       after = gone;
       comes = condemns;
-      has = record {
-        runs = has.runs;
-        state = next_keeps 0 s gone (events.Vanish ids) has.state tt (condemns 0);
-        named = named;
+      serves = record {
+        front = record { drawn = serves.front.drawn; names = named; grants = serves.front.grants; stopped = serves.front.stopped };
+        state = next_keeps 0 s gone (events.Vanish ids) serves.state tt (condemns 0);
+        root = serves.root;
         store = record {
-          carries = carries_fewer g s.graph (without s.graph ids) old has.store.carries refl was;
+          carries = carries_fewer g s.graph (without s.graph ids) old serves.store.carries refl was;
           account = accounts;
-          counts = has.store.counts;
-          ordered = rises-without s.graph ids has.store.ordered;
+          counts = serves.store.counts;
+          ordered = rises-without s.graph ids serves.store.ordered;
         };
-        opened = has.opened;
+        drafts = serves.drafts;
         swept = λ calm. cc;
-        four = has.four;
+        four = serves.four;
+        collecting = record { marking = ap marks_in (sym phase); sweeping = ap sweeps_in (sym phase); collects = collects };
       };
-      collecting = record { marking = ap marks_in (sym phase); sweeping = ap sweeps_in (sym phase); collects = collects };
-      lost = omega (arith, room (g.content old) s.graph ds has.store.account has.store.ordered, room (g.content old) (without s.graph ids) ds accounts (rises-without s.graph ids has.store.ordered));
-      leaves = nothing_left;
-      root = refl;
-      grants = refl;
-      drawn = refl;
-      stopped = refl;
+      leaves = nothing_left g old (λ c. Holds c s.graph);
+      lost = omega (arith, room (g.content old) s.graph ds serves.store.account serves.store.ordered, room (g.content old) (without s.graph ids) ds accounts (rises-without s.graph ids serves.store.ordered));
     }
 
   -- ---- a cylinder is swept
 
-  module _ (new : D) (after : Kept) (l : Collecting) (pass : Pass) (cylinder : ℕ) (phase : IsPhaseOf pass k.phase) (sweeps : IsSweptOf names.named pass cylinder (g.content old) (g.content new)) where
+  module _ (new : D) (after : Kept) (pass : Pass) (cylinder : ℕ) (phase : IsPhaseOf pass col.phase) (sweeps : IsSweptOf names.named pass cylinder (g.content old) (g.content new)) where
     stray_was : (n : ℕ) → is_stray s.graph (entry_in (g.content new) n) ≡ true → is_stray s.graph (entry_in (g.content old) n) ≡ true
     stray_was n stray = elim (Rattle.std.proofs.lemmas.Bool.cases_eq (n / 64) cylinder) [
       | inl here ↦ at (entry_in (g.content old) n) (subst (λ (e : Option MapEntry). is_stray s.graph e ≡ true) (sweeps.here n here) stray)
@@ -202,70 +167,37 @@ module _ {D : Type 0} (g : Ghosts D) (old : D) (space : Kept) (names : Listing) 
       ap (λ n. stray_blocks (g.content new) s.graph n) sweeps.size,
     )
 
-    pub swept_one : Serves g new names.named s ds → AreCounts (g.content new) after → Collects (g.content new) s l → l.phase ≡ next_phase (volume_of k / 64) k.phase → Leaves g old new (λ c. Holds c s.graph) → Moves g old new after names (Some l) s ds steps.Swept
-    swept_one serves counts collects next leaves = record {
+    pub swept_one : IsServed g new names.named s ds → AreCounts (g.content new) after → Collects (g.content new) s l → l.phase ≡ next_phase (volume_of col / 64) col.phase → Leaves g old new (λ c. Holds c s.graph)
+        → MovesTo g core (with_parts k new after names l) s None
+    swept_one has counts collects next leaves = record {
       after = s;
       comes = refl;
-      has = record {
-        runs = has.runs;
-        state = has.state;
-        named = has.named;
-        store = record { carries = serves.carries; account = serves.accounts; counts = counts; ordered = has.store.ordered };
-        opened = has.opened;
-        swept = λ calm. absurd (both_ways _ calm (col.sweeping ∙ (in_sweep pass k.phase phase).1));
+      serves = record {
+        front = record { drawn = serves.front.drawn; names = serves.front.names; grants = serves.front.grants; stopped = serves.front.stopped };
+        state = serves.state;
+        root = serves.root;
+        store = record { carries = has.carries; account = has.accounts; counts = counts; ordered = serves.store.ordered };
+        drafts = serves.drafts;
+        swept = λ calm. absurd (both_ways _ calm (serves.collecting.sweeping ∙ (in_sweep pass col.phase phase).1));
         four = omega (
           arith,
-          has.four,
-          room (g.content old) s.graph ds has.store.account has.store.ordered,
-          room (g.content new) s.graph ds serves.accounts has.store.ordered,
+          serves.four,
+          room (g.content old) s.graph ds serves.store.account serves.store.ordered,
+          room (g.content new) s.graph ds has.accounts serves.store.ordered,
           fewer,
           ap (λ (n : ℕ). n / 64) sweeps.size,
-          sum_is (g.content old) space has.store.counts,
+          sum_is (g.content old) space serves.store.counts,
           sum_is (g.content new) after counts,
         );
+        collecting = record {
+          marking = serves.collecting.marking ∙ (in_sweep pass col.phase phase).0 ∙ sym (marks_still (volume_of col / 64) pass col.phase phase) ∙ ap marks_in (sym next);
+          sweeping = serves.collecting.sweeping ∙ (in_sweep pass col.phase phase).1 ∙ sym (sweeps_still (volume_of col / 64) pass col.phase phase) ∙ ap sweeps_in (sym next);
+          collects = collects;
+        };
       };
-      collecting = record {
-        marking = col.marking ∙ (in_sweep pass k.phase phase).0 ∙ sym (marks_still (volume_of k / 64) pass k.phase phase) ∙ ap marks_in (sym next);
-        sweeping = col.sweeping ∙ (in_sweep pass k.phase phase).1 ∙ sym (sweeps_still (volume_of k / 64) pass k.phase phase) ∙ ap sweeps_in (sym next);
-        collects = collects;
-      };
-      lost = fewer;
       leaves = leaves;
-      root = refl;
-      grants = refl;
-      drawn = refl;
-      stopped = refl;
+      lost = fewer;
     }
-
-  -- ---- it ends
-
-  abbrev rested : State
-  rested = record s { collection = collections.None }
-
-  pub ended : (l : Collecting) → k.phase ≡ phases.Swept → l.phase ≡ phases.Idle → Moves g old old space names (Some l) s ds steps.Finished
-  ended l over idle = record {
-    after = rested;
-    comes = ends;
-    has = record {
-      runs = has.runs;
-      state = next_keeps 0 s rested events.Finished has.state tt (ends 0);
-      named = has.named;
-      store = has.store;
-      opened = has.opened;
-      swept = λ calm. (subst (λ p. IsCollecting p (g.content old) s k) over col.collects).0;
-      four = has.four;
-    };
-    lost = omega arith;
-    collecting = record { marking = ap marks_in (sym idle); sweeping = ap sweeps_in (sym idle); collects = subst (λ p. IsCollecting p (g.content old) rested l) (sym idle) tt };
-    leaves = nothing_left;
-    root = refl;
-    grants = refl;
-    drawn = refl;
-    stopped = refl;
-  }
-    where
-      ends : (seed : ℕ) → next seed s events.Finished ≡ Some rested
-      ends seed = rw (has.runs, col.sweeping, over) refl
 
 -- ---- one begins
 
@@ -284,42 +216,54 @@ starts_are s x = cmp.both_ways _ _
     (λ y at. or_right (same_puid y s.graph.root) (is_among y (open_ids s)) at)
     (λ y at. elim (or_cases (same_puid y s.graph.root) false at) [ inl here ↦ or_left (same_puid y s.graph.root) (is_among y (open_ids s)) here | inr none ↦ cc ]) x)
 
-module _ {D : Type 0} (g : Ghosts D) (old : D) (space : Kept) (names : Listing) (s : State) (ds : List Opened) (has : HasState g old space names s ds) where
-  pub begins : (o : Option Collecting) → phase_of o ≡ phases.Idle → HasCollection (g.content old) s o → (roots : List Puid) → roots ≡ s.graph.root ∷ open_ids s → (l : Collecting) → HasBegun roots names.named l
-      → Moves g old old space names (Some l) s ds steps.Began
-  begins o idle there roots are l begun = record {
-    after = t;
+-- ---- one begins, and one ends: only the collection changes
+
+module _ {D : Type 0} (g : Ghosts D) (k : Kernel D) (s : State) (serves : Serves g k s) (runs : is_running s ≡ true) (c : Collections) where
+  abbrev in_stage : Collection → State
+  in_stage stage = record s { collection = stage }
+
+  staged : (e : Event) (stage : Collection) → IsSpeakable e → ((seed : ℕ) → next seed s e ≡ Some (in_stage stage)) → (is_sweeping stage ≡ false → IsSwept (g.content k.disk) s.graph) → HasCollection (g.content k.disk) (in_stage stage) c.collector
+      → MayLose e s.graph s.graph (lost_blocks (g.content k.disk) s.graph) (lost_blocks (g.content k.disk) s.graph) → MovesTo g k (record k { collections = c }) s (Some e)
+  staged e stage speaks comes swept collecting lost = record {
+    after = in_stage stage;
     comes = comes;
-    has = record {
-      runs = has.runs;
-      state = next_keeps 0 s t events.Began has.state tt (comes 0);
-      named = has.named;
-      store = has.store;
-      opened = has.opened;
-      swept = λ calm. has.swept (ap is_sweeping none);
-      four = has.four;
+    serves = record {
+      front = record { drawn = serves.front.drawn; names = serves.front.names; grants = serves.front.grants; stopped = serves.front.stopped };
+      state = next_keeps 0 s (in_stage stage) e serves.state speaks (comes 0);
+      root = serves.root;
+      store = serves.store;
+      drafts = serves.drafts;
+      swept = swept;
+      four = serves.four;
+      collecting = collecting;
     };
-    collecting = record {
+    leaves = nothing_left g k.disk (λ c. Holds c s.graph);
+    lost = lost;
+  }
+
+  module _ (l : Collecting) (there : c.collector ≡ Some l) where
+    pub begins : phase_of k.collections.collector ≡ phases.Idle → (roots : List Puid) → roots ≡ s.graph.root ∷ open_ids s → HasBegun roots k.names.named l → MovesTo g k (record k { collections = c }) s (Some events.Began)
+    begins idle roots are begun = staged events.Began stage tt comes (λ calm. serves.swept (ap is_sweeping none)) (rw there (record {
       marking = ap marks_in (sym begun.phase);
       sweeping = ap sweeps_in (sym begun.phase);
-      collects = begun.keeps 0 s t (g.content old) has.state has.named (λ x. ap (is_among x) are ∙ starts_are s x) (comes 0);
-    };
-    lost = omega arith;
-    leaves = wider g old old _ _ (reads_none g 0 old).images (λ c no. absurd no);
-    root = refl;
-    grants = refl;
-    drawn = refl;
-    stopped = refl;
-  }
-    where
-      none : s.collection ≡ collections.None
-      none = idle_none (g.content old) s o idle there
+      collects = begun.keeps 0 s (in_stage stage) (g.content k.disk) serves.state serves.front.names (λ x. ap (is_among x) are ∙ starts_are s x) (comes 0);
+    })) (omega arith)
+      where
+        none : s.collection ≡ collections.None
+        none = idle_none (g.content k.disk) s k.collections.collector idle serves.collecting
 
-      t : State
-      t = record s { collection = collections.Marking (pairs_of s) (starts_now s) }
+        stage : Collection
+        stage = collections.Marking (pairs_of s) (starts_now s)
 
-      comes : (seed : ℕ) → next seed s events.Began ≡ Some t
-      comes seed = rw (has.runs, none) refl
+        comes : (seed : ℕ) → next seed s events.Began ≡ Some (in_stage stage)
+        comes seed = rw (runs, none) refl
+
+    pub ended : (col : Collecting) → HasCollector (g.content k.disk) s col → col.phase ≡ phases.Swept → l.phase ≡ phases.Idle → MovesTo g k (record k { collections = c }) s (Some events.Finished)
+    ended col has over idle = staged events.Finished collections.None tt ends (λ calm. (subst (λ p. IsCollecting p (g.content k.disk) s col) over has.collects).0)
+        (rw there (record { marking = ap marks_in (sym idle); sweeping = ap sweeps_in (sym idle); collects = subst (λ p. IsCollecting p (g.content k.disk) (in_stage collections.None) l) (sym idle) tt })) (omega arith)
+      where
+        ends : (seed : ℕ) → next seed s events.Finished ≡ Some (in_stage collections.None)
+        ends seed = rw (runs, has.sweeping, over) refl
 
 -- ---- any step, on any disk
 
@@ -336,63 +280,59 @@ pub no_want : (t : Trouble) → is_want (refused_by t) ≡ false
 no_want (trouble.Disk tried) = refl
 no_want (trouble.Damaged damage) = refl
 
-at_most : {D : Type 0} (g : Ghosts D) (old new : D) (n t : ℕ) → MakesAtMost g n t old new → n ≤ 4 → t ≤ 1 → MakesAtMost g 4 1 old new
-at_most g old new n t is few less = record {
-  later = is.later;
-  keeps = is.keeps;
-  same = is.same;
-  faults = is.faults;
-  calls = omega (arith, is.calls, few);
-  tries = omega (arith, is.tries, less);
-  no_fewer = is.no_fewer;
-}
-
 pub read_calls : {D : Type 0} (g : Ghosts D) (old new : D) (n : ℕ) → OnlyReads g n old new → n ≤ 4 → MakesAtMost g 4 1 old new
-read_calls g old new n reads few = at_most g old new n 0 (reads_make g old new n reads) few (omega arith)
+read_calls g old new n reads few = fewer_calls g n 0 4 1 old new few (omega arith) (reads_make g old new n reads)
+
+-- so it failed before any was tried, if memory isn't wanted
+calm_is : (e : Refused) → is_want e ≡ false → is_calm_refusal e ≡ true → e ≡ refusals.Disk false
+calm_is (refusals.Full need) none is = cc
+calm_is (refusals.Disk false) none is = refl
+calm_is (refusals.Disk true) none is = cc
+calm_is (refusals.Damaged damage) none is = cc
+calm_is refusals.Memory none is = cc
+
+never : {A : Type 0} (e : Refused) → is_want e ≡ false → is_want e ≡ true → A
+never e none some = let no : false ≡ true = sym none ∙ some in cc
+
+-- a collection that marks goes on to
+runs_on : (k l : Collecting) → k.phase ≡ phases.Marking → l.phase ≡ k.phase → runs (Some l) ≡ true
+runs_on k l marking phase = ap (λ p. marks_in p || sweeps_in p) (phase ∙ marking)
 
 module _ {D : Type 0} (g : Ghosts D) (old : D) (space : Kept) (names : Listing) (k l : Collecting) (volume : volume_of l ≡ volume_of k) where
-  -- one that reads at most
-  pub steps_read : (n : ℕ) (new : D) → OnlyReads g n old new → n ≤ 4 → k.phase ≡ phases.Marking → l.phase ≡ k.phase → (step : Step) → event_of step ≡ None → IsNext k step → IsCounted k l
-      → ((s : State) (ds : List Opened) → Serves g old names.named s ds → Collects (g.content old) s k → Collects (g.content new) s l) → StepsSo g old new space space names names k l (Ok step)
-  steps_read n new reads few marking phase step quiet due counted keeps = record {
-    ends = λ s ds has col. read_on g old space names s ds has k col n new reads l phase (keeps s ds (served g old space names s ds has k col) col.collects) step quiet;
-    due = due;
-    counted = counted;
-    still = tt;
-    runs = ap (λ p. marks_in p || sweeps_in p) (phase ∙ marking);
-    volume = volume;
-    room = refl;
-    some = λ h. h;
-    cylinders = refl;
-    cause = tt;
-    wants = tt;
-    calls = read_calls g old new n reads few;
-  }
+  abbrev before : Kernel D → Kernel D
+  before core = with_parts core old space names k
 
-  -- one that failed, with nothing tried: of a disk that serves only for want of memory, or since a device call failed
-  pub steps_failed : (n : ℕ) (new : D) → OnlyReads g n old new → n ≤ 4 → k.phase ≡ phases.Marking → IsAsBefore k l → (e : Refused) → IsCause g old new e → is_want e ≡ false → ((s : State) (ds : List Opened) → Serves g old names.named s ds → Collects (g.content old) s k → is_calm_refusal e ≡ true)
-      → StepsSo g old new space space names names k l (Err e)
-  steps_failed n new reads few marking same e cause is_none calm = record {
-    ends = λ s ds has col. ends s ds has col e is_none (calm s ds (served g old space names s ds has k col) col.collects);
-    due = tt;
-    counted = tt;
-    still = λ untried. record { reads = reads_within g old new n 4 few reads; space = refl; listing = refl; collector = same };
-    runs = ap (λ p. marks_in p || sweeps_in p) (same.phase ∙ marking);
-    volume = volume;
-    room = refl;
-    some = λ h. h;
-    cylinders = refl;
-    cause = cause;
-    wants = is_none;
-    calls = read_calls g old new n reads few;
-  }
-    where
-      ends : (s : State) (ds : List Opened) (has : HasState g old space names s ds) (col : HasCollector (g.content old) s k) (e : Refused) → is_want e ≡ false → is_calm_refusal e ≡ true → EndsStep g old new space names (Some l) s ds (Err e)
-      ends s ds has col (refusals.Full need) is_none is = cc
-      ends s ds has col (refusals.Disk false) is_none is = stayed g old space names s ds has k col n new reads l same
-      ends s ds has col (refusals.Disk true) is_none is = cc
-      ends s ds has col (refusals.Damaged damage) is_none is = cc
-      ends s ds has col refusals.Memory is_none is = cc
+  -- one that reads at most
+  module _ (n : ℕ) (new : D) (reads : OnlyReads g n old new) (few : n ≤ 4) (marking : k.phase ≡ phases.Marking) where
+    abbrev after_read : Kernel D → Kernel D
+    after_read core = with_parts core new space names l
+
+    read_step : l.phase ≡ k.phase → (result : Result Step Refused) → ((core : Kernel D) → IsMadeOrNot g (before core) (after_read core) result) → StepsSo g old new space space names names k l result
+    read_step phase result ends = record {
+      tries = λ core. record { ends = ends core; calls = read_calls g old new n reads few; same = refl };
+      size = reads.same.size;
+      runs = runs_on k l marking phase;
+      volume = volume;
+      room = refl;
+      some = λ h. h;
+      cylinders = refl;
+    }
+
+    pub steps_read : l.phase ≡ k.phase → ((s : State) (ds : List Opened) → IsServed g old names.named s ds → Collects (g.content old) s k → Collects (g.content new) s l) → (step : Step)
+        → ((core : Kernel D) → ((s : State) → Serves g (before core) s → core.stop ≡ None → MovesTo g (before core) (after_read core) s None) → IsMade g (before core) (after_read core) step) → StepsSo g old new space space names names k l (Ok step)
+    steps_read phase keeps step made = read_step phase (Ok step)
+        (λ core. made core (λ s serves none. read_on g core old space names k s serves l n new reads phase (keeps s _ (served g core old space names k s serves l) serves.collecting.collects)))
+
+    -- one that failed, with nothing tried: of a disk that serves only for want of memory, or since a device call failed
+    pub steps_failed : IsAsBefore k l → (e : Refused) → IsCause g old new e → is_want e ≡ false → ((s : State) (ds : List Opened) → IsServed g old names.named s ds → Collects (g.content old) s k → is_calm_refusal e ≡ true)
+        → StepsSo g old new space space names names k l (Err e)
+    steps_failed same e cause no_want calm = read_step same.phase (Err e) (λ core. record {
+      ends = λ s serves none. subst (EndsUnmade g (before core) (after_read core) s) (sym (calm_is e no_want (calm s _ (served g core old space names k s serves l) serves.collecting.collects)))
+          (stayed g core old space names k s serves l n new reads same);
+      still = λ untried. record { reads = reads_within g old new n 4 few reads; names = refl; space = refl; collector = as_before k l same; finished = refl };
+      cause = cause;
+      wants = λ some. never e no_want some;
+    })
 
   -- ---- objects are condemned
 
@@ -407,32 +347,38 @@ module _ {D : Type 0} (g : Ghosts D) (old : D) (space : Kept) (names : Listing) 
       neither true b is = cc
       neither false b is = (refl, is)
 
-  pub steps_condemned : (left : Listing) (ids : List Puid) (test : ℕ → Bool) → left.named ≡ kept_by test names.named → left.room ≡ names.room → l.phase ≡ phases.Inner 0 → IsNext k (steps.Condemned ids) → IsCounted k l
+  pub steps_condemned : (left : Listing) (ids : List Puid) (test : ℕ → Bool) → left.named ≡ kept_by test names.named → left.room ≡ names.room → l.phase ≡ phases.Inner 0 → IsNext k (steps.Condemned ids)
+      → (l.steps ≡ count_after k.steps) × (l.added ≡ k.added)
       → ((s : State) → IsState s → names.named ≡ kinds_of s.graph → Collects (g.content old) s k → MayVanish s ids)
       → ((s t : State) → names.named ≡ kinds_of s.graph → Collects (g.content old) s k → graph_blocks s.graph ≤ volume_of k → next 0 s (events.Vanish ids) ≡ Some t → Collects (g.content old) t l)
       → ((s t : State) → names.named ≡ kinds_of s.graph → next 0 s (events.Vanish ids) ≡ Some t → left.named ≡ kinds_of t.graph)
       → (IsTrue (g.honest old) → length (g.content old) ≤ volume_of k) → StepsSo g old old space space names left k l (Ok (steps.Condemned ids))
   steps_condemned left ids test kept room_is phase due counted legal keeps lists wide = record {
-    ends = λ s ds has col.
-        let may = legal s has.state has.named col.collects in
-        let step = condemns g old space names s ds has k col ids may 0 in
-        condemned g old space names s ds has k col ids may left l phase (lists s (gone g old space names s ds has k col ids may) has.named step)
-        (keeps s (gone g old space names s ds has k col ids may) has.named col.collects (omega (arith, wide has.store.carries.tells.honest, room (g.content old) s.graph ds has.store.account has.store.ordered, blocks_less s.graph ds)) step);
-    due = due;
-    counted = counted;
-    still = tt;
+    tries = λ core. record {
+      ends = record { moves = moves core; due = due; counted = (counted.0, counted.1, refl); over = λ s serves. tt };
+      calls = read_calls g old old 0 (reads_none g 0 old) (omega arith);
+      same = refl;
+    };
+    size = refl;
     runs = ap (λ p. marks_in p || sweeps_in p) phase;
     volume = volume;
     room = room_is;
     some = λ none. ap (λ named. has_root_in named 0) kept ∙ no_root_left test names.named none;
     cylinders = refl;
-    cause = tt;
-    wants = tt;
-    calls = read_calls g old old 0 (reads_none g 0 old) (omega arith);
   }
     where
       blocks_less : (h : Graph) (ds : List Opened) → graph_blocks h ≤ blocks_taken h ds
       blocks_less h ds = omega arith
+
+      moves : (core : Kernel D) (s : State) → Serves g (before core) s → core.stop ≡ None → MovesTo g (before core) (with_parts core old space left l) s (Some (events.Vanish ids))
+      moves core s serves none =
+          let may = legal s serves.state serves.front.names serves.collecting.collects in
+          let runs = running g (before core) s serves none in
+          let step = condemns g core old space names k s serves l ids may runs 0 in
+          let t = gone g core old space names k s serves l ids may runs in
+          let ds = drafts_of_seats core.seats s.grants in
+          condemned g core old space names k s serves l ids may runs left phase (lists s t serves.front.names step)
+          (keeps s t serves.front.names serves.collecting.collects (omega (arith, wide serves.store.carries.tells.honest, room (g.content old) s.graph ds serves.store.account serves.store.ordered, blocks_less s.graph ds)) step)
 
   -- ---- a cylinder is swept
 
@@ -446,46 +392,43 @@ module _ {D : Type 0} (g : Ghosts D) (old : D) (space : Kept) (names : Listing) 
       sweeping (phases.Roots c) h = refl
       sweeping phases.Swept h = absurd h
 
-      by : (r : Result (Unit {0}) Trouble) → result ≡ r → StepsSo g old new space after names names k l (told_as r)
-      by (Ok u) at = record {
-        ends = λ s ds has col.
-            let serves = served g old space names s ds has k col in
-            swept_one g old space names s ds has k col new after l pass _ phase (rw at at (is.sweep.swept has.store.carries.tells)) (rw at at (is.serves s ds serves col.collects)) (rw at at (is.sweep.counts has.store.carries.tells has.store.counts))
-            (rw at at (is.keeps s ds serves col.collects)) (rw at at is.phase) (is.sweep.leaves s ds serves);
-        due = sweeping k.phase phase;
-        counted = (rw at at is.steps, is.added);
-        still = tt;
-        runs = or_right (marks_in l.phase) (sweeps_in l.phase) (ap sweeps_in (rw at at is.phase) ∙ sweeps_still (volume_of k / 64) pass k.phase phase);
+      swept_step : (r : Result (Unit {0}) Trouble) → runs (Some l) ≡ true → ((core : Kernel D) → IsMadeOrNot g (before core) (with_parts core new after names l) (told_as r)) → StepsSo g old new space after names names k l (told_as r)
+      swept_step r runs ends = record {
+        tries = λ core. record { ends = ends core; calls = fewer_calls g 2 1 4 1 old new (omega arith) (omega arith) is.sweep.calls; same = refl };
+        size = is.sweep.calls.same.size;
+        runs = runs;
         volume = volume;
         room = refl;
         some = λ h. h;
         cylinders = is.sweep.cylinders;
-        cause = tt;
-        wants = tt;
-        calls = at_most g old new 2 1 is.sweep.calls (omega arith) (omega arith);
       }
-      by (Err t) at = record {
-        ends = λ s ds has col. failed s ds has col t at;
-        due = tt;
-        counted = tt;
+
+      by : (r : Result (Unit {0}) Trouble) → result ≡ r → StepsSo g old new space after names names k l (told_as r)
+      by (Ok u) at = swept_step (Ok u) (or_right (marks_in l.phase) (sweeps_in l.phase) (ap sweeps_in (rw at at is.phase) ∙ sweeps_still (volume_of k / 64) pass k.phase phase)) (λ core. record {
+        moves = λ s serves none.
+            let has = served g core old space names k s serves l in
+            let ds = drafts_of_seats core.seats s.grants in
+            swept_one g core old space names k s serves l new after pass _ phase (rw at at (is.sweep.swept serves.store.carries.tells)) (rw at at (is.serves s ds has serves.collecting.collects)) (rw at at (is.sweep.counts serves.store.carries.tells serves.store.counts))
+            (rw at at (is.keeps s ds has serves.collecting.collects)) (rw at at is.phase) (is.sweep.leaves s ds has);
+        due = sweeping k.phase phase;
+        counted = (rw at at is.steps, is.added, refl);
+        over = λ s serves. tt;
+      })
+      by (Err t) at = swept_step (Err t) (or_right (marks_in l.phase) (sweeps_in l.phase) (ap (λ (x : Collecting). sweeps_in x.phase) (rw at at is.same) ∙ (in_sweep pass k.phase phase).1)) (λ core. record {
+        ends = λ s serves none. failed core s serves t at;
         still = λ untried. record {
           reads = reads_within g old new 1 4 (omega arith) ((rw at at is.sweep.unless_tried) (untried_too t untried));
+          names = refl;
           space = rw at at is.sweep.kept;
-          listing = refl;
-          collector = as_it_was (rw at at is.same);
+          collector = as_before k l as_it_was;
+          finished = refl;
         };
-        runs = or_right (marks_in l.phase) (sweeps_in l.phase) (ap (λ (x : Collecting). sweeps_in x.phase) (rw at at is.same) ∙ (in_sweep pass k.phase phase).1);
-        volume = volume;
-        room = refl;
-        some = λ h. h;
-        cylinders = is.sweep.cylinders;
         cause = caused t (rw at at is.sweep.refused);
-        wants = no_want t;
-        calls = at_most g old new 2 1 is.sweep.calls (omega arith) (omega arith);
-      }
+        wants = λ some. never (refused_by t) (no_want t) some;
+      })
         where
-          as_it_was : l ≡ k → IsAsBefore k l
-          as_it_was same = subst (IsAsBefore k) (sym same) (record { marks = refl; rescues = refl; phase = refl; steps = refl; added = refl })
+          as_it_was : IsAsBefore k l
+          as_it_was = subst (IsAsBefore k) (sym (rw at at is.same)) (record { marks = refl; rescues = refl; phase = refl; steps = refl; added = refl })
 
           untried_too : (u : Trouble) → had_tried (refused_by u) ≡ false → trouble_had_tried u ≡ false
           untried_too (trouble.Disk tried) h = h
@@ -495,12 +438,13 @@ module _ {D : Type 0} (g : Ghosts D) (old : D) (space : Kept) (names : Listing) 
           caused (trouble.Disk tried) h = h
           caused (trouble.Damaged damage) h = tt
 
-          failed : (s : State) (ds : List Opened) (has : HasState g old space names s ds) (col : HasCollector (g.content old) s k) (t : Trouble) → result ≡ Err t → EndsStep g old new after names (Some l) s ds (Err (refused_by t))
-          failed s ds has col (trouble.Disk false) at =
-              subst (λ (sp : Kept). Moves g old new sp names (Some l) s ds steps.Idle) (sym (rw at at is.sweep.kept))
-              (stayed g old space names s ds has k col 1 new ((rw at at is.sweep.unless_tried) refl) l (as_it_was (rw at at is.same)))
-          failed s ds has col (trouble.Disk true) at = (is.sweep.leaves s ds (served g old space names s ds has k col), has.named)
-          failed s ds has col (trouble.Damaged damage) at = absurd ((rw at at (is.sweep.sound s ds (served g old space names s ds has k col))) tt)
+          failed : (core : Kernel D) (s : State) → Serves g (before core) s → (t : Trouble) → result ≡ Err t → EndsUnmade g (before core) (with_parts core new after names l) s (refused_by t)
+          failed core s serves (trouble.Disk false) at =
+              subst (λ (sp : Kept). MovesTo g (before core) (with_parts core new sp names l) s None) (sym (rw at at is.sweep.kept))
+              (stayed g core old space names k s serves l 1 new ((rw at at is.sweep.unless_tried) refl) as_it_was)
+          failed core s serves (trouble.Disk true) at =
+              (is.sweep.leaves s _ (served g core old space names k s serves l), record { drawn = serves.front.drawn; names = serves.front.names; grants = serves.front.grants; stopped = serves.front.stopped })
+          failed core s serves (trouble.Damaged damage) at = absurd ((rw at at (is.sweep.sound s _ (served g core old space names k s serves l))) tt)
 
 -- ---- why a leaf wasn't read
 

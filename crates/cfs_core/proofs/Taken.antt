@@ -1,28 +1,8 @@
 -- An object that becomes its draft takes no more blocks than it and what is fresh of the draft.
-use Rattle.std.proofs.Common.{◌≡◌, inl, inr, ℕ, ◌+◌, ◌<◌, ◌≤◌, List, ◌++◌, length, Bool, true, false, Some, refl, sym, ◌∙◌, ap, subst, arith, length-append}
-use Rattle.std.specs.List.{sum_by}
-use Rattle.std.proofs.lemmas.Bool.{and_left, both_ways, cases_Bool, or_cases, or_left, or_right}
-use Rattle.cfs_base.specs.Disk.{Image, block_at}
-use Rattle.cfs_base.specs.declared.identifier.Puid.{Puid}
-use Rattle.block_tree.specs.Tree.{levels_of}
-use Rattle.ufs_model.specs.declared.object.Object.{Object}
-use Rattle.ufs_model.specs.Graph.{Graph, object_at}
-use Rattle.ufs_model.specs.Numbers.{has_number}
-use Rattle.ufs_model.specs.Object.{blocks_of}
-use Rattle.vol_image.specs.Seen.{held_at, tree_in}
-use Rattle.vol_image.specs.Sight.{first_or, sight, source}
-use Rattle.vol_image.specs.Sound.{Holds}
-use Rattle.vol_image.proofs.AtRoot.{no_shadows}
-use Rattle.vol_image.proofs.Counts.{blocks_are}
-use Rattle.vol_image.proofs.Paths.{held_there}
-use Rattle.vol_image.proofs.Views.{held}
-use Rattle.vol_owners.specs.Account.{HasDraft, HasItsBlocks, Opened, StandsIn, content_of, is_meant_for, levels_standing}
-use Rattle.vol_owners.proofs.Differ.{Differ, append_differ, count_of_these, has-append}
-use Rattle.vol_owners.proofs.Differing.{not_meant_is_own, stands_some}
-use Rattle.vol_owners.proofs.Entries.{had_not_meant}
-use Rattle.vol_owners.proofs.Owned.{same_sums}
-use Rattle.vol_owners.proofs.Standing.{blocks_standing, is_standing, length-down, levels_all, standing_differ, standing_is}
-use Rattle.vol_owners.proofs.Sums.{ones_le}
+use Rattle.std.proofs.Common.{◌≡◌, inl, inr, ℕ, ◌+◌, ◌<◌, ◌≤◌, List, ◌++◌, length, Bool, true, false, Some, refl, sym, ◌∙◌, ap, subst, arith, length-append, sum_by}
+use Rattle.cfs_core.proofs.Words.{and_left, append_differ, block_at, blocks_are, blocks_of, blocks_standing, both_ways, cases_Bool, content_of, count_of_these, Differ, first_or, Graph, had_not_meant, has-append, has_number, HasDraft, HasItsBlocks, held, held_at, held_there, Holds, Image, is_meant_for, is_standing, length-down, levels_all, levels_of, levels_standing, no_shadows, not_meant_is_own}
+use Rattle.cfs_core.proofs.Words.{Object, object_at, ones_le, Opened, or_cases, or_left, or_right, Puid, same_sums, source, standing_differ, standing_is, stands_some, StandsIn, tree_in}
+use Rattle.vol_image.specs.Sight.{sight}
 
 module _ (image : Image) (g : Graph) (holds : Holds image g) (id : Puid) (o : Object) (at : object_at g id ≡ Some o) (has : HasItsBlocks image id.block) (d : Opened) (draft : HasDraft image id d) where
   abbrev size : ℕ

@@ -1,18 +1,6 @@
 -- Once all is swept, and nothing is open, exactly the blocks of the objects aren't Free beside the maps and the label.
 use Rattle.std.proofs.Common.{◌≡◌, ◌⊎◌, inl, inr, ℕ, [], Bool, true, false, refl, ap, arith}
-use Rattle.std.proofs.lemmas.Bool.{and_from, and_parts, both_ways, eq-eqb, false_from_ne_true, or_cases}
-use Rattle.cfs_base.specs.Disk.{Image}
-use Rattle.cyl_map.specs.Volume.{entry_in}
-use Rattle.ufs_model.specs.Graph.{Graph, has_block, ids_of}
-use Rattle.ufs_model.specs.Identifier.{rises}
-use Rattle.vol_image.specs.Frame.{IsHeldBy}
-use Rattle.vol_image.specs.Part.{is_fixed}
-use Rattle.vol_owners.specs.Account.{Accounts, IsSwept}
-use Rattle.vol_owners.specs.Owner.{is_had, is_made, is_meant, is_placed, owner_of}
-use Rattle.vol_owners.specs.Room.{is_of_draft, is_of_object, one_of}
-use Rattle.vol_owners.proofs.Entries.{free_unplaced}
-use Rattle.vol_owners.proofs.Keys.{object_of_block}
-use Rattle.vol_owners.proofs.Rooms.{one_use}
+use Rattle.cfs_core.proofs.Words.{Accounts, and_from, and_parts, both_ways, entry_in, eq-eqb, false_from_ne_true, free_unplaced, Graph, has_block, ids_of, Image, is_fixed, is_had, is_made, is_meant, is_of_draft, is_of_object, is_placed, IsHeldBy, IsSwept, object_of_block, one_of, one_use, or_cases, owner_of, rises}
 use Rattle.cfs_core.specs.Collect.{IsTidy}
 
 module _ (image : Image) (g : Graph) (has : Accounts image g []) (up : rises (ids_of g) ≡ true) where

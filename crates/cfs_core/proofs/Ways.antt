@@ -1,39 +1,15 @@
 -- What refuses a request on its way, and what a table of grants tells of it.
-use Rattle.std.proofs.Common.{◌≡◌, ℕ, List, [], ◌∷◌, ◌++◌, Bool, true, false, cond, not, ◌&&◌, ◌||◌, Option, Some, None, is_some, is_none, refl, sym, ◌∙◌, ap, subst, append-nil}
-use Rattle.std.specs.Prelude.{map, option_map, option_and_then}
-use Rattle.std.specs.List.{list_all}
-use Rattle.std.proofs.lemmas.Bool.{and_parts}
-use Rattle.std.proofs.lemmas.List.Elements.{filter-append}
-use Rattle.cfs_base.specs.declared.identifier.Puid.{Puid}
-use Rattle.cfs_base.specs.declared.kind.FileKind.{FileKind}
+use Rattle.std.proofs.Common.{◌≡◌, ℕ, List, [], ◌∷◌, ◌++◌, Bool, true, false, cond, not, ◌&&◌, ◌||◌, Option, Some, None, is_some, is_none, refl, sym, ◌∙◌, ap, subst, map, option_map, option_and_then}
+use Rattle.cfs_core.proofs.Words.{AFile, and_parts, AnIndex, Direct, Draft, draft_of, Drafting, drafts_of, Either, FileKind, filter-append, goes_nowhere, goes_through_reading, Grant, grant_found, grant_of, Graph, has_no_such_grant, Index, is_for_reading, is_grant_in, is_open_so, is_unwanted_file, is_unwanted_index, IsState, kind_of, list_all, meets_a_grant, named, Object, object_at, object_of}
+use Rattle.cfs_core.proofs.Words.{open_there, Puid, Ref, refusal_of, Reply, Request, same_puid, same_puid_is, shown, State, target, Through, Wanted}
 use Rattle.cfs_base.specs.declared.kind.FileKind.TheVariants as file_kinds
 use Rattle.open_table.specs.declared.grant.Grant as seats
-use Rattle.open_table.specs.Model.{shown}
-use Rattle.puid_space.specs.Kinds.{kind_of}
-use Rattle.special_files.specs.Drafting.{Drafting}
-use Rattle.ufs_model.specs.declared.asked.Ref.{Ref}
-use Rattle.ufs_model.specs.declared.asked.Ref.TheVariants.{Direct, Through}
-use Rattle.ufs_model.specs.declared.asked.Reply.{Reply}
 use Rattle.ufs_model.specs.declared.asked.Reply.TheVariants as replies
-use Rattle.ufs_model.specs.declared.asked.Request.{Request}
-use Rattle.ufs_model.specs.declared.asked.Wanted.{Wanted}
-use Rattle.ufs_model.specs.declared.asked.Wanted.TheVariants.{AFile, AnIndex, Either}
-use Rattle.ufs_model.specs.declared.object.Draft.{Draft}
-use Rattle.ufs_model.specs.declared.object.Grant.{Grant}
-use Rattle.ufs_model.specs.declared.object.Index.{Index}
-use Rattle.ufs_model.specs.declared.object.Object.{Object}
 use Rattle.ufs_model.specs.declared.object.Object.TheVariants as objects
-use Rattle.ufs_model.specs.Graph.{Graph, object_at}
-use Rattle.ufs_model.specs.Identifier.{same_puid}
-use Rattle.ufs_model.specs.Refusal.{first_of, goes_nowhere, goes_through_reading, has_no_such_grant, is_for_reading, is_unwanted_file, is_unwanted_index, meets_a_grant, refusal_of, target}
-use Rattle.ufs_model.specs.State.{State, draft_of, grant_of, named, object_of}
-use Rattle.ufs_model.specs.WellFormed.{IsState, is_grant_in, is_open_so}
-use Rattle.ufs_model.proofs.WellStates.{grant_found, open_there}
-use Rattle.vol_image.proofs.Reached.{same_puid_is}
-use Rattle.vol_owners.specs.Account.{drafts_of}
+use Rattle.ufs_model.specs.Refusal.{first_of}
 use Rattle.cfs_core.specs.declared.way.Way.{Way}
 use Rattle.cfs_core.specs.Kernel.{Seat}
-use Rattle.cfs_core.specs.StandsFor.{bare, drafts_of_seats}
+use Rattle.cfs_core.specs.StandsFor.{bare, drafts_at, drafts_of_seats}
 use Rattle.cfs_core.specs.Ways.{Arrives, GoesBy, Reaches, is_gone, on_the_way, once_there, reads_by, unfit_of}
 
 -- ---- the first that holds of more conditions
@@ -54,6 +30,17 @@ first_later (c ∷ cs) ds is = elim c.0 as (λ b. cond b (Some c.1) (first_of cs
 
 -- ---- the drafts of a state, as the core has them
 
+-- the first seat adds nothing where, should it have a draft, it is of another object
+pub adds_none : (id : Puid) (seat : Seat) (x : Grant) (ss : List Seat) (grants : List Grant) → drafts_of (drafts_of_seats ss grants) id ≡ [] → ((d : Drafting) (e : Draft) → seat.drafting ≡ Some d → x.draft ≡ Some e → same_puid seat.grant.id id ≡ false)
+    → drafts_of (drafts_of_seats (seat ∷ ss) (x ∷ grants)) id ≡ []
+adds_none id seat x ss grants rest other =
+    filter-append (λ d. same_puid d.id id) (drafts_of_seats ss grants) (drafts_at seat seat.drafting x.draft) ∙ rw rest (at seat.drafting x.draft refl refl)
+  where
+    at : (o : Option Drafting) (d : Option Draft) → seat.drafting ≡ o → x.draft ≡ d → drafts_of (drafts_at seat o d) id ≡ []
+    at None d is was = refl
+    at (Some o) None is was = refl
+    at (Some o) (Some d) is was = rw (other o d is was) refl
+
 -- ---- an index has no draft
 
 module _ (graph : Graph) (index : Puid) (i : Index) (found : object_at graph index ≡ Some (objects.Index i)) where
@@ -68,22 +55,12 @@ module _ (graph : Graph) (index : Puid) (i : Index) (found : object_at graph ind
   shut_at [] [] are well = refl
   shut_at [] (grant ∷ grants) are well = cc
   shut_at (seat ∷ ss) [] are well = refl
-  shut_at (seat ∷ ss) (grant ∷ grants) are well = at (shut_at ss grants (let tails : map (λ (x : Seat). x.grant) ss ≡ map bare grants = cc in tails) (and_parts (is_grant_in graph grant) (list_all (is_grant_in graph) grants) well).1) seat.drafting grant.draft refl
-    where
-      parts : (is_grant_in graph grant ≡ true) × (list_all (is_grant_in graph) grants ≡ true)
-      parts = and_parts (is_grant_in graph grant) (list_all (is_grant_in graph) grants) well
-
-      same_id : seat.grant.id ≡ grant.id
-      same_id = let one : seat.grant ≡ bare grant = cc in ap (λ (x : seats.Grant). x.id) one
-
-      at : drafts_of (drafts_of_seats ss grants) index ≡ [] → (drafting : Option Drafting) (d : Option Draft) → grant.draft ≡ d → drafts_of (drafts_of_seats (record seat { drafting = drafting } ∷ ss) (record grant { draft = d } ∷ grants)) index ≡ []
-      at rest None None is = ap (λ ds. drafts_of ds index) (append-nil (drafts_of_seats ss grants)) ∙ rest
-      at rest None (Some d) is = ap (λ ds. drafts_of ds index) (append-nil (drafts_of_seats ss grants)) ∙ rest
-      at rest (Some drafting) None is = ap (λ ds. drafts_of ds index) (append-nil (drafts_of_seats ss grants)) ∙ rest
-      at rest (Some drafting) (Some d) is =
-          let so : is_open_so (object_at graph grant.id) (Some d) ≡ true = subst (λ o. is_open_so (object_at graph grant.id) o ≡ true) is parts.0 in
-          let other : same_puid seat.grant.id index ≡ false = not_of seat.grant.id d (subst (λ (x : Puid). is_open_so (object_at graph x) (Some d) ≡ true) (sym same_id) so) in
-          filter-append (λ e. same_puid e.id index) (drafts_of_seats ss grants) _ ∙ rw (rest, other) refl
+  shut_at (seat ∷ ss) (grant ∷ grants) are well =
+      let one : seat.grant ≡ bare grant = cc in
+      let tails : map (λ (x : Seat). x.grant) ss ≡ map bare grants = cc in
+      let parts = and_parts (is_grant_in graph grant) (list_all (is_grant_in graph) grants) well in
+      adds_none index seat grant ss grants (shut_at ss grants tails parts.1) (λ drafting d has is. not_of seat.grant.id d
+      (subst (λ (x : Puid). is_open_so (object_at graph x) (Some d) ≡ true) (sym (ap (λ (x : seats.Grant). x.id) one)) (subst (λ o. is_open_so (object_at graph grant.id) o ≡ true) is parts.0)))
 
 -- ---- what a table of grants tells
 

@@ -56,30 +56,35 @@ pub record Happens {D : Type 0} (g : Ghosts D) (old new : Kernel D) (s : State) 
   pub step : next old.words.seed s e ≡ Some after
   pub stands : StandsFor g new after
   pub survives : Survived g old.words.seed s e old.disk new.disk
-  pub lost : new.stop ≡ None → MayLose e s.graph after.graph (lost_blocks (g.content old.disk) s.graph) (lost_blocks (g.content new.disk) after.graph)
+  pub lost : new.stop ≡ None → MayLose e s.graph after.graph (lost_blocks (g.content old.disk) s.graph)
+      (lost_blocks (g.content new.disk) after.graph)
 
--- A device call failed in this call. With a doubt something had been tried, and the moment is the one before that which the
--- disk has now. A core that runs tells no stop.
+-- A device call failed in this call. With a doubt something had been tried, and the moment is the one before that which
+-- the disk has now. A core that runs tells no stop.
 abbrev pub IsToldCause : {D : Type 0} → Ghosts D → D → D → Reply → Type 0
 IsToldCause g old new (replies.Disk None) = HasStopped g false old new
 IsToldCause g old new (replies.Disk (Some moment)) = HasStopped g true old new × (moment ≡ g.moment new - 1)
 IsToldCause g old new (replies.Stopped moment) = ⊥
 IsToldCause g old new reply = Unit {0}
 
-pub record Asks {D : Type 0} (g : Ghosts D) (old new : Kernel D) (who : ℕ) (request : Request) (reply : Reply) : Type 0 where
+pub record Asks {D : Type 0} (g : Ghosts D) (old new : Kernel D) (who : ℕ) (request : Request)
+    (reply : Reply) : Type 0 where
   -- one event, for each state that it stood for
   pub event : (s : State) → StandsFor g old s → Happens g old new s (events.Ask who request reply)
   -- and the reply is exact
-  pub owed : old.stop ≡ None → (s : State) → StandsFor g old s → Owes old.words.seed s who request (g.content old.disk) (sum old.space.free) reply
+  pub owed : old.stop ≡ None → (s : State) → StandsFor g old s
+      → Owes old.words.seed s who request (g.content old.disk) (sum old.space.free) reply
   -- a refusal, Full and Memory leave the disk's content as it was
-  pub still : old.stop ≡ None → (s : State) → StandsFor g old s → leaves_all reply ≡ true → g.content new.disk ≡ g.content old.disk
+  pub still : old.stop ≡ None → (s : State) → StandsFor g old s → leaves_all reply ≡ true
+      → g.content new.disk ≡ g.content old.disk
   -- one that stopped makes no call of the disk
   pub stopped : (stop : Stop) → old.stop ≡ Some stop → (new ≡ old) × (reply ≡ replies.Stopped stop.moment)
   -- it stops after a doubt and at a damage alone
   pub stops : old.stop ≡ None → new.stop ≡ stopped_by reply None
   pub cause : old.stop ≡ None → IsToldCause g old.disk new.disk reply
   -- what was put into an index, or opened, is a rescue while a collection marks; no step of one is made
-  pub rescued : old.stop ≡ None → (s : State) → StandsFor g old s → AreRescued old.collections.collector new.collections.collector (rescues_of s who request reply)
+  pub rescued : old.stop ≡ None → (s : State) → StandsFor g old s
+      → AreRescued old.collections.collector new.collections.collector (rescues_of s who request reply)
   pub called : new.collections.called ≡ old.collections.called
   pub finished : new.collections.finished ≡ old.collections.finished
   -- on any disk

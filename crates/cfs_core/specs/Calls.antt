@@ -1,5 +1,6 @@
 -- What a call of a core is: one event, and how exact its reply is.
-use Rattle.std.specs.Prelude.{◌≡◌, ℕ, ◌+◌, ◌<◌, ◌≤◌, Bool, true, false, nat_le, if◌then◌else◌, length, sum, Result, Ok, Err, IfErr, IfOk, Some, None}
+use Rattle.std.specs.Prelude.{◌≡◌, ℕ, ◌+◌, ◌<◌, ◌≤◌, Bool, true, false, nat_le, if◌then◌else◌}
+use Rattle.std.specs.Prelude.{length, sum, Result, Ok, Err, IfErr, IfOk, Some, None}
 use Rattle.cfs_base.specs.Calls.{HasStopped}
 use Rattle.cfs_base.specs.Disk.{Image}
 use Rattle.cfs_base.specs.Run.{Leaves}
@@ -47,18 +48,22 @@ pub record IsShort (s : State) (who : ℕ) (request : Request) (free : ℕ) : Ty
   pub few : free < need_of s who request + reserve
 
 -- the outcome of the definitions, with the least Free block as a new object's root; so many as it takes were Free
-pub record IsDone (seed : ℕ) (s : State) (who : ℕ) (request : Request) (image : Image) (free : ℕ) (reply : Reply) : Type 0 where
+pub record IsDone (seed : ℕ) (s : State) (who : ℕ) (request : Request) (image : Image) (free : ℕ)
+    (reply : Reply) : Type 0 where
   pub block : ℕ
   pub least : creates request ≡ true → IsLeastFree image block
   pub reply_is : reply ≡ (outcome_of seed s who request block).0
   pub room : ¬ IsShort s who request free
 
 -- The reply that is owed where no device call failed and memory is there.
-pub data IsOwed (seed : ℕ) (s : State) (who : ℕ) (request : Request) (image : Image) (free : ℕ) (reply : Reply) : Type 0 where
+pub data IsOwed (seed : ℕ) (s : State) (who : ℕ) (request : Request) (image : Image) (free : ℕ)
+    (reply : Reply) : Type 0 where
   ByRefusal : refusal_of s who request ≡ Some reply → IsOwed seed s who request image free reply
   ByWant : refusal_of s who request ≡ None → IsShort s who request free
-      → reply ≡ replies.Full (record { free = free; need = need_of s who request }) → IsOwed seed s who request image free reply
-  ByOutcome : refusal_of s who request ≡ None → IsDone seed s who request image free reply → IsOwed seed s who request image free reply
+      → reply ≡ replies.Full (record { free = free; need = need_of s who request })
+      → IsOwed seed s who request image free reply
+  ByOutcome : refusal_of s who request ≡ None → IsDone seed s who request image free reply
+      → IsOwed seed s who request image free reply
 
 -- nothing is owed by want of memory or where a device call failed
 abbrev pub Owes : ℕ → State → ℕ → Request → Image → ℕ → Reply → Type 0
@@ -72,10 +77,11 @@ Owes seed s who request image free reply = IsOwed seed s who request image free 
 
 -- each block of an object that is gone was one before
 abbrev pub AddsNoStray : Image → Image → Graph → Graph → Type 0
-AddsNoStray a b g h = (n : ℕ) → is_stray h (entry_in b n) ≡ true → (entry_in b n ≡ entry_in a n) × (is_stray g (entry_in a n) ≡ true)
+AddsNoStray a b g h =
+    (n : ℕ) → is_stray h (entry_in b n) ≡ true → (entry_in b n ≡ entry_in a n) × (is_stray g (entry_in a n) ≡ true)
 
--- The event may come in the state, the store has the state after it, and what a crash leaves survives. The collector isn't
--- told of it yet.
+-- The event may come in the state, the store has the state after it, and what a crash leaves survives. The collector
+-- isn't told of it yet.
 pub record Makes {D : Type 0} (g : Ghosts D) (old new : Kernel D) (s : State) (e : Event) : Type 0 where
   pub after : State
   pub step : next old.words.seed s e ≡ Some after
@@ -93,20 +99,23 @@ leaves_all (replies.Damaged damage moment) = false
 leaves_all reply = true
 
 -- The call answered so.
-pub record Answers {D : Type 0} (g : Ghosts D) (old new : Kernel D) (s : State) (who : ℕ) (request : Request) (reply : Reply) : Type 0 where
+pub record Answers {D : Type 0} (g : Ghosts D) (old new : Kernel D) (s : State) (who : ℕ) (request : Request)
+    (reply : Reply) : Type 0 where
   pub event : Makes g old new s (events.Ask who request reply)
   pub still : leaves_all reply ≡ true → g.content new.disk ≡ g.content old.disk
   pub owed : Owes old.words.seed s who request (g.content old.disk) (sum old.space.free) reply
 
--- the objects that may be read of a request which isn't refused: those of before, those of after, or those with a normal file
--- whose change was cut short
+-- the objects that may be read of a request which isn't refused: those of before, those of after, or those with a
+-- normal file whose change was cut short
 pub data MayStand (seed : ℕ) (s : State) (who : ℕ) (request : Request) : Graph → Type 0 where
   Undone : MayStand seed s who request s.graph
   Whole : (b : ℕ) → MayName s request b → MayStand seed s who request (outcome_of seed s who request b).1.graph
-  CutShort : (id : Puid) (old new f : File) → ChangesInPlace s who request id old new → IsBetween old new f → MayStand seed s who request (with_object s.graph id (objects.File f))
+  CutShort : (id : Puid) (old new f : File) → ChangesInPlace s who request id old new → IsBetween old new f
+      → MayStand seed s who request (with_object s.graph id (objects.File f))
 
 -- The call failed after its first write: what it would have done may have been done, or a part of it.
-pub record IsInDoubt {D : Type 0} (g : Ghosts D) (old new : Kernel D) (s : State) (who : ℕ) (request : Request) : Type 0 where
+pub record IsInDoubt {D : Type 0} (g : Ghosts D) (old new : Kernel D) (s : State) (who : ℕ)
+    (request : Request) : Type 0 where
   pub allowed : refusal_of s who request ≡ None
   pub drawn : new.words.drawn ≡ old.words.drawn
   pub named : new.names ≡ old.names
@@ -129,9 +138,9 @@ IsCause g old new (refusals.Disk tried) = HasStopped g tried old new
 IsCause g old new (refusals.Damaged damage) = Unit {0}
 IsCause g old new refusals.Memory = Unit {0}
 
--- A call that tries to answer a session's request of a core that hasn't stopped, on any disk.
-pub record Tries {D : Type 0} (g : Ghosts D) (old new : Kernel D) (who : ℕ) (request : Request) (result : Result Reply Refused) : Type 0 where
-  pub ends : (s : State) → Serves g old s → old.stop ≡ None → EndsSo g old new s who request result
+-- What a call did, however it ended, on any disk: a refusal has its cause, and at most so many words were drawn.
+pub record Went {D : Type 0} (g : Ghosts D) (old new : Kernel D) (most : ℕ)
+    (result : Result Reply Refused) : Type 0 where
   pub plain : IfOk result IsPlainReply
   pub cause : IfErr result (IsCause g old.disk new.disk)
   pub size : g.blocks new.disk ≡ g.blocks old.disk
@@ -140,21 +149,21 @@ pub record Tries {D : Type 0} (g : Ghosts D) (old new : Kernel D) (who : ℕ) (r
   pub collections : new.collections ≡ old.collections
   pub seed : new.words.seed ≡ old.words.seed
   pub kept : old.words.drawn ≤ new.words.drawn
-  pub drawn : new.words.drawn ≤ old.words.drawn + draws request
+  pub drawn : new.words.drawn ≤ old.words.drawn + most
+
+-- A call that tries to answer a session's request of a core that hasn't stopped.
+pub record Tries {D : Type 0} (g : Ghosts D) (old new : Kernel D) (who : ℕ) (request : Request)
+    (result : Result Reply Refused) : Type 0 where
+  pub ends : (s : State) → Serves g old s → old.stop ≡ None → EndsSo g old new s who request result
+  pub went : Went g old new (draws request) result
 
 -- The same of a request on a slot that an index has.
-pub record TriesOn {D : Type 0} (g : Ghosts D) (old new : Kernel D) (index : Puid) (slot : ℕ) (request : Request) (result : Result Reply Refused) : Type 0 where
-  pub ends : (s : State) (who : ℕ) (i : Index) → Serves g old s → old.stop ≡ None → Reaches s who request index (objects.Index i) → slot < length i.slots
-      → refusal_of s who request ≡ None → EndsSo g old new s who request result
-  pub plain : IfOk result IsPlainReply
-  pub cause : IfErr result (IsCause g old.disk new.disk)
-  pub size : g.blocks new.disk ≡ g.blocks old.disk
-  pub faults : g.faults old.disk ≤ g.faults new.disk
-  pub stop : new.stop ≡ old.stop
-  pub collections : new.collections ≡ old.collections
-  pub seed : new.words.seed ≡ old.words.seed
-  pub kept : old.words.drawn ≤ new.words.drawn
-  pub drawn : new.words.drawn ≤ old.words.drawn + draws request
+pub record TriesOn {D : Type 0} (g : Ghosts D) (old new : Kernel D) (index : Puid) (slot : ℕ) (request : Request)
+    (result : Result Reply Refused) : Type 0 where
+  pub ends : (s : State) (who : ℕ) (i : Index) → Serves g old s → old.stop ≡ None
+      → Reaches s who request index (objects.Index i)
+      → slot < length i.slots → refusal_of s who request ≡ None → EndsSo g old new s who request result
+  pub went : Went g old new (draws request) result
 
 -- ---- what a slot holds, as a reply
 

@@ -1,6 +1,6 @@
 -- A step of the collector: which is due, what it is as an event, and how it ends.
-use Rattle.std.specs.Prelude.{◌≡◌, ◌⊎◌, ◌↔◌, ℕ, ◌+◌, ◌-◌, ◌*◌, ◌/◌, ◌^◌, ◌<◌, ◌≤◌, Bool, true, false, List, [], length, sum, Result, Ok, Err, IfErr, IfOk, Option, Some, None}
-use Rattle.std.specs.List.{list_all}
+use Rattle.std.specs.Prelude.{◌≡◌, ◌⊎◌, ◌↔◌, ℕ, ◌+◌, ◌-◌, ◌*◌, ◌/◌, ◌^◌, ◌<◌, ◌≤◌, Bool, true, false}
+use Rattle.std.specs.Prelude.{List, [], length, Result, Ok, Err, IfErr, IfOk, Option, Some, None}
 use Rattle.cfs_base.specs.Calls.{HasStopped, MakesAtMost, OnlyReads}
 use Rattle.cfs_base.specs.Disk.{Image}
 use Rattle.cfs_base.specs.Outside.{count_after}
@@ -13,12 +13,11 @@ use Rattle.cfs_base.specs.declared.refusal.Refused.{Refused}
 use Rattle.cfs_base.specs.declared.refusal.Refused.TheVariants as refusals
 use Rattle.cfs_base.specs.declared.refusal.Trouble.{Trouble}
 use Rattle.collector_steps.specs.Collecting as Keeps
-use Rattle.collector_steps.specs.Collecting.{Collecting, IsAsBefore, volume_of, waiting_in}
+use Rattle.collector_steps.specs.Collecting.{Collecting, volume_of, waiting_in}
 use Rattle.collector_steps.specs.declared.phase.Phase.{Phase}
 use Rattle.collector_steps.specs.declared.phase.Phase.TheVariants as phases
 use Rattle.cyl_alloc.specs.Space.{Kept}
 use Rattle.cyl_map.specs.Volume.{is_free_in}
-use Rattle.intentions.specs.Store.{StoreHas}
 use Rattle.puid_space.specs.Directory.{Listing, has_root_in}
 use Rattle.puid_space.specs.Kinds.{kinds_of}
 use Rattle.survival.specs.Call.{CallKeeps}
@@ -26,15 +25,13 @@ use Rattle.ufs_model.specs.declared.asked.Event.{Event}
 use Rattle.ufs_model.specs.declared.asked.Event.TheVariants as events
 use Rattle.ufs_model.specs.Graph.{Graph}
 use Rattle.ufs_model.specs.Identifier.{is_among}
-use Rattle.ufs_model.specs.Limits.{reserve}
 use Rattle.ufs_model.specs.Next.{next}
 use Rattle.ufs_model.specs.Reach.{starts_now}
-use Rattle.ufs_model.specs.State.{State, is_running, open_ids}
+use Rattle.ufs_model.specs.State.{State}
 use Rattle.ufs_model.specs.WellFormed.{IsState}
 use Rattle.vol_image.specs.Frame.{IsHeldBy}
 use Rattle.vol_image.specs.Part.{is_fixed}
 use Rattle.vol_image.specs.Sound.{Holds}
-use Rattle.vol_owners.specs.Account.{IsSwept, Opened}
 use Rattle.cfs_core.specs.declared.collecting.Collections.{Collections}
 use Rattle.cfs_core.specs.declared.collecting.CollectFault.{CollectFault}
 use Rattle.cfs_core.specs.declared.collecting.CollectFault.TheVariants as faults
@@ -46,7 +43,7 @@ use Rattle.cfs_core.specs.Calls.{IsCause}
 use Rattle.cfs_core.specs.Kernel.{Kernel, runs}
 use Rattle.cfs_core.specs.Rescues.{AreRescued}
 use Rattle.cfs_core.specs.Room.{MayLoseBy, lost_blocks}
-use Rattle.cfs_core.specs.StandsFor.{HasCollection, HasCollector, IsFront, Serves, StandsFor, is_sweeping}
+use Rattle.cfs_core.specs.StandsFor.{IsFront, Serves, StandsFor}
 
 -- ---- which step is due: the first that fits
 
@@ -91,40 +88,6 @@ abbrev pub ComesBy : State → Option Event → State → Type 0
 ComesBy s None t = t ≡ s
 ComesBy s (Some e) t = (seed : ℕ) → next seed s e ≡ Some t
 
--- ---- a step on what a disk has
-
--- the store has the state, with these drafts of what is open
-pub record HasState {D : Type 0} (g : Ghosts D) (disk : D) (space : Kept) (names : Listing) (s : State) (ds : List Opened) : Type 0 where
-  pub runs : is_running s ≡ true
-  pub state : IsState s
-  pub named : names.named ≡ kinds_of s.graph
-  pub store : StoreHas g s.graph ds disk space
-  pub opened : list_all (λ d. is_among d.id (open_ids s)) ds ≡ true
-  pub swept : is_sweeping s.collection ≡ false → IsSwept (g.content disk) s.graph
-  pub four : reserve ≤ sum space.free
-
--- Where a step leaves the state. What a crash leaves holds the graph of before.
-pub record Moves {D : Type 0} (g : Ghosts D) (old new : D) (space : Kept) (names : Listing) (o : Option Collecting) (s : State) (ds : List Opened) (step : Step) : Type 0 where
-  pub after : State
-  pub comes : ComesBy s (event_of step) after
-  pub has : HasState g new space names after ds
-  pub collecting : HasCollection (g.content new) after o
-  pub leaves : Leaves g old new (λ c. Holds c s.graph)
-  pub lost : MayLoseBy (event_of step) s.graph after.graph (lost_blocks (g.content old) s.graph) (lost_blocks (g.content new) after.graph)
-  pub root : after.graph.root ≡ s.graph.root
-  pub grants : after.grants ≡ s.grants
-  pub drawn : after.drawn ≡ s.drawn
-  pub stopped : after.stopped ≡ s.stopped
-
--- how a step ends that was tried: a refusal leaves all as it was, but where a write had been tried
-abbrev pub EndsStep : {D : Type 0} → Ghosts D → D → D → Kept → Listing → Option Collecting → State → List Opened → Result Step Refused → Type 0
-EndsStep g old new space names o s ds (Ok step) = Moves g old new space names o s ds step
-EndsStep g old new space names o s ds (Err (refusals.Full need)) = ⊥
-EndsStep g old new space names o s ds (Err (refusals.Disk false)) = Moves g old new space names o s ds steps.Idle
-EndsStep g old new space names o s ds (Err (refusals.Disk true)) = Leaves g old new (λ c. Holds c s.graph) × (names.named ≡ kinds_of s.graph)
-EndsStep g old new space names o s ds (Err (refusals.Damaged damage)) = ⊥
-EndsStep g old new space names o s ds (Err refusals.Memory) = ⊥
-
 -- it is told as want of memory
 abbrev pub is_want : Refused → Bool
 is_want (refusals.Full need) = true
@@ -132,44 +95,18 @@ is_want (refusals.Disk tried) = false
 is_want (refusals.Damaged damage) = false
 is_want refusals.Memory = true
 
--- a step is counted, and no rescue with it
-abbrev pub IsCounted : Collecting → Collecting → Type 0
-IsCounted k l = (l.steps ≡ count_after k.steps) × (l.added ≡ k.added)
-
 -- the end of a sweep, as a step's
 abbrev pub told_as : Result (Unit {0}) Trouble → Result Step Refused
 told_as (Ok u) = Ok steps.Swept
 told_as (Err t) = Err (refused_by t)
-
--- A refusal with nothing tried left all but room as it was.
-pub record IsStill {D : Type 0} (g : Ghosts D) (old new : D) (before after : Kept) (names left : Listing) (k l : Collecting) : Type 0 where
-  pub reads : OnlyReads g 4 old new
-  pub space : after ≡ before
-  pub listing : left ≡ names
-  pub collector : IsAsBefore k l
-
--- A step of a collection that runs, on any disk.
-pub record StepsSo {D : Type 0} (g : Ghosts D) (old new : D) (before after : Kept) (names left : Listing) (k l : Collecting) (result : Result Step Refused) : Type 0 where
-  pub ends : (s : State) (ds : List Opened) → HasState g old before names s ds → HasCollector (g.content old) s k → EndsStep g old new after left (Some l) s ds result
-  pub due : IfOk result (IsNext k)
-  pub counted : IfOk result (λ step. IsCounted k l)
-  pub still : IfErr result (λ e. had_tried e ≡ false → IsStill g old new before after names left k l)
-  pub runs : runs (Some l) ≡ true
-  pub volume : volume_of l ≡ volume_of k
-  pub room : left.room ≡ names.room
-  pub some : has_root_in names.named 0 ≡ false → has_root_in left.named 0 ≡ false
-  pub cylinders : length after.free ≡ length before.free
-  pub cause : IfErr result (IsCause g old new)
-  -- none of them takes memory
-  pub wants : IfErr result (λ e. is_want e ≡ false)
-  pub calls : MakesAtMost g 4 1 old new
 
 -- A collection has begun: whatever the state, if these are its starts and its identifiers.
 pub record HasBegun (roots : List Puid) (named : List (Puid × Kind)) (l : Collecting) : Type 0 where
   pub phase : l.phase ≡ phases.Marking
   pub steps : l.steps ≡ 1
   pub added : l.added ≡ 0
-  pub keeps : (seed : ℕ) (s t : State) (image : Image) → IsState s → named ≡ kinds_of s.graph → ((x : Puid) → is_among x roots ≡ is_among x (starts_now s))
+  pub keeps : (seed : ℕ) (s t : State) (image : Image) → IsState s → named ≡ kinds_of s.graph
+      → ((x : Puid) → is_among x roots ≡ is_among x (starts_now s))
       → next seed s events.Began ≡ Some t → Keeps.Collects image t l
 
 -- ---- a step of a core
@@ -180,15 +117,16 @@ pub record MovesTo {D : Type 0} (g : Ghosts D) (old new : Kernel D) (s : State) 
   pub comes : ComesBy s e after
   pub serves : Serves g new after
   pub leaves : Leaves g old.disk new.disk (λ c. Holds c s.graph)
-  pub lost : MayLoseBy e s.graph after.graph (lost_blocks (g.content old.disk) s.graph) (lost_blocks (g.content new.disk) after.graph)
+  pub lost : MayLoseBy e s.graph after.graph (lost_blocks (g.content old.disk) s.graph)
+      (lost_blocks (g.content new.disk) after.graph)
 
-abbrev pub EndsTo : {D : Type 0} → Ghosts D → Kernel D → Kernel D → State → Result Step Refused → Type 0
-EndsTo g old new s (Ok step) = MovesTo g old new s (event_of step)
-EndsTo g old new s (Err (refusals.Full need)) = ⊥
-EndsTo g old new s (Err (refusals.Disk false)) = MovesTo g old new s None
-EndsTo g old new s (Err (refusals.Disk true)) = Leaves g old.disk new.disk (λ c. Holds c s.graph) × IsFront new s
-EndsTo g old new s (Err (refusals.Damaged damage)) = ⊥
-EndsTo g old new s (Err refusals.Memory) = MovesTo g old new s None
+-- how one ends that wasn't made: all is as it was, but where a write had been tried
+abbrev pub EndsUnmade : {D : Type 0} → Ghosts D → Kernel D → Kernel D → State → Refused → Type 0
+EndsUnmade g old new s (refusals.Full need) = ⊥
+EndsUnmade g old new s (refusals.Disk false) = MovesTo g old new s None
+EndsUnmade g old new s (refusals.Disk true) = Leaves g old.disk new.disk (λ c. Holds c s.graph) × IsFront new s
+EndsUnmade g old new s (refusals.Damaged damage) = ⊥
+EndsUnmade g old new s refusals.Memory = MovesTo g old new s None
 
 -- the steps of the collection that runs
 abbrev pub steps_in : Option Collecting → ℕ
@@ -207,23 +145,28 @@ phase_of (Some k) = k.phase
 abbrev pub AreCounted : Collections → Collections → Step → Type 0
 AreCounted c d steps.Idle = d ≡ c
 AreCounted c d steps.Began = (steps_in d.collector ≡ 1) × (added_in d.collector ≡ 0) × (d.finished ≡ c.finished)
-AreCounted c d steps.Finished = (steps_in d.collector ≡ count_after (steps_in c.collector)) × (added_in d.collector ≡ added_in c.collector) × (d.finished ≡ c.finished + 1)
-AreCounted c d step = (steps_in d.collector ≡ count_after (steps_in c.collector)) × (added_in d.collector ≡ added_in c.collector) × (d.finished ≡ c.finished)
+AreCounted c d steps.Finished = (steps_in d.collector ≡ count_after (steps_in c.collector))
+    × (added_in d.collector ≡ added_in c.collector) × (d.finished ≡ c.finished + 1)
+AreCounted c d step = (steps_in d.collector ≡ count_after (steps_in c.collector))
+    × (added_in d.collector ≡ added_in c.collector) × (d.finished ≡ c.finished)
 
 -- ---- once a collection is over
 
 -- Beside the maps and the label exactly the blocks of the objects aren't Free.
 abbrev pub IsTidy : Image → Graph → Type 0
-IsTidy image graph = (n : ℕ) → n < length image → (is_free_in image n ≡ false) ↔ ((is_fixed n ≡ true) ⊎ IsHeldBy image graph n)
+IsTidy image graph =
+    (n : ℕ) → n < length image → (is_free_in image n ≡ false) ↔ ((is_fixed n ≡ true) ⊎ IsHeldBy image graph n)
 
--- It took no more steps than one for each block and each rescue, two for each cylinder, and three; as long as rescues were
--- counted.
+-- It took no more steps than one for each block and each rescue, two for each cylinder, and three; as long as rescues
+-- were counted.
 abbrev pub IsBounded : ℕ → Collections → Type 0
-IsBounded blocks c = added_in c.collector < 2 ^ 64 - 1 → steps_in c.collector ≤ blocks + added_in c.collector + 2 * (blocks / 64) + 3
+IsBounded blocks c =
+    added_in c.collector < 2 ^ 64 - 1 → steps_in c.collector ≤ blocks + added_in c.collector + 2 * (blocks / 64) + 3
 
 -- and where nothing is open the volume is tidy
 abbrev pub IsOver : {D : Type 0} → Ghosts D → Kernel D → Kernel D → State → Step → Type 0
-IsOver g old new s steps.Finished = IsBounded (g.blocks new.disk) new.collections × (new.seats ≡ [] → IsTidy (g.content new.disk) s.graph)
+IsOver g old new s steps.Finished =
+    IsBounded (g.blocks new.disk) new.collections × (new.seats ≡ [] → IsTidy (g.content new.disk) s.graph)
 IsOver g old new s step = Unit {0}
 
 -- ---- a refusal with nothing tried
@@ -236,21 +179,53 @@ pub record IsUnchanged {D : Type 0} (g : Ghosts D) (old new : Kernel D) : Type 0
   pub collector : AreRescued old.collections.collector new.collections.collector []
   pub finished : new.collections.finished ≡ old.collections.finished
 
--- A call that tries to make a step of a core that hasn't stopped, on any disk.
+-- ---- a call that tries to make a step of a core, on any disk
+
+-- the first that is due was made
+pub record IsMade {D : Type 0} (g : Ghosts D) (old new : Kernel D) (step : Step) : Type 0 where
+  pub moves : (s : State) → Serves g old s → old.stop ≡ None → MovesTo g old new s (event_of step)
+  pub due : IsDue old.collections step
+  pub counted : AreCounted old.collections new.collections step
+  pub over : (s : State) → Serves g old s → IsOver g old new s step
+
+-- none was
+pub record IsUnmade {D : Type 0} (g : Ghosts D) (old new : Kernel D) (e : Refused) : Type 0 where
+  pub ends : (s : State) → Serves g old s → old.stop ≡ None → EndsUnmade g old new s e
+  pub still : had_tried e ≡ false → IsUnchanged g old new
+  pub cause : IsCause g old.disk new.disk e
+  pub wants : is_want e ≡ true → IsDue old.collections steps.Began
+
+abbrev pub IsMadeOrNot : {D : Type 0} → Ghosts D → Kernel D → Kernel D → Result Step Refused → Type 0
+IsMadeOrNot g old new (Ok step) = IsMade g old new step
+IsMadeOrNot g old new (Err e) = IsUnmade g old new e
+
+-- only the collector moves, and what it moves
+abbrev pub moved_to : {D : Type 0} → Kernel D → D → Kept → Listing → Collections → Kernel D
+moved_to k disk space names c =
+    record k { disk = disk; space = space; names = names; collections = record c { called = k.collections.called } }
+
 pub record TriesStep {D : Type 0} (g : Ghosts D) (old new : Kernel D) (result : Result Step Refused) : Type 0 where
-  pub ends : (s : State) → Serves g old s → old.stop ≡ None → EndsTo g old new s result
-  pub due : IfOk result (IsDue old.collections)
-  pub counted : IfOk result (AreCounted old.collections new.collections)
-  pub over : IfOk result (λ step. (s : State) → Serves g old s → IsOver g old new s step)
-  pub still : IfErr result (λ e. had_tried e ≡ false → IsUnchanged g old new)
-  pub called : new.collections.called ≡ old.collections.called
-  pub cause : IfErr result (IsCause g old.disk new.disk)
-  pub wants : IfErr result (λ e. is_want e ≡ true → IsDue old.collections steps.Began)
+  pub ends : IsMadeOrNot g old new result
   pub calls : MakesAtMost g 4 1 old.disk new.disk
-  pub root : new.root ≡ old.root
-  pub stop : new.stop ≡ old.stop
-  pub words : new.words ≡ old.words
-  pub seats : new.seats ≡ old.seats
+  pub same : new ≡ moved_to old new.disk new.space new.names new.collections
+
+-- the core with these parts
+abbrev pub with_parts : {D : Type 0} → Kernel D → D → Kept → Listing → Collecting → Kernel D
+with_parts k disk space names l =
+    record k { disk = disk; space = space; names = names; collections = record k.collections { collector = Some l } }
+
+-- The same of these parts of any core, with a collection that runs, and runs on.
+pub record StepsSo {D : Type 0} (g : Ghosts D) (old new : D) (before after : Kept) (names left : Listing)
+    (k l : Collecting)
+    (result : Result Step Refused) : Type 0 where
+  pub tries : (core : Kernel D)
+      → TriesStep g (with_parts core old before names k) (with_parts core new after left l) result
+  pub size : g.blocks new ≡ g.blocks old
+  pub runs : runs (Some l) ≡ true
+  pub volume : volume_of l ≡ volume_of k
+  pub room : left.room ≡ names.room
+  pub some : has_root_in names.named 0 ≡ false → has_root_in left.named 0 ≡ false
+  pub cylinders : length after.free ≡ length before.free
 
 -- ---- what is told of it
 

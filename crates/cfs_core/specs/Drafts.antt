@@ -1,5 +1,6 @@
 -- Requests on a file through a grant with a draft.
-use Rattle.std.specs.Prelude.{◌≡◌, ℕ, ◌+◌, ◌<◌, ◌≤◌, true, false, List, length, sum, Result, Some, IfErr, OnOk}
+use Rattle.std.specs.Prelude.{◌≡◌, ◌≢◌, ℕ, ◌+◌, ◌<◌, ◌≤◌, Bool, true, false, List}
+use Rattle.std.specs.Prelude.{length, sum, Result, Some, None, IfErr, OnOk}
 use Rattle.cfs_base.specs.Calls.{MakesAtMost, OnlyReads}
 use Rattle.cfs_base.specs.Run.{Leaves}
 use Rattle.cfs_base.specs.declared.disk.Disk.{Ghosts}
@@ -7,13 +8,16 @@ use Rattle.cfs_base.specs.declared.identifier.Puid.{Puid}
 use Rattle.cfs_base.specs.declared.identifier.Tuid.{Tuid}
 use Rattle.cfs_base.specs.declared.refusal.Refused.{Refused}
 use Rattle.cfs_base.specs.declared.refusal.Refused.TheVariants as refusals
+use Rattle.cfs_base.specs.declared.refusal.Trouble.{Trouble}
+use Rattle.cfs_base.specs.declared.refusal.Trouble.TheVariants as troubles
 use Rattle.cyl_alloc.specs.Space.{Kept}
 use Rattle.intentions.specs.Store.{StoreHas}
 use Rattle.open_table.specs.declared.grant.Grant.{Grant}
 use Rattle.open_table.specs.Grants.{grant_in}
 use Rattle.special_files.specs.Becomes.{Becomes}
+use Rattle.special_files.specs.Committing.{AbortEnds, CommitEnds}
 use Rattle.special_files.specs.Drafting.{Drafting, IsOpen, need_beside}
-use Rattle.special_files.specs.Refusal.{IsRefusal, is_damaged, is_full}
+use Rattle.special_files.specs.Refusal.{IsRefusal, IsTrouble, is_damaged, is_full}
 use Rattle.ufs_model.specs.declared.change.Change.{Change}
 use Rattle.ufs_model.specs.declared.object.Draft.{Draft}
 use Rattle.ufs_model.specs.declared.object.File.{File}
@@ -35,7 +39,8 @@ pub record IsDrafted {D : Type 0} (k : Kernel D) (who : ℕ) (t : Tuid) : Type 0
   pub has : drafting_at k.seats t.draw ≡ Some drafting
 
 -- the store has this object, and this draft of it, which is a file
-pub record KnowsDraft {D : Type 0} (g : Ghosts D) (graph : Graph) (ds : List Opened) (disk : D) (space : Kept) (id : Puid) (was : Drafting) (d : Draft) : Type 0 where
+pub record KnowsDraft {D : Type 0} (g : Ghosts D) (graph : Graph) (ds : List Opened) (disk : D) (space : Kept)
+    (id : Puid) (was : Drafting) (d : Draft) : Type 0 where
   pub store : StoreHas g graph ds disk space
   pub object : Object
   pub there : object_at graph id ≡ Some object
@@ -43,16 +48,26 @@ pub record KnowsDraft {D : Type 0} (g : Ghosts D) (graph : Graph) (ds : List Ope
   pub file : File
   pub is_file : d.object ≡ objects.File file
 
--- A draft is changed so, beside the last four blocks. Where it is done it is the model's; where it is Full, or failed before anything
--- was tried, all is as it was.
-pub record ChangesDraft {D : Type 0} (g : Ghosts D) (change : Change) (old new : D) (before after : Kept) (was now : Drafting) (result : Result (Unit {0}) Refused) : Type 0 where
-  pub done : (graph : Graph) (ds : List Opened) (id : Puid) (d : Draft) → KnowsDraft g graph ds old before id was d → OnOk result (Becomes g graph ds id (changed_draft change d) old new after now)
-  pub room : (graph : Graph) (ds : List Opened) (id : Puid) (d : Draft) → KnowsDraft g graph ds old before id was d → OnOk result (need_beside change d was + reserve ≤ sum before.free)
-  pub leaves : (graph : Graph) (ds : List Opened) (id : Puid) (d : Draft) → KnowsDraft g graph ds old before id was d → Leaves g old new (λ c. Holds c graph)
-  pub full : (graph : Graph) (ds : List Opened) (id : Puid) (d : Draft) → KnowsDraft g graph ds old before id was d
-      → IfErr result (λ e. is_full e ≡ true → (e ≡ refusals.Full (record { free = sum before.free; need = need_beside change d was })) × (sum before.free < need_beside change d was + reserve))
-  pub sound : (graph : Graph) (ds : List Opened) (id : Puid) (d : Draft) → KnowsDraft g graph ds old before id was d → IfErr result (λ e. is_damaged e ≡ false)
-  pub spared : (graph : Graph) (ds : List Opened) (id : Puid) (d : Draft) → KnowsDraft g graph ds old before id was d → IfErr result (λ e. is_full e ≡ true → OnlyReads g 31092 old new × (after ≡ before) × (now ≡ was))
+-- A draft that the store has is changed so, beside the last four blocks: done, it is the model's, and where it is Full
+-- all is as it was.
+pub record AltersDraft {D : Type 0} (g : Ghosts D) (change : Change) (graph : Graph) (ds : List Opened) (id : Puid)
+    (d : Draft)
+    (old new : D) (before after : Kept) (was now : Drafting) (result : Result (Unit {0}) Refused) : Type 0 where
+  pub done : OnOk result (Becomes g graph ds id (changed_draft change d) old new after now)
+  pub room : OnOk result (need_beside change d was + reserve ≤ sum before.free)
+  pub leaves : Leaves g old new (λ c. Holds c graph)
+  pub full : IfErr result (λ e. is_full e ≡ true
+      → (e ≡ refusals.Full (record { free = sum before.free; need = need_beside change d was }))
+      × (sum before.free < need_beside change d was + reserve))
+  pub spared : IfErr result (λ e. is_full e ≡ true → OnlyReads g 31092 old new × (after ≡ before) × (now ≡ was))
+  pub sound : IfErr result (λ e. is_damaged e ≡ false)
+
+-- And of any draft, on any disk: where a call failed before anything was tried, all is as it was.
+pub record ChangesDraft {D : Type 0} (g : Ghosts D) (change : Change) (old new : D) (before after : Kept)
+    (was now : Drafting)
+    (result : Result (Unit {0}) Refused) : Type 0 where
+  pub alters : (graph : Graph) (ds : List Opened) (id : Puid) (d : Draft) → KnowsDraft g graph ds old before id was d
+      → AltersDraft g change graph ds id d old new before after was now result
   pub untried : IfErr result (λ e. e ≡ refusals.Disk false → OnlyReads g 31092 old new × (after ≡ before) × (now ≡ was))
   pub refused : IfErr result (IsRefusal g was.at reserve old new after)
   pub at : now.at ≡ was.at
@@ -60,3 +75,22 @@ pub record ChangesDraft {D : Type 0} (g : Ghosts D) (change : Change) (old new :
   pub created : now.created ≡ was.created
   pub cylinders : length after.free ≡ length before.free
   pub calls : MakesAtMost g 31092 15486 old new
+
+-- ---- a draft ended
+
+-- it becomes its object, or is given up
+abbrev pub DraftEnds : {D : Type 0} → Ghosts D → (commit : Bool) → Graph → List Opened → Puid → Draft → Drafting → D
+    → D → Kept
+    → Result (Unit {0}) Trouble → Type 0
+DraftEnds g true graph ds id d was old new after result = CommitEnds g graph ds id d.object None old new after result
+DraftEnds g false graph ds id d was old new after result = AbortEnds g graph ds id was.created old new after result
+
+pub record EndsDraft {D : Type 0} (g : Ghosts D) (commit : Bool) (was : Drafting) (old new : D) (before after : Kept)
+    (result : Result (Unit {0}) Trouble) : Type 0 where
+  pub ends : (graph : Graph) (ds : List Opened) (id : Puid) (o : Object) (d : Draft) → StoreHas g graph ds old before
+      → object_at graph id ≡ Some o → IsOpen ds id was d → DraftEnds g commit graph ds id d was old new after result
+  -- one that fails had tried something
+  pub tried : IfErr result (λ t. t ≢ troubles.Disk false)
+  pub refused : IfErr result (IsTrouble g was.at old new after)
+  pub cylinders : length after.free ≡ length before.free
+  pub calls : MakesAtMost g 93138 46452 old new

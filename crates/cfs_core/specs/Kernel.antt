@@ -1,5 +1,6 @@
 -- What contracts see of a core.
-use Rattle.std.specs.Prelude.{◌≡◌, ℕ, ◌+◌, ◌*◌, ◌≤◌, Bool, true, false, ◌||◌, ◌&&◌, nat_le, nat_lt, if◌then◌else◌, List, map, length, Option, Some, None, IfSome, is_none, is_some}
+use Rattle.std.specs.Prelude.{◌≡◌, ℕ, ◌+◌, ◌*◌, ◌≤◌, Bool, true, false, ◌||◌, ◌&&◌, nat_le, nat_lt}
+use Rattle.std.specs.Prelude.{if◌then◌else◌, List, map, length, Option, Some, None, IfSome, is_none, is_some}
 use Rattle.std.specs.Option.{option_map_or}
 use Rattle.std.specs.List.{list_all}
 use Rattle.cfs_base.specs.declared.identifier.Puid.{Puid}
@@ -26,7 +27,8 @@ grants_in seats = map (λ seat. seat.grant) seats
 abbrev pub is_drawn_by : ℕ → Seat → Bool
 is_drawn_by drawn seat = nat_le seat.grant.tuid.draw drawn
 
--- a draft as it stands between two calls: its object's root is below this block, it has a shadow root, and it makes nothing
+-- a draft as it stands between two calls: its object's root is below this block, it has a shadow root, and it makes
+-- nothing
 abbrev pub is_ready_for : ℕ → Drafting → Bool
 is_ready_for blocks d = nat_lt d.at blocks && is_some d.shadow && is_none d.created
 
@@ -67,16 +69,18 @@ abbrev pub runs : Option Collecting → Bool
 runs None = false
 runs (Some k) = marks_in k.phase || sweeps_in k.phase
 
--- A collector is one of the volume. No more collections were finished than called for, and one that runs was called for.
+-- A collector is one of the volume. No more collections were finished than called for, and one that runs was called
+-- for.
 pub record AreKept (room : ℕ) (c : Collections) : Type 0 where
   pub volume : IfSome c.collector (λ k. volume_of k ≡ room)
   pub few : c.finished + (if runs c.collector then 1 else 0) ≤ c.called
 
 -- ---- on any disk
 
--- On any disk: it has 64 blocks a cylinder, there is room for the identifier of each, and none has block 0. Each grant was
--- drawn.
-pub record IsSized {D : Type 0} (blocks : D → ℕ) (disk : D) (names : Listing) (space : Kept) (seats : List Seat) (drawn : ℕ) (collections : Collections) : Type 0 where
+-- On any disk: it has 64 blocks a cylinder, there is room for the identifier of each, and none has block 0. Each grant
+-- was drawn.
+pub record IsSized {D : Type 0} (blocks : D → ℕ) (disk : D) (names : Listing) (space : Kept) (seats : List Seat)
+    (drawn : ℕ) (collections : Collections) : Type 0 where
   pub size : blocks disk ≡ 64 * length space.free
   pub room : names.room ≡ blocks disk
   pub some : has_root_in names.named 0 ≡ false

@@ -31,7 +31,8 @@ pub record ServesFewer {D : Type 0} (g : Ghosts D) (k : Kernel D) (s : State) (w
   pub serves : Serves g k (record s { grants = grants })
   pub others : of_others who grants ≡ of_others who s.grants
 
--- Some grants of the session are gone, with their drafts. All else is as it was, but that a core that ran may have stopped.
+-- Some grants of the session are gone, with their drafts. All else is as it was, but that a core that ran may have
+-- stopped.
 pub record Sheds {D : Type 0} (g : Ghosts D) (who : ℕ) (old new : Kernel D) : Type 0 where
   pub words : new.words ≡ old.words
   pub names : new.names ≡ old.names
@@ -46,16 +47,19 @@ pub record Sheds {D : Type 0} (g : Ghosts D) (who : ℕ) (old new : Kernel D) : 
   pub leaves : (s : State) → Serves g old s → old.stop ≡ None → Leaves g old.disk new.disk (λ c. Holds c s.graph)
   pub serves : (s : State) → Serves g old s → old.stop ≡ None → new.stop ≡ None → ServesFewer g new s who
   -- no block is left behind
-  pub strays : (s : State) → Serves g old s → old.stop ≡ None → new.stop ≡ None → AddsNoStray (g.content old.disk) (g.content new.disk) s.graph s.graph
+  pub strays : (s : State) → Serves g old s → old.stop ≡ None → new.stop ≡ None
+      → AddsNoStray (g.content old.disk) (g.content new.disk) s.graph s.graph
   -- it stops where a device call failed, or at a damage
-  pub halts : (stop : Stop) → old.stop ≡ None → new.stop ≡ Some stop → stop.damage ≡ None → HasFailed g old.disk new.disk
+  pub halts : (stop : Stop) → old.stop ≡ None → new.stop ≡ Some stop → stop.damage ≡ None
+      → HasFailed g old.disk new.disk
   -- and at no damage where it served a state
   pub sound : (s : State) → Serves g old s → old.stop ≡ None → (stop : Stop) → new.stop ≡ Some stop → stop.damage ≡ None
 
 -- ---- one draft
 
 -- what the store has of it then
-pub record GaveUp {D : Type 0} (g : Ghosts D) (graph : Graph) (ds : List Opened) (id : Puid) (created : Option ℕ) (old new : Kernel D) : Type 0 where
+pub record GaveUp {D : Type 0} (g : Ghosts D) (graph : Graph) (ds : List Opened) (id : Puid) (created : Option ℕ)
+    (old new : Kernel D) : Type 0 where
   pub leaves : Leaves g old.disk new.disk (λ c. Holds c graph)
   pub dropped : new.stop ≡ None → Dropped g graph ds id created old.disk new.disk new.space
   pub sound : (stop : Stop) → new.stop ≡ Some stop → stop.damage ≡ None
@@ -67,9 +71,11 @@ pub record GivesUp {D : Type 0} (g : Ghosts D) (was : Drafting) (old new : Kerne
   pub faults : g.faults old.disk ≤ g.faults new.disk
   pub later : g.moment old.disk ≤ g.moment new.disk
   pub idle : (stop : Stop) → old.stop ≡ Some stop → new ≡ old
-  pub ends : (graph : Graph) (ds : List Opened) (id : Puid) (o : Object) (d : Draft) → StoreHas g graph ds old.disk old.space → object_at graph id ≡ Some o → IsOpen ds id was d
+  pub ends : (graph : Graph) (ds : List Opened) (id : Puid) (o : Object) (d : Draft)
+      → StoreHas g graph ds old.disk old.space → object_at graph id ≡ Some o → IsOpen ds id was d
       → old.stop ≡ None → GaveUp g graph ds id was.created old new
-  pub halts : (stop : Stop) → old.stop ≡ None → new.stop ≡ Some stop → stop.damage ≡ None → HasFailed g old.disk new.disk
+  pub halts : (stop : Stop) → old.stop ≡ None → new.stop ≡ Some stop → stop.damage ≡ None
+      → HasFailed g old.disk new.disk
 
 -- ---- what is told
 

@@ -26,7 +26,8 @@ use Rattle.cfs_core.specs.Ways.{Reaches}
 
 -- Whatever the core stands for, the request reaches such an object, of which there is no draft.
 abbrev pub ReachesAll : {D A : Type 0} → Ghosts D → (A → Object) → Kernel D → ℕ → Request → Puid → Type 0
-ReachesAll {A = A} g sort k who request id = (s : State) → Serves g k s → (a : A) × Reaches s who request id (sort a) × (drafts_of (drafts_of_seats k.seats s.grants) id ≡ [])
+ReachesAll {A = A} g sort k who request id = (s : State) → Serves g k s → (a : A) × Reaches s who request id (sort a)
+    × (drafts_of (drafts_of_seats k.seats s.grants) id ≡ [])
 
 -- the store has this object, its root is at the block, and it has no draft
 pub record Knows {D : Type 0} (g : Ghosts D) (d : D) (at : ℕ) (o : Object) : Type 0 where
@@ -49,7 +50,8 @@ IsCalmCause g old new (refusals.Damaged damage) = Unit {0}
 IsCalmCause g old new refusals.Memory = Unit {0}
 
 -- a call that only reads, and meets no damage where such an object is
-pub record IsCalm {D A B : Type 0} (g : Ghosts D) (sort : A → Object) (n at : ℕ) (old new : D) (result : Result B Refused) : Type 0 where
+pub record IsCalm {D A B : Type 0} (g : Ghosts D) (sort : A → Object) (n at : ℕ) (old new : D)
+    (result : Result B Refused) : Type 0 where
   pub reads : OnlyReads g n old new
   pub sound : (a : A) → Knows g old at (sort a) → IfErr result (λ e. is_damaged e ≡ false)
   pub cause : IfErr result (IsCalmCause g old new)
@@ -65,4 +67,7 @@ measured f = replies.Number (length f.bytes)
 
 -- 1 to 4,096 bytes from an offset on, within the size
 abbrev pub content_of : File → ℕ → ℕ → Reply
-content_of f offset count = if is_range (length f.bytes) offset count then replies.Content (slice_range f.bytes offset (offset + count)) else replies.Range
+content_of f offset count =
+    if is_range (length f.bytes) offset count
+    then replies.Content (slice_range f.bytes offset (offset + count))
+    else replies.Range

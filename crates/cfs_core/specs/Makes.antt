@@ -38,31 +38,20 @@ file_kind file_kinds.Special = kinds.Special
 
 -- the request makes this object, and puts its identifier into a slot of the index that it goes to
 pub record IsMaking (request : Request) (slot : ℕ) (o : Object) : Type 0 where
-  pub outcome : (seed : ℕ) (s : State) (who b : ℕ) → outcome_of seed s who request b ≡ created seed s who (target request) slot o b
+  pub outcome : (seed : ℕ) (s : State) (who b : ℕ)
+      → outcome_of seed s who request b ≡ created seed s who (target request) slot o b
   pub makes : creates request ≡ true
   pub draw : draws request ≡ 1
   pub need : (s : State) (who : ℕ) → need_of s who request ≡ 1 + change_need s who (target request) (Fill slot None)
   pub delete : is_delete request ≡ false
-  pub full : (seed : ℕ) (s : State) (who free : ℕ) → is_running s ≡ true → refusal_of s who request ≡ None → need_of s who request ≡ 4 → free < 8
+  pub full : (seed : ℕ) (s : State) (who free : ℕ) → is_running s ≡ true → refusal_of s who request ≡ None
+      → need_of s who request ≡ 4 → free < 8
       → next seed s (events.Ask who request (replies.Full (record { free = free; need = 4 }))) ≡ Some s
   pub speaks : (who : ℕ) (reply : Reply) → IsSpeakable (events.Ask who request reply)
 
--- A request that makes such an object, on a slot that the index has.
-pub record TriesToMake {D : Type 0} (g : Ghosts D) (old new : Kernel D) (index : Puid) (slot : ℕ) (o : Object) (result : Result Reply Refused) : Type 0 where
-  pub ends : (request : Request) → IsMaking request slot o → (s : State) (who : ℕ) (i : Index) → Serves g old s → old.stop ≡ None
-      → Reaches s who request index (objects.Index i) → slot < length i.slots → refusal_of s who request ≡ None → EndsSo g old new s who request result
-  pub plain : IfOk result IsPlainReply
-  pub cause : IfErr result (IsCause g old.disk new.disk)
-  pub size : g.blocks new.disk ≡ g.blocks old.disk
-  pub faults : g.faults old.disk ≤ g.faults new.disk
-  pub stop : new.stop ≡ old.stop
-  pub collections : new.collections ≡ old.collections
-  pub seed : new.words.seed ≡ old.words.seed
-  pub kept : old.words.drawn ≤ new.words.drawn
-  pub drawn : new.words.drawn ≤ old.words.drawn + 1
-
 -- An object that was made has its name, with the word that is drawn for it; or, on a disk that lies, none.
-pub record Names {D : Type 0} (old new : Kernel D) (id : Puid) (kind : Kind) (result : Result Reply Refused) : Type 0 where
+pub record Names {D : Type 0} (old new : Kernel D) (id : Puid) (kind : Kind)
+    (result : Result Reply Refused) : Type 0 where
   pub named : id.block ≢ 0 → id.block < old.names.room → has_root_in old.names.named id.block ≡ false
       → (result ≡ Ok (replies.Id id)) × (new ≡ record old {
         names = record { named = insert_entry puid_cmp old.names.named id kind; room = old.names.room };

@@ -1,5 +1,6 @@
 -- An object is opened.
-use Rattle.std.specs.Prelude.{◌≡◌, ℕ, ◌+◌, ◌<◌, ◌≤◌, Bool, true, false, List, [], ◌∷◌, sum, Option, Some, None, Result, Ok, Err, IfErr, IfOk, IfSome}
+use Rattle.std.specs.Prelude.{◌≡◌, ℕ, ◌+◌, ◌<◌, ◌≤◌, Bool, true, false, List, [], ◌∷◌, sum}
+use Rattle.std.specs.Prelude.{Option, Some, None, Result, Ok, Err, IfErr, IfOk, IfSome}
 use Rattle.cfs_base.specs.Calls.{MakesAtMost, OnlyReads}
 use Rattle.cfs_base.specs.Run.{Leaves}
 use Rattle.cfs_base.specs.declared.disk.Disk.{Ghosts}
@@ -50,8 +51,10 @@ told_of faults.Grants = replies.Grants
 abbrev pub first_draft : Object → Draft
 first_draft o = record { object = o; fresh = [] }
 
--- The store has the draft, and each image that a crash leaves has the objects. A block was Free for it beside the last four.
-pub record IsBegun {D : Type 0} (g : Ghosts D) (graph : Graph) (ds : List Opened) (id : Puid) (o : Object) (old new : D) (before after : Kept) (drafting : Drafting) : Type 0 where
+-- The store has the draft, and each image that a crash leaves has the objects. A block was Free for it beside the last
+-- four.
+pub record IsBegun {D : Type 0} (g : Ghosts D) (graph : Graph) (ds : List Opened) (id : Puid) (o : Object)
+    (old new : D) (before after : Kept) (drafting : Drafting) : Type 0 where
   pub steps : Steps g graph id (opened_as id drafting (first_draft o) ∷ ds) old new after
   pub opened : IsOpen (opened_as id drafting (first_draft o) ∷ ds) id drafting (first_draft o)
   pub bare : drafting.created ≡ None
@@ -59,18 +62,27 @@ pub record IsBegun {D : Type 0} (g : Ghosts D) (graph : Graph) (ds : List Opened
   pub free : 1 + reserve ≤ sum before.free
 
 -- how it ends where the store has the object, of which there is no draft, by whether it is to have one
-abbrev pub BeginsSo : {D : Type 0} → Ghosts D → Graph → List Opened → Puid → Object → (wanted : Bool) → (old new : D) → (before after : Kept) → Result (Option Drafting) Refused → Type 0
+abbrev pub BeginsSo : {D : Type 0} → Ghosts D → Graph → List Opened → Puid → Object → (wanted : Bool) → (old new : D)
+    → (before after : Kept) → Result (Option Drafting) Refused → Type 0
 BeginsSo g graph ds id o wanted old new before after (Ok None) = (wanted ≡ false) × (new ≡ old) × (after ≡ before)
-BeginsSo g graph ds id o wanted old new before after (Ok (Some drafting)) = (wanted ≡ true) × IsBegun g graph ds id o old new before after drafting
-BeginsSo g graph ds id o wanted old new before after (Err (refusals.Full need)) = (wanted ≡ true) × (need ≡ record { free = sum before.free; need = 1 }) × (sum before.free < 1 + reserve) × OnlyReads g 2 old new × (after ≡ before)
-BeginsSo g graph ds id o wanted old new before after (Err (refusals.Disk false)) = OnlyReads g 2 old new × (after ≡ before)
+BeginsSo g graph ds id o wanted old new before after (Ok (Some drafting)) =
+    (wanted ≡ true) × IsBegun g graph ds id o old new before after drafting
+BeginsSo g graph ds id o wanted old new before after (Err (refusals.Full need)) = (wanted ≡ true)
+    × (need ≡ record { free = sum before.free; need = 1 }) × (sum before.free < 1 + reserve) × OnlyReads g 2 old new
+    × (after ≡ before)
+BeginsSo g graph ds id o wanted old new before after (Err (refusals.Disk false)) =
+    OnlyReads g 2 old new × (after ≡ before)
 BeginsSo g graph ds id o wanted old new before after (Err (refusals.Disk true)) = Leaves g old new (λ c. Holds c graph)
 BeginsSo g graph ds id o wanted old new before after (Err (refusals.Damaged damage)) = ⊥
 BeginsSo g graph ds id o wanted old new before after (Err refusals.Memory) = OnlyReads g 2 old new × (after ≡ before)
 
-pub record Begins {D : Type 0} (g : Ghosts D) (at : ℕ) (wanted : Bool) (old new : D) (before after : Kept) (result : Result (Option Drafting) Refused) : Type 0 where
-  pub ends : (graph : Graph) (ds : List Opened) (id : Puid) (o : Object) → StoreHas g graph ds old before → id.block ≡ at → object_at graph id ≡ Some o → (wanted ≡ true → drafts_of ds id ≡ [])
+pub record Begins {D : Type 0} (g : Ghosts D) (at : ℕ) (wanted : Bool) (old new : D) (before after : Kept)
+    (result : Result (Option Drafting) Refused) : Type 0 where
+  pub ends : (graph : Graph) (ds : List Opened) (id : Puid) (o : Object) → StoreHas g graph ds old before
+      → id.block ≡ at → object_at graph id ≡ Some o → (wanted ≡ true → drafts_of ds id ≡ [])
       → BeginsSo g graph ds id o wanted old new before after result
-  pub ready : IfOk result (λ o. IfSome o (λ drafting. (wanted ≡ true) × (drafting.at ≡ at) × ((s : ℕ) × (drafting.shadow ≡ Some s)) × (drafting.created ≡ None)))
+  pub ready : IfOk result (λ o.
+      IfSome o (λ drafting. (wanted ≡ true) × (drafting.at ≡ at) × ((s : ℕ) × (drafting.shadow ≡ Some s))
+      × (drafting.created ≡ None)))
   pub cause : IfErr result (IsCause g old new)
   pub calls : MakesAtMost g 3 1 old new

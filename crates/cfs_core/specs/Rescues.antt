@@ -1,5 +1,6 @@
 -- What is put into an index, or opened, and so is a rescue while a collection marks.
-use Rattle.std.specs.Prelude.{◌≡◌, ℕ, ◌<◌, Bool, true, false, if◌then◌else◌, List, [], ◌∷◌, ◌++◌, Option, Some, None, option_map}
+use Rattle.std.specs.Prelude.{◌≡◌, ℕ, ◌<◌, Bool, true, false, if◌then◌else◌, List}
+use Rattle.std.specs.Prelude.{[], ◌∷◌, ◌++◌, Option, Some, None, option_map}
 use Rattle.cfs_base.specs.Outside.{count_after}
 use Rattle.cfs_base.specs.declared.identifier.Puid.{Puid}
 use Rattle.collector_steps.specs.Collecting.{Collecting, waiting_in}
@@ -25,8 +26,10 @@ id_in reply = None
 
 -- what a request puts into this index, or opens, where it was done
 abbrev pub rescue_put : Option Puid → Request → Reply → Option Rescue
-rescue_put index (asks.CreateFile kind fill to slot) reply = option_map (λ id. record { index = index; id = id }) (id_in reply)
-rescue_put index (asks.CreateIndex slots to slot) reply = option_map (λ id. record { index = index; id = id }) (id_in reply)
+rescue_put index (asks.CreateFile kind fill to slot) reply =
+    option_map (λ id. record { index = index; id = id }) (id_in reply)
+rescue_put index (asks.CreateIndex slots to slot) reply =
+    option_map (λ id. record { index = index; id = id }) (id_in reply)
 rescue_put index (asks.Retain to slot id) reply = Some (record { index = index; id = id })
 rescue_put index (asks.OpenFor id mode) reply = Some (record { index = None; id = id })
 rescue_put index request reply = None

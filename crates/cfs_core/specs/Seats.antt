@@ -1,5 +1,6 @@
 -- The grants of all sessions, with the drafts of special files that are open for writing.
-use Rattle.std.specs.Prelude.{◌≡◌, ℕ, Bool, false, not, ◌&&◌, ◌==◌, if◌then◌else◌, List, map, filter, find, Option, None, option_and_then, is_some}
+use Rattle.std.specs.Prelude.{◌≡◌, ℕ, Bool, false, not, ◌&&◌, ◌==◌, if◌then◌else◌, List}
+use Rattle.std.specs.Prelude.{map, filter, find, Option, None, option_and_then, is_some}
 use Rattle.std.specs.List.{list_any}
 use Rattle.open_table.specs.declared.grant.Grant.{Grant}
 use Rattle.special_files.specs.Drafting.{Drafting}

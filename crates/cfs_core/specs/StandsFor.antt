@@ -1,5 +1,6 @@
 -- When a core stands for a state: a relation, since no field of a core has all that a collection remembers.
-use Rattle.std.specs.Prelude.{◌≡◌, ◌≤◌, Bool, true, false, ◌||◌, List, [], ◌∷◌, ◌++◌, map, sum, Option, Some, None, option_map}
+use Rattle.std.specs.Prelude.{◌≡◌, ◌≤◌, Bool, true, false, ◌||◌, List, [], ◌∷◌}
+use Rattle.std.specs.Prelude.{◌++◌, map, sum, Option, Some, None, option_map}
 use Rattle.cfs_base.specs.Disk.{Image}
 use Rattle.cfs_base.specs.declared.disk.Disk.{Ghosts}
 use Rattle.collector_steps.specs.Collecting.{Collecting, Collects}
@@ -18,6 +19,7 @@ use Rattle.ufs_model.specs.State.{State}
 use Rattle.ufs_model.specs.Vanish.{is_marking}
 use Rattle.ufs_model.specs.WellFormed.{IsState}
 use Rattle.vol_owners.specs.Account.{IsSwept, Opened}
+use Rattle.cfs_core.specs.declared.collecting.Collections.{Collections}
 use Rattle.cfs_core.specs.declared.kernel.Stop.{Stop}
 use Rattle.cfs_core.specs.Kernel.{Kernel, Seat, grants_in, marks_in, sweeps_in}
 
@@ -34,7 +36,8 @@ drafts_at seat (Some drafting) None = []
 drafts_at seat None draft = []
 
 abbrev pub drafts_of_seats : List Seat → List Grant → List Opened
-drafts_of_seats (seat ∷ seats) (grant ∷ grants) = drafts_of_seats seats grants ++ drafts_at seat seat.drafting grant.draft
+drafts_of_seats (seat ∷ seats) (grant ∷ grants) =
+    drafts_of_seats seats grants ++ drafts_at seat seat.drafting grant.draft
 drafts_of_seats [] grants = []
 drafts_of_seats (seat ∷ seats) [] = []
 
@@ -52,7 +55,8 @@ HasDraftOf ds seat None (Some d) = ⊥
 HasDraftOf ds seat (Some drafting) None = ⊥
 
 abbrev pub AreDraftsOf : List Opened → List Seat → List Grant → Type 0
-AreDraftsOf ds (seat ∷ seats) (grant ∷ grants) = HasDraftOf ds seat seat.drafting grant.draft × AreDraftsOf ds seats grants
+AreDraftsOf ds (seat ∷ seats) (grant ∷ grants) =
+    HasDraftOf ds seat seat.drafting grant.draft × AreDraftsOf ds seats grants
 AreDraftsOf ds [] [] = Unit {0}
 AreDraftsOf ds [] (grant ∷ grants) = ⊥
 AreDraftsOf ds (seat ∷ seats) [] = ⊥
@@ -88,18 +92,8 @@ pub record IsFront {D : Type 0} (k : Kernel D) (s : State) : Type 0 where
   pub grants : grants_in k.seats ≡ map bare s.grants
   pub stopped : s.stopped ≡ option_map (λ stop. stop.moment) k.stop
 
--- The store has the graph and the drafts, whatever writes wait for a barrier; the blocks of vanished objects are gone but
--- in a sweep; and four blocks are Free.
-pub record Stores {D : Type 0} (g : Ghosts D) (k : Kernel D) (s : State) : Type 0 where
-  pub front : IsFront k s
-  pub state : IsState s
-  pub root : s.graph.root ≡ k.root
-  pub store : StoreHas g s.graph (drafts_of_seats k.seats s.grants) k.disk k.space
-  pub drafts : AreDraftsOf (drafts_of_seats k.seats s.grants) k.seats s.grants
-  pub swept : is_sweeping s.collection ≡ false → IsSwept (g.content k.disk) s.graph
-  pub four : reserve ≤ sum k.space.free
-
--- And the collection is there.
+-- The store has the graph and the drafts, whatever writes wait for a barrier; the blocks of vanished objects are gone
+-- but in a sweep; four blocks are Free; and the collection is there.
 pub record Serves {D : Type 0} (g : Ghosts D) (k : Kernel D) (s : State) : Type 0 where
   pub front : IsFront k s
   pub state : IsState s
@@ -109,6 +103,11 @@ pub record Serves {D : Type 0} (g : Ghosts D) (k : Kernel D) (s : State) : Type 
   pub swept : is_sweeping s.collection ≡ false → IsSwept (g.content k.disk) s.graph
   pub four : reserve ≤ sum k.space.free
   pub collecting : HasCollection (g.content k.disk) s k.collections.collector
+
+-- it serves the state with each collector that keeps up with it
+abbrev pub Stores : {D : Type 0} → Ghosts D → Kernel D → State → Type 0
+Stores g k s =
+    (c : Collections) → HasCollection (g.content k.disk) s c.collector → Serves g (record k { collections = c }) s
 
 abbrev pub Stands : {D : Type 0} → Ghosts D → Kernel D → State → Option Stop → Type 0
 Stands g k s None = Serves g k s

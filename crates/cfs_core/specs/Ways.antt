@@ -11,7 +11,9 @@ use Rattle.ufs_model.specs.declared.asked.Wanted.{Wanted}
 use Rattle.ufs_model.specs.declared.asked.Wanted.TheVariants.{AnIndex, AFile, Either}
 use Rattle.ufs_model.specs.declared.object.Object.{Object}
 use Rattle.ufs_model.specs.Graph.{is_there, object_at}
-use Rattle.ufs_model.specs.Refusal.{conditions, finds_empty, first_of, goes_nowhere, goes_through_reading, has_all_grants, has_no_slot, has_no_such_grant, is_out_of_range, is_reading, is_unwanted_file, is_unwanted_index, meets_a_grant, refusal_of, target}
+use Rattle.ufs_model.specs.Refusal.{conditions, finds_empty, first_of, goes_nowhere, goes_through_reading}
+use Rattle.ufs_model.specs.Refusal.{has_all_grants, has_no_slot, has_no_such_grant, is_out_of_range, is_reading}
+use Rattle.ufs_model.specs.Refusal.{is_unwanted_file, is_unwanted_index, meets_a_grant, refusal_of, target}
 use Rattle.ufs_model.specs.State.{State, draft_of, named, object_of}
 use Rattle.cfs_core.specs.declared.way.Way.{Way}
 

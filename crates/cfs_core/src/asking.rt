@@ -10,9 +10,9 @@ use std::alloc::Global;
 use ufs_model::{Reply, Request};
 
 impl<D: Disk> Core<D> {
-    /// Answers a request of a session, as one event of the definitions. Memory is taken before anything is written. After
-    /// `Disk` without a doubt, `Full` and `Memory` all is as it was. After `Disk` with one, and after `Damaged`, the core
-    /// has stopped, and answers `Stopped` from then on, with no call of the disk.
+    /// Answers a request of a session, as one event of the definitions. Memory is taken before anything is written.
+    /// After `Disk` without a doubt, `Full` and `Memory` all is as it was. After `Disk` with one, and after `Damaged`,
+    /// the core has stopped, and answers `Stopped` from then on, with no call of the disk.
     pub fn ask(&mut self, alloc: Global, who: Session, request: &Request) -> Reply
         requires words { self.old.words.drawn < 4294967295 }
         ensures { Asks D.Disk self.old self.new who request.now result }
@@ -82,11 +82,12 @@ impl<D: Disk> Core<D> {
         reply
     }
 
-    /// The reply to a request that was refused by what lies below. The core stops where what was asked may have been done,
-    /// and at a damage.
+    /// The reply to a request that was refused by what lies below. The core stops where what was asked may have been
+    /// done, and at a damage.
     pub(crate) fn refuse(&mut self, refused: Refused) -> Reply
         ensures told { result ≡ told refused (D.moment self.old.disk) }
-        ensures stop { self.new ≡ record self.old { stop = stopped_by (told refused (D.moment self.old.disk)) self.old.stop } }
+        ensures stop { self.new
+            ≡ record self.old { stop = stopped_by (told refused (D.moment self.old.disk)) self.old.stop } }
     {
         match refused {
             Refused::Full(need) => Reply::Full(need),

@@ -1,6 +1,6 @@
 //! Requests that change an index.
 ghost use Rattle.std.specs.Prelude.{◌≡◌, ◌≢◌, ◌<◌};
-ghost use Rattle.cfs_core.specs.Calls.{Tries, TriesOn};
+ghost use Rattle.cfs_core.specs.Calls.{Tries, TriesOn, done_or};
 ghost use Rattle.ufs_model.specs.Plain.{is_id};
 ghost use Rattle.ufs_model.specs.declared.asked.Ref.{Ref};
 ghost use Rattle.ufs_model.specs.declared.asked.Request.TheVariants as asks;
@@ -20,6 +20,16 @@ fn holds_something(reply: &Reply) -> bool
     match reply {
         Reply::Id(_) => true,
         _ => false,
+    }
+}
+
+/// The reply to a request that was done, of which nothing else is told.
+pub(crate) fn done(ended: Result<(), Refused>) -> Result<Reply, Refused>
+    ensures { result ≡ done_or ended }
+{
+    match ended {
+        Ok(()) => Ok(Reply::Done),
+        Err(refused) => Err(refused),
     }
 }
 
@@ -90,17 +100,14 @@ impl<D: Disk> Core<D> {
         requires id { id.block ≢ 0 }
         ensures { (to : Ref) → TriesOn D.Disk self.old self.new index slot (asks.Retain to slot id) result }
     {
-        match retain(
+        done(retain(
             alloc,
             &mut self.disk,
             &mut self.space,
             BlockNo(index.block),
             slot,
             id,
-        ) {
-            Ok(()) => Ok(Reply::Done),
-            Err(refused) => Err(refused),
-        }
+        ))
     }
 
     /// Empties a slot that holds something. On a disk that lies too few blocks may be Free for it.
@@ -116,15 +123,12 @@ impl<D: Disk> Core<D> {
                 code: code::TOO_FULL,
             }));
         }
-        match delete(
+        done(delete(
             alloc,
             &mut self.disk,
             &mut self.space,
             BlockNo(index.block),
             slot,
-        ) {
-            Ok(()) => Ok(Reply::Done),
-            Err(refused) => Err(refused),
-        }
+        ))
     }
 }

@@ -1,8 +1,9 @@
 //! The ends of grants: a request that closes one, and a session that leaves.
-ghost use Rattle.std.specs.Prelude.{◌≡◌, ◌≤◌, List, false, true, IfErr, OnOk, IsSome, None, Some, Ok};
+ghost use Rattle.std.specs.Prelude.{◌≡◌, ◌≤◌, ◌*◌, List, length, false, true, IfErr, OnOk, IsSome, None, Some, Ok};
 ghost use Rattle.cfs_base.specs.Calls.{HasFailed};
 ghost use Rattle.cfs_core.specs.Asked.{Happens, halted};
 ghost use Rattle.cfs_core.specs.Calls.{Tries};
+ghost use Rattle.cfs_core.specs.Drafts.{EndsDraft};
 ghost use Rattle.cfs_core.specs.Kernel.{Seat, grants_in, is_ready_for};
 ghost use Rattle.cfs_core.specs.Leaving as spec;
 ghost use Rattle.cfs_core.specs.Leaving.{GivesUp, Sheds};
@@ -15,10 +16,29 @@ ghost use Rattle.ufs_model.specs.declared.asked.Event.TheVariants as events;
 ghost use Rattle.ufs_model.specs.declared.asked.Request.TheVariants as asks;
 
 use crate::kernel::{Core, Halt, Stop};
-use cfs_base::{Disk, Refused, Session, Tuid};
+use cfs_base::{Disk, Refused, Session, Trouble, Tuid};
+use cyl_alloc::Space;
 use open_table::table_follows_the_model;
 use special_files::Draft;
 use ufs_model::Reply;
+
+/// Ends a draft, which becomes its object or is given up.
+fn end_draft<D: Disk>(
+    draft: Draft,
+    disk: &mut D,
+    space: &mut Space,
+    commit: bool,
+) -> Result<(), Trouble>
+    requires ready { is_ready_for (D.blocks disk.old) draft ≡ true }
+    requires size { D.blocks disk.old ≡ 64 * length space.old.free }
+    ensures { EndsDraft D.Disk commit draft disk.old disk.new space.old space.new result }
+{
+    if commit {
+        draft.commit(disk, space)
+    } else {
+        draft.abort(disk, space)
+    }
+}
 
 impl<D: Disk> Core<D> {
     /// Ends a grant. Its draft, if it has one, becomes the object or is given up.
@@ -68,24 +88,8 @@ impl<D: Disk> Core<D> {
             → drafting_at seats grant.draw ≡ Some draft
             → Tries D.Disk (record self.old { seats = seats }) self.new who (asks.Close grant commit) result }
     {
-        if commit {
-            self.commit_draft(who, grant, draft)
-        } else {
-            self.abort_draft(who, grant, draft)
-        }
-    }
-
-    /// Ends a grant whose draft becomes the object.
-    fn commit_draft(&mut self, who: Session, grant: Tuid, draft: Draft) -> Result<Reply, Refused>
-        requires ready { is_ready_for (D.blocks self.old.disk) draft ≡ true }
-        requires taken { have_draft (is_at grant.draw) self.old.seats ≡ false }
-        requires found { IsSome (grant_in (grants_in self.old.seats) who grant) }
-        ensures { (seats : List Seat) → self.old.seats ≡ with_drafting grant.draw None seats
-            → drafting_at seats grant.draw ≡ Some draft
-            → Tries D.Disk (record self.old { seats = seats }) self.new who (asks.Close grant true) result }
-    {
         table_follows_the_model();
-        match draft.commit(&mut self.disk, &mut self.space) {
+        match end_draft(draft, &mut self.disk, &mut self.space, commit) {
             Ok(()) => {
                 let _ = self.seats.close(who, grant);
                 Ok(Reply::Done)
@@ -94,27 +98,8 @@ impl<D: Disk> Core<D> {
         }
     }
 
-    /// Ends a grant whose draft is given up.
-    fn abort_draft(&mut self, who: Session, grant: Tuid, draft: Draft) -> Result<Reply, Refused>
-        requires ready { is_ready_for (D.blocks self.old.disk) draft ≡ true }
-        requires taken { have_draft (is_at grant.draw) self.old.seats ≡ false }
-        requires found { IsSome (grant_in (grants_in self.old.seats) who grant) }
-        ensures { (seats : List Seat) → self.old.seats ≡ with_drafting grant.draw None seats
-            → drafting_at seats grant.draw ≡ Some draft
-            → Tries D.Disk (record self.old { seats = seats }) self.new who (asks.Close grant false) result }
-    {
-        table_follows_the_model();
-        match draft.abort(&mut self.disk, &mut self.space) {
-            Ok(()) => {
-                let _ = self.seats.close(who, grant);
-                Ok(Reply::Done)
-            }
-            Err(trouble) => Err(Refused::from(trouble)),
-        }
-    }
-
-    /// A session leaves: its grants are dropped, and their drafts are given up. A core that stopped is left as well, with
-    /// no call of the disk. `Halt` where the core stops in it.
+    /// A session leaves: its grants are dropped, and their drafts are given up. A core that stopped is left as well,
+    /// with no call of the disk. `Halt` where the core stops in it.
     pub fn leave(&mut self, who: Session) -> Result<(), Halt>
         ensures event { (s : State) → StandsFor D.Disk self.old s
             → Happens D.Disk self.old self.new s (events.Leave who (halted result)) }
@@ -139,7 +124,8 @@ impl<D: Disk> Core<D> {
         halt_of(before, self.stop)
     }
 
-    /// Drops a grant of a session. Its draft is given up, unless the core has stopped; where that fails, the core stops.
+    /// Drops a grant of a session. Its draft is given up, unless the core has stopped; where that fails, the core
+    /// stops.
     fn drop_grant(&mut self, who: Session, grant: Tuid)
         requires found { IsSome (grant_in (grants_in self.old.seats) who grant) }
         ensures sheds { Sheds D.Disk who self.old self.new }

@@ -1,6 +1,8 @@
 //! Collections: how many were called for, and the steps of the collector.
-ghost use Rattle.std.specs.Prelude.{◌≡◌, ◌||◌, ◌+◌, ◌*◌, ◌++◌, ◌∷◌, ◌<◌, ◌≤◌, IfOk, None, Ok, OnOk, length, map, sum, true};
-ghost use Rattle.cfs_core.specs.Collect.{Collects, HasBegun, StepsSo, TriesStep, fault_of, phase_of, stop_by, sweeps_blocks, told_as};
+ghost use Rattle.std.specs.Prelude.{◌≡◌, ◌||◌, ◌+◌, ◌*◌, ◌++◌, ◌∷◌, ◌<◌, ◌≤◌, IfOk};
+ghost use Rattle.std.specs.Prelude.{None, Ok, OnOk, length, map, sum, true};
+ghost use Rattle.cfs_core.specs.Collect.{Collects, HasBegun, StepsSo, TriesStep, fault_of};
+ghost use Rattle.cfs_core.specs.Collect.{phase_of, stop_by, sweeps_blocks, told_as};
 ghost use Rattle.cfs_core.specs.Kernel.{Seat, marks_in, runs, sweeps_in};
 ghost use Rattle.collector_steps.specs.Collecting.{volume_of};
 ghost use Rattle.cyl_alloc.specs.Space as space;
@@ -104,7 +106,8 @@ fn mark<D: Disk>(
     requires marks { collector.old.phase ≡ Phase.Marking }
     requires room { names.old.room ≤ volume_of collector.old }
     requires size { D.blocks disk.old ≡ volume_of collector.old }
-    ensures { (kept : space.Kept) → StepsSo D.Disk disk.old disk.new kept kept names.old names.new collector.old collector.new result }
+    ensures { (kept : space.Kept)
+        → StepsSo D.Disk disk.old disk.new kept kept names.old names.new collector.old collector.new result }
 {
     if collector.has_rescue() {
         collector.take(names);
@@ -130,7 +133,8 @@ fn sweep<D: Disk>(
     requires sweeps { sweeps_blocks collector.old.phase ≡ true }
     requires size { D.blocks disk.old ≡ volume_of collector.old }
     requires counts { 64 * length space.old.free ≡ volume_of collector.old }
-    ensures { StepsSo D.Disk disk.old disk.new space.old space.new names.now names.now collector.old collector.new result }
+    ensures { StepsSo D.Disk disk.old disk.new space.old space.new names.now names.now collector.old collector.new
+        result }
 {
     match collector.phase() {
         Phase::Inner { .. } => told(collector.sweep_inner(disk, space, names)),
@@ -189,8 +193,8 @@ impl<D: Disk> Core<D> {
         self.collections.called += more;
     }
 
-    /// Makes one step of the collector, the first that is due. At most 4 device calls, at most one of them a write. Memory
-    /// is taken where a collection begins, before anything changes, and nowhere else.
+    /// Makes one step of the collector, the first that is due. At most 4 device calls, at most one of them a write.
+    /// Memory is taken where a collection begins, before anything changes, and nowhere else.
     pub fn collect(&mut self, alloc: Global) -> Result<Step, CollectFault>
         ensures { Collects D.Disk self.old self.new result }
     {
@@ -261,7 +265,8 @@ impl<D: Disk> Core<D> {
 
     /// The root, and each object that is open.
     fn roots(&self, alloc: Global) -> Result<Vec<Puid>, NoMemory>
-        ensures { IfOk result (λ roots. roots.items ≡ self.now.root ∷ map (λ (seat : Seat). seat.grant.id) self.now.seats) }
+        ensures { IfOk result (λ roots.
+            roots.items ≡ self.now.root ∷ map (λ (seat : Seat). seat.grant.id) self.now.seats) }
     {
         let mut roots = Vec::new(alloc);
         roots.push(self.root)?;
@@ -294,7 +299,8 @@ impl<D: Disk> Core<D> {
     /// Why a step wasn't made. The core stops where a write had been tried, and at a damage.
     fn fail(&mut self, refused: Refused) -> CollectFault
         ensures told { result ≡ fault_of refused (D.moment self.old.disk) }
-        ensures stop { self.new ≡ record self.old { stop = stop_by (fault_of refused (D.moment self.old.disk)) self.old.stop } }
+        ensures stop { self.new
+            ≡ record self.old { stop = stop_by (fault_of refused (D.moment self.old.disk)) self.old.stop } }
     {
         match refused {
             Refused::Memory | Refused::Full(_) => CollectFault::Memory,

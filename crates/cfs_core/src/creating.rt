@@ -1,10 +1,11 @@
 //! Requests that make an object.
 ghost use Rattle.std.specs.Prelude.{◌≡◌, ◌≢◌, ◌+◌, ◌*◌, ◌<◌, ◌≤◌, ℕ, length, sum, Err};
 ghost use Rattle.cfs_base.specs.declared.refusal.Refused.TheVariants as refusals;
-ghost use Rattle.cfs_core.specs.Calls.{Tries};
-ghost use Rattle.cfs_core.specs.Makes.{Names, TriesToMake, file_kind};
+ghost use Rattle.cfs_core.specs.Calls.{Tries, TriesOn};
+ghost use Rattle.cfs_core.specs.Makes.{IsMaking, Names, file_kind};
 ghost use Rattle.index_ops.specs.Creates.{MayBeMade, PutsObject, made_of};
 ghost use Rattle.ufs_model.specs.declared.asked.Request.TheVariants as asks;
+ghost use Rattle.ufs_model.specs.declared.asked.Request.{Request};
 
 use crate::kernel::Core;
 use crate::looking::has_slot;
@@ -102,7 +103,8 @@ impl<D: Disk> Core<D> {
         requires few { slot < 983040 }
         requires made { MayBeMade kind fill size }
         requires words { self.old.words.drawn < 4294967295 }
-        ensures { TriesToMake D.Disk self.old self.new index slot (made_of kind fill size) result }
+        ensures { (request : Request) → IsMaking request slot (made_of kind fill size)
+            → TriesOn D.Disk self.old self.new index slot request result }
     {
         let word = self.words.ahead();
         match create(
@@ -121,8 +123,8 @@ impl<D: Disk> Core<D> {
         }
     }
 
-    /// Names an object that was made, with the word that is drawn for it. On a disk that lies its root block may be another
-    /// object's, or past the disk's end.
+    /// Names an object that was made, with the word that is drawn for it. On a disk that lies its root block may be
+    /// another object's, or past the disk's end.
     fn name(&mut self, id: Puid, kind: Kind) -> Result<Reply, Refused>
         requires words { self.old.words.drawn < 4294967295 }
         ensures { Names self.old self.new id kind result }

@@ -1,5 +1,6 @@
 //! Requests on a file through a grant with a draft.
-ghost use Rattle.std.specs.Prelude.{◌≡◌, ◌+◌, ◌*◌, ◌<◌, ◌≤◌, ℕ, false, IfErr, IfOk, IfNone, IfSome, List, Some, length, None};
+ghost use Rattle.std.specs.Prelude.{◌≡◌, ◌+◌, ◌*◌, ◌<◌, ◌≤◌, ℕ, false, IfErr, IfOk};
+ghost use Rattle.std.specs.Prelude.{IfNone, IfSome, List, Some, length, None};
 ghost use Rattle.cfs_base.specs.Calls.{OnlyReads};
 ghost use Rattle.cfs_base.specs.declared.identifier.Puid.{Puid};
 ghost use Rattle.cfs_core.specs.Calls.{Tries};
@@ -23,6 +24,7 @@ ghost use Rattle.ufs_model.specs.declared.object.Object.TheVariants as objects;
 ghost use Rattle.ufs_model.specs.declared.object.Object.{Object};
 ghost use Rattle.vol_owners.specs.Account.{Opened};
 
+use crate::changing::done;
 use crate::kernel::Core;
 use crate::reading::is_range;
 use cfs_base::{Bytes, Disk, NoMemory, Refused, Session, Tuid};
@@ -49,7 +51,8 @@ fn content<D: Disk>(
     count: u64,
 ) -> Result<Reply, Refused>
     requires { draft.now.at < D.blocks disk.old }
-    ensures exact { (graph : Graph) (ds : List Opened) (space : Kept) (id : Puid) (o : Object) (d : drafts.Draft) (f : File)
+    ensures exact { (graph : Graph) (ds : List Opened) (space : Kept) (id : Puid) (o : Object) (d : drafts.Draft)
+        (f : File)
         → StoreHas D.Disk graph ds disk.old space → object_at graph id ≡ Some o → IsOpen ds id draft.now d
         → d.object ≡ objects.File f → length f.bytes ≡ draft.now.root.size
         → IfOk result (λ reply. reply ≡ content_of f offset count) }
@@ -85,7 +88,8 @@ pub(crate) fn overwrite<D: Disk>(
     requires size { D.blocks disk.old ≡ 64 * length space.old.free }
     requires within { offset + length bytes.now ≤ draft.old.root.size }
     requires most { length bytes.now ≤ 4096 }
-    ensures { ChangesDraft D.Disk (Overwrite offset bytes.now) disk.old disk.new space.old space.new draft.old draft.new result }
+    ensures { ChangesDraft D.Disk (Overwrite offset bytes.now) disk.old disk.new space.old space.new draft.old draft.new
+        result }
 {
     draft.write(disk, space, offset, bytes, RESERVE)
 }
@@ -175,13 +179,10 @@ impl<D: Disk> Core<D> {
         if !is_range(held, offset, bytes.len() as u64) {
             return Ok(Reply::Range);
         }
-        match self
-            .seats
-            .write(grant.draw, &mut self.disk, &mut self.space, offset, bytes)
-        {
-            Ok(()) => Ok(Reply::Done),
-            Err(refused) => Err(refused),
-        }
+        done(
+            self.seats
+                .write(grant.draw, &mut self.disk, &mut self.space, offset, bytes),
+        )
     }
 
     /// Sets the size of a draft in bytes.
@@ -198,12 +199,9 @@ impl<D: Disk> Core<D> {
         if size > MOST_BYTES {
             return Ok(Reply::Range);
         }
-        match self
-            .seats
-            .resize(grant.draw, &mut self.disk, &mut self.space, size)
-        {
-            Ok(()) => Ok(Reply::Done),
-            Err(refused) => Err(refused),
-        }
+        done(
+            self.seats
+                .resize(grant.draw, &mut self.disk, &mut self.space, size),
+        )
     }
 }

@@ -66,7 +66,8 @@ fn first_draft<D: Disk>(
 }
 
 impl<D: Disk> Core<D> {
-    /// Opens an object: a special file for writing with a draft, of which all memory is taken before its shadow root is.
+    /// Opens an object: a special file for writing with a draft, of which all memory is taken before its shadow root
+    /// is.
     pub(crate) fn open_for(
         &mut self,
         alloc: Global,

@@ -1,5 +1,6 @@
 //! A core, and what it tells of itself.
-ghost use Rattle.std.specs.Prelude.{◌≡◌, ◌≢◌, ◌+◌, ◌*◌, ◌<◌, ◌≤◌, length, false, IsSome, option_map, option_and_then, sum};
+ghost use Rattle.std.specs.Prelude.{◌≡◌, ◌≢◌, ◌+◌, ◌*◌, ◌<◌, ◌≤◌, length, false};
+ghost use Rattle.std.specs.Prelude.{IsSome, option_map, option_and_then, sum};
 ghost use Rattle.cfs_core.specs.Room.{IsRoom, lost_blocks};
 ghost use Rattle.cfs_core.specs.Kernel.{runs};
 ghost use Rattle.cfs_core.specs.StandsFor.{Serves, StandsFor, drafts_of_seats, is_collecting, is_sweeping};
@@ -24,7 +25,8 @@ pub struct Stop {
     pub damage: Option<Damage>,
 }
 
-/// A session left, and the core stopped at this moment of the disk, since a call of the disk failed or a block was damaged.
+/// A session left, and the core stopped at this moment of the disk, since a call of the disk failed or a block was
+/// damaged.
 #[derive(Clone, Copy, Debug, PartialEq, Eq)]
 pub struct Halt {
     pub moment: u64,
@@ -109,14 +111,15 @@ impl<D: Disk> Core<D> {
         }
     }
 
-    /// The Free blocks that the core counts are the room, as long as nothing sweeps, and else the room less the blocks of
-    /// objects that are gone. This does nothing: it is a law.
+    /// The Free blocks that the core counts are the room, as long as nothing sweeps, and else the room less the blocks
+    /// of objects that are gone. This does nothing: it is a law.
     pub fn has_room(&self)
         ensures size { D.blocks self.now.disk ≡ 64 * length self.now.space.free }
         ensures room { (s : State) → Serves D.Disk self.now s → is_sweeping s.collection ≡ false
             → IsRoom (length self.now.space.free) s (sum self.now.space.free) }
         ensures lost { (s : State) → Serves D.Disk self.now s
-            → IsRoom (length self.now.space.free) s (sum self.now.space.free + lost_blocks (D.content self.now.disk) s.graph) }
+            → IsRoom (length self.now.space.free) s
+            (sum self.now.space.free + lost_blocks (D.content self.now.disk) s.graph) }
     {
         let _disk = &self.disk;
     }

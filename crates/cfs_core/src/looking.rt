@@ -13,10 +13,12 @@ use cfs_base::{BlockNo, Disk, Refused, Session};
 use index_ops::{retrieve, slots};
 use ufs_model::{Ref, Reply};
 
-/// What a slot of the index at a block holds, as a reply: `Slot` where it has no such slot, `Empty` where it holds nothing.
+/// What a slot of the index at a block holds, as a reply: `Slot` where it has no such slot, `Empty` where it holds
+/// nothing.
 pub(crate) fn look<D: Disk>(disk: &mut D, index: BlockNo, slot: u64) -> Result<Reply, Refused>
     requires { index.0 < D.blocks disk.old }
-    ensures exact { (i : Index) → Knows D.Disk disk.old index.0 (objects.Index i) → IfOk result (λ reply. reply ≡ looked i slot) }
+    ensures exact { (i : Index) → Knows D.Disk disk.old index.0 (objects.Index i)
+        → IfOk result (λ reply. reply ≡ looked i slot) }
     ensures few { IfOk result (λ reply. is_id reply ≡ true → slot < 983040) }
     ensures plain { IfOk result IsPlainReply }
     ensures calm { IsCalm D.Disk objects.Index 4 index.0 disk.old disk.new result }
@@ -38,7 +40,8 @@ pub(crate) fn look<D: Disk>(disk: &mut D, index: BlockNo, slot: u64) -> Result<R
 /// Whether the index at a block has such a slot.
 pub(crate) fn has_slot<D: Disk>(disk: &mut D, index: BlockNo, slot: u64) -> Result<bool, Refused>
     requires { index.0 < D.blocks disk.old }
-    ensures exact { (i : Index) → Knows D.Disk disk.old index.0 (objects.Index i) → IfOk result (λ has. has ≡ nat_lt slot (length i.slots)) }
+    ensures exact { (i : Index) → Knows D.Disk disk.old index.0 (objects.Index i)
+        → IfOk result (λ has. has ≡ nat_lt slot (length i.slots)) }
     ensures few { IfOk result (λ has. has ≡ true → slot < 983040) }
     ensures calm { IsCalm D.Disk objects.Index 1 index.0 disk.old disk.new result }
 {
@@ -51,7 +54,8 @@ pub(crate) fn has_slot<D: Disk>(disk: &mut D, index: BlockNo, slot: u64) -> Resu
 /// How many slots the index at a block has, as a reply.
 fn count<D: Disk>(disk: &mut D, index: BlockNo) -> Result<Reply, Refused>
     requires { index.0 < D.blocks disk.old }
-    ensures exact { (i : Index) → Knows D.Disk disk.old index.0 (objects.Index i) → IfOk result (λ reply. reply ≡ counted i) }
+    ensures exact { (i : Index) → Knows D.Disk disk.old index.0 (objects.Index i)
+        → IfOk result (λ reply. reply ≡ counted i) }
     ensures plain { IfOk result IsPlainReply }
     ensures calm { IsCalm D.Disk objects.Index 1 index.0 disk.old disk.new result }
 {

@@ -1,5 +1,6 @@
 //! A volume opened.
-ghost use Rattle.std.specs.Prelude.{◌≡◌, ◌≢◌, ◌⊎◌, ◌+◌, ◌*◌, ◌/◌, ◌%◌, ◌≤◌, false, IfErr, IfOk, IsErr, IsTrue, None, OnOk, length};
+ghost use Rattle.std.specs.Prelude.{◌≡◌, ◌≢◌, ◌⊎◌, ◌+◌, ◌*◌, ◌/◌, ◌%◌, ◌≤◌, false};
+ghost use Rattle.std.specs.Prelude.{IfErr, IfOk, IsErr, IsTrue, None, OnOk, length};
 ghost use Rattle.cfs_base.specs.Calls.{HasFailed, MakesAtMost};
 ghost use Rattle.cfs_base.specs.Run.{Leaves};
 ghost use Rattle.cfs_recover.specs.Grounds.{IsOpenFault};
@@ -30,7 +31,8 @@ pub struct OpenFault<D: Disk> {
 
 /// What only a disk that lies can give: identifiers past its end, or of block 0.
 fn is_astray(recovered: &Recovered, blocks: u32) -> bool
-    ensures not { result ≡ false → (recovered.now.names.room ≡ blocks) × (has_root_in recovered.now.names.named 0 ≡ false) }
+    ensures not { result ≡ false → (recovered.now.names.room ≡ blocks)
+        × (has_root_in recovered.now.names.named 0 ≡ false) }
     ensures is { recovered.now.names.room ≡ blocks → has_root_in recovered.now.names.named 0 ≡ false → result ≡ false }
 {
     recovered.names.room() != blocks || recovered.names.has_root(0)
@@ -52,8 +54,8 @@ impl<D: Disk> Core<D> {
         format_volume(disk, root_word(seed))
     }
 
-    /// Opens the volume on a disk that a crash left, as `recover` does. Nothing is open on it, and no word of the seed is
-    /// drawn.
+    /// Opens the volume on a disk that a crash left, as `recover` does. Nothing is open on it, and no word of the seed
+    /// is drawn.
     pub fn open(alloc: Global, disk: D, seed: u64) -> Result<Core<D>, OpenFault<D>>
         ensures opened { IsTrue (D.honest disk) → (graph : Graph) → IsSoundAs (D.content disk) graph
             → IfOk result (IsOpened D.Disk graph seed) }

@@ -27,7 +27,8 @@ pub(crate) fn is_range(size: u64, offset: u64, count: u64) -> bool
 /// The size in bytes of the file at a block.
 pub(crate) fn bytes_in<D: Disk>(disk: &mut D, file: BlockNo) -> Result<u64, Refused>
     requires { file.0 < D.blocks disk.old }
-    ensures exact { (f : File) → Knows D.Disk disk.old file.0 (objects.File f) → IfOk result (λ size. size ≡ length f.bytes) }
+    ensures exact { (f : File) → Knows D.Disk disk.old file.0 (objects.File f)
+        → IfOk result (λ size. size ≡ length f.bytes) }
     ensures limit { IfOk result (λ size. size ≤ 7864320) }
     ensures calm { IsCalm D.Disk objects.File 1 file.0 disk.old disk.new result }
 {
@@ -37,7 +38,8 @@ pub(crate) fn bytes_in<D: Disk>(disk: &mut D, file: BlockNo) -> Result<u64, Refu
     }
 }
 
-/// So many bytes of the file at a block, from an offset on, as a reply: `Range` where they aren't 1 to 4,096 within its size.
+/// So many bytes of the file at a block, from an offset on, as a reply: `Range` where they aren't 1 to 4,096 within its
+/// size.
 fn content<D: Disk>(
     alloc: Global,
     disk: &mut D,
@@ -49,7 +51,8 @@ fn content<D: Disk>(
     ensures exact { (f : File) → Knows D.Disk disk.old file.0 (objects.File f)
         → IfOk result (λ reply. reply ≡ content_of f offset count) }
     ensures plain { IfOk result IsPlainReply }
-    ensures calm { IsCalm D.Disk objects.File (2 + nodes_touched offset count + leaves_touched offset count) file.0 disk.old disk.new result }
+    ensures calm { IsCalm D.Disk objects.File (2 + nodes_touched offset count + leaves_touched offset count) file.0
+        disk.old disk.new result }
 {
     let size = match bytes_in(disk, file) {
         Ok(size) => size,
@@ -67,7 +70,8 @@ fn content<D: Disk>(
 /// The size of the file at a block, as a reply.
 fn measure<D: Disk>(disk: &mut D, file: BlockNo) -> Result<Reply, Refused>
     requires { file.0 < D.blocks disk.old }
-    ensures exact { (f : File) → Knows D.Disk disk.old file.0 (objects.File f) → IfOk result (λ reply. reply ≡ measured f) }
+    ensures exact { (f : File) → Knows D.Disk disk.old file.0 (objects.File f)
+        → IfOk result (λ reply. reply ≡ measured f) }
     ensures plain { IfOk result IsPlainReply }
     ensures calm { IsCalm D.Disk objects.File 1 file.0 disk.old disk.new result }
 {

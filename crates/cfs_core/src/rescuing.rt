@@ -102,7 +102,8 @@ impl Collections {
     /// What a request that was answered put into this index, or opened, is a rescue where a collection marks.
     pub(crate) fn rescue(&mut self, index: Option<Puid>, request: &Request, reply: &Reply)
         requires room { HasRoomFor request.now self.old.collector }
-        ensures rescued { AreRescued self.old.collector self.new.collector (option_to_list (spec.rescue_of index request.now reply.now)) }
+        ensures rescued { AreRescued self.old.collector self.new.collector
+            (option_to_list (spec.rescue_of index request.now reply.now)) }
         ensures called { self.new.called ≡ self.old.called }
         ensures finished { self.new.finished ≡ self.old.finished }
     {

@@ -1,5 +1,6 @@
 //! The grants of all sessions, with the drafts of special files that are open for writing.
-ghost use Rattle.std.specs.Prelude.{◌≡◌, ◌+◌, ◌*◌, ◌<◌, ◌≤◌, ◌++◌, [], ◌∷◌, IfOk, IfSome, IsSome, None, OnErr, OnOk, Some, IsTrue, length, option_copied, true, false};
+ghost use Rattle.std.specs.Prelude.{◌≡◌, ◌+◌, ◌*◌, ◌<◌, ◌≤◌, ◌++◌, [], ◌∷◌, IfOk, IfSome, IsSome, None};
+ghost use Rattle.std.specs.Prelude.{OnErr, OnOk, Some, IsTrue, length, option_copied, true, false};
 ghost use Rattle.std.specs.List.{list_any};
 ghost use Rattle.cfs_core.specs.Drafts.{ChangesDraft};
 ghost use Rattle.cfs_core.specs.Kernel.{grants_in};
@@ -17,7 +18,8 @@ use std::alloc::Global;
 use std::collections::HashMap;
 use std::marker::Model;
 
-/// The grants of all sessions in the order of acquiring, each with its draft if it has one. Only `reserve` takes memory.
+/// The grants of all sessions in the order of acquiring, each with its draft if it has one. Only `reserve` takes
+/// memory.
 #[derive(Drop)]
 pub(crate) struct Seats {
     grants: Grants,
@@ -68,7 +70,8 @@ impl Seats {
         self.grants.fault(grant)
     }
 
-    /// Adds a grant that may be acquired, of which no other has the draw, with its draft if it has one. Takes no memory.
+    /// Adds a grant that may be acquired, of which no other has the draw, with its draft if it has one. Takes no
+    /// memory.
     pub fn open(&mut self, grant: Grant, draft: Option<Draft>)
         requires room { self.old.has_room ≡ true }
         requires new { list_any (is_drawn grant.tuid.draw) self.old.seats ≡ false }
@@ -182,8 +185,8 @@ impl Seats {
         self.drafts.remove(&draw)
     }
 
-    /// Takes the session's grant with this temporary identifier out, which has no draft. Where there is none all stays as
-    /// it was. Takes no memory.
+    /// Takes the session's grant with this temporary identifier out, which has no draft. Where there is none all stays
+    /// as it was. Takes no memory.
     pub fn close(&mut self, who: Session, tuid: Tuid) -> Result<Grant, NoGrant>
         requires undrafted { have_draft (is_at tuid.draw) self.old.seats ≡ false }
         ensures found { IfOk result (λ grant. grant_in (grants_in self.old.seats) who tuid ≡ Some grant) }

@@ -31,8 +31,8 @@ pub struct Way {
 }
 
 impl<D: Disk> Core<D> {
-    /// The index that a request of a session goes to, or its refusal on the way there. The index's root block is one of the
-    /// disk's, and not block 0; nor is that of the object that is named besides.
+    /// The index that a request of a session goes to, or its refusal on the way there. The index's root block is one of
+    /// the disk's, and not block 0; nor is that of the object that is named besides.
     pub(crate) fn index_at(&self, who: Session, way: Way) -> Result<Puid, Reply>
         ensures refused { IfErr result (λ reply. (request : Request) → GoesBy request AnIndex way
             → Tries D.Disk self.now self.now who request (Ok reply)) }
@@ -48,8 +48,8 @@ impl<D: Disk> Core<D> {
         }
     }
 
-    /// The file that a request of a session goes to, and its kind, or its refusal on the way there. It has no draft. Its root
-    /// block is one of the disk's, and not block 0.
+    /// The file that a request of a session goes to, and its kind, or its refusal on the way there. It has no draft.
+    /// Its root block is one of the disk's, and not block 0.
     pub(crate) fn file_at(&self, who: Session, way: Way) -> Result<(Puid, FileKind), Reply>
         requires bare { (s : State) → Serves D.Disk self.now s → draft_of s who way.to ≡ None }
         ensures refused { IfErr result (λ reply. (request : Request) → GoesBy request AFile way
@@ -70,7 +70,8 @@ impl<D: Disk> Core<D> {
         }
     }
 
-    /// Of what a reference goes to that has no draft, and meets no grant, no grant has a draft. This does nothing: it is a law.
+    /// Of what a reference goes to that has no draft, and meets no grant, no grant has a draft. This does nothing: it
+    /// is a law.
     fn shuts(&self, who: Session, way: Way)
         ensures { (s : State) (id : Puid) → Serves D.Disk self.now s → named s who way.to ≡ Some id
             → draft_of s who way.to ≡ None → meets_a_grant s way.changes way.to ≡ false
@@ -79,7 +80,8 @@ impl<D: Disk> Core<D> {
         self.seats.len();
     }
 
-    /// The object that a request of a session goes to, and its kind, which is wanted there, or its refusal on the way there.
+    /// The object that a request of a session goes to, and its kind, which is wanted there, or its refusal on the way
+    /// there.
     fn object_at(&self, who: Session, way: Way, wants: Wanted) -> Result<(Puid, Kind), Reply>
         ensures refused { IfErr result (λ reply. (request : Request) → GoesBy request wants way
             → Tries D.Disk self.now self.now who request (Ok reply)) }
@@ -160,8 +162,8 @@ impl<D: Disk> Core<D> {
         }
     }
 
-    /// Whether one that goes straight to an object meets a grant: any grant where it wants the object alone, else one for
-    /// writing.
+    /// Whether one that goes straight to an object meets a grant: any grant where it wants the object alone, else one
+    /// for writing.
     fn is_met(&self, alone: bool, to: Ref) -> bool
         ensures { (s : State) → Serves D.Disk self.now s → result ≡ meets_a_grant s alone to }
     {

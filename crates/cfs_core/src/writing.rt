@@ -5,6 +5,7 @@ ghost use Rattle.cfs_core.specs.StandsFor.{Serves};
 ghost use Rattle.ufs_model.specs.State.{State, draft_of};
 ghost use Rattle.ufs_model.specs.declared.asked.Request.TheVariants as asks;
 
+use crate::changing::done;
 use crate::kernel::Core;
 use crate::reading::{bytes_in, is_range};
 use crate::way::Way;
@@ -14,8 +15,8 @@ use ufs_model::laws::are_bytes;
 use ufs_model::{MOST_BYTES, RESERVE, Ref, Reply};
 
 impl<D: Disk> Core<D> {
-    /// Writes bytes into a file, from an offset on. Of a normal file each leaf may be changed without the others where the
-    /// call fails; a special file is changed as a whole.
+    /// Writes bytes into a file, from an offset on. Of a normal file each leaf may be changed without the others where
+    /// the call fails; a special file is changed as a whole.
     pub(crate) fn write(
         &mut self,
         alloc: Global,
@@ -61,7 +62,7 @@ impl<D: Disk> Core<D> {
         if !is_range(size, offset, bytes.len() as u64) {
             return Ok(Reply::Range);
         }
-        match file_ops::write(
+        done(file_ops::write(
             alloc,
             &mut self.disk,
             &mut self.space,
@@ -70,10 +71,7 @@ impl<D: Disk> Core<D> {
             offset,
             bytes,
             RESERVE,
-        ) {
-            Ok(()) => Ok(Reply::Done),
-            Err(refused) => Err(refused),
-        }
+        ))
     }
 
     /// Sets the size of a file in bytes.
@@ -116,7 +114,7 @@ impl<D: Disk> Core<D> {
         if size > MOST_BYTES {
             return Ok(Reply::Range);
         }
-        match file_ops::resize(
+        done(file_ops::resize(
             alloc,
             &mut self.disk,
             &mut self.space,
@@ -124,9 +122,6 @@ impl<D: Disk> Core<D> {
             kind,
             size,
             RESERVE,
-        ) {
-            Ok(()) => Ok(Reply::Done),
-            Err(refused) => Err(refused),
-        }
+        ))
     }
 }

@@ -61,3 +61,6 @@ chunks_are_blocks count bytes are = λ n le.
         | inr past_it ↦ rw (get_or_past (take 512 (drop (n * 512) bytes)) k 0 (omega (arith, past_it, length-take-le 512 (drop (n * 512) bytes) room))) (omega arith)
       ];
     })
+
+-- what the store says of its chunks
+pub ruleset chunk_laws = (length_chunks, chunk_at, chunk_set, chunks_are_blocks)

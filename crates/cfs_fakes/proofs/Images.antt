@@ -39,6 +39,10 @@ chosen_old m n k base b ws le = elim (cases_eq m n) [
   | inr not ↦ ap (chosen k base) (writes_other m n b ws not)
 ]
 
+-- the same choices by another name
+pub same_choice : (s : State) (f g : ℕ → ℕ) (c : Image) → IsChoice s f c → ((n : ℕ) → n < length c → f n ≡ g n) → IsChoice s g c
+same_choice s f g c is same = record { size = is.size; each = λ n le. is.each n le ∙ ap (λ (k : ℕ). chosen k (block_at s.base n) (writes_to n s.pending)) (same n le) }
+
 -- the choice k for block n, and those that were for the others
 abbrev with_choice : ℕ → ℕ → (ℕ → ℕ) → ℕ → ℕ
 with_choice n k choice m = if nat_eq m n then k else choice m

@@ -1,4 +1,3 @@
 mod Chunks
 mod Images
 mod Lifts
-mod Replays

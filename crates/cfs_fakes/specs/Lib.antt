@@ -7,3 +7,4 @@ pub mod Sink
 pub mod Source
 pub mod Store
 pub mod Sizes
+pub mod Turns

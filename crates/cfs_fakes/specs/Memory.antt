@@ -84,9 +84,11 @@ pub record Misses (old new : MemoryDisk) (at : ℕ) (block : List ℕ) : Type 0 
   pub due : IsDue old
   pub faults : faults_of new ≡ count_after (faults_of old)
   pub starved : starved_of new ≡ starved_of old
-  pub state : IsTrue (is_recording old) → moment_of old < 2 ^ 64 - 1 → now_of new ≡ after (Write at block false) (now_of old)
+  pub state : IsTrue (is_recording old) → moment_of old < 2 ^ 64 - 1 →
+      now_of new ≡ after (Write at block false) (now_of old)
 
--- a call that a recording disk can't keep for want of memory: it is counted as a fault and apart, and is nothing to a crash
+-- a call that a recording disk can't keep for want of memory: it is counted as a fault and apart, and is nothing to a
+-- crash
 pub record Starves (old new : MemoryDisk) : Type 0 where
   pub recording : IsTrue (is_recording old)
   pub faults : faults_of new ≡ count_after (faults_of old)

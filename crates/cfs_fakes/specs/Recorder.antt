@@ -1,7 +1,8 @@
 -- What a recorder has kept.
-use Rattle.std.specs.Prelude.{◌≡◌, ℕ}
+use Rattle.std.specs.Prelude.{◌≡◌, ℕ, IsTrue}
 use Rattle.cfs_base.specs.Disk.{Image}
-use Rattle.cfs_fakes.specs.Replay.{State, zeros, replay, Left}
+use Rattle.cfs_base.specs.Replay.{Left}
+use Rattle.cfs_fakes.specs.Replay.{State, IsImage, zeros, replay}
 use Rattle.cfs_fakes.specs.declared.recorder.Recorder.{Recorder}
 
 abbrev pub clock : Recorder → ℕ
@@ -14,9 +15,9 @@ state_at r t = replay (zeros r.blocks) t r.kept.items
 abbrev pub state_now : Recorder → State
 state_now r = state_at r r.moment
 
--- a crash at some moment since t may leave it
+-- a crash at some moment since t may leave it, where calls are kept
 abbrev pub left_of : Recorder → ℕ → Image → Type 0
-left_of r t c = Left r.keeps (zeros r.blocks) r.moment r.kept.items t c
+left_of r t c = IsTrue r.keeps × Left IsImage (state_at r) r.moment t c
 
 pub record IsSameRecorder (old new : Recorder) : Type 0 where
   pub blocks : new.blocks ≡ old.blocks

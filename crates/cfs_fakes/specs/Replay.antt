@@ -1,6 +1,8 @@
 -- What a crash leaves of a disk whose calls were kept.
-use Rattle.std.specs.Prelude.{◌≡◌, ℕ, ◌≤◌, ◌<◌, ◌&&◌, Bool, true, IsTrue, nat_eq, nat_lt, if◌then◌else◌, List, [], ◌∷◌, length, set, replicate}
+use Rattle.std.specs.Prelude.{◌≡◌, ℕ, ◌<◌, nat_eq, nat_lt, if◌then◌else◌}
+use Rattle.std.specs.Prelude.{List, [], ◌∷◌, length, set, replicate}
 use Rattle.cfs_base.specs.Disk.{Image, block_at}
+use Rattle.cfs_base.specs.Replay as calls
 use Rattle.cfs_fakes.specs.declared.kept.Call.{Call}
 use Rattle.cfs_fakes.specs.declared.kept.Call.TheVariants.{Write, Barrier}
 use Rattle.cfs_fakes.specs.declared.kept.Kept.{Kept}
@@ -13,26 +15,30 @@ pub record State : Type 0 where
 
 -- a disk of zeros
 abbrev pub zeros : ℕ → State
-zeros blocks = record { content = replicate blocks (replicate 512 0); base = replicate blocks (replicate 512 0); pending = [] }
+zeros blocks = record {
+  content = replicate blocks (replicate 512 0);
+  base = replicate blocks (replicate 512 0);
+  pending = [];
+}
 
 -- What a kept call does. A write that failed changes no content, and waits for the next barrier like one that is done.
 abbrev pub after : Call → State → State
-after (Write at block done) s = record { content = if done then set s.content at block else s.content; base = s.base; pending = (at, block) ∷ s.pending }
+after (Write at block done) s = record {
+  content = if done then set s.content at block else s.content;
+  base = s.base;
+  pending = (at, block) ∷ s.pending;
+}
 after Barrier s = record { content = s.content; base = s.content; pending = [] }
 
--- the same, where the call was made before moment t
-abbrev pub after_before : ℕ → Kept → State → State
-after_before t kept s = if nat_lt kept.moment t then after kept.call s else s
+abbrev pub made_at : Kept → ℕ
+made_at kept = kept.moment
+
+abbrev pub made : Kept → State → State
+made kept s = after kept.call s
 
 -- the state at moment t, after the calls made before it
 abbrev pub replay : State → ℕ → List Kept → State
-replay s t [] = s
-replay s t (kept ∷ later) = replay (after_before t kept s) t later
-
--- each call was made before moment t
-abbrev pub all_before : ℕ → List Kept → Bool
-all_before t [] = true
-all_before t (kept ∷ later) = nat_lt kept.moment t && all_before t later
+replay s t kept = calls.replay made_at made s t kept
 
 -- the writes to one block
 abbrev pub writes_to : ℕ → List (ℕ × List ℕ) → List (List ℕ)
@@ -53,7 +59,3 @@ pub record IsChoice (s : State) (choice : ℕ → ℕ) (c : Image) : Type 0 wher
 -- a crash may leave it: each block holds some choice
 abbrev pub IsImage : State → Image → Type 0
 IsImage s c = (choice : ℕ → ℕ) × IsChoice s choice c
-
--- a crash at some moment from t to now may leave it, on a disk that keeps its calls
-abbrev pub Left : Bool → State → ℕ → List Kept → ℕ → Image → Type 0
-Left keeps s now calls t c = IsTrue keeps × ((m : ℕ) × (t ≤ m) × (m ≤ now) × IsImage (replay s m calls) c)

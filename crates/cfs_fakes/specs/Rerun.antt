@@ -9,4 +9,5 @@ pub record Follows (r : Rerun) (s : State) : Type 0 where
   pub content : r.content ≡ s.content
   pub base : length s.base ≡ length s.content
   pub image : IsChoice s (λ n. get_or r.wanted.items n 0) r.image
-  pub left : (n : ℕ) → n < length r.content → get_or r.left.items n 0 ≡ get_or r.wanted.items n 0 - length (writes_to n s.pending)
+  pub left : (n : ℕ) → n < length r.content →
+      get_or r.left.items n 0 ≡ get_or r.wanted.items n 0 - length (writes_to n s.pending)

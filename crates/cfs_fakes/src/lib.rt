@@ -1,5 +1,6 @@
-//! Disks, sources and sinks in memory, and gates that hold nobody up, or workers back. Each keeps the meaning of its trait, and a
-//! recording disk gives exactly the images that a crash may leave, so that what the layers above promise can be tried.
+//! Disks, sources and sinks in memory, and gates that hold nobody up, or workers back. Each keeps the meaning of its
+//! trait, and a recording disk gives exactly the images that a crash may leave, so that what the layers above promise
+//! can be tried.
 #![tactic(auto)]
 
 mod faults;
@@ -13,7 +14,8 @@ mod memory_source;
 mod recorder;
 mod rerun;
 mod store;
-mod untold;
+mod turns;
+mod watched;
 
 pub use gate::OpenGate;
 pub use hold_gate::{Hold, HoldGate};
@@ -21,4 +23,5 @@ pub use kept::Pick;
 pub use memory_disk::MemoryDisk;
 pub use memory_sink::MemorySink;
 pub use memory_source::MemorySource;
-pub use untold::Untold;
+pub use turns::Turns;
+pub use watched::{Seen, Watched};

@@ -1,8 +1,10 @@
 //! A disk in memory.
-ghost use Rattle.std.specs.Prelude.{◌≡◌, ◌≢◌, ◌⊎◌, ◌-◌, ◌/◌, ◌%◌, ◌≤◌, ◌<◌, ◌^◌, ◌↔◌, ℕ, IsTrue, true, false, refl, [], length, replicate, set, IfOk, OnOk, OnErr, IsErr};
+ghost use Rattle.std.specs.Prelude.{◌≡◌, ◌≢◌, ◌⊎◌, ◌-◌, ◌/◌, ◌%◌, ◌≤◌, ◌<◌, ◌^◌, ◌↔◌, ℕ, true, false, refl};
+ghost use Rattle.std.specs.Prelude.{[], length, replicate, set, IfOk, IsErr, IsTrue, OnErr, OnOk};
 ghost use Rattle.std.specs.Bool.{OnFalse};
 ghost use Rattle.std.specs.Simd.{first_chunks};
-ghost use Rattle.cfs_base.specs.Disk.{AreBlocks, block_at, Nothing, Written, Only, LeavesOnly, KeepsLeft, CountsRead, CountsTry};
+ghost use Rattle.cfs_base.specs.Disk.{AreBlocks, CountsRead, CountsTry, block_at};
+ghost use Rattle.cfs_base.specs.Disk.{Nothing, Written, Only, LeavesOnly, KeepsLeft};
 ghost use Rattle.cfs_fakes.specs.Picks.{choice_of};
 ghost use Rattle.cfs_fakes.specs.Replay.{after, IsChoice};
 ghost use Rattle.cfs_fakes.specs.Recorder.{clock, state_now, left_of as left_of_recorder};
@@ -34,7 +36,8 @@ pub struct MemoryDisk {
 }
 
 impl Disk for MemoryDisk {
-    ghost use Rattle.cfs_fakes.specs.Memory.{contents, is_recording, moment_of, tries_of, faults_of, left_of, now_of, IsSamePlan, KeepsStates, Succeeds, Fails, Misses, Starves};
+    ghost use Rattle.cfs_fakes.specs.Memory.{contents, is_recording, moment_of, tries_of, faults_of, left_of, now_of};
+    ghost use Rattle.cfs_fakes.specs.Memory.{IsSamePlan, KeepsStates, Succeeds, Fails, Misses, Starves};
 
     ghost blocks = { λ d. length d.store };
 
@@ -105,10 +108,12 @@ impl Disk for MemoryDisk {
         ensures images { LeavesOnly moment_of left_of self.old self.new
             (Written (left_of self.old (moment_of self.old)) at.0 from.now) }
         ensures keeps { KeepsLeft moment_of left_of self.old self.new }
-        ensures counts { CountsTry moment_of moment_of tries_of faults_of is_recording self.old self.new (IsErr result) }
+        ensures counts { CountsTry moment_of moment_of tries_of faults_of is_recording self.old self.new
+            (IsErr result) }
         ensures plan { IsSamePlan self.old self.new }
         ensures past { KeepsStates self.old self.new }
-        ensures kept { OnOk result (IsTrue (is_recording self.old) → now_of self.new ≡ after (Call.Write at.0 from.now true) (now_of self.old)) }
+        ensures kept { OnOk result (IsTrue (is_recording self.old)
+            → now_of self.new ≡ after (Call.Write at.0 from.now true) (now_of self.old)) }
         ensures done { OnOk result (Succeeds self.old self.new) }
         ensures failed { OnErr result (Misses self.old self.new at.0 from.now ⊎ Starves self.old self.new) }
     {
@@ -133,10 +138,12 @@ impl Disk for MemoryDisk {
         ensures durable { OnOk result (Only (contents self.new) (left_of self.new (moment_of self.new))) }
         ensures images { LeavesOnly moment_of left_of self.old self.new Nothing }
         ensures keeps { KeepsLeft moment_of left_of self.old self.new }
-        ensures counts { CountsTry moment_of moment_of tries_of faults_of is_recording self.old self.new (IsErr result) }
+        ensures counts { CountsTry moment_of moment_of tries_of faults_of is_recording self.old self.new
+            (IsErr result) }
         ensures plan { IsSamePlan self.old self.new }
         ensures past { KeepsStates self.old self.new }
-        ensures kept { OnOk result (IsTrue (is_recording self.old) → now_of self.new ≡ after Call.Barrier (now_of self.old)) }
+        ensures kept { OnOk result (IsTrue (is_recording self.old)
+            → now_of self.new ≡ after Call.Barrier (now_of self.old)) }
         ensures done { OnOk result (Succeeds self.old self.new) }
         ensures failed { OnErr result (Fails self.old self.new ⊎ Starves self.old self.new) }
     {

@@ -6,7 +6,8 @@ use crate::faults::failed;
 use crate::listed::Listed;
 use cfs_base::{Failed, Source};
 
-/// Gives its bytes, as many at a call as there is room for. Its calls are counted from 0, and those that are listed fail.
+/// Gives its bytes, as many at a call as there is room for. Its calls are counted from 0, and those that are listed
+/// fail.
 #[derive(Debug, Drop)]
 pub struct MemorySource {
     bytes: Vec<u8>,

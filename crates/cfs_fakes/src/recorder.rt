@@ -2,8 +2,9 @@
 ghost use Rattle.std.specs.Prelude.{◌≡◌, ◌<◌, ◌≤◌, ◌-◌, ◌^◌, ◌↔◌, IsTrue, OnOk, OnErr, [], IfOk};
 ghost use Rattle.std.specs.Bool.{OnFalse};
 ghost use Rattle.cfs_base.specs.Outside.{Rose, count_after};
+ghost use Rattle.cfs_base.specs.Replay.{all_before};
 ghost use Rattle.cfs_fakes.specs.Picks.{choice_of};
-ghost use Rattle.cfs_fakes.specs.Replay.{after, all_before, IsChoice, IsImage};
+ghost use Rattle.cfs_fakes.specs.Replay.{after, made_at, IsChoice, IsImage};
 
 use crate::kept::{Call, Kept, Pick};
 use crate::rerun::image_at;
@@ -17,7 +18,7 @@ pub struct Recorder {
     keeps: bool,
     moment: u64,
     kept: Vec<Kept>,
-    ghost past: { IsTrue (all_before moment kept.items) },
+    ghost past: { IsTrue (all_before made_at moment kept.items) },
 }
 
 impl Recorder {
@@ -82,7 +83,8 @@ impl Recorder {
         ensures starved { OnErr result (IsTrue self.old.keeps × (state_now self.new ≡ state_now self.old)) }
         ensures images { LeavesOnly clock left_of self.old self.new
             (λ c. IsTrue self.old.keeps × IsImage (after call (state_now self.old)) c) }
-        ensures here { OnOk result ((c : Image) → left_of self.new (clock self.new) c → IsImage (after call (state_now self.old)) c) }
+        ensures here { OnOk result ((c : Image) → left_of self.new (clock self.new) c
+            → IsImage (after call (state_now self.old)) c) }
         ensures earlier { KeepsLeft clock left_of self.old self.new }
         ensures past { (t : ℕ) → t ≤ clock self.old → state_at self.new t ≡ state_at self.old t }
         ensures same { IsSameRecorder self.old self.new }

@@ -1,7 +1,8 @@
 //! Calls made again, up to a crash.
 ghost use Rattle.std.specs.Prelude.{◌≡◌, length, IfOk};
+ghost use Rattle.cfs_base.specs.Replay.{after_before};
 ghost use Rattle.cfs_fakes.specs.Picks.{choice_of, IsWanted};
-ghost use Rattle.cfs_fakes.specs.Replay.{State, zeros, after, after_before, replay, IsChoice};
+ghost use Rattle.cfs_fakes.specs.Replay.{State, zeros, after, made, made_at, replay, IsChoice};
 
 use crate::kept::{Call, Kept, Pick};
 use crate::store::Store;
@@ -46,7 +47,8 @@ impl Rerun {
 
     /// Makes the call again, if it was made before this moment.
     fn make_before(&mut self, at: u64, kept: &Kept)
-        ensures follows { (s : State) → Follows self.old s → Follows self.new (after_before at kept.now s) }
+        ensures follows { (s : State) → Follows self.old s
+            → Follows self.new (after_before made_at made at kept.now s) }
         ensures wanted { self.new.wanted ≡ self.old.wanted }
     {
         if kept.moment < at {

@@ -1,5 +1,6 @@
 //! Blocks in memory.
-ghost use Rattle.std.specs.Prelude.{◌≡◌, ◌+◌, ◌/◌, ◌%◌, ◌≤◌, ◌<◌, ◌^◌, ◌++◌, ℕ, get_or, length, replicate, take, drop, set, IfOk};
+ghost use Rattle.std.specs.Prelude.{◌≡◌, ◌+◌, ◌/◌, ◌%◌, ◌≤◌, ◌<◌, ◌^◌, ◌++◌, ℕ};
+ghost use Rattle.std.specs.Prelude.{get_or, length, replicate, take, drop, set, IfOk};
 ghost use Rattle.std.specs.Simd.{first_chunks};
 ghost use Rattle.cfs_base.specs.Disk.{AreBlocks, block_at};
 
@@ -46,7 +47,7 @@ fn put_block(bytes: &mut Vec<u8>, at: usize, block: &[u8; 512])
     bytes[at..at + 512].copy_from_slice(block);
 }
 
-#[tactic(auto, using(crate::proofs::Chunks::length_chunks, crate::proofs::Chunks::chunk_at, crate::proofs::Chunks::chunk_set, crate::proofs::Chunks::chunks_are_blocks))]
+#[tactic(auto, using(crate::proofs::Chunks::chunk_laws))]
 impl Store {
     /// Blocks of zeros.
     pub fn zeros(alloc: Global, count: u32) -> Result<Store, AllocError>

@@ -18,8 +18,9 @@ pub fn make_turns_left<M: Machine>(machine: &mut M)
     }
 }
 
-/// Makes all turns of a machine, each worker's in a thread, behind the gate; what is left then, worker after worker. Where memory
-/// is wanting for the shares, there are no threads. No more is known of the machine than its type, and that each worker is done.
+/// Makes all turns of a machine, each worker's in a thread, behind the gate; what is left then, worker after worker.
+/// Where memory is wanting for the shares, there are no threads. No more is known of the machine than its type, and
+/// that each worker is done.
 pub fn make_all_turns<M: Machine + Send, G: Gate + Sync, R: Threads + Wait + Sync>(
     rt: &R,
     alloc: Global,

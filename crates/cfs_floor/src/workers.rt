@@ -31,8 +31,9 @@ pub fn shares_of<M: Machine>(alloc: Global, machine: &M) -> Result<Vec<Share>, N
     Ok(shares)
 }
 
-/// Makes the turns of each share beside those of the others, one thread a share; where no thread can be started the caller does
-/// its work. Before each turn its worker passes the gate. A share ends when its worker is done, or it has no turn left.
+/// Makes the turns of each share beside those of the others, one thread a share; where no thread can be started the
+/// caller does its work. Before each turn its worker passes the gate. A share ends when its worker is done, or it has
+/// no turn left.
 pub fn run_workers<M: Machine + Send, G: Gate + Sync, R: Threads + Wait + Sync>(
     rt: &R,
     floor: &Floor<M>,

@@ -12,9 +12,10 @@ use std::{fs, io};
 /// The bytes of a block.
 const BLOCK: u64 = 512;
 
-/// A volume in a file of the system: block n is its bytes from 512 n on. Each read and write is one of the system at its
-/// place, nothing is kept back, and a barrier is a data sync. A call that a signal interrupts is tried again. It tells
-/// nothing of its content; a call of the system that fails is a fault. It is a disk of whole blocks, and one whose blocks may tear.
+/// A volume in a file of the system: block n is its bytes from 512 n on. Each read and write is one of the system at
+/// its place, nothing is kept back, and a barrier is a data sync. A call that a signal interrupts is tried again. It
+/// tells nothing of its content; a call of the system that fails is a fault. It is a disk of whole blocks, and one
+/// whose blocks may tear.
 #[derive(Drop)]
 pub struct FileDisk {
     file: fs::File,
@@ -26,8 +27,8 @@ pub struct FileDisk {
 }
 
 impl FileDisk {
-    /// Opens the volume of this name, which is read and written. `InvalidData` where its length is no multiple of 512, or
-    /// it has more blocks than block numbers.
+    /// Opens the volume of this name, which is read and written. `InvalidData` where its length is no multiple of 512,
+    /// or it has more blocks than block numbers.
     pub fn existing<R: Files<File = fs::File>>(rt: &R, path: &str) -> io::Result<FileDisk> {
         let file = fs::OpenOptions::new()
             .read(true)
@@ -84,7 +85,8 @@ fn folder_of(path: &str) -> &str {
 /// What the calls of either sort of disk do.
 impl FileDisk {
     fn read_block(&mut self, at: BlockNo, into: &mut Block) -> Result<(), Failed>
-        ensures counts { CountsRead (λ d. d.calls) (λ d. d.calls) (λ d. d.tries) (λ d. d.faults) self.old self.new (IsErr result) }
+        ensures counts { CountsRead (λ d. d.calls) (λ d. d.calls) (λ d. d.tries) (λ d. d.faults) self.old self.new
+            (IsErr result) }
         ensures later { self.old.calls ≤ self.new.calls }
         ensures size { self.new.blocks ≡ self.old.blocks }
     {
@@ -100,7 +102,8 @@ impl FileDisk {
     }
 
     fn write_block(&mut self, at: BlockNo, from: &Block) -> Result<(), Failed>
-        ensures counts { CountsTry (λ d. d.calls) (λ d. d.calls) (λ d. d.tries) (λ d. d.faults) (λ d. false) self.old self.new (IsErr result) }
+        ensures counts { CountsTry (λ d. d.calls) (λ d. d.calls) (λ d. d.tries) (λ d. d.faults) (λ d. false)
+            self.old self.new (IsErr result) }
         ensures later { self.old.calls ≤ self.new.calls }
         ensures size { self.new.blocks ≡ self.old.blocks }
     {
@@ -113,7 +116,8 @@ impl FileDisk {
     }
 
     fn sync(&mut self) -> Result<(), Failed>
-        ensures counts { CountsTry (λ d. d.calls) (λ d. d.calls) (λ d. d.tries) (λ d. d.faults) (λ d. false) self.old self.new (IsErr result) }
+        ensures counts { CountsTry (λ d. d.calls) (λ d. d.calls) (λ d. d.tries) (λ d. d.faults) (λ d. false)
+            self.old self.new (IsErr result) }
         ensures later { self.old.calls ≤ self.new.calls }
         ensures size { self.new.blocks ≡ self.old.blocks }
     {

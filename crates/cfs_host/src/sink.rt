@@ -9,7 +9,8 @@ use std::rt::Files;
 use std::{fs, io};
 
 /// A file that is written, or standard output. It tells of its bytes what its writer does: nothing, of the system's
-/// files. It keeps none back: each call is one of the system. One that fails, or takes nothing of some bytes, is a fault.
+/// files. It keeps none back: each call is one of the system. One that fails, or takes nothing of some bytes, is a
+/// fault.
 #[derive(Drop)]
 pub struct FileSink<W> {
     writer: W,

@@ -8,8 +8,8 @@ use std::io::Read;
 use std::rt::Files;
 use std::{fs, io};
 
-/// A file that is read, or standard input. It tells of its bytes what its reader does: nothing, of the system's files. A
-/// call of the system that fails is a fault.
+/// A file that is read, or standard input. It tells of its bytes what its reader does: nothing, of the system's files.
+/// A call of the system that fails is a fault.
 #[derive(Drop)]
 pub struct FileSource<R> {
     reader: R,

@@ -14,7 +14,8 @@ use Rattle.ufs_model.specs.Printed.{reply_line, unread_line}
 use Rattle.cfs_ports.specs.declared.hearing.Heard.{Heard}
 use Rattle.cfs_ports.specs.Heard.{CanBind, Hears}
 
--- the request lines that are left, the names, what is known of the sink, whether it failed, and whether the session has left
+-- the request lines that are left, the names, what is known of the sink, whether it failed, and whether the session
+-- has left
 pub record Reading : Type 0 where
   pub lines : List (List ℕ)
   pub names : NameTable

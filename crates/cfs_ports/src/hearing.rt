@@ -22,7 +22,8 @@ pub enum Heard {
 
 /// Reads a line, and makes room for the name that it may bind.
 pub(crate) fn hear(alloc: Global, line: &[u8], names: &mut Names) -> Heard
-    ensures heard { Hears (reading_of all_forms (names_of names.old) line.now) (name_spoken all_forms (words_of line.now)) result }
+    ensures heard { Hears (reading_of all_forms (names_of names.old) line.now)
+        (name_spoken all_forms (words_of line.now)) result }
     ensures names { names_of names.new ≡ names_of names.old }
     ensures room { CanBind result names.new.room }
 {

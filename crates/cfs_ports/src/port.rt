@@ -68,8 +68,8 @@ fn send<K: Sink>(sink: &mut K, line: &mut Vec<u8>) -> bool
 }
 
 impl<K: Sink> Port<K> {
-    /// The port of a session with this script, of so many request lines. It knows the root index. All memory that replies
-    /// are written in is taken here.
+    /// The port of a session with this script, of so many request lines. It knows the root index. All memory that
+    /// replies are written in is taken here.
     pub fn new(
         alloc: Global,
         root: Puid,

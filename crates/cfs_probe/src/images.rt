@@ -115,6 +115,18 @@ fn picks_of(alloc: Global, waits: &[u32], number: u64) -> Result<Vec<Pick>, Faul
     Ok(picks)
 }
 
+/// The image with this number.
+fn numbered(
+    alloc: Global,
+    disk: &MemoryDisk,
+    at: u64,
+    waits: &[u32],
+    number: u64,
+) -> Result<MemoryDisk, Fault> {
+    let picks = picks_of(alloc, waits, number)?;
+    image(alloc, disk, at, picks.as_slice())
+}
+
 /// What is reached on a disk, once it is opened; why it is not opened else.
 pub fn reading(alloc: Global, disk: MemoryDisk) -> Result<String, Fault> {
     match Core::open(alloc, disk, 0) {
@@ -142,11 +154,8 @@ pub fn readings_at(
 ) -> Result<Vec<String>, Fault> {
     let mut found = Vec::new(alloc);
     for number in 0..count_of(waits)? {
-        let picks = picks_of(alloc, waits, number)?;
-        put_once(
-            &mut found,
-            reading(alloc, image(alloc, disk, at, picks.as_slice())?)?,
-        )?;
+        let text = reading(alloc, numbered(alloc, disk, at, waits, number)?)?;
+        put_once(&mut found, text)?;
     }
     Ok(found)
 }
@@ -204,9 +213,8 @@ pub fn cuts_at(
 ) -> Result<Vec<String>, Fault> {
     let mut found = Vec::new(alloc);
     for number in 0..count_of(waits)? {
-        let picks = picks_of(alloc, waits, number)?;
-        let text = reading(alloc, image(alloc, disk, at, picks.as_slice())?)?;
-        let blocks = blocks_of(alloc, &mut image(alloc, disk, at, picks.as_slice())?)?;
+        let text = reading(alloc, numbered(alloc, disk, at, waits, number)?)?;
+        let blocks = blocks_of(alloc, &mut numbered(alloc, disk, at, waits, number)?)?;
         put_cuts(alloc, blocks.as_slice(), text.as_str(), &mut found)?;
     }
     Ok(found)

@@ -1,34 +1,7 @@
 -- A volume that was tidied has nothing but its objects: each has exactly its blocks, and nothing is open or left over.
-use Rattle.std.proofs.Common.{◌≡◌, ◌⊎◌, inl, inr, ℕ, ◌<◌, Bool, true, false, ◌&&◌, ◌==◌, List, [], length, Option, Some, None, refl, sym, ◌∙◌, ap, subst, arith}
-use Rattle.std.specs.Prelude.{is_some, IsSome}
-use Rattle.std.proofs.lemmas.Bool.{and_from, and_parts, eq-eqb, eqb-true}
-use Rattle.std.proofs.lemmas.Option.{same_Some}
-use Rattle.cfs_base.specs.Disk.{Image, block_at}
-use Rattle.cfs_base.specs.declared.identifier.Puid.{Puid}
-use Rattle.cfs_base.specs.declared.kind.Place.{Place}
+use Rattle.std.proofs.Common.{◌≡◌, ◌⊎◌, inl, inr, ℕ, ◌<◌, Bool, true, false, ◌&&◌, ◌==◌, List, [], length, Option, Some, None, refl, sym, ◌∙◌, ap, subst, arith, is_some}
+use Rattle.cfs_recover.proofs.Words.{Accounts, Allocated, AreCopied, Graph, HasItsBlocks, HasRoot, Holds, Image, IsBlockOf, IsClean, IsHeldIn, IsIn, IsPlaced, IsSome, IsSwept, IsTidied, IsTree, MapEntry, Object, Place, Puid, StandsIn, Tidies, Tree, and_from, and_parts, block_at, block_there, entry_in, eq-eqb, eqb-true, first_or, free_entry, has_block, in_image, is_committed, is_fixed, is_had, is_leaving, is_made, is_meant, is_of, is_placed, is_root, is_root_place, is_stray, is_taken, levels_of, no_shadows, object_at, owner_of, part_at, part_of, place_at, reserved, root_placed, same_Some, same_block, sight, source, taken_apart, tidied, tree_in, tree_placed}
 use Rattle.cfs_base.specs.declared.kind.Place.TheVariants.{Root}
-use Rattle.block_tree.specs.Tree.{levels_of}
-use Rattle.cyl_alloc.specs.Space.{free_entry}
-use Rattle.cyl_map.specs.declared.entry.MapEntry.{MapEntry}
-use Rattle.cyl_map.specs.declared.state.BlockState.TheVariants.{Allocated}
-use Rattle.cyl_map.specs.Volume.{entry_in}
-use Rattle.ufs_model.specs.declared.object.Object.{Object}
-use Rattle.ufs_model.specs.Graph.{Graph, has_block, object_at}
-use Rattle.vol_image.specs.Frame.{IsBlockOf}
-use Rattle.vol_image.specs.Part.{is_committed, is_fixed, part_at, part_of, reserved}
-use Rattle.vol_image.specs.Reading.{IsTree}
-use Rattle.vol_image.specs.Seen.{Tree, place_at, tree_in}
-use Rattle.vol_image.specs.Sight.{first_or, sight, source}
-use Rattle.vol_image.specs.Sound.{Holds}
-use Rattle.vol_image.proofs.AtRoot.{no_shadows}
-use Rattle.vol_image.proofs.Changes.{same_block}
-use Rattle.vol_image.proofs.Parts.{IsPlaced, in_image, root_placed, taken_apart, tree_placed}
-use Rattle.vol_owners.specs.Account.{Accounts, HasItsBlocks, HasRoot, IsSwept, StandsIn}
-use Rattle.vol_owners.specs.Owner.{is_had, is_leaving, is_made, is_meant, is_of, is_placed, is_root, is_root_place, is_stray, is_taken, owner_of}
-use Rattle.vol_owners.proofs.Keys.{block_there}
-use Rattle.cfs_recover.specs.Recovered.{IsClean}
-use Rattle.cfs_recover.specs.Survey.{IsIn}
-use Rattle.cfs_recover.specs.Tidy.{AreCopied, IsHeldIn, IsTidied, Tidies, tidied}
 use Rattle.cfs_recover.proofs.Tidyings.{tidies_hold, tree_same}
 
 module _ (a b : Image) (g : Graph) (held : ℕ → Bool) (holds : Holds a g) (copied : AreCopied a g) (tidies : Tidies a g b) (tidy : IsTidied a g held b) where

@@ -1,12 +1,6 @@
 -- A walk that has found nothing.
 use Rattle.std.proofs.Common.{◌≡◌, ℕ, zero, suc, Bool, false, List, [], length, get_or, replicate, None, refl, sym, ◌∙◌, ap}
-use Rattle.cfs_base.specs.Disk.{Image, block_at}
-use Rattle.cfs_base.specs.declared.identifier.Puid.{Puid}
-use Rattle.vol_image.specs.Fault.{HasLabel}
-use Rattle.vol_label.specs.declared.label.Label.{Label}
-use Rattle.vol_label.proofs.Labels.{says}
-use Rattle.cfs_recover.specs.Found.{ByLabel, IsNamed, IsWalk}
-use Rattle.cfs_recover.specs.declared.found.Walk.{Walk}
+use Rattle.cfs_recover.proofs.Words.{ByLabel, HasLabel, Image, IsNamed, IsWalk, Label, Puid, Walk, block_at, says}
 use Rattle.cfs_recover.proofs.Learning.{walk_begins}
 
 none_held : (n k : ℕ) → get_or (replicate n false) k false ≡ false

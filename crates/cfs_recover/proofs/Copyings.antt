@@ -1,18 +1,6 @@
 -- The list of roots that are to be copied, as one is noted.
 use Rattle.std.proofs.Common.{◌≡◌, ◌≢◌, ◌⊎◌, inl, inr, ℕ, zero, suc, ◌+◌, ◌<◌, ◌≤◌, List, [], ◌∷◌, ◌++◌, length, Option, Some, None, refl, sym, ◌∙◌, ap, subst, arith, append-nil, length-append}
-use Rattle.std.specs.Prelude.{slice_get}
-use Rattle.std.proofs.lemmas.Bool.{cases_lt}
-use Rattle.std.proofs.lemmas.Bool.Decides.{nat_tests}
-use Rattle.std.proofs.lemmas.Grind.{flat_map-append}
-use Rattle.std.proofs.lemmas.Option.{same_Some, slice_get_within}
-use Rattle.cfs_base.specs.Disk.{Image, block_at}
-use Rattle.block_tree.specs.Root.{IsRootBlock}
-use Rattle.vol_image.specs.Sight.{source}
-use Rattle.cfs_recover.specs.Copies.{AreCopies, AreKept, HasCopy, HasKept, Piece, all_pieces, copies_before, moved, pieces_of}
-use Rattle.cfs_recover.specs.Walk.{IsCopy}
-use Rattle.cfs_recover.specs.declared.copies.Copied.{Copied}
-use Rattle.cfs_recover.specs.declared.found.Found.{Found}
-use Rattle.cfs_recover.specs.declared.head.Head.{Head}
+use Rattle.cfs_recover.proofs.Words.{AreCopies, AreKept, Copied, Found, HasCopy, HasKept, Head, Image, IsCopy, IsRootBlock, Piece, all_pieces, block_at, cases_lt, copies_before, flat_map-append, moved, nat_tests, pieces_of, same_Some, slice_get, slice_get_within, source}
 use Rattle.cfs_recover.proofs.Noting.{push_from, push_new, push_old}
 
 past_none : {A : Type 0} (xs : List A) (k : ℕ) → slice_get xs k ≡ None → length xs ≤ k

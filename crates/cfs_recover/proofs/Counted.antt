@@ -1,33 +1,6 @@
 -- How many blocks a finished walk holds: those that the graph's objects take.
 use Rattle.std.proofs.Common.{◌≡◌, ◌⊎◌, inl, inr, ℕ, zero, suc, ◌+◌, ◌*◌, ◌≤◌, Bool, true, false, ◌&&◌, ◌==◌, List, [], ◌∷◌, length, get_or, count_by, Some, None, refl, sym, ◌∙◌, ap, subst, arith}
-use Rattle.std.specs.List.{range_with_len, sum_by}
-use Rattle.std.proofs.lemmas.Bool.{and_from, and_parts, eq-eqb, eqb-true}
-use Rattle.std.proofs.lemmas.List.Sums.{sum_by-cons}
-use Rattle.cfs_base.specs.Disk.{Image, block_at}
-use Rattle.cfs_base.specs.declared.identifier.Puid.{Puid}
-use Rattle.vol_label.specs.declared.label.Label.{Label}
-use Rattle.block_tree.specs.Tree.{levels_of}
-use Rattle.cyl_map.specs.Volume.{entry_in}
-use Rattle.ufs_model.specs.declared.object.Object.{Object}
-use Rattle.ufs_model.specs.Graph.{Graph, has_block, object_at}
-use Rattle.ufs_model.specs.Object.{blocks_of}
-use Rattle.vol_image.specs.Fault.{shown_tree}
-use Rattle.vol_image.specs.Seen.{tree_in}
-use Rattle.vol_image.specs.Sight.{sight, source}
-use Rattle.vol_image.specs.Sound.{Holds, LeavesFour, graph_blocks}
-use Rattle.vol_image.proofs.Changes.{same_block}
-use Rattle.vol_image.proofs.Counts.{blocks_are}
-use Rattle.vol_image.proofs.Parts.{below_apart, in_image, root_placed, tree_placed}
-use Rattle.vol_owners.specs.Account.{StandsIn}
-use Rattle.vol_owners.specs.Owner.{owner_of}
-use Rattle.vol_owners.specs.Room.{one_of}
-use Rattle.vol_owners.proofs.Keys.{block_there, count_owned, owned_sum_by, sum_objects}
-use Rattle.vol_owners.proofs.Owned.{count_with_tree}
-use Rattle.vol_owners.proofs.Standing.{levels_all}
-use Rattle.vol_owners.proofs.Sums.{count_in, run-suc, sum_each, sum_run}
-use Rattle.cfs_recover.specs.Found.{IsNoted, IsWalk, holds}
-use Rattle.cfs_recover.specs.Grounds.{AreGrounds}
-use Rattle.cfs_recover.specs.declared.found.Walk.{Walk}
+use Rattle.cfs_recover.proofs.Words.{AreGrounds, Graph, Holds, Image, IsNoted, IsWalk, Label, LeavesFour, Object, Puid, StandsIn, Walk, and_from, and_parts, below_apart, block_at, block_there, blocks_are, blocks_of, count_in, count_owned, count_with_tree, entry_in, eq-eqb, eqb-true, graph_blocks, has_block, holds, in_image, levels_all, levels_of, object_at, one_of, owned_sum_by, owner_of, range_with_len, root_placed, run-suc, same_block, shown_tree, sight, source, sum_by, sum_by-cons, sum_each, sum_objects, sum_run, tree_in, tree_placed}
 use Rattle.cfs_recover.proofs.Finished.{all_taken, held_in, in_held, walk_holds}
 
 -- ---- marks

@@ -1,31 +1,6 @@
 -- A walk that took all that it found: the volume is sound, or has a fault.
 use Rattle.std.proofs.Common.{◌≡◌, ◌⊎◌, inl, inr, ℕ, ◌*◌, true, List, length, Some, None, refl, sym, ◌∙◌, ap, subst}
-use Rattle.std.specs.Prelude.{IsSome}
-use Rattle.std.proofs.lemmas.Option.{slice_get_within}
-use Rattle.cfs_base.specs.Disk.{Image, block_at}
-use Rattle.cfs_base.specs.declared.identifier.Puid.{Puid}
-use Rattle.cfs_base.specs.declared.kind.Kind.{Kind}
-use Rattle.vol_label.specs.declared.label.Label.{Label}
-use Rattle.vol_label.proofs.Labels.{says}
-use Rattle.block_tree.specs.declared.root.Root.{Root}
-use Rattle.block_tree.specs.Root.{IsRootBlock}
-use Rattle.ufs_model.specs.declared.object.Object.{Object}
-use Rattle.ufs_model.specs.Graph.{Graph, graph_pairs, has_pair, is_there, object_at, referred}
-use Rattle.ufs_model.specs.Identifier.{is_among}
-use Rattle.ufs_model.specs.Reach.{rooted}
-use Rattle.ufs_model.proofs.Graphs.{index_has_pair, object_there, pair_from_index}
-use Rattle.vol_image.specs.Fault.{Fault, HasLabel, IsReached, IsRootIndex, Next, Shows, TheRoot, shown_tree}
-use Rattle.vol_image.specs.Reading.{leaf_in, object_with}
-use Rattle.vol_image.specs.Sight.{sight, source}
-use Rattle.vol_image.specs.Sound.{Holds, IsClosedGraph, IsSoundAs, LeavesFour}
-use Rattle.vol_image.proofs.Rooted.{root_is_rooted, rooted_is_closed}
-use Rattle.vol_image.proofs.Unique.{found_next, one_root_block, one_root_index}
-use Rattle.vol_owners.specs.Account.{StandsIn}
-use Rattle.cfs_recover.specs.Entries.{damage}
-use Rattle.cfs_recover.specs.Found.{IsFault, IsNoted, IsTaken, IsWalk, holds}
-use Rattle.cfs_recover.specs.Grounds.{AreGrounds}
-use Rattle.cfs_recover.specs.Survey.{IsIn}
-use Rattle.cfs_recover.specs.declared.found.Walk.{Walk}
+use Rattle.cfs_recover.proofs.Words.{AreGrounds, Fault, Graph, HasLabel, Holds, Image, IsClosedGraph, IsFault, IsIn, IsNoted, IsReached, IsRootBlock, IsRootIndex, IsSome, IsSoundAs, IsTaken, IsWalk, Kind, Label, LeavesFour, Next, Object, Puid, Root, Shows, StandsIn, TheRoot, Walk, block_at, damage, found_next, graph_pairs, has_pair, holds, index_has_pair, is_among, is_there, leaf_in, object_at, object_there, object_with, one_root_block, one_root_index, pair_from_index, referred, root_is_rooted, rooted, rooted_is_closed, says, shown_tree, sight, slice_get_within, source}
 use Rattle.cfs_recover.proofs.Listings.{listed}
 use Rattle.cfs_recover.proofs.Named.{named_nothing}
 use Rattle.cfs_recover.proofs.Noting.{listed_there, there_listed}

@@ -1,29 +1,6 @@
 -- What the maps in memory say of the entries of the image.
 use Rattle.std.proofs.Common.{◌≡◌, inl, inr, ℕ, ◌+◌, ◌*◌, ◌/◌, ◌%◌, ◌<◌, ◌≤◌, true, List, [], ◌∷◌, ◌++◌, length, get_or, Option, Some, None, refl, sym, ◌∙◌, ap, subst, arith}
-use Rattle.std.specs.Prelude.{slice_get, IsSome}
-use Rattle.std.proofs.Math.Seq.{get_or-append_seam}
-use Rattle.std.proofs.lemmas.Bool.{cases_lt}
-use Rattle.std.proofs.lemmas.List.{get_or_append_left}
-use Rattle.std.proofs.lemmas.Option.{same_Some, slice_get-get_or}
-use Rattle.cfs_base.specs.Disk.{Image, block_at}
-use Rattle.cfs_base.specs.Run.{Tells}
-use Rattle.cfs_base.specs.declared.disk.Disk.{Ghosts}
-use Rattle.cfs_base.specs.declared.refusal.Damage.{Damage}
-use Rattle.vol_label.specs.declared.label.Label.{Label}
-use Rattle.cyl_map.specs.declared.entry.MapEntry.{MapEntry}
-use Rattle.cyl_map.specs.Map.{IsMap, map_spelling}
-use Rattle.cyl_map.specs.Volume.{entry_in, map_of, AreMaps}
-use Rattle.cyl_map.proofs.Maps.{entries_read}
-use Rattle.cyl_map.proofs.Volumes.{map_in_image}
-use Rattle.cyl_alloc.specs.Maps.{IsMapOf}
-use Rattle.cyl_alloc.specs.Refusals.{IsNoMap}
-use Rattle.cyl_alloc.specs.Space.{IsBadMap}
-use Rattle.vol_image.specs.Fault.{Fault, HasLabel}
-use Rattle.vol_image.specs.Part.{is_fixed, reserved}
-use Rattle.cfs_recover.specs.Entries.{EntryFault, MayStand, damage}
-use Rattle.cfs_recover.specs.Found.{IsFault}
-use Rattle.cfs_recover.specs.Grounds.{AllMapsStand, AreGrounds, HasEntryFault}
-use Rattle.cfs_recover.specs.Stored.{AreMapsOf, Stores}
+use Rattle.cfs_recover.proofs.Words.{AllMapsStand, AreGrounds, AreMaps, AreMapsOf, Damage, EntryFault, Fault, Ghosts, HasEntryFault, HasLabel, Image, IsBadMap, IsFault, IsMap, IsMapOf, IsNoMap, IsSome, Label, MapEntry, MayStand, Stores, Tells, block_at, cases_lt, damage, entries_read, entry_in, get_or-append_seam, get_or_append_left, is_fixed, map_in_image, map_of, map_spelling, reserved, same_Some, slice_get, slice_get-get_or}
 use Rattle.cfs_recover.proofs.InMemory.{entry_is}
 
 -- ---- one map

@@ -1,18 +1,6 @@
 -- The root by which an object is read, from the entries in memory.
 use Rattle.std.proofs.Common.{◌≡◌, ℕ, ◌/◌, ◌%◌, ◌<◌, true, false, List, [], ◌∷◌, length, get_or, Some, refl, sym, ◌∙◌, ap, subst, arith}
-use Rattle.std.specs.Prelude.{slice_get}
-use Rattle.ufs_model.proofs.Rising.{here}
-use Rattle.cfs_base.specs.Disk.{Image, block_at}
-use Rattle.block_tree.specs.declared.root.Root.{Root}
-use Rattle.block_tree.specs.Root.{IsRootBlock}
-use Rattle.cyl_map.specs.declared.entry.MapEntry.{MapEntry}
-use Rattle.ufs_model.specs.Numbers.{has_number}
-use Rattle.vol_image.specs.Part.{part_of, part_at, is_committed}
-use Rattle.vol_image.specs.Sight.{shadows, first_or}
-use Rattle.cfs_recover.specs.Checks.{HasNoneLike, HeadFault, IsHead, IsLike}
-use Rattle.cfs_recover.specs.Entries.{AreStanding, IsShadow, damage, standing_below}
-use Rattle.cfs_recover.specs.Standing.{Shadow}
-use Rattle.cfs_recover.specs.Stored.{AreMapsOf}
+use Rattle.cfs_recover.proofs.Words.{AreMapsOf, AreStanding, HasNoneLike, HeadFault, Image, IsHead, IsLike, IsRootBlock, IsShadow, MapEntry, Root, Shadow, block_at, damage, first_or, has_number, here, is_committed, part_at, part_of, shadows, slice_get, standing_below}
 use Rattle.cfs_recover.specs.declared.standing.Shadow.TheVariants as shadow
 use Rattle.cfs_recover.proofs.InMemory.{part_is}
 

@@ -1,12 +1,6 @@
 -- Entries of an image, by its maps in memory.
 use Rattle.std.proofs.Common.{◌≡◌, ℕ, ◌/◌, ◌%◌, ◌<◌, List, [], length, get_or, Some, sym, ◌∙◌, ap, arith}
-use Rattle.std.specs.Prelude.{slice_get}
-use Rattle.cfs_base.specs.Disk.{Image, block_at}
-use Rattle.cyl_map.specs.declared.entry.MapEntry.{MapEntry}
-use Rattle.cyl_map.specs.Volume.{map_of, entry_in}
-use Rattle.cyl_map.proofs.Maps.{entries_read}
-use Rattle.vol_image.specs.Part.{part_of, part_at}
-use Rattle.cfs_recover.specs.Stored.{AreMapsOf}
+use Rattle.cfs_recover.proofs.Words.{AreMapsOf, Image, MapEntry, block_at, entries_read, entry_in, map_of, part_at, part_of, slice_get}
 
 module _ (image : Image) (maps : List (List MapEntry)) (are : AreMapsOf image maps) (n : ℕ) (inside : n < length image) where
   pub entry_is : entry_in image n ≡ slice_get (get_or maps (n / 64) []) (n % 64)

@@ -1,21 +1,6 @@
 -- Runs of writes, every image of which has one property: one lemma for each call.
 use Rattle.std.proofs.Common.{◌≡◌, ◌⊎◌, inl, inr, ⊎_elim, ℕ, ◌+◌, ◌<◌, IsTrue, List, [], length, set, Some, refl, sym, ◌∙◌, ap, subst, arith, get_or-set_same, get_or-set_other}
-use Rattle.std.specs.Prelude.{slice_get}
-use Rattle.std.proofs.lemmas.Bool.{cases_eq, cases_lt}
-use Rattle.std.proofs.lemmas.Option.{same_Some, slice_get_within}
-use Rattle.cfs_base.specs.Disk.{Image, IsSameDisk, Written, block_at}
-use Rattle.cfs_base.specs.Run.{IsSettled, Leaves, left_now}
-use Rattle.cfs_base.specs.declared.disk.Disk.{Ghosts}
-use Rattle.cfs_base.specs.Calls.{MakesAtMost}
-use Rattle.cfs_base.proofs.Runs.{on, then, wider}
-use Rattle.block_tree.specs.Root.{root_spelling}
-use Rattle.ufs_model.specs.Graph.{Graph}
-use Rattle.vol_image.specs.Sight.{source}
-use Rattle.vol_image.specs.Sound.{Holds}
-use Rattle.cfs_recover.specs.Keeps.{AreAllCopies, AreCopiesOf, AreWritten, IsCopyOf, Keeps, Leads}
-use Rattle.cfs_recover.specs.Recovered.{IsUntouched}
-use Rattle.cfs_recover.specs.Tidy.{AreCopied, CopiesRoots}
-use Rattle.cfs_recover.specs.declared.copies.Copied.{Copied}
+use Rattle.cfs_recover.proofs.Words.{AreAllCopies, AreCopied, AreCopiesOf, AreWritten, Copied, CopiesRoots, Ghosts, Graph, Holds, Image, IsCopyOf, IsSameDisk, IsSettled, IsUntouched, Keeps, Leads, Leaves, MakesAtMost, Written, block_at, cases_eq, cases_lt, left_now, on, root_spelling, same_Some, slice_get, slice_get_within, source, then, wider}
 use Rattle.cfs_recover.proofs.Tidyings.{copied_content, copies_write}
 
 module _ {D : Type 0} (g : Ghosts D) (P : Image → Type 0) where

@@ -1,17 +1,6 @@
 -- One item of the list, as the roots that were kept are copied.
-use Rattle.std.proofs.Common.{◌≡◌, ◌≢◌, ℕ, suc, ◌+◌, ◌<◌, List, ◌∷◌, ◌++◌, length, drop, get_or, Some, sym, ◌∙◌, ap, arith}
-use Rattle.std.specs.Prelude.{slice_get}
-use Rattle.std.proofs.Math.Seq.{drop-cons}
-use Rattle.std.proofs.lemmas.Option.{get_or_from_slice_get, slice_get-get_or, slice_get_within}
-use Rattle.cfs_base.specs.Disk.{Image}
-use Rattle.cyl_map.specs.declared.entry.MapEntry.{MapEntry}
-use Rattle.ufs_model.specs.Graph.{Graph}
-use Rattle.vol_image.specs.Sight.{source}
-use Rattle.cfs_recover.specs.Copies.{all_pieces, copies_before, pieces_of}
-use Rattle.cfs_recover.specs.Keeps.{AreKeptFor, IsNamedCopy}
-use Rattle.cfs_recover.specs.declared.copies.Copied.{Copied}
-use Rattle.cfs_recover.specs.declared.found.Found.{Found}
-use Rattle.cfs_recover.specs.declared.survey.Walked.{Walked}
+use Rattle.std.proofs.Common.{◌≡◌, ◌≢◌, ℕ, suc, ◌+◌, ◌<◌, List, ◌++◌, length, drop, get_or, Some, sym, ◌∙◌, ap, arith}
+use Rattle.cfs_recover.proofs.Words.{AreKeptFor, Copied, Found, Graph, Image, IsNamedCopy, MapEntry, Walked, all_pieces, copies_before, drop-cons, get_or_from_slice_get, pieces_of, slice_get, slice_get-get_or, slice_get_within, source}
 use Rattle.cfs_recover.proofs.Copyings.{before_more, moved_none, moved_one}
 
 pieces_next : (copies : List Copied) (n : ℕ) (c : Copied) → slice_get copies n ≡ Some c → all_pieces (drop n copies) ≡ pieces_of c.root ++ all_pieces (drop (n + 1) copies)

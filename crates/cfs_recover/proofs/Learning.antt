@@ -1,26 +1,6 @@
 -- A walk that begins, and one that learns of what kind an object is.
 use Rattle.std.proofs.Common.{◌≡◌, ◌⊎◌, inl, inr, ℕ, ◌+◌, Bool, true, false, cond, ◌||◌, not, List, [], ◌∷◌, length, get_or, Some, None, refl, sym, ◌∙◌, ap, subst, arith}
-use Rattle.std.specs.Prelude.{slice_get, IsSome, filter}
-use Rattle.std.specs.BTreeMap.{insert_entry}
-use Rattle.std.proofs.Math.Path.{fun_ext}
-use Rattle.std.proofs.lemmas.Bool.{cases_lt}
-use Rattle.std.proofs.lemmas.Option.{same_Some, slice_get_within}
-use Rattle.cfs_base.specs.Disk.{Image}
-use Rattle.cfs_base.specs.declared.identifier.Puid.{Puid}
-use Rattle.cfs_base.specs.declared.kind.Kind.{Kind}
-use Rattle.vol_label.specs.declared.label.Label.{Label}
-use Rattle.ufs_model.specs.declared.object.Object.{Object}
-use Rattle.ufs_model.specs.Graph.{Graph, object_at, with_object, without}
-use Rattle.ufs_model.specs.Identifier.{is_among, puid_cmp, same_puid}
-use Rattle.ufs_model.proofs.Graphs.{object_at-with_object, object_at-without, rises-with_object, rises-without}
-use Rattle.ufs_model.proofs.Reached.{same_puid_is, same_puid_itself}
-use Rattle.vol_image.specs.Fault.{HasLabel}
-use Rattle.puid_space.specs.Directory.{Listing, is_listing, without_id}
-use Rattle.puid_space.specs.Kinds.{kind_of, kinds_of}
-use Rattle.puid_space.proofs.Graphs.{kinds_in-filter, kinds_in-insert_entry}
-use Rattle.cfs_recover.specs.Found.{Grows, IsNext, IsTaken, IsWalk, holds, lists}
-use Rattle.cfs_recover.specs.declared.found.Found.{Found}
-use Rattle.cfs_recover.specs.declared.found.Walk.{Walk}
+use Rattle.cfs_recover.proofs.Words.{Found, Graph, Grows, HasLabel, Image, IsNext, IsSome, IsTaken, IsWalk, Kind, Label, Listing, Object, Puid, Walk, cases_lt, filter, fun_ext, holds, insert_entry, is_among, is_listing, kind_of, kinds_in-filter, kinds_in-insert_entry, kinds_of, lists, object_at, object_at-with_object, object_at-without, puid_cmp, rises-with_object, rises-without, same_Some, same_puid, same_puid_is, same_puid_itself, slice_get, slice_get_within, with_object, without, without_id}
 use Rattle.cfs_recover.proofs.Listings.{is_alone, left, listed, listed_from, put_again}
 use Rattle.cfs_recover.proofs.Noting.{clash_on, found_on, listed_there, taken_on}
 

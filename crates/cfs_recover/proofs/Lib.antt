@@ -30,3 +30,4 @@ pub mod TidyCylinders
 pub mod Writing
 pub mod Recovering
 pub mod Opening
+mod Words

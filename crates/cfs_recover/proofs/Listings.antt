@@ -1,19 +1,6 @@
 -- The identifiers of a directory: which are listed, and what its order says of them.
-use Rattle.std.proofs.Common.{◌≡◌, ◌≢◌, inl, inr, ◌<◌, Bool, true, false, cond, ◌&&◌, ◌==◌, not, List, [], ◌∷◌, None, refl, sym, ◌∙◌, ap, subst, arith}
-use Rattle.std.specs.Prelude.{is_some, nat_lt}
-use Rattle.std.specs.List.{list_all, list_any}
-use Rattle.std.specs.BTreeMap.{insert_entry, is_at}
-use Rattle.std.specs.Map.{keys_of}
-use Rattle.std.proofs.lemmas.Bool.{and_parts, or_cases, or_right, ne_eqb}
-use Rattle.std.proofs.lemmas.Bool.Decides.{nat_tests}
-use Rattle.std.proofs.lemmas.Map.Made.{is_some-lookup}
-use Rattle.std.proofs.lemmas.Map.Entries.{lookup-filter-keys}
-use Rattle.cfs_base.specs.declared.identifier.Puid.{Puid}
-use Rattle.cfs_base.specs.declared.kind.Kind.{Kind}
-use Rattle.ufs_model.specs.Identifier.{puid_cmp, same_puid, is_among, rises}
-use Rattle.ufs_model.proofs.Entries.{lookup-insert_entry, lookup-insert_same}
-use Rattle.ufs_model.proofs.Reached.{among_itself, each_among, same_puid_is, same_puid_itself}
-use Rattle.puid_space.specs.Directory.{Listing, kind_in, has_root_in, without_id, blocks_rise, is_listing}
+use Rattle.std.proofs.Common.{◌≡◌, ◌≢◌, inl, inr, ◌<◌, Bool, true, false, cond, ◌&&◌, ◌==◌, not, List, [], ◌∷◌, None, refl, sym, ◌∙◌, ap, subst, arith, is_some}
+use Rattle.cfs_recover.proofs.Words.{Kind, Listing, Puid, among_itself, and_parts, blocks_rise, each_among, has_root_in, insert_entry, is_among, is_at, is_listing, is_some-lookup, keys_of, kind_in, list_all, list_any, lookup-filter-keys, lookup-insert_entry, lookup-insert_same, nat_lt, nat_tests, ne_eqb, or_cases, or_right, puid_cmp, rises, same_puid, same_puid_is, same_puid_itself, without_id}
 
 abbrev pub listed : List (Puid × Kind) → Puid → Bool
 listed named x = is_some (kind_in named x)

@@ -1,19 +1,7 @@
 -- An identifier that a block of the volume names: whether it is reached, and the faults that are found at its root block.
 use Rattle.std.proofs.Common.{◌≡◌, ◌≢◌, ℕ, ◌<◌, length, sym, ◌∙◌, ap, subst, arith}
-use Rattle.cfs_base.specs.Disk.{Image, block_at}
-use Rattle.cfs_base.specs.declared.identifier.Puid.{Puid}
-use Rattle.cfs_base.specs.declared.refusal.Damage.{Damage}
-use Rattle.block_tree.specs.declared.root.Root.{Root}
-use Rattle.block_tree.specs.Root.{IsRootBlock}
-use Rattle.ufs_model.specs.declared.object.Object.{Object}
+use Rattle.cfs_recover.proofs.Words.{ByLabel, BySlot, Damage, Fault, HasNoRoot, HeadFault, Image, IsFault, IsNamed, IsReached, IsRootBlock, IsRootIndex, Names, NamesNothing, Next, Object, Puid, Root, Shows, TheRoot, block_at, damage, one_root_block, only_one, refers_at, shadows, source}
 use Rattle.ufs_model.specs.declared.object.Object.TheVariants as objects
-use Rattle.vol_image.specs.Fault.{Fault, IsReached, IsRootIndex, Names, NamesNothing, Next, Shows, TheRoot}
-use Rattle.vol_image.specs.Sight.{shadows, source}
-use Rattle.vol_image.proofs.Faults.{only_one, refers_at}
-use Rattle.vol_image.proofs.Unique.{one_root_block}
-use Rattle.cfs_recover.specs.Checks.{HasNoRoot, HeadFault}
-use Rattle.cfs_recover.specs.Entries.{damage}
-use Rattle.cfs_recover.specs.Found.{ByLabel, BySlot, IsFault, IsNamed}
 
 pub named_nothing : (image : Image) (id : Puid) (by : ℕ) → IsNamed image id by → NamesNothing image id → IsFault image (damage by 6)
 named_nothing image id by (ByLabel label has is) nothing = Fault.LabelNamesNothing label has (subst (λ (x : Puid). NamesNothing image x) (sym is) nothing)

@@ -1,29 +1,8 @@
 -- What a walk has found, as one identifier is noted, and a block is held.
-use Rattle.std.proofs.Common.{◌≡◌, ◌≢◌, ◌⊎◌, inl, inr, ℕ, zero, suc, ◌<◌, ◌≤◌, Bool, true, false, cond, List, [], ◌∷◌, ◌++◌, length, get_or, set, Option, Some, None, refl, sym, ◌∙◌, ap, subst, arith, get_or-set_same, get_or-set_other, length-append}
-use Rattle.std.specs.Prelude.{slice_get, is_some, IsSome, option_map, ◌==◌}
-use Rattle.std.specs.BTreeMap.{insert_entry}
-use Rattle.std.specs.Map.{keys_of}
-use Rattle.std.specs.List.{list_any}
-use Rattle.std.proofs.lemmas.Bool.{cases_eq, eqb-true, false_from_ne_true, or_cases, or_right}
-use Rattle.std.proofs.lemmas.Option.{same_Some}
-use Rattle.cfs_base.specs.Disk.{Image}
-use Rattle.cfs_base.specs.declared.identifier.Puid.{Puid}
-use Rattle.cfs_base.specs.declared.kind.Kind.{Kind}
+use Rattle.std.proofs.Common.{◌≡◌, ◌≢◌, ◌⊎◌, inl, inr, ℕ, zero, suc, ◌<◌, ◌≤◌, Bool, true, false, cond, List, [], ◌∷◌, ◌++◌, length, get_or, set, Option, Some, None, refl, sym, ◌∙◌, ap, subst, arith, get_or-set_same, get_or-set_other, length-append, is_some, ◌==◌}
+use Rattle.cfs_recover.proofs.Words.{Found, Graph, Grows, Image, IsClash, IsFound, IsKept, IsNamed, IsSized, IsSome, IsTaken, IsWalk, Kind, Listing, Object, Puid, Walk, among_itself, cases_eq, eqb-true, false_from_ne_true, has_root_in, holds, insert_entry, is_among, is_there, keys_of, kind_in-kinds_in, kind_of, kinds_in-insert_entry, kinds_of, list_any, lists, new_index, object_at, object_at-with_object, option_map, or_cases, or_right, puid_cmp, rises-with_object, same_Some, same_puid, same_puid_is, slice_get, with_object}
 use Rattle.cfs_base.specs.declared.kind.Kind.TheVariants as kinds
-use Rattle.ufs_model.specs.declared.object.Object.{Object}
 use Rattle.ufs_model.specs.declared.object.Object.TheVariants as objects
-use Rattle.ufs_model.specs.Graph.{Graph, is_there, object_at, with_object}
-use Rattle.ufs_model.specs.Identifier.{is_among, puid_cmp, same_puid}
-use Rattle.ufs_model.specs.Object.{new_index}
-use Rattle.ufs_model.proofs.Graphs.{object_at-with_object, rises-with_object}
-use Rattle.ufs_model.proofs.Reached.{among_itself, same_puid_is}
-use Rattle.puid_space.specs.Directory.{Listing, has_root_in}
-use Rattle.puid_space.specs.Kinds.{kind_of, kinds_of}
-use Rattle.puid_space.proofs.Graphs.{kind_in-kinds_in, kinds_in-insert_entry}
-use Rattle.cfs_recover.specs.Found.{Grows, IsClash, IsFound, IsKept, IsNamed, IsTaken, IsWalk, holds, lists}
-use Rattle.cfs_recover.specs.Sized.{IsSized}
-use Rattle.cfs_recover.specs.declared.found.Found.{Found}
-use Rattle.cfs_recover.specs.declared.found.Walk.{Walk}
 use Rattle.cfs_recover.proofs.Good.{noted_on}
 use Rattle.cfs_recover.proofs.Listings.{has_root, listed, listed_from, listed_is, listed_new, listed_then}
 

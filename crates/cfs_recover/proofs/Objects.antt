@@ -1,150 +1,149 @@
--- An object that is read: where its nodes and leaves stand, and which faults of the volume are found in them.
-use Rattle.std.proofs.Common.{◌≡◌, ◌≢◌, inr, ℕ, ◌+◌, ◌*◌, ◌/◌, ◌%◌, ◌<◌, ◌≤◌, List, [], ◌∷◌, length, Option, Some, None, refl, sym, ◌∙◌, ap, subst, arith}
-use Rattle.std.specs.Prelude.{slice_get, unwrap_or}
-use Rattle.cfs_base.specs.Disk.{Image, block_at}
-use Rattle.cfs_base.specs.declared.identifier.Puid.{Puid}
+-- A block of an object that is read: where it stands, and which faults of the volume are found in it.
+use Rattle.std.proofs.Common.{◌≡◌, ◌≢◌, inl, inr, ℕ, ◌+◌, ◌-◌, ◌*◌, ◌/◌, ◌%◌, ◌<◌, ◌≤◌, List, [], ◌∷◌, ◌++◌, length, get_or, Option, Some, None, refl, sym, ◌∙◌, ap, subst, arith, append_assoc, append-nil, length-append}
+use Rattle.cfs_recover.proofs.Words.{AreNamed, BelongsTo, BySlot, Damage, Fault, HasBlock, HasPointers, Image, IsFault, IsKept, IsNotFilled, IsShown, Level, Object, Place, Puid, Root, Shows, SpotFault, Twig, block_at, cases_lt, content_is, content_of, damage, digits_below, div-mul-add, end_of, get_or_past, held, held_at, held_there, holder, index_to_leaves, leaf_content, leaf_in, leaf_pointers, leaves_in, length-path_to, levels_below, levels_of, mod-mul-add, node_pointers, nodes_of, part_at, path_more, path_to, place_above, place_at, place_from, pointer, pointers_of, shown, shown_tree, slice_get, slot_in, slot_of, some_index, tree_of, unwrap_or, width, width_more}
 use Rattle.cfs_base.specs.declared.kind.Kind.TheVariants as kinds
-use Rattle.cfs_base.specs.declared.kind.Place.{Place}
-use Rattle.cfs_base.specs.declared.kind.Place.TheVariants as places
-use Rattle.cfs_base.specs.declared.refusal.Damage.{Damage}
-use Rattle.block_tree.specs.declared.root.Root.{Root}
-use Rattle.block_tree.specs.Pointers.{node_pointers, leaf_pointers, pointers_of}
-use Rattle.block_tree.specs.Tree.{levels_of, pointer}
-use Rattle.block_tree.proofs.Spellings.{nodes_of}
-use Rattle.block_tree.proofs.Trees.{node_block}
-use Rattle.ufs_model.specs.declared.object.Object.{Object}
-use Rattle.ufs_model.specs.Object.{leaves_in, slot_of}
-use Rattle.vol_image.specs.Fault.{Fault, Shows, shown_tree}
-use Rattle.vol_image.specs.Part.{BelongsTo, part_at}
-use Rattle.vol_image.specs.Reading.{leaf_content, leaf_in, slot_in}
-use Rattle.vol_image.specs.Seen.{held_at, place_at}
-use Rattle.vol_image.specs.Sight.{source}
-use Rattle.vol_image.proofs.Views.{held}
-use Rattle.leaf_changes.proofs.Contents.{content_is}
-use Rattle.leaf_changes.proofs.Given.{index_to_leaves, some_index}
-use Rattle.cfs_recover.specs.Checks.{IsNotFilled, SpotFault}
-use Rattle.cfs_recover.specs.Found.{AreNamed, BySlot, IsFault, IsKept}
-use Rattle.cfs_recover.specs.Entries.{damage}
-use Rattle.cfs_recover.specs.Walk.{HasLeaf, HasNode, IsShown, leaf_of, shown}
-use Rattle.cfs_recover.proofs.Trees.{inside, leaf_at_path, leaf_end, leaf_held, node_held, place_leaf, place_node}
+use Rattle.cfs_recover.proofs.Trees.{down, holder_is, length-pointers, one_more, place_on}
 
-short : (c : List ℕ) (a : ℕ) → length (a ∷ []) < length (levels_of c)
-unfolding levels_of
-short c a = omega arith
+-- the pointers of a root are those that its block has
+pub root_pointers : (image : Image) (id : Puid) (from : ℕ) (root : Root) → IsShown image id from root → root.nodes ≡ pointers_of node_pointers (content_of image id)
+root_pointers image id from root is = nodes_of root is.shows.spelled.good.0 ∙ ap (pointers_of node_pointers) (sym is.shows.spelled.spelled)
 
--- the nodes of a root are those that its block has
-pub nodes_are : (image : Image) (id : Puid) (from : ℕ) (root : Root) → IsShown image id from root → root.nodes ≡ pointers_of node_pointers (block_at image from)
-nodes_are image id from root is =
-    nodes_of root is.shows.spelled.good.0 ∙ ap (pointers_of node_pointers) (sym is.shows.spelled.spelled ∙ ap (block_at image) (sym is.from_is))
-
--- ---- a node
-
-module _ (image : Image) (owner : ℕ) (root : Root) (from k p : ℕ) (node : HasNode image owner root from k p) where
+module _ (image : Image) (owner : ℕ) (root : Root) (twig : Twig) (has : HasBlock image owner root twig) where
   abbrev id : Puid
-  id = node.read.id
+  id = has.from.read.id
 
   abbrev content : List ℕ
-  content = block_at image (source image id.block)
-
-  abbrev o : Object
-  o = shown image id root
-
-  node_is : pointer node_pointers content k ≡ p
-  node_is = ap (λ (n : ℕ). pointer node_pointers (block_at image n) k) (sym node.read.shown.from_is) ∙ node.here
-
-  node_some : pointer node_pointers content k ≢ 0
-  node_some none = node.some (sym node_is ∙ none)
-
-  pub node_stands : (shown_tree image id.block).below (k ∷ []) ≡ Some (held image p)
-  node_stands = node_held image content k node_some ∙ ap (λ (n : ℕ). Some (held image n)) node_is
-
-  pub node_kept : IsKept image p
-  node_kept = record { id = id; reached = node.read.shown.reached; here = inr (record { path = k ∷ []; held = held image p; there = node_stands; is = refl }) }
-
-  pub node_fault : (d : Damage) → SpotFault image (record { holder = from; block = p; owner = owner; place = places.Node k }) d → IsFault image d
-  node_fault d (SpotFault.PastDisk past) =
-      subst (λ (n : ℕ). Fault image 4 n) (sym node.read.shown.from_is)
-      (Fault.PastDisk id root o [] k node.read.shown.reached node.read.shown.shows (omega (arith, past, node_block image content k, node_is)))
-  node_fault d (SpotFault.NotOwned below not) =
-      Fault.NotOwned id root o (k ∷ []) (held image p) node.read.shown.reached node.read.shown.shows node_stands below
-      (λ (is : BelongsTo id.block (place_at (levels_of content) (k ∷ [])) (part_at image p)). not
-      (subst (λ (r : ℕ). BelongsTo r (places.Node k) (part_at image p)) (sym node.read.owner_is)
-      (subst (λ (q : Place). BelongsTo id.block q (part_at image p)) (place_node content k) is)))
-
-  pub dead_end : p < length image → ((j : ℕ) → leaf_of image p j ≡ 0) → IsFault image (damage p 10)
-  dead_end below none =
-      Fault.DeadEnd id root o (k ∷ []) (held image p) node.read.shown.reached node.read.shown.shows node_stands below (short content k)
-      (λ j. ap (held_at image) (leaf_end image content k j node_some ∙ ap (λ (n : ℕ). pointer leaf_pointers (block_at image n) j) node_is ∙ none j))
-
--- ---- a leaf
-
-module _ (image : Image) (owner : ℕ) (root : Root) (k p j q : ℕ) (has : HasLeaf image owner root k p j q) where
-  abbrev owner_id : Puid
-  owner_id = has.node.read.id
-
-  abbrev its : List ℕ
-  its = block_at image (source image owner_id.block)
-
-  abbrev its_node : ℕ
-  its_node = pointer node_pointers its k
+  content = content_of image id
 
   abbrev object : Object
-  object = shown image owner_id root
+  object = shown image id root
 
-  at_node : its_node ≡ p
-  at_node = node_is image owner root has.from k p has.node
+  -- the path that ends at it, and the levels on it
+  abbrev path : List ℕ
+  path = path_to has.from.above has.at.number ++ has.k ∷ []
 
-  some_node : its_node ≢ 0
-  some_node = node_some image owner root has.from k p has.node
+  abbrev above : List Level
+  above = has.from.above ++ has.from.level ∷ []
 
-  leaf_is : pointer leaf_pointers (block_at image its_node) j ≡ q
-  leaf_is = ap (λ (n : ℕ). pointer leaf_pointers (block_at image n) j) at_node ∙ has.here
+  abbrev under : List Level
+  under = levels_below twig.height
 
-  leaf_some : pointer leaf_pointers (block_at image its_node) j ≢ 0
-  leaf_some none = has.some (sym leaf_is ∙ none)
+  block_is : twig.block ≡ get_or has.pointers has.k 0
+  block_is = ap (λ (t : Twig). t.block) has.is
 
-  leaf_stands : (shown_tree image owner_id.block).below (k ∷ j ∷ []) ≡ Some (held image q)
-  leaf_stands = leaf_held image its k j some_node leaf_some ∙ ap (λ (n : ℕ). Some (held image n)) leaf_is
+  height_is : twig.height ≡ has.at.height
+  height_is = ap (λ (t : Twig). t.height) has.is
 
-  leaf_found : leaf_in (shown_tree image owner_id.block) (128 * k + j) ≡ Some (held image q)
-  leaf_found = leaf_at_path image its k j (inside leaf_pointers (block_at image its_node) j leaf_some) ∙ leaf_stands
+  number_is : twig.number ≡ has.at.number * has.from.level.count + has.k
+  number_is = ap (λ (t : Twig). t.number) has.is ∙ ap (λ (n : ℕ). has.at.number * n + has.k) has.from.count
 
-  pub leaf_kept : IsKept image q
-  leaf_kept = record { id = owner_id; reached = has.node.read.shown.reached; here = inr (record { path = k ∷ j ∷ []; held = held image q; there = leaf_stands; is = refl }) }
+  of_level : has.k < has.from.level.count
+  of_level = elim (cases_lt has.k (length has.pointers)) [
+    | inl less ↦ omega (arith, less, has.from.count)
+    | inr past ↦ absurd (has.some (block_is ∙ get_or_past has.pointers has.k 0 past))
+  ]
 
-  pub leaf_fault : (d : Damage) → SpotFault image (record { holder = p; block = q; owner = owner; place = places.Leaf (128 * k + j) }) d → IsFault image d
-  leaf_fault d (SpotFault.PastDisk past) =
-      subst (λ (n : ℕ). Fault image 4 n) (node_block image its k ∙ at_node)
-      (Fault.PastDisk owner_id root object (k ∷ []) j has.node.read.shown.reached has.node.read.shown.shows (omega (arith, past, leaf_end image its k j some_node, leaf_is)))
-  leaf_fault d (SpotFault.NotOwned below not) =
-      Fault.NotOwned owner_id root object (k ∷ j ∷ []) (held image q) has.node.read.shown.reached has.node.read.shown.shows leaf_stands below
-      (λ (is : BelongsTo owner_id.block (place_at (levels_of its) (k ∷ j ∷ [])) (part_at image q)). not
-      (subst (λ (r : ℕ). BelongsTo r (places.Leaf (128 * k + j)) (part_at image q)) (sym has.node.read.owner_is)
-      (subst (λ (q' : Place). BelongsTo owner_id.block q' (part_at image q)) (place_leaf its k j) is)))
+  small : twig.number < width above
+  small = let digits = digits_below has.at.number has.k (width has.from.above) has.from.level.count has.from.inside of_level in omega (arith, digits, number_is, width_more has.from.above has.from.level)
 
-  pub late_leaf : q < length image → leaves_in root.size ≤ 128 * k + j → IsFault image (damage q 8)
-  late_leaf below past = Fault.PastSize owner_id root object (128 * k + j) (held image q) has.node.read.shown.reached has.node.read.shown.shows leaf_found below past
+  path_is : path_to above twig.number ≡ path
+  path_is =
+      let n = has.at.number in
+      let c = has.from.level.count in
+      ap (path_to above) number_is ∙ path_more has.from.above has.from.level (n * c + has.k) (digits_below n has.k (width has.from.above) c has.from.inside of_level)
+      ∙ λ i. path_to has.from.above (div-mul-add n c has.k of_level i) ++ mod-mul-add n c has.k of_level i ∷ []
 
-  pub late_byte : q < length image → IsNotFilled root (128 * k + j) (block_at image q) → IsFault image (damage q 9)
-  late_byte below at = Fault.NotFilled owner_id root object (128 * k + j) at.0 (held image q) has.node.read.shown.reached has.node.read.shown.shows leaf_found below at.1 at.2 at.3
+  whole : levels_of content ≡ above ++ under
+  whole = has.from.whole ∙ ap (λ (h : ℕ). has.from.above ++ has.from.level ∷ levels_below h) (sym height_is) ∙ sym (append_assoc has.from.above (has.from.level ∷ []) under)
 
-  -- what its slots hold is named by it
-  pub slots_named : root.kind ≡ kinds.Index → q < length image → length (block_at image q) ≡ 512 → AreNamed image (block_at image q) root.size (128 * k + j) q
-  slots_named index below long s x slot =
-      let l = 128 * k + j in
-      let leaf = leaf_in (shown_tree image owner_id.block) in
-      let here = some_index root leaf index in
-      let gives = index_to_leaves root leaf here.0 here.1 in
-      let eight = (has.node.read.shown.shows.spelled.good.1.size.slots index).1 in
-      let high : (64 * l + s) / 64 ≡ l = omega (arith, slot.0) in
-      let low : (64 * l + s) % 64 ≡ s = omega (arith, slot.0) in
-      let found : leaf ((64 * l + s) / 64) ≡ Some (held image q) = ap leaf high ∙ leaf_found in
-      let bytes : leaf_content root.fill (leaf ((64 * l + s) / 64)) ≡ block_at image q = ap (leaf_content root.fill) found ∙ content_is root.fill (Some (held image q)) (block_at image q) refl long in
-      let holds : slot_of here.0 (64 * l + s) ≡ Some x = gives.slots (64 * l + s) (omega (arith, slot.1, eight)) ∙ (λ i. slot_in (bytes i) (low i)) ∙ slot.2 in
-      BySlot owner_id root here.0 (64 * l + s) (held image q) has.node.read.shown.reached
-      (subst (λ (p : Object). Shows image owner_id.block root p) here.1 has.node.read.shown.shows)
-      (filled (slice_get here.0.slots (64 * l + s)) holds) found below
-    where
-      filled : (o : Option (Option Puid)) → unwrap_or o None ≡ Some x → o ≡ Some (Some x)
-      filled None none = cc
-      filled (Some what) is = ap Some is
+  -- what stands at the end of paths through it
+  stands : (rest : List ℕ) → tree_of image content (path ++ rest) ≡ end_of image under twig.block rest
+  stands rest =
+      ap (tree_of image content) (append_assoc (path_to has.from.above has.at.number) (has.k ∷ []) rest) ∙ has.from.leads has.k rest
+      ∙ λ i. end_of image (levels_below (sym height_is i)) (sym block_is i) rest
+
+  here : tree_of image content path ≡ twig.block
+  here = ap (tree_of image content) (sym (append-nil path)) ∙ stands []
+
+  is_held : (shown_tree image id.block).below path ≡ Some (held image twig.block)
+  is_held = ap (held_at image) here ∙ held_there image twig.block has.some
+
+  pub block_kept : IsKept image twig.block
+  block_kept = record { id = id; reached = has.from.read.reached; here = inr (record { path = path; held = held image twig.block; there = is_held; is = refl }) }
+
+  place_is : place_at (levels_of content) path ≡ place_above under twig.number
+  unfolding place_at
+  place_is =
+      (λ i. place_from 0 (whole i) (sym path_is i)) ∙ place_on above under twig.number 0 small
+      ∙ ap (place_above under) (let e : 0 * width above + twig.number ≡ twig.number = omega arith in e)
+
+  pub spot_fault : (d : Damage) → SpotFault image (record { holder = twig.holder; block = twig.block; owner = owner; place = place_above under twig.number }) d → IsFault image d
+  spot_fault d (SpotFault.PastDisk past) =
+      subst (λ (n : ℕ). Fault image 4 n) (sym (ap (λ (t : Twig). t.holder) has.is ∙ has.from.here))
+      (Fault.PastDisk id root object (path_to has.from.above has.at.number) has.k has.from.read.reached has.from.read.shows (omega (arith, past, here)))
+  spot_fault d (SpotFault.NotOwned below not) =
+      Fault.NotOwned id root object path (held image twig.block) has.from.read.reached has.from.read.shows is_held below
+      (λ (is : BelongsTo id.block (place_at (levels_of content) path) (part_at image twig.block)). not
+      (subst (λ (r : ℕ). BelongsTo r (place_above under twig.number) (part_at image twig.block)) (sym has.from.read.owner_is)
+      (subst (λ (p : Place). BelongsTo id.block p (part_at image twig.block)) place_is is)))
+
+  -- ---- a node
+
+  module _ (more : twig.height ≢ 0) where
+    next : (j : ℕ) (rest : List ℕ) → tree_of image content (path ++ j ∷ rest) ≡ end_of image (levels_below (twig.height - 1)) (pointer leaf_pointers (block_at image twig.block) j) rest
+    next j rest = stands (j ∷ rest) ∙ down image twig.height twig.block j rest more has.some
+
+    pub dead_end : twig.block < length image → ((j : ℕ) → pointer leaf_pointers (block_at image twig.block) j ≡ 0) → IsFault image (damage twig.block 10)
+    dead_end below none =
+        Fault.DeadEnd id root object path (held image twig.block) has.from.read.reached has.from.read.shows is_held below
+        (let deep = ap length (whole ∙ ap (λ (ls : List Level). above ++ ls) (one_more twig.height more)) in
+        omega (arith, deep, length-append above (leaf_pointers ∷ levels_below (twig.height - 1)), sym (ap length path_is), length-path_to above twig.number))
+        (λ j. ap (held_at image) (next j [] ∙ none j))
+
+    -- its own pointers
+    pub node_pointers_of : (leaves : List ℕ) → leaves ≡ pointers_of leaf_pointers (block_at image twig.block) → HasPointers image owner root (record { block = twig.block; number = twig.number; height = twig.height - 1 }) leaves
+    node_pointers_of leaves is = record {
+      read = has.from.read;
+      above = above;
+      level = leaf_pointers;
+      count = ap length is ∙ length-pointers leaf_pointers (block_at image twig.block);
+      whole = whole ∙ ap (λ (ls : List Level). above ++ ls) (one_more twig.height more);
+      inside = small;
+      leads = λ j rest. ap (λ (p : List ℕ). tree_of image content (p ++ j ∷ rest)) path_is ∙ next j rest ∙ ap (λ (ns : List ℕ). end_of image (levels_below (twig.height - 1)) (get_or ns j 0) rest) (sym is);
+      here = sym here ∙ sym (holder_is image id.block (path_to has.from.above has.at.number) has.k) ∙ ap (holder image id.block) (sym path_is);
+    }
+
+  -- ---- a leaf
+
+  module _ (last : twig.height ≡ 0) where
+    leaf_found : leaf_in (shown_tree image id.block) twig.number ≡ Some (held image twig.block)
+    leaf_found =
+        let levels : levels_of content ≡ above = whole ∙ ap (λ (h : ℕ). above ++ levels_below h) last ∙ append-nil above in
+        ap (shown_tree image id.block).below (ap (λ (ls : List Level). path_to ls twig.number) levels ∙ path_is) ∙ is_held
+
+    pub late_leaf : twig.block < length image → leaves_in root.size ≤ twig.number → IsFault image (damage twig.block 8)
+    late_leaf below past = Fault.PastSize id root object twig.number (held image twig.block) has.from.read.reached has.from.read.shows leaf_found below past
+
+    pub late_byte : twig.block < length image → IsNotFilled root twig.number (block_at image twig.block) → IsFault image (damage twig.block 9)
+    late_byte below at = Fault.NotFilled id root object twig.number at.0 (held image twig.block) has.from.read.reached has.from.read.shows leaf_found below at.1 at.2 at.3
+
+    -- what its slots hold is named by it
+    pub slots_named : root.kind ≡ kinds.Index → twig.block < length image → length (block_at image twig.block) ≡ 512 → AreNamed image (block_at image twig.block) root.size twig.number twig.block
+    slots_named index below long s x slot =
+        let l = twig.number in
+        let leaf = leaf_in (shown_tree image id.block) in
+        let some = some_index root leaf index in
+        let gives = index_to_leaves root leaf some.0 some.1 in
+        let eight = (has.from.read.shows.spelled.good.1.size.slots index).1 in
+        let high : (64 * l + s) / 64 ≡ l = omega (arith, slot.0) in
+        let low : (64 * l + s) % 64 ≡ s = omega (arith, slot.0) in
+        let found : leaf ((64 * l + s) / 64) ≡ Some (held image twig.block) = ap leaf high ∙ leaf_found in
+        let bytes : leaf_content root.fill (leaf ((64 * l + s) / 64)) ≡ block_at image twig.block = ap (leaf_content root.fill) found ∙ content_is root.fill (Some (held image twig.block)) (block_at image twig.block) refl long in
+        let holds : slot_of some.0 (64 * l + s) ≡ Some x = gives.slots (64 * l + s) (omega (arith, slot.1, eight)) ∙ (λ i. slot_in (bytes i) (low i)) ∙ slot.2 in
+        BySlot id root some.0 (64 * l + s) (held image twig.block) has.from.read.reached
+        (subst (λ (p : Object). Shows image id.block root p) some.1 has.from.read.shows)
+        (filled (slice_get some.0.slots (64 * l + s)) holds) found below
+      where
+        filled : (o : Option (Option Puid)) → unwrap_or o None ≡ Some x → o ≡ Some (Some x)
+        filled None none = cc
+        filled (Some what) is = ap Some is

@@ -1,26 +1,7 @@
 -- An object whose root block was read, and then the root by which it is read: what is wrong, and what is shown.
-use Rattle.std.proofs.Common.{◌≡◌, ◌≢◌, ℕ, ◌<◌, false, length, refl, sym, ◌∙◌, ap, subst, arith}
-use Rattle.std.proofs.Common.{inr}
-use Rattle.cfs_base.specs.Disk.{Image, block_at}
-use Rattle.cfs_base.specs.declared.identifier.Puid.{Puid}
+use Rattle.std.proofs.Common.{◌≡◌, ◌≢◌, ℕ, ◌<◌, false, length, refl, sym, ◌∙◌, ap, subst, arith, inr}
+use Rattle.cfs_recover.proofs.Words.{Damage, Fault, Found, HasLabel, HasNoRoot, HasRootSlots, Head, HeadFault, Image, IsFault, IsFound, IsHead, IsInPlace, IsOpened, IsOwn, IsReached, IsRootBlock, IsRootIndex, Label, Puid, Root, Shows, Spot, SpotFault, Walk, block_at, damage, id_of, index_to_leaves, leaf_in, lists, object_with, one_root_block, shown, shown_tree, some_index, source}
 use Rattle.cfs_base.specs.declared.kind.Place.TheVariants as places
-use Rattle.cfs_base.specs.declared.refusal.Damage.{Damage}
-use Rattle.block_tree.specs.declared.root.Root.{Root}
-use Rattle.block_tree.specs.Root.{IsRootBlock}
-use Rattle.vol_image.specs.Fault.{Fault, HasLabel, IsReached, IsRootIndex, Shows, shown_tree}
-use Rattle.vol_image.specs.Reading.{leaf_in, object_with}
-use Rattle.vol_image.specs.Sight.{source}
-use Rattle.vol_image.proofs.Unique.{one_root_block}
-use Rattle.vol_label.specs.declared.label.Label.{Label}
-use Rattle.leaf_changes.proofs.Given.{index_to_leaves, some_index}
-use Rattle.cfs_recover.specs.Checks.{HasNoRoot, HasRootSlots, HeadFault, IsHead, IsInPlace, SpotFault}
-use Rattle.cfs_recover.specs.Entries.{damage}
-use Rattle.cfs_recover.specs.Found.{IsFault, IsFound, lists}
-use Rattle.cfs_recover.specs.Walk.{IsOpened, IsOwn, id_of, shown}
-use Rattle.cfs_recover.specs.declared.found.Found.{Found}
-use Rattle.cfs_recover.specs.declared.found.Walk.{Walk}
-use Rattle.cfs_recover.specs.declared.head.Head.{Head}
-use Rattle.cfs_recover.specs.declared.spot.Spot.{Spot}
 use Rattle.cfs_recover.proofs.Named.{head_fault, named_nothing, named_reached, no_root}
 
 -- ---- its root block

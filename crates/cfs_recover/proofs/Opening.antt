@@ -1,15 +1,6 @@
 -- The parts of an opening, one after the other: a barrier, reads, and writes.
-use Rattle.std.proofs.Common.{◌≡◌, ⊎_elim, ℕ, length, refl, sym, ◌∙◌}
-use Rattle.std.specs.Prelude.{Result, Ok, Err, IfErr, IfOk, OnOk}
-use Rattle.cfs_base.specs.Calls.{OnlyReads}
-use Rattle.cfs_base.specs.Disk.{AreBlocks, Image, Nothing}
-use Rattle.cfs_base.specs.Run.{IsSettled, Tells}
-use Rattle.cfs_base.specs.declared.disk.Disk.{Ghosts}
-use Rattle.cfs_base.proofs.Calls.{tells_on}
-use Rattle.cfs_base.proofs.Runs.{on, then, wider}
-use Rattle.cfs_recover.specs.Keeps.{Leads}
-use Rattle.cfs_recover.specs.Recovered.{IsUntouched}
-use Rattle.cfs_recover.specs.Stored.{Stores}
+use Rattle.std.proofs.Common.{◌≡◌, ⊎_elim, ℕ, length, refl, sym, ◌∙◌, Err}
+use Rattle.cfs_recover.proofs.Words.{AreBlocks, Ghosts, IfErr, IfOk, Image, IsSettled, IsUntouched, Leads, Nothing, Ok, OnOk, OnlyReads, Result, Stores, Tells, on, tells_on, then, wider}
 
 pub stores_content : {D : Type 0} (g : Ghosts D) (d : D) → Tells g d → length (g.content d) ≡ g.blocks d → AreBlocks (g.content d) → Stores g d (g.content d)
 stores_content g d tells size blocks = record { tells = tells; content = refl; size = size; blocks = blocks }

@@ -1,16 +1,6 @@
 -- The pieces that are kept of a root, and the root that is made of them again.
-use Rattle.std.proofs.Common.{◌≡◌, ◌≢◌, inl, inr, ℕ, zero, suc, ◌+◌, ◌*◌, ◌/◌, ◌%◌, ◌<◌, ◌≤◌, ◌^◌, List, [], ◌∷◌, ◌++◌, length, get_or, drop, set, replicate, Option, Some, None, true, false, is_some, refl, sym, ◌∙◌, ap, subst, arith, get_or-set_same, get_or-set_other, length-set, append_assoc, append-nil}
-use Rattle.std.proofs.Math.ListN.{drop_of_length-le}
-use Rattle.std.proofs.Math.Seq.{drop-cons}
-use Rattle.std.proofs.lemmas.Bool.{cases_lt}
-use Rattle.std.proofs.lemmas.Grind.{same_number_lists}
-use Rattle.std.specs.Int.{from_be_bytes, w64}
-use Rattle.std.specs.Prelude.{IsSome}
-use Rattle.std.proofs.lemmas.List.Elements.{All-get_or}
-use Rattle.block_tree.specs.declared.root.Root.{Root}
-use Rattle.block_tree.specs.Root.{IsGoodRoot}
-use Rattle.cfs_recover.specs.Copies.{BeginsAnew, BeginsWithout, Piece, head_piece, node_piece, node_pieces, piece_at, all_pieces, pieces_of}
-use Rattle.cfs_recover.specs.declared.copies.Copied.{Copied}
+use Rattle.std.proofs.Common.{◌≡◌, ◌≢◌, inl, inr, ℕ, zero, suc, ◌+◌, ◌/◌, ◌%◌, ◌<◌, ◌≤◌, ◌^◌, List, [], ◌∷◌, ◌++◌, length, get_or, drop, set, replicate, Option, Some, None, true, false, is_some, refl, sym, ◌∙◌, ap, subst, arith, get_or-set_same, get_or-set_other, length-set, append_assoc, append-nil}
+use Rattle.cfs_recover.proofs.Words.{All-get_or, BeginsAnew, BeginsWithout, Copied, IsGoodRoot, IsSome, Piece, Root, all_pieces, cases_lt, drop-cons, drop_of_length-le, from_be_bytes, head_piece, node_piece, node_pieces, piece_at, pieces_of, same_number_lists, w64}
 
 first_is : (p q : Piece) (xs ys : List Piece) → p ∷ xs ≡ q ∷ ys → p.number ≡ q.number
 first_is p q xs ys is = let same : p ≡ q = cc in ap (λ (r : Piece). r.number) same

@@ -1,45 +1,6 @@
 -- From what a survey knows of a volume to what recovery makes of it.
-use Rattle.std.specs.Prelude.{option_map, slice_get}
 use Rattle.std.proofs.Common.{◌≤◌, ◌≡◌, ◌⊎◌, inl, inr, ℕ, ◌+◌, ◌*◌, ◌/◌, ◌%◌, ◌<◌, Bool, true, false, List, [], length, get_or, Some, refl, sym, ◌∙◌, ap, subst, arith}
-use Rattle.std.proofs.lemmas.Bool.Decides.{nat_tests}
-use Rattle.std.proofs.lemmas.Option.{slice_get_within}
-use Rattle.cfs_base.specs.Disk.{Image, block_at}
-use Rattle.cfs_base.specs.Run.{IsSettled}
-use Rattle.cfs_base.specs.declared.disk.Disk.{Ghosts}
-use Rattle.cfs_base.specs.declared.identifier.Puid.{Puid}
-use Rattle.cfs_base.specs.declared.kind.Kind.{Kind}
-use Rattle.block_tree.specs.declared.root.Root.{Root}
-use Rattle.block_tree.specs.Root.{IsRootBlock}
-use Rattle.cyl_map.specs.declared.entry.MapEntry.{MapEntry}
-use Rattle.cyl_map.specs.Volume.{entry_in, map_of}
-use Rattle.cyl_map.proofs.Maps.{entries_read}
-use Rattle.cyl_alloc.specs.Space.{AreCounts, free_in_cylinder}
-use Rattle.cyl_alloc.proofs.Entries.{free_count}
-use Rattle.ufs_model.specs.declared.object.Object.{Object}
-use Rattle.ufs_model.specs.Graph.{Graph, object_at}
-use Rattle.ufs_model.proofs.Graphs.{object_there}
-use Rattle.vol_image.specs.Fault.{shown_tree}
-use Rattle.vol_image.specs.Part.{is_fixed}
-use Rattle.vol_image.specs.Seen.{Tree, tree_in}
-use Rattle.vol_image.specs.Sight.{shadows, sight, source}
-use Rattle.vol_image.specs.Sound.{Holds, IsSoundAs}
-use Rattle.vol_image.proofs.Carries.{carries_settled}
-use Rattle.vol_image.proofs.Parts.{in_image}
-use Rattle.vol_image.proofs.Unique.{one_root_block, one_root_index}
-use Rattle.puid_space.specs.Directory.{kind_in}
-use Rattle.puid_space.specs.Kinds.{kind_of, kinds_of}
-use Rattle.puid_space.proofs.Graphs.{kind_in-kinds_in}
-use Rattle.vol_owners.specs.Account.{Accounts, IsSwept, StandsIn}
-use Rattle.cfs_recover.specs.Copies.{AreCopies, HasCopy}
-use Rattle.cfs_recover.specs.Found.{lists}
-use Rattle.cfs_recover.specs.Keeps.{AreAllCopies, AreKeptFor, IsNamedCopy, Leads}
-use Rattle.cfs_recover.specs.Recovered.{IsClean, IsRecovered}
-use Rattle.cfs_recover.specs.Stored.{AreMapsOf}
-use Rattle.cfs_recover.specs.Survey.{IsIn, IsSurvey}
-use Rattle.cfs_recover.specs.Tidy.{AreCopied, AreTidied, CopiesRoots, IsHeldIn, IsTidied, IsTidying, Tidies, tidied}
-use Rattle.cfs_recover.specs.declared.copies.Copied.{Copied}
-use Rattle.cfs_recover.specs.declared.found.Walk.{Walk}
-use Rattle.cfs_recover.specs.declared.survey.Survey.{Survey}
+use Rattle.cfs_recover.proofs.Words.{Accounts, AreAllCopies, AreCopied, AreCopies, AreCounts, AreKeptFor, AreMapsOf, AreTidied, Copied, CopiesRoots, Ghosts, Graph, HasCopy, Holds, Image, IsClean, IsHeldIn, IsIn, IsNamedCopy, IsRecovered, IsRootBlock, IsSettled, IsSoundAs, IsSurvey, IsSwept, IsTidied, IsTidying, Kind, Leads, MapEntry, Object, Puid, Root, StandsIn, Survey, Tidies, Tree, Walk, block_at, carries_settled, entries_read, entry_in, free_count, free_in_cylinder, in_image, is_fixed, kind_in, kind_in-kinds_in, kind_of, kinds_of, lists, map_of, nat_tests, object_at, object_there, one_root_block, one_root_index, option_map, shadows, shown_tree, sight, slice_get, slice_get_within, source, tidied, tree_in}
 use Rattle.cfs_recover.proofs.Accounted.{tidied_accounts, tidied_is_clean, tidied_is_swept}
 use Rattle.cfs_recover.proofs.InMemory.{entry_is}
 use Rattle.cfs_recover.proofs.Keepings.{leads_as, leads_then}

@@ -1,22 +1,7 @@
 -- Refusals, handed on by the calls above.
-use Rattle.std.proofs.Common.{◌≡◌, ◌≢◌, ◌⊎◌, inl, inr, ℕ, refl, sym, ◌∙◌, subst, arith}
-use Rattle.std.specs.Prelude.{Result, Ok, Err, IfErr, MatchResult}
-use Rattle.std.specs.Result.{IsErrAnd}
-use Rattle.cfs_base.specs.Calls.{OnlyReads}
-use Rattle.cfs_base.specs.declared.disk.Disk.{Ghosts}
-use Rattle.cfs_base.specs.declared.refusal.Damage.{Damage}
-use Rattle.cfs_base.proofs.Calls.{tells_on}
-use Rattle.cfs_base.specs.Disk.{Image, block_at}
-use Rattle.ufs_model.specs.Graph.{Graph}
-use Rattle.vol_image.specs.Sound.{IsSoundAs}
-use Rattle.vol_image.proofs.Faults.{no_fault}
-use Rattle.vol_label.proofs.Labels.{says}
-use Rattle.cfs_recover.specs.declared.fault.RecoverFault.{RecoverFault}
+use Rattle.std.proofs.Common.{◌≡◌, ◌≢◌, ◌⊎◌, inl, inr, ℕ, List, refl, sym, ◌∙◌, subst, arith, Err}
+use Rattle.cfs_recover.proofs.Words.{Damage, Ghosts, Graph, IfErr, Image, IsCaused, IsDamage, IsErrAnd, IsFault, IsOpenFault, IsSoundAs, IsWalk, MapEntry, MatchResult, Ok, OnlyReads, RecoverFault, Result, Stores, Walk, Walks, block_at, no_fault, says, tells_on}
 use Rattle.cfs_recover.specs.declared.fault.RecoverFault.TheVariants as faults
-use Rattle.cfs_recover.specs.Found.{IsFault}
-use Rattle.cfs_recover.specs.Grounds.{IsOpenFault}
-use Rattle.cfs_recover.specs.Refusals.{IsCaused, IsDamage}
-use Rattle.cfs_recover.specs.Stored.{Stores}
 
 -- more is said of the damage
 pub damage_as : (P Q : Damage → Type 0) (e : RecoverFault) → ((d : Damage) → P d → Q d) → IsDamage P e → IsDamage Q e
@@ -34,6 +19,10 @@ stored_on g old new n image reads stored = record {
   size = rw reads.same.size stored.size;
   blocks = stored.blocks;
 }
+
+pub walks_on : {D : Type 0} (g : Ghosts D) (old new : D) (n : ℕ) (image : Image) (maps : List (List MapEntry)) (w v : Walk) (done : ℕ) → OnlyReads g n old new → Walks g old image maps w done → IsWalk image v done
+    → Walks g new image maps v done
+walks_on g old new n image maps w v done reads walks walk = record { stored = stored_on g old new n image reads walks.stored; maps_are = walks.maps_are; walk = walk }
 
 -- ---- at the exit of a `?`
 

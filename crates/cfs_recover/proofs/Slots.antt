@@ -1,30 +1,8 @@
 -- To what an object refers whose leaves were checked: to what was noted.
 use Rattle.std.proofs.Common.{◌≡◌, ◌≢◌, inl, inr, ℕ, suc, ◌+◌, ◌-◌, ◌*◌, ◌/◌, ◌%◌, ◌<◌, true, List, [], ◌∷◌, length, take, replicate, Option, Some, None, refl, sym, ◌∙◌, ap, subst, arith}
-use Rattle.std.specs.Prelude.{slice_get, unwrap_or}
-use Rattle.std.specs.Int.{from_be_bytes, w32}
-use Rattle.std.specs.List.{filter_map}
-use Rattle.std.proofs.lemmas.Bool.{or_cases}
-use Rattle.std.proofs.lemmas.List.{drop-replicate, take-replicate}
-use Rattle.std.proofs.lemmas.Option.{none-some}
-use Rattle.cfs_base.specs.Disk.{Image, block_at}
-use Rattle.cfs_base.specs.declared.identifier.Puid.{Puid}
-use Rattle.cfs_base.specs.declared.kind.Kind.{Kind}
+use Rattle.cfs_recover.proofs.Words.{Held, Image, IsGoodTree, IsNoted, IsRootBlock, Kind, Object, Puid, Root, Walk, block_at, content_is, drop-replicate, filter_map, from_be_bytes, index_to_leaves, is_among, leaf_content, leaf_in, none-some, number_at, object_with, or_cases, referred, same_puid, same_puid_is, slice_get, slot_in, some_file, some_index, take-replicate, tree_in, unwrap_or, w32}
 use Rattle.cfs_base.specs.declared.kind.Kind.TheVariants as kinds
-use Rattle.block_tree.specs.declared.root.Root.{Root}
-use Rattle.block_tree.specs.Pointers.{number_at}
-use Rattle.block_tree.specs.Root.{IsRootBlock}
-use Rattle.ufs_model.specs.declared.object.Object.{Object}
-use Rattle.ufs_model.specs.Graph.{referred}
-use Rattle.ufs_model.specs.Identifier.{is_among, same_puid}
-use Rattle.ufs_model.proofs.Reached.{same_puid_is}
-use Rattle.vol_image.specs.Reading.{leaf_content, leaf_in, object_with, slot_in}
-use Rattle.vol_image.specs.Seen.{Held, tree_in}
-use Rattle.leaf_changes.proofs.Contents.{content_is}
-use Rattle.leaf_changes.proofs.Given.{index_to_leaves, some_file, some_index}
-use Rattle.cfs_recover.specs.Found.{IsNoted}
-use Rattle.cfs_recover.specs.Walk.{AreGoodNodes}
-use Rattle.cfs_recover.specs.declared.found.Walk.{Walk}
-use Rattle.cfs_recover.proofs.Good.{leaf_checked}
+use Rattle.cfs_recover.proofs.Good.{leaf_checked, on_disk}
 
 -- an absent leaf of an index has empty slots
 zero_number : (k : ℕ) → k < 128 → number_at (replicate 512 0) k ≡ 0
@@ -44,7 +22,7 @@ in_slots (Some y ∷ slots) x among = elim (or_cases (same_puid x y) (is_among x
   | inr later ↦ let rest = in_slots slots x later in (suc rest.0, omega (arith, rest.1), rest.2)
 ]
 
-module _ (image : Image) (owner from : ℕ) (root : Root) (w : Walk) (spelled : IsRootBlock (block_at image from) root) (nodes : AreGoodNodes image owner root w from 120)
+module _ (image : Image) (owner from : ℕ) (root : Root) (w : Walk) (spelled : IsRootBlock (block_at image from) root) (nodes : IsGoodTree image owner root w (block_at image from))
     (whole : (n : ℕ) → n < length image → length (block_at image n) ≡ 512) where
   abbrev leaf : ℕ → Option Held
   leaf = leaf_in (tree_in image (block_at image from))
@@ -53,8 +31,8 @@ module _ (image : Image) (owner from : ℕ) (root : Root) (w : Walk) (spelled : 
   in_leaf x l s None at index small within is = absurd (no_slot s x small (subst (λ (fill : ℕ). slot_in (replicate 512 fill) s ≡ Some x) (spelled.good.1.fill index) is))
   in_leaf x l s (Some h) at index small within is =
       let good = leaf_checked image owner from root w spelled nodes l h at in
-      let bytes : leaf_content root.fill (Some h) ≡ block_at image h.block = content_is root.fill (Some h) (block_at image h.block) (ap Some good.1) (whole h.block good.0.on_disk) in
-      good.0.noted index s x (small, within, sym (ap (λ (c : List ℕ). slot_in c s) bytes) ∙ is)
+      let bytes : leaf_content root.fill (Some h) ≡ block_at image h.block = content_is root.fill (Some h) (block_at image h.block) (ap Some good.1) (whole h.block (on_disk image owner from root w spelled nodes _ h at)) in
+      good.0.read.noted index s x (small, within, sym (ap (λ (c : List ℕ). slot_in c s) bytes) ∙ is)
 
   -- to what the object refers was noted
   pub refers_noted : (x : Puid) → is_among x (referred (object_with root leaf)) ≡ true → IsNoted w x

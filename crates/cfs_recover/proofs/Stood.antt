@@ -1,16 +1,6 @@
 -- The table of shadow roots, as one entry more is read.
 use Rattle.std.proofs.Common.{◌≡◌, ◌≢◌, inl, inr, ℕ, suc, ◌+◌, ◌<◌, Bool, true, false, cond, List, [], ◌∷◌, ◌++◌, length, get_or, set, Some, refl, sym, ◌∙◌, ap, subst, arith, get_or-set_same, get_or-set_other, length-append}
-use Rattle.std.specs.Prelude.{filter}
-use Rattle.std.specs.List.{range_with_len}
-use Rattle.std.proofs.lemmas.Bool.{cases_eq, false_from_ne_true}
-use Rattle.cfs_base.specs.Disk.{Image}
-use Rattle.cyl_map.specs.declared.entry.MapEntry.{MapEntry}
-use Rattle.cyl_map.specs.Volume.{entry_in}
-use Rattle.ufs_model.proofs.Rising.{numbers_more}
-use Rattle.vol_image.specs.Part.{stands_for}
-use Rattle.vol_image.proofs.Parts.{shadow_entry}
-use Rattle.cfs_recover.specs.Entries.{AreStanding, IsShadow, standing_below}
-use Rattle.cfs_recover.specs.Standing.{Shadow, one_more}
+use Rattle.cfs_recover.proofs.Words.{AreStanding, Image, IsShadow, MapEntry, Shadow, cases_eq, entry_in, false_from_ne_true, filter, numbers_more, one_more, range_with_len, shadow_entry, standing_below, stands_for}
 use Rattle.cfs_recover.specs.declared.standing.Shadow.TheVariants as shadow
 
 one_stands : (ns : List ℕ) (s : Shadow) (b : ℕ) → IsShadow ns s → IsShadow (ns ++ b ∷ []) (one_more s b)

@@ -1,13 +1,8 @@
 -- The table of the shadow roots that stand.
-use Rattle.std.proofs.Common.{◌≡◌, ◌≢◌, ℕ, zero, suc, ◌<◌, Bool, true, false, cond, List, ◌∷◌, length, set, get_or, replicate, refl, sym, ◌∙◌, ap, arith}
-use Rattle.std.specs.Prelude.{map, ◌==◌}
-use Rattle.std.proofs.lemmas.Bool.{ne_eqb}
-use Rattle.std.proofs.lemmas.Bool.Decides.{nat_tests}
-use Rattle.std.proofs.lemmas.Grind.{get_or_default_zero}
-use Rattle.std.proofs.lemmas.List.{map-set}
+use Rattle.std.proofs.Common.{◌≡◌, ◌≢◌, ℕ, zero, suc, ◌<◌, Bool, true, false, cond, List, ◌∷◌, length, set, get_or, replicate, refl, sym, ◌∙◌, ap, arith, map, ◌==◌}
+use Rattle.cfs_recover.proofs.Words.{One, Several, Shadow, get_or_default_zero, map-set, nat_tests, ne_eqb, one_more, shadow_of}
 use Rattle.std.proofs.Math.ListN as lists
-use Rattle.cfs_recover.specs.Standing.{Shadow, shadow_of, one_more}
-use Rattle.cfs_recover.specs.declared.standing.Shadow.TheVariants.{None, One, Several}
+use Rattle.cfs_recover.specs.declared.standing.Shadow.TheVariants.{None}
 
 pub none_stand : (n : ℕ) → map shadow_of (replicate n 0) ≡ replicate n None
 none_stand zero = refl

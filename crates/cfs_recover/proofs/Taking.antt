@@ -1,22 +1,11 @@
 -- An object whose nodes were all checked is taken, as it is shown.
-use Rattle.std.proofs.Common.{◌≡◌, ℕ, ◌<◌, true, length, refl, sym, subst}
-use Rattle.cfs_base.specs.Disk.{Image, block_at}
-use Rattle.cfs_base.specs.declared.identifier.Puid.{Puid}
-use Rattle.cfs_base.specs.declared.kind.Kind.{Kind}
+use Rattle.std.proofs.Common.{◌≡◌, inl, ℕ, ◌<◌, true, List, [], length, get_or, Option, refl, sym, ◌∙◌, ap, subst, arith}
+use Rattle.cfs_recover.proofs.Words.{AreGoodBelow, Branch, HasPointers, Head, Held, Image, IsCopy, IsGoodTree, IsKept, IsOpened, IsRootBlock, IsTaken, Kind, Puid, Root, Walk, block_at, content_of, end_of, holds, kind_of, levels_below, levels_of, node_pointers, object_with, path_to, pointers_of, shown, sight, source}
 use Rattle.cfs_base.specs.declared.kind.Kind.TheVariants as kinds
-use Rattle.block_tree.specs.declared.root.Root.{Root}
-use Rattle.vol_image.specs.Reading.{object_with}
-use Rattle.vol_image.specs.Seen.{Held}
-use Rattle.vol_image.specs.Sight.{sight, source}
-use Rattle.puid_space.specs.Kinds.{kind_of}
-use Rattle.cfs_recover.specs.Found.{IsKept, IsTaken, holds}
-use Rattle.cfs_recover.specs.Walk.{AreGoodNodes, IsCopy, IsOpened, shown}
-use Rattle.cfs_recover.specs.declared.found.Walk.{Walk}
-use Rattle.cfs_recover.specs.declared.head.Head.{Head}
-use Rattle.cfs_recover.proofs.Good.{all_held, tree_is}
+use Rattle.cfs_recover.proofs.Good.{all_held, below_all, tree_is}
+use Rattle.cfs_recover.proofs.Objects.{root_pointers}
 use Rattle.cfs_recover.proofs.Slots.{refers_noted}
-use Rattle.std.proofs.Common.{inl, Option}
-use Rattle.block_tree.specs.Root.{IsRootBlock}
+use Rattle.cfs_recover.proofs.Trees.{length-pointers}
 
 pub kind_is : (root : Root) (leaf : ℕ → Option Held) → kind_of (object_with root leaf) ≡ root.kind
 unfolding object_with
@@ -37,9 +26,29 @@ module _ (image : Image) (id : Puid) (head : Head) (opened : IsOpened image id h
   pub is_copy : IsCopy image id.block head
   is_copy = record { from = opened.shown.from_is; spelled = subst (λ (n : ℕ). IsRootBlock (block_at image n) head.root) (sym opened.shown.from_is) opened.shown.shows.spelled }
 
-  module _ (w : Walk) (nodes : AreGoodNodes image id.block head.root w head.from 120) (whole : (n : ℕ) → n < length image → length (block_at image n) ≡ 512) (held : holds w id.block ≡ true) where
-    good : AreGoodNodes image id.block head.root w from 120
-    good = subst (λ (n : ℕ). AreGoodNodes image id.block head.root w n 120) opened.shown.from_is nodes
+  abbrev top : Branch
+  top = record { block = head.from; number = 0; height = 1 }
+
+  nodes_are : head.root.nodes ≡ pointers_of node_pointers (content_of image id)
+  nodes_are = root_pointers image id head.from head.root opened.shown
+
+  -- its pointers lead to the first level of its tree
+  pub top_pointers : HasPointers image id.block head.root top head.root.nodes
+  unfolding levels_of path_to
+  top_pointers = record {
+    read = record { id = id; reached = opened.shown.reached; shows = opened.shown.shows; owner_is = refl };
+    above = [];
+    level = node_pointers;
+    count = ap length nodes_are ∙ length-pointers node_pointers (content_of image id);
+    whole = refl;
+    inside = omega arith;
+    leads = λ k path. ap (λ (ns : List ℕ). end_of image (levels_below 1) (get_or ns k 0) path) (sym nodes_are);
+    here = opened.shown.from_is;
+  }
+
+  module _ (w : Walk) (all : AreGoodBelow image id.block head.root w top head.root.nodes (length head.root.nodes)) (whole : (n : ℕ) → n < length image → length (block_at image n) ≡ 512) (held : holds w id.block ≡ true) where
+    nodes : IsGoodTree image id.block head.root w (content_of image id)
+    nodes = below_all image id.block head.root w top node_pointers (content_of image id) head.root.nodes nodes_are all
 
     pub object_taken : IsTaken image w id (shown image id head.root)
     unfolding sight
@@ -54,9 +63,9 @@ module _ (image : Image) (id : Puid) (head : Head) (opened : IsOpened image id h
         source = head.root;
         same_kind = opened.shown.shows.same_kind;
         same_word = opened.shown.shows.same_word;
-        tree = tree_is image id.block from head.root w opened.shown.shows.spelled good;
+        tree = tree_is image id.block from head.root w opened.shown.shows.spelled nodes;
       };
-      leads = refers_noted image id.block from head.root w opened.shown.shows.spelled good whole;
+      leads = refers_noted image id.block from head.root w opened.shown.shows.spelled nodes whole;
       root = held;
-      below = all_held image id.block from head.root w opened.shown.shows.spelled good;
+      below = all_held image id.block from head.root w opened.shown.shows.spelled nodes;
     }

@@ -1,12 +1,7 @@
 -- An entry stays one where its block becomes Allocated.
 use Rattle.std.proofs.Common.{◌≡◌, ℕ, Bool, true, false, Option, Some, None, refl}
-use Rattle.cfs_base.specs.declared.kind.Place.{Place}
-use Rattle.cfs_base.specs.declared.kind.Place.TheVariants.{Root, ShadowRoot, Node, Leaf}
-use Rattle.cyl_map.specs.declared.entry.MapEntry.{MapEntry}
-use Rattle.cyl_map.specs.declared.state.BlockState.{BlockState}
-use Rattle.cyl_map.specs.declared.state.BlockState.TheVariants.{Free, Allocated, IntendAllocate, IntendDeallocate}
-use Rattle.cyl_map.specs.Entry.{IsEntry, is_entry}
-use Rattle.cfs_recover.specs.Tidy.{tidied}
+use Rattle.cfs_recover.proofs.Words.{Allocated, BlockState, Free, IntendAllocate, IntendDeallocate, IsEntry, Leaf, MapEntry, Node, Place, ShadowRoot, is_entry, tidied}
+use Rattle.cfs_base.specs.declared.kind.Place.TheVariants.{Root}
 
 allocated : (s : BlockState) (bit : Bool) (p : Option Place) (o : ℕ) → is_entry (record { state = s; committed = bit; place = p; owner = o }) ≡ true → is_entry (record { state = Allocated; committed = false; place = p; owner = o }) ≡ true
 allocated Allocated false p o is = is

@@ -1,17 +1,6 @@
 -- One cylinder after another is tidied, and counted.
 use Rattle.std.proofs.Common.{◌≡◌, ◌≢◌, ◌⊎◌, inl, inr, ℕ, zero, suc, ◌+◌, ◌*◌, ◌/◌, ◌%◌, ◌<◌, ◌≤◌, min, Bool, List, [], length, get_or, set, replicate, Some, refl, sym, ◌∙◌, ap, subst, arith, get_or-set_same, get_or-set_other, length-set}
-use Rattle.std.specs.Prelude.{slice_get}
-use Rattle.std.proofs.lemmas.Bool.{cases_lt}
-use Rattle.std.proofs.lemmas.List.{get_or-replicate, get_or_past, length-replicate}
-use Rattle.std.proofs.lemmas.List.Sums.{count_by-le-length}
-use Rattle.std.proofs.lemmas.Option.{get_or_from_slice_get, slice_get-get_or}
-use Rattle.cfs_base.specs.Disk.{Image, block_at}
-use Rattle.cyl_map.specs.declared.entry.MapEntry.{MapEntry}
-use Rattle.cyl_map.specs.Map.{free_entries, is_free, map_spelling}
-use Rattle.cyl_alloc.specs.Space.{Kept, after_giving}
-use Rattle.cfs_recover.specs.Recovered.{changed, changed_maps}
-use Rattle.cfs_recover.specs.Tidy.{AreTidied, HasTidied, IsMapIn, IsTidiedMap}
-use Rattle.cfs_recover.specs.Stored.{AreMapsOf}
+use Rattle.cfs_recover.proofs.Words.{AreMapsOf, AreTidied, HasTidied, Image, IsMapIn, IsTidiedMap, Kept, MapEntry, after_giving, block_at, cases_lt, changed, changed_maps, count_by-le-length, free_entries, get_or-replicate, get_or_from_slice_get, get_or_past, is_free, length-replicate, map_spelling, slice_get, slice_get-get_or}
 use Rattle.cfs_recover.proofs.InMemory.{entry_is}
 
 -- ---- maps in memory

@@ -1,27 +1,7 @@
 -- The entries that recovery writes may come in.
 use Rattle.std.proofs.Common.{◌≡◌, ◌≢◌, ℕ, Bool, true, false, Some, List, length, refl, sym, ◌∙◌, ap, subst}
-use Rattle.std.proofs.lemmas.Option.{same_Some}
-use Rattle.cfs_base.specs.Disk.{Image, block_at}
-use Rattle.cfs_base.specs.declared.identifier.Puid.{Puid}
-use Rattle.cfs_base.specs.declared.kind.Place.{Place}
-use Rattle.cfs_base.specs.declared.kind.Place.TheVariants.{Root, ShadowRoot, Node, Leaf}
-use Rattle.cyl_map.specs.declared.state.BlockState.{BlockState}
-use Rattle.cyl_map.specs.declared.state.BlockState.TheVariants.{Free, Allocated, IntendAllocate, IntendDeallocate}
-use Rattle.cyl_map.specs.declared.entry.MapEntry.{MapEntry}
-use Rattle.cyl_map.specs.Entry.{IsEntry, is_entry}
-use Rattle.cyl_alloc.specs.Space.{free_entry}
-use Rattle.cyl_map.specs.Volume.{entry_in}
-use Rattle.cyl_map.proofs.Volumes.{entry_in_table}
-use Rattle.ufs_model.specs.declared.object.Object.{Object}
-use Rattle.ufs_model.specs.Graph.{Graph, object_at}
-use Rattle.vol_image.specs.Part.{part_of, is_fixed, stands_for}
-use Rattle.vol_image.specs.Seen.{tree_in}
-use Rattle.vol_image.specs.Reading.{IsTree}
-use Rattle.vol_image.specs.Sight.{sight}
-use Rattle.vol_image.specs.Sound.{Holds}
-use Rattle.block_tree.specs.Tree.{levels_of}
-use Rattle.vol_image.proofs.Parts.{is_inner, place_inner, root_placed, tree_placed, taken_apart, taken_part}
-use Rattle.cfs_recover.specs.Tidy.{AreCopied, AreMarked, IsTidy, tidied}
+use Rattle.cfs_recover.proofs.Words.{Allocated, AreCopied, AreMarked, BlockState, Free, Graph, Holds, Image, IntendAllocate, IntendDeallocate, IsEntry, IsTidy, IsTree, Leaf, MapEntry, Node, Object, Place, Puid, ShadowRoot, block_at, entry_in, entry_in_table, free_entry, is_entry, is_fixed, is_inner, levels_of, object_at, part_of, place_inner, root_placed, same_Some, sight, stands_for, taken_apart, taken_part, tidied, tree_in, tree_placed}
+use Rattle.cfs_base.specs.declared.kind.Place.TheVariants.{Root}
 
 -- an entry of a node or leaf has no commit bit
 uncommitted : (s : BlockState) (p : Place) (o : ℕ) → is_inner p ≡ true → is_entry (record { state = s; committed = true; place = Some p; owner = o }) ≡ true → ⊥

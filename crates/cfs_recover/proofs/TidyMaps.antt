@@ -1,17 +1,6 @@
 -- A map, entry by entry tidied.
 use Rattle.std.proofs.Common.{◌≡◌, ◌≢◌, ℕ, zero, suc, ◌+◌, ◌*◌, ◌<◌, Bool, false, List, [], ◌∷◌, length, get_or, set, Some, refl, ◌∙◌, subst, arith}
-use Rattle.std.specs.Prelude.{slice_get}
-use Rattle.std.specs.List.{All}
-use Rattle.std.proofs.lemmas.Option.{get_or_from_slice_get, slice_get-get_or, slice_get_within}
-use Rattle.cyl_map.specs.declared.entry.MapEntry.{MapEntry}
-use Rattle.cfs_base.specs.Disk.{Image}
-use Rattle.cyl_alloc.specs.Space.{free_entry}
-use Rattle.cyl_map.specs.Entry.{IsEntry}
-use Rattle.cyl_map.specs.Map.{map_spelling}
-use Rattle.cyl_map.proofs.Maps.{entries_read}
-use Rattle.ufs_model.specs.Graph.{Graph}
-use Rattle.vol_image.specs.Part.{is_fixed}
-use Rattle.cfs_recover.specs.Tidy.{IsMapIn, IsTidiedMap, IsTidyMap, IsTidying, tidied}
+use Rattle.cfs_recover.proofs.Words.{All, Graph, Image, IsEntry, IsMapIn, IsTidiedMap, IsTidyMap, IsTidying, MapEntry, entries_read, free_entry, get_or_from_slice_get, is_fixed, map_spelling, slice_get, slice_get-get_or, slice_get_within, tidied}
 use Rattle.cfs_recover.proofs.TidyEntries.{tidied_is_tidy}
 
 pub set_here : {X : Type 0} (xs : List X) (k : ℕ) (x : X) → k < length xs → slice_get (set xs k x) k ≡ Some x

@@ -1,37 +1,9 @@
 -- What recovery writes leaves all objects as they read: the copies of roots, and then the maps, each block for itself.
 use Rattle.std.proofs.Common.{◌≡◌, ◌≢◌, ◌⊎◌, inl, inr, ℕ, ◌+◌, ◌*◌, ◌%◌, ◌<◌, ◌≤◌, Bool, true, false, cond, List, [], ◌∷◌, length, set, Option, Some, refl, sym, ◌∙◌, ap, subst, arith, length-set}
-use Rattle.std.specs.Prelude.{filter, IsSome}
-use Rattle.std.specs.List.{range_with_len}
-use Rattle.std.proofs.lemmas.Bool.Decides.{nat_tests}
+use Rattle.cfs_recover.proofs.Words.{AreCopied, BelongsTo, CopiesRoots, Graph, Held, Holds, Image, IsPlaced, IsRootBlock, IsSome, IsSoundAs, IsTidy, IsTree, MapEntry, Object, Place, Puid, ReadsAs, SameAt, ShadowRoot, Tidies, Tree, block_at, entry_at, entry_in, filter, first_or, has_number, in_image, is_committed, is_fixed, levels_of, map_of, nat_tests, not_map, not_root, object_at, one_at_most, only_one, part_at, part_of, place_inner, range_with_len, root_placed, same_Some, same_or_not, same_shadows, same_tree, shadow_taken, shadows, sight, source, source_is, stands_for, taken_apart, to_filter, to_numbers, tree_in, tree_placed}
 use Rattle.std.proofs.lemmas.List.{get_or-set_same, get_or-set_other}
-use Rattle.std.proofs.lemmas.Option.{same_Some}
-use Rattle.cfs_base.specs.Disk.{Image, block_at}
-use Rattle.cfs_base.specs.declared.identifier.Puid.{Puid}
-use Rattle.cfs_base.specs.declared.kind.Place.{Place}
-use Rattle.cfs_base.specs.declared.kind.Place.TheVariants.{Root, ShadowRoot}
+use Rattle.cfs_base.specs.declared.kind.Place.TheVariants.{Root}
 use Rattle.block_tree.specs.declared.root.Root as roots
-use Rattle.block_tree.specs.Root.{IsRootBlock}
-use Rattle.block_tree.specs.Tree.{levels_of}
-use Rattle.cyl_map.specs.declared.entry.MapEntry.{MapEntry}
-use Rattle.cyl_map.specs.Map.{entry_at}
-use Rattle.cyl_map.specs.Volume.{map_of, entry_in}
-use Rattle.cyl_map.proofs.Volumes.{same_or_not}
-use Rattle.ufs_model.specs.declared.object.Object.{Object}
-use Rattle.ufs_model.specs.Graph.{Graph, object_at}
-use Rattle.ufs_model.specs.Numbers.{has_number}
-use Rattle.vol_image.specs.Part.{SameAt, BelongsTo, part_of, part_at, is_committed, is_fixed, stands_for}
-use Rattle.vol_image.specs.Seen.{Held, Tree, tree_in}
-use Rattle.vol_image.specs.Reading.{IsTree}
-use Rattle.vol_image.specs.Sight.{shadows, source, first_or, sight}
-use Rattle.vol_image.specs.Sound.{ReadsAs, Holds, IsSoundAs}
-use Rattle.vol_image.proofs.Views.{same_tree}
-use Rattle.vol_image.proofs.Alone.{one_at_most}
-use Rattle.vol_image.proofs.Faults.{only_one}
-use Rattle.vol_image.proofs.Law.{same_shadows}
-use Rattle.vol_image.proofs.Parts.{IsPlaced, place_inner, not_root, source_is, root_placed, shadow_taken, taken_apart, tree_placed, in_image}
-use Rattle.vol_image.proofs.Rising.{to_numbers, to_filter}
-use Rattle.vol_image.proofs.Steps.{not_map}
-use Rattle.cfs_recover.specs.Tidy.{CopiesRoots, AreCopied, Tidies, IsTidy}
 
 -- one entry has one place
 one_place : (a : Image) (n m o p : ℕ) (x y : Place) → IsPlaced a n o x → IsPlaced a m p y → n ≡ m → x ≡ y

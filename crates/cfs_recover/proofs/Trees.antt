@@ -1,95 +1,90 @@
--- What stands along the paths of a tree, by the pointers of its blocks.
-use Rattle.std.proofs.Common.{◌≡◌, ◌≢◌, ◌⊎◌, inl, inr, ℕ, zero, suc, ◌+◌, ◌*◌, ◌/◌, ◌%◌, ◌<◌, List, [], ◌∷◌, get_or, Some, refl, sym, ◌∙◌, ap, arith}
-use Rattle.std.proofs.lemmas.Bool.{cases_lt, cases_eq}
-use Rattle.std.proofs.lemmas.List.{get_or_past}
-use Rattle.std.proofs.lemmas.List.FromFn.{length-map-range_with_len}
-use Rattle.std.proofs.lemmas.Option.{none-some}
-use Rattle.cfs_base.specs.Disk.{Image, block_at}
-use Rattle.cfs_base.specs.declared.kind.Place.TheVariants as places
-use Rattle.block_tree.specs.Pointers.{Level, number_at, pointers_of, node_pointers, leaf_pointers}
-use Rattle.block_tree.specs.Tree.{levels_of, pointer, end_of, tree_of}
-use Rattle.block_tree.proofs.Trees.{end_is, end_none, node_block, path_is}
-use Rattle.vol_image.specs.Seen.{Held, held_at, tree_in, place_at}
-use Rattle.vol_image.specs.Reading.{leaf_in}
-use Rattle.vol_image.proofs.Views.{held, held_is}
-use Rattle.vol_image.proofs.Paths.{held_there}
+-- What stands along the paths of a tree, level by level.
+use Rattle.std.proofs.Common.{◌≡◌, ◌≢◌, inl, inr, ℕ, zero, suc, ◌+◌, ◌-◌, ◌*◌, ◌/◌, ◌%◌, ◌<◌, ◌≤◌, List, [], ◌∷◌, ◌++◌, length, refl, ◌∙◌, ap, arith}
+use Rattle.cfs_recover.proofs.Words.{Image, Level, add-mul, block_at, cases_lt, div-add-mod', end_of, get_or_past, holder, leaf_pointers, length-map-range_with_len, levels_below, mod-lt, mul-le-mul_left, mul-le-mul_right, mul_assoc, number_at, path_to, place_above, place_from, pointer, pointers_of, reads_of, source, tree_of, width}
 
--- ---- what stands along a path
+pub length-pointers : (level : Level) (content : List ℕ) → length (pointers_of level content) ≡ level.count
+unfolding pointers_of
+length-pointers level content = length-map-range_with_len (λ (j : ℕ). number_at content (level.from + j)) 0 level.count
 
 pub inside : (level : Level) (content : List ℕ) (k : ℕ) → pointer level content k ≢ 0 → k < level.count
-unfolding pointers_of
 inside level content k some = elim (cases_lt k level.count) [
   | inl less ↦ less
-  | inr past ↦ absurd (some (get_or_past (pointers_of level content) k 0 (omega (arith, length-map-range_with_len (λ (j : ℕ). number_at content (level.from + j)) 0 level.count))))
+  | inr past ↦ absurd (some (get_or_past (pointers_of level content) k 0 (omega (arith, length-pointers level content))))
 ]
 
-pub record OfNode (image : Image) (content path : List ℕ) (h : Held) : Type 0 where
-  pub k : ℕ
-  pub is : path ≡ k ∷ []
-  pub some : pointer node_pointers content k ≢ 0
-  pub held_is : h ≡ held image (pointer node_pointers content k)
+-- ---- one level down
 
-pub record OfLeaf (image : Image) (content path : List ℕ) (h : Held) : Type 0 where
-  pub k : ℕ
-  pub j : ℕ
-  pub is : path ≡ k ∷ j ∷ []
-  pub node : pointer node_pointers content k ≢ 0
-  pub some : pointer leaf_pointers (block_at image (pointer node_pointers content k)) j ≢ 0
-  pub held_is : h ≡ held image (pointer leaf_pointers (block_at image (pointer node_pointers content k)) j)
+pub less_one : (h : ℕ) → h ≡ suc h - 1
+less_one h = omega arith
 
-end_past : (image : Image) (n m : ℕ) (path : List ℕ) → end_of image [] n (m ∷ path) ≡ 0
-end_past image zero m path = refl
-end_past image (suc n) m path = refl
+pub end_zero : (image : Image) (levels : List Level) (n : ℕ) (path : List ℕ) → n ≡ 0 → end_of image levels n path ≡ 0
+end_zero image levels n [] none = none
+end_zero image levels zero (k ∷ path) none = refl
+end_zero image levels (suc n) (k ∷ path) none = absurd (omega arith)
 
-too_long : (image : Image) (n j m : ℕ) (path : List ℕ) → end_of image (leaf_pointers ∷ []) n (j ∷ m ∷ path) ≡ 0
-too_long image zero j m path = refl
-too_long image (suc n) j m path = end_past image (pointer leaf_pointers (block_at image (suc n)) j) m path
+pub down : (image : Image) (h block j : ℕ) (path : List ℕ) → h ≢ 0 → block ≢ 0
+    → end_of image (levels_below h) block (j ∷ path) ≡ end_of image (levels_below (h - 1)) (pointer leaf_pointers (block_at image block) j) path
+down image zero block j path more some = absurd (more refl)
+down image (suc h) zero j path more some = absurd (some refl)
+down image (suc h) (suc b) j path more some = ap (λ (m : ℕ). end_of image (levels_below m) (pointer leaf_pointers (block_at image (suc b)) j) path) (less_one h)
 
-pub is_below : (image : Image) (content path : List ℕ) (h : Held) → (tree_in image content).below path ≡ Some h → OfNode image content path h ⊎ OfLeaf image content path h
-unfolding levels_of
-is_below image content [] h v = cc
-is_below image content (k ∷ []) h v =
-    let at = held_is image (pointer node_pointers content k) h v in
-    inl (record { k = k; is = refl; some = at.1; held_is = at.0 })
-is_below image content (k ∷ j ∷ []) h v =
-    let p = pointer node_pointers content k in
-    elim (cases_eq p 0) [
-      | inl none ↦ absurd (none-some h (sym (ap (held_at image) (end_none image leaf_pointers p j none)) ∙ v))
-      | inr some ↦
-          let at = held_is image (pointer leaf_pointers (block_at image p) j) h (sym (ap (held_at image) (end_is image leaf_pointers p j some)) ∙ v) in
-          inr (record { k = k; j = j; is = refl; node = some; some = at.1; held_is = at.0 })
-    ]
-is_below image content (k ∷ j ∷ m ∷ path) h v = absurd (none-some h (sym (ap (held_at image) (too_long image (pointer node_pointers content k) j m path)) ∙ v))
+pub one_more : (h : ℕ) → h ≢ 0 → levels_below h ≡ leaf_pointers ∷ levels_below (h - 1)
+one_more zero more = absurd (more refl)
+one_more (suc h) more = ap (λ (m : ℕ). leaf_pointers ∷ levels_below m) (less_one h)
 
-pub leaf_end : (image : Image) (content : List ℕ) (k j : ℕ) → pointer node_pointers content k ≢ 0 → tree_of image content (k ∷ j ∷ []) ≡ pointer leaf_pointers (block_at image (pointer node_pointers content k)) j
-unfolding levels_of
-leaf_end image content k j some = end_is image leaf_pointers (pointer node_pointers content k) j some
+-- ---- numbers and places
 
-pub node_held : (image : Image) (content : List ℕ) (k : ℕ) → pointer node_pointers content k ≢ 0 → (tree_in image content).below (k ∷ []) ≡ Some (held image (pointer node_pointers content k))
-node_held image content k some = ap (held_at image) (node_block image content k) ∙ held_there image (pointer node_pointers content k) some
+some_width : (a b n : ℕ) → n < a * b → 0 < b
+some_width a zero n below = absurd (omega arith)
+some_width a (suc b) n below = omega arith
 
-pub leaf_held : (image : Image) (content : List ℕ) (k j : ℕ) → pointer node_pointers content k ≢ 0 → pointer leaf_pointers (block_at image (pointer node_pointers content k)) j ≢ 0
-    → (tree_in image content).below (k ∷ j ∷ []) ≡ Some (held image (pointer leaf_pointers (block_at image (pointer node_pointers content k)) j))
-leaf_held image content k j node some = ap (held_at image) (leaf_end image content k j node) ∙ held_there image _ some
+-- the place at the end of the path of a number
+pub place_on : (above rest : List Level) (n m : ℕ) → n < width above → place_from m (above ++ rest) (path_to above n) ≡ place_above rest (m * width above + n)
+unfolding path_to
+place_on [] rest n m small = ap (place_above rest) (let e : m ≡ m * 1 + n = omega arith in e)
+place_on (l ∷ above) rest n m small =
+    let w = width above in
+    let some : 0 < w = some_width l.count w n small in
+    place_on above rest (n % w) (m * l.count + n / w) (mod-lt n {m = w} some)
+    ∙ ap (place_above rest) (let e : (m * l.count + n / w) * w + n % w ≡ m * (l.count * w) + n = omega (arith, add-mul (m * l.count) (n / w) w, div-add-mod' n w, mul_assoc m l.count w) in e)
 
--- ---- places and numbers
+-- a path leads through the block at the end of all but its last pointer
+pub holder_is : (image : Image) (r : ℕ) (path : List ℕ) (k : ℕ) → holder image r (path ++ k ∷ []) ≡ tree_of image (block_at image (source image r)) (path ++ k ∷ [])
+holder_is image r [] k = refl
+holder_is image r (j ∷ path) k = refl
 
-pub place_node : (content : List ℕ) (k : ℕ) → place_at (levels_of content) (k ∷ []) ≡ places.Node k
-unfolding place_at levels_of
-place_node content k = ap places.Node (let e : 0 * 120 + k ≡ k = omega arith in e)
+-- ---- how much lies below a block
 
-pub place_leaf : (content : List ℕ) (k j : ℕ) → place_at (levels_of content) (k ∷ j ∷ []) ≡ places.Leaf (128 * k + j)
-unfolding place_at levels_of
-place_leaf content k j = ap places.Leaf (let e : (0 * 120 + k) * 128 + j ≡ 128 * k + j = omega arith in e)
+some_below : (h : ℕ) → 1 ≤ width (levels_below h)
+some_below zero = omega arith
+some_below (suc h) = let rest = some_below h in omega (arith, rest)
 
-pub leaf_at_path : (image : Image) (content : List ℕ) (k j : ℕ) → j < 128 → leaf_in (tree_in image content) (128 * k + j) ≡ (tree_in image content).below (k ∷ j ∷ [])
-leaf_at_path image content k j small =
-    let high : (128 * k + j) / 128 ≡ k = omega arith in
-    let low : (128 * k + j) % 128 ≡ j = omega arith in
-    ap (tree_in image content).below (path_is content (128 * k + j) ∙ λ i. high i ∷ low i ∷ [])
+pub width_of : (h : ℕ) → h ≢ 0 → width (levels_below h) ≡ 128 * width (levels_below (h - 1))
+width_of h more = ap width (one_more h more)
 
-pub path_of_leaf : (image : Image) (content : List ℕ) (leaf : ℕ) → leaf_in (tree_in image content) leaf ≡ (tree_in image content).below (leaf / 128 ∷ leaf % 128 ∷ [])
-path_of_leaf image content leaf = ap (tree_in image content).below (path_is content leaf)
+pub reads_more : (h : ℕ) → h ≢ 0 → reads_of h ≡ 1 + 128 * reads_of (h - 1)
+reads_more zero more = absurd (more refl)
+reads_more (suc h) more = ap (λ (m : ℕ). 1 + 128 * reads_of m) (less_one h)
 
-pub two_steps : (a b k j : ℕ) → a ∷ b ∷ [] ≡ k ∷ j ∷ [] → (a ≡ k) × (b ≡ j)
-two_steps a b k j is = (ap (λ (p : List ℕ). get_or p 0 0) is, ap (λ (p : List ℕ). get_or p 1 0) is)
+pub reads_some : (h : ℕ) → 1 ≤ reads_of h
+reads_some zero = omega arith
+reads_some (suc h) = omega arith
+
+-- so many numbers fit, each with all below it, and so does each
+pub fit_by : {most : ℕ} (n c h : ℕ) → (n + 1) * (c * width (levels_below h)) ≤ most → (n + 1) * c ≤ most
+fit_by n c h fits =
+    let w = width (levels_below h) in
+    let more : (n + 1) * c * 1 ≤ (n + 1) * c * w = mul-le-mul_left ((n + 1) * c) (some_below h) in
+    omega (arith, more, fits, mul_assoc (n + 1) c w)
+
+pub one_fits : {most : ℕ} (n c k h : ℕ) → k < c → (n + 1) * (c * width (levels_below h)) ≤ most → (n * c + k + 1) * width (levels_below h) ≤ most
+one_fits n c k h small fits =
+    let w = width (levels_below h) in
+    let up : n * c + k + 1 ≤ (n + 1) * c = omega (arith, small, add-mul n 1 c) in
+    let more : (n * c + k + 1) * w ≤ (n + 1) * c * w = mul-le-mul_right w up in
+    omega (arith, more, fits, mul_assoc (n + 1) c w)
+
+pub its_number : {most : ℕ} (n h : ℕ) → (n + 1) * width (levels_below h) ≤ most → n < most
+its_number n h fits =
+    let more : (n + 1) * 1 ≤ (n + 1) * width (levels_below h) = mul-le-mul_left (n + 1) (some_below h) in
+    omega (arith, more, fits)

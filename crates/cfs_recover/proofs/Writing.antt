@@ -1,15 +1,6 @@
 -- What recovery writes: roots that stand elsewhere, and maps that differ.
 use Rattle.std.proofs.Common.{◌≡◌, ◌≢◌, ℕ, zero, suc, ◌+◌, ◌*◌, ◌/◌, ◌≤◌, List, [], ◌∷◌, length, map, Some, refl, sym, ◌∙◌, ap, subst, arith}
-use Rattle.std.specs.Prelude.{slice_get}
-use Rattle.std.proofs.lemmas.List.{length-map}
-use Rattle.std.proofs.lemmas.Option.{same_Some, slice_get_within}
-use Rattle.cfs_base.specs.Disk.{Image, block_at}
-use Rattle.cfs_base.specs.declared.disk.Disk.{Ghosts}
-use Rattle.vol_image.specs.Sight.{source}
-use Rattle.cfs_recover.specs.Copies.{AreCopies}
-use Rattle.cfs_recover.specs.Recovered.{WritesWhatDiffers, changed, changed_maps}
-use Rattle.cfs_recover.specs.declared.copies.Copied.{Copied}
-use Rattle.cfs_recover.specs.declared.found.Found.{Found}
+use Rattle.cfs_recover.proofs.Words.{AreCopies, Copied, Found, Ghosts, Image, WritesWhatDiffers, block_at, changed, changed_maps, length-map, same_Some, slice_get, slice_get_within, source}
 
 -- what is changed of another image with the same maps
 pub changed_from : (a b c : Image) (n : ℕ) → ((k : ℕ) → block_at b (64 * k) ≡ block_at a (64 * k)) → changed_maps b c n ≡ changed_maps a c n

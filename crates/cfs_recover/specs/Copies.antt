@@ -1,5 +1,6 @@
 -- The roots that recovery copies, as a walk notes them.
-use Rattle.std.specs.Prelude.{◌≡◌, ◌≢◌, ◌⊎◌, ℕ, zero, suc, ◌+◌, ◌<◌, cond, nat_eq, drop, List, [], ◌∷◌, ◌++◌, length, slice_get, Option, Some, None}
+use Rattle.std.specs.Prelude.{◌≡◌, ◌≢◌, ◌⊎◌, ℕ, zero, suc, ◌+◌, ◌<◌, cond, nat_eq, drop, List, [], ◌∷◌, ◌++◌, length}
+use Rattle.std.specs.Prelude.{slice_get, Option, Some, None}
 use Rattle.std.specs.Int.{to_be_bytes, w32, w64}
 use Rattle.std.specs.List.{flat_map}
 use Rattle.cfs_base.specs.Disk.{Image, block_at}
@@ -14,14 +15,18 @@ use Rattle.cfs_recover.specs.declared.found.Found.{Found}
 abbrev pub HasCopy : List Copied → ℕ → Type 0
 HasCopy copies r = (k : ℕ) × (c : Copied) × (slice_get copies k ≡ Some c) × (c.block ≡ r)
 
--- Each is the root by which the object of an item is read, where it stands elsewhere. Of so many items there is one wherever
--- it does, and no two for one root block.
+-- Each is the root by which the object of an item is read, where it stands elsewhere. Of so many items there is one
+-- wherever it does, and no two for one root block.
 pub record AreCopies (image : Image) (found : List Found) (done : ℕ) (copies : List Copied) : Type 0 where
-  pub each : (k : ℕ) (c : Copied) → slice_get copies k ≡ Some c → IsRootBlock (block_at image (source image c.block)) c.root
-  pub listed : (k : ℕ) (c : Copied) → slice_get copies k ≡ Some c → (j : ℕ) × (x : Found) × (slice_get found j ≡ Some x) × (x.block ≡ c.block) × (j < done)
+  pub each : (k : ℕ) (c : Copied) → slice_get copies k ≡ Some c
+      → IsRootBlock (block_at image (source image c.block)) c.root
+  pub listed : (k : ℕ) (c : Copied) → slice_get copies k ≡ Some c
+      → (j : ℕ) × (x : Found) × (slice_get found j ≡ Some x) × (x.block ≡ c.block) × (j < done)
   pub elsewhere : (k : ℕ) (c : Copied) → slice_get copies k ≡ Some c → source image c.block ≢ c.block
-  pub once : (j k : ℕ) (c d : Copied) → slice_get copies j ≡ Some c → slice_get copies k ≡ Some d → c.block ≡ d.block → j ≡ k
-  pub all : (j : ℕ) (x : Found) → j < done → slice_get found j ≡ Some x → (source image x.block ≡ x.block) ⊎ HasCopy copies x.block
+  pub once : (j k : ℕ) (c d : Copied) → slice_get copies j ≡ Some c → slice_get copies k ≡ Some d → c.block ≡ d.block
+      → j ≡ k
+  pub all : (j : ℕ) (x : Found) → j < done → slice_get found j ≡ Some x
+      → (source image x.block ≡ x.block) ⊎ HasCopy copies x.block
 
 -- ---- what is kept of them: five bytes for each root and each of its nodes
 
@@ -65,7 +70,8 @@ copies_before image found zero = 0
 copies_before image found (suc k) = copies_before image found k + moved image (slice_get found k)
 
 -- These pieces are those of the copies, which stand in the order of the list.
-pub record AreKept (image : Image) (found : List Found) (done : ℕ) (pieces : List Piece) (copies : List Copied) : Type 0 where
+pub record AreKept (image : Image) (found : List Found) (done : ℕ) (pieces : List Piece)
+    (copies : List Copied) : Type 0 where
   pub are : AreCopies image found done copies
   pub spelled : pieces ≡ all_pieces copies
   pub count : length copies ≡ copies_before image found done

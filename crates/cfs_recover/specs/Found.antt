@@ -1,5 +1,6 @@
 -- What a walk over the objects of an image has found.
-use Rattle.std.specs.Prelude.{◌≡◌, ◌≢◌, ◌⊎◌, ℕ, ◌+◌, ◌*◌, ◌/◌, ◌<◌, ◌≤◌, true, false, Bool, is_some, IsSome, List, length, get_or, slice_get, Some}
+use Rattle.std.specs.Prelude.{◌≡◌, ◌≢◌, ◌⊎◌, ℕ, ◌+◌, ◌*◌, ◌/◌, ◌<◌, ◌≤◌, true, false, Bool, is_some, IsSome, List}
+use Rattle.std.specs.Prelude.{length, get_or, slice_get, Some}
 use Rattle.cfs_base.specs.Disk.{Image}
 use Rattle.cfs_base.specs.declared.identifier.Puid.{Puid}
 use Rattle.cfs_base.specs.declared.refusal.Damage.{Damage}
@@ -31,8 +32,10 @@ IsFault image d = Fault image d.code d.block
 -- names an object isn't said.
 pub data IsNamed (image : Image) (id : Puid) : ℕ → Type 0 where
   ByLabel : (label : Label) → HasLabel image label → label.root ≡ id → IsNamed image id 1
-  BySlot : (i : Puid) (root : Root) (index : Index) (s : ℕ) (h : Held) → IsReached image i → Shows image i.block root (objects.Index index)
-      → slice_get index.slots s ≡ Some (Some id) → leaf_in (shown_tree image i.block) (s / LEAF_SLOTS) ≡ Some h → h.block < length image
+  BySlot : (i : Puid) (root : Root) (index : Index) (s : ℕ) (h : Held) → IsReached image i
+      → Shows image i.block root (objects.Index index)
+      → slice_get index.slots s ≡ Some (Some id) → leaf_in (shown_tree image i.block) (s / LEAF_SLOTS) ≡ Some h
+      → h.block < length image
       → IsNamed image id h.block
 
 -- an object that is reached holds this block: as its root, or in the tree by which it is read
@@ -95,9 +98,12 @@ pub record IsWalk (image : Image) (w : Walk) (done : ℕ) : Type 0 where
   pub room : w.names.room ≡ length image
   pub within : done ≤ length w.found.items
   pub found : (k : ℕ) (x : Found) → slice_get w.found.items k ≡ Some x → IsFound image w x
-  pub once : (j k : ℕ) (x y : Found) → slice_get w.found.items j ≡ Some x → slice_get w.found.items k ≡ Some y → x.block ≡ y.block → j ≡ k
-  pub listed : (id : Puid) → lists w id ≡ true → (k : ℕ) × (x : Found) × (slice_get w.found.items k ≡ Some x) × (x.block ≡ id.block)
-  pub taken : (k : ℕ) (x : Found) (id : Puid) (o : Object) → k < done → slice_get w.found.items k ≡ Some x → x.block ≡ id.block
+  pub once : (j k : ℕ) (x y : Found) → slice_get w.found.items j ≡ Some x → slice_get w.found.items k ≡ Some y
+      → x.block ≡ y.block → j ≡ k
+  pub listed : (id : Puid) → lists w id ≡ true
+      → (k : ℕ) × (x : Found) × (slice_get w.found.items k ≡ Some x) × (x.block ≡ id.block)
+  pub taken : (k : ℕ) (x : Found) (id : Puid) (o : Object) → k < done → slice_get w.found.items k ≡ Some x
+      → x.block ≡ id.block
       → object_at graph id ≡ Some o → IsTaken image w id o
   pub held : (n : ℕ) → holds w n ≡ true → IsKept image n
   pub clash : (by : ℕ) → w.clash ≡ Some by → IsClash image w by

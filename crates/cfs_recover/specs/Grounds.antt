@@ -40,8 +40,8 @@ pub record HasEntryFault (cylinder : ℕ) (map : List MapEntry) (d : Damage) : T
 
 -- ---- why a volume isn't opened
 
--- The image has no label, one of another version, or this fault. A device call that failed and want of memory say nothing
--- of it.
+-- The image has no label, one of another version, or this fault. A device call that failed and want of memory say
+-- nothing of it.
 abbrev pub IsOpenFault : Image → RecoverFault → Type 0
 IsOpenFault image faults.Disk = Unit {0}
 IsOpenFault image faults.NotVolume = (length image < 3) ⊎ IsNoVolume (block_at image 1)

@@ -23,8 +23,8 @@ pub record Leads {D : Type 0} (g : Ghosts D) (P : Image → Type 0) (start now :
   pub content : P (g.content now)
   pub leaves : Leaves g start now P
 
--- A run from `start` has come to `now` with no failure: the content has P, and so has whatever a crash leaves now or left
--- on the way.
+-- A run from `start` has come to `now` with no failure: the content has P, and so has whatever a crash leaves now or
+-- left on the way.
 pub record Keeps {D : Type 0} (g : Ghosts D) (P : Image → Type 0) (start now : D) : Type 0 where
   pub tells : Tells g now
   pub content : P (g.content now)
@@ -44,16 +44,19 @@ AreCopiesOf a g copies = (k : ℕ) (c : Copied) → slice_get copies k ≡ Some 
 
 -- of these copies so many are written
 abbrev pub AreWritten : Image → List Copied → Image → ℕ → Type 0
-AreWritten a copies b done = (k : ℕ) (c : Copied) → k < done → slice_get copies k ≡ Some c → block_at b c.block ≡ block_at a (source a c.block)
+AreWritten a copies b done = (k : ℕ) (c : Copied) → k < done → slice_get copies k ≡ Some c
+    → block_at b c.block ≡ block_at a (source a c.block)
 
 -- each object that isn't read by its own block has its copy among them
 pub record AreAllCopies (a : Image) (g : Graph) (copies : List Copied) : Type 0 where
   pub each : AreCopiesOf a g copies
-  pub all : (id : Puid) (o : Object) → object_at g id ≡ Some o → (source a id.block ≡ id.block) ⊎ HasCopy copies id.block
+  pub all : (id : Puid) (o : Object) → object_at g id ≡ Some o
+      → (source a id.block ≡ id.block) ⊎ HasCopy copies id.block
 
 -- ---- the copies, as a walk has kept them
 
--- the maps and the table of what stands are those of an image in which one shadow root stands at most for this root block
+-- the maps and the table of what stands are those of an image in which one shadow root stands at most for this root
+-- block
 pub record AreShown (a : Image) (maps : List (List MapEntry)) (w : Walked) (r : ℕ) : Type 0 where
   pub maps_are : AreMapsOf a maps
   pub standing : AreStanding a (length a) w.standing
@@ -65,7 +68,8 @@ pub record IsNamedCopy (w : Walked) (c : Copied) : Type 0 where
   pub named : kind_in w.walk.names.named (record { block = c.block; word = c.root.word }) ≡ Some c.root.kind
 
 -- the walk has kept these copies, which are all that the graph needs
-pub record AreKeptFor (a : Image) (g : Graph) (maps : List (List MapEntry)) (w : Walked) (copies : List Copied) : Type 0 where
+pub record AreKeptFor (a : Image) (g : Graph) (maps : List (List MapEntry)) (w : Walked)
+    (copies : List Copied) : Type 0 where
   pub all : AreAllCopies a g copies
   pub kept : AreKept a w.walk.found.items (length w.walk.found.items) w.kept.items copies
   pub named : (k : ℕ) (c : Copied) → slice_get copies k ≡ Some c → IsNamedCopy w c

@@ -1,5 +1,6 @@
 -- What recovery makes of a volume.
-use Rattle.std.specs.Prelude.{◌≡◌, ◌≢◌, ◌⊎◌, ℕ, zero, suc, ◌+◌, ◌*◌, ◌/◌, ◌≤◌, true, false, cond, nat_eq, List, [], length, slice_get, Some}
+use Rattle.std.specs.Prelude.{◌≡◌, ◌≢◌, ◌⊎◌, ℕ, zero, suc, ◌+◌, ◌*◌, ◌/◌, ◌≤◌, true, false, cond, nat_eq, List, []}
+use Rattle.std.specs.Prelude.{length, slice_get, Some}
 use Rattle.std.specs.Cmp.Lexicographic.{pointwise}
 use Rattle.cfs_base.specs.Calls.{HasFailed}
 use Rattle.cfs_base.specs.Disk.{Image, Nothing, block_at}
@@ -23,15 +24,19 @@ use Rattle.vol_label.specs.declared.label.Label.{Label}
 use Rattle.vol_owners.specs.Account.{Accounts, IsSwept}
 use Rattle.cfs_recover.specs.Survey.{IsIn}
 
--- Beside the maps and the label exactly the blocks of the objects aren't Free. They are Allocated, and no commit bit stands.
+-- Beside the maps and the label exactly the blocks of the objects aren't Free. They are Allocated, and no commit bit
+-- stands.
 pub record IsClean (image : Image) (graph : Graph) : Type 0 where
-  pub free : (n : ℕ) (e : MapEntry) → entry_in image n ≡ Some e → is_fixed n ≡ false → ¬ IsIn image graph n → e ≡ free_entry
-  pub held : (n : ℕ) (e : MapEntry) → entry_in image n ≡ Some e → IsIn image graph n → (e.state ≡ Allocated) × (e.committed ≡ false)
+  pub free : (n : ℕ) (e : MapEntry) → entry_in image n ≡ Some e → is_fixed n ≡ false → ¬ IsIn image graph n
+      → e ≡ free_entry
+  pub held : (n : ℕ) (e : MapEntry) → entry_in image n ≡ Some e → IsIn image graph n
+      → (e.state ≡ Allocated) × (e.committed ≡ false)
 
--- The disk holds a volume that reads as image `before` did, with nothing but its objects. The label is the volume's, the
--- names are its identifiers with their kinds, and the space has its counts. The last five are what a store needs that is
--- opened on the disk with no draft.
-pub record IsRecovered {D : Type 0} (g : Ghosts D) (before : Image) (d : D) (label : Label) (names : Listing) (space : Kept) : Type 0 where
+-- The disk holds a volume that reads as image `before` did, with nothing but its objects. The label is the volume's,
+-- the names are its identifiers with their kinds, and the space has its counts. The last five are what a store needs
+-- that is opened on the disk with no draft.
+pub record IsRecovered {D : Type 0} (g : Ghosts D) (before : Image) (d : D) (label : Label) (names : Listing)
+    (space : Kept) : Type 0 where
   pub graph : Graph
   pub was : IsSoundAs before graph
   pub sound : IsSoundAs (g.content d) graph
@@ -62,13 +67,14 @@ unfoldable pub changed_maps : Image → Image → ℕ → ℕ
 changed_maps old new zero = 0
 changed_maps old new (suc n) = changed_maps old new n + changed (block_at old (64 * n)) (block_at new (64 * n))
 
--- Beside so many barriers nothing was written but root blocks whose objects were read from elsewhere, each once, and each map
--- that isn't what it was, once.
+-- Beside so many barriers nothing was written but root blocks whose objects were read from elsewhere, each once, and
+-- each map that isn't what it was, once.
 pub record WritesWhatDiffers {D : Type 0} (g : Ghosts D) (barriers : ℕ) (old new : D) : Type 0 where
   pub roots : List ℕ
   pub each : (k n : ℕ) → slice_get roots k ≡ Some n → source (g.content old) n ≢ n
   pub once : (j k n : ℕ) → slice_get roots j ≡ Some n → slice_get roots k ≡ Some n → j ≡ k
-  pub tries : g.tries new ≤ g.tries old + barriers + length roots + changed_maps (g.content old) (g.content new) (length (g.content old) / 64)
+  pub tries : g.tries new ≤ g.tries old + barriers + length roots
+      + changed_maps (g.content old) (g.content new) (length (g.content old) / 64)
 
 -- ---- images on the way
 

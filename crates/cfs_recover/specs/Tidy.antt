@@ -1,5 +1,7 @@
--- What recovery writes, and the images that it may leave on the way: roots that are copied, and then maps that are tidied.
-use Rattle.std.specs.Prelude.{◌≡◌, ◌≢◌, ◌⊎◌, ℕ, ◌+◌, ◌*◌, ◌%◌, ◌<◌, Bool, true, false, List, [], length, get_or, slice_get, Some}
+-- What recovery writes, and the images that it may leave on the way: roots that are copied, and then maps that are
+-- tidied.
+use Rattle.std.specs.Prelude.{◌≡◌, ◌≢◌, ◌⊎◌, ℕ, ◌+◌, ◌*◌, ◌%◌, ◌<◌, Bool, true, false, List, [], length, get_or}
+use Rattle.std.specs.Prelude.{slice_get, Some}
 use Rattle.cfs_base.specs.Disk.{Image, block_at}
 use Rattle.cfs_base.specs.declared.identifier.Puid.{Puid}
 use Rattle.cfs_base.specs.declared.kind.Place.TheVariants.{Root}
@@ -10,7 +12,8 @@ use Rattle.cyl_map.specs.Volume.{entry_in, AreMaps}
 use Rattle.cyl_alloc.specs.Space.{free_entry}
 use Rattle.ufs_model.specs.declared.object.Object.{Object}
 use Rattle.ufs_model.specs.Graph.{Graph, object_at}
-use Rattle.vol_image.specs.Part.{BelongsTo, RootsOwnThemselves, OwnsItself, part_of, part_at, is_committed, is_fixed, stands_for}
+use Rattle.vol_image.specs.Part.{BelongsTo, RootsOwnThemselves, OwnsItself, part_of, part_at, is_committed, is_fixed}
+use Rattle.vol_image.specs.Part.{stands_for}
 use Rattle.vol_image.specs.Seen.{Held, tree_in}
 use Rattle.vol_image.specs.Sight.{source}
 use Rattle.vol_image.specs.Sound.{Holds}
@@ -22,11 +25,13 @@ use Rattle.vol_owners.specs.Account.{StandsIn}
 pub record CopiesRoots (a : Image) (g : Graph) (b : Image) : Type 0 where
   pub size : length b ≡ length a
   pub each : (n : ℕ) → (block_at b n ≡ block_at a n)
-      ⊎ ((id : Puid) × (o : Object) × (object_at g id ≡ Some o) × (n ≡ id.block) × (block_at b n ≡ block_at a (source a id.block)))
+      ⊎ ((id : Puid) × (o : Object) × (object_at g id ≡ Some o) × (n ≡ id.block)
+      × (block_at b n ≡ block_at a (source a id.block)))
 
 -- the root of each object has the content by which the object is read
 abbrev pub AreCopied : Image → Graph → Type 0
-AreCopied a g = (id : Puid) (o : Object) → object_at g id ≡ Some o → block_at a (source a id.block) ≡ block_at a id.block
+AreCopied a g = (id : Puid) (o : Object) → object_at g id ≡ Some o
+    → block_at a (source a id.block) ≡ block_at a id.block
 
 -- ---- the maps
 
@@ -38,20 +43,27 @@ pub record Tidies (a : Image) (g : Graph) (b : Image) : Type 0 where
   pub fixed : (n : ℕ) → is_fixed n ≡ true → entry_in b n ≡ entry_in a n
   pub content : (n : ℕ) → n % 64 ≢ 0 → block_at b n ≡ block_at a n
   pub root : (id : Puid) (o : Object) → object_at g id ≡ Some o → BelongsTo id.block Root (part_at b id.block)
-  pub bit : (id : Puid) (o : Object) → object_at g id ≡ Some o → is_committed (part_at b id.block) ≡ true → is_committed (part_at a id.block) ≡ true
-  pub inner : (id : Puid) (o : Object) (path : List ℕ) (h : Held) → object_at g id ≡ Some o → (tree_in a (block_at a id.block)).below path ≡ Some h
+  pub bit : (id : Puid) (o : Object) → object_at g id ≡ Some o → is_committed (part_at b id.block) ≡ true
+      → is_committed (part_at a id.block) ≡ true
+  pub inner : (id : Puid) (o : Object) (path : List ℕ) (h : Held) → object_at g id ≡ Some o
+      → (tree_in a (block_at a id.block)).below path ≡ Some h
       → part_at b h.block ≡ part_at a h.block
-  pub standing : (id : Puid) (o : Object) (n : ℕ) → object_at g id ≡ Some o → stands_for id.block (entry_in b n) ≡ true → stands_for id.block (entry_in a n) ≡ true
+  pub standing : (id : Puid) (o : Object) (n : ℕ) → object_at g id ≡ Some o → stands_for id.block (entry_in b n) ≡ true
+      → stands_for id.block (entry_in a n) ≡ true
 
 -- this entry of a block may come into such an image
 pub record IsTidy (a : Image) (g : Graph) (n : ℕ) (e : MapEntry) : Type 0 where
   pub own : OwnsItself n e
   pub fixed : is_fixed n ≡ true → entry_in a n ≡ Some e
-  pub root : (id : Puid) (o : Object) → object_at g id ≡ Some o → n ≡ id.block → BelongsTo id.block Root (part_of (Some e))
-  pub bit : (id : Puid) (o : Object) → object_at g id ≡ Some o → n ≡ id.block → is_committed (part_of (Some e)) ≡ true → is_committed (part_at a id.block) ≡ true
-  pub inner : (id : Puid) (o : Object) (path : List ℕ) (h : Held) → object_at g id ≡ Some o → (tree_in a (block_at a id.block)).below path ≡ Some h → n ≡ h.block
+  pub root : (id : Puid) (o : Object) → object_at g id ≡ Some o → n ≡ id.block
+      → BelongsTo id.block Root (part_of (Some e))
+  pub bit : (id : Puid) (o : Object) → object_at g id ≡ Some o → n ≡ id.block → is_committed (part_of (Some e)) ≡ true
+      → is_committed (part_at a id.block) ≡ true
+  pub inner : (id : Puid) (o : Object) (path : List ℕ) (h : Held) → object_at g id ≡ Some o
+      → (tree_in a (block_at a id.block)).below path ≡ Some h → n ≡ h.block
       → part_of (Some e) ≡ part_at a n
-  pub standing : (id : Puid) (o : Object) → object_at g id ≡ Some o → stands_for id.block (Some e) ≡ true → stands_for id.block (entry_in a n) ≡ true
+  pub standing : (id : Puid) (o : Object) → object_at g id ≡ Some o → stands_for id.block (Some e) ≡ true
+      → stands_for id.block (entry_in a n) ≡ true
 
 -- each entry of a map may come
 abbrev pub IsTidyMap : Image → Graph → ℕ → List ℕ → Type 0
@@ -62,7 +74,8 @@ IsTidyMap a g j block = (k : ℕ) → k < 64 → (e : MapEntry) × (entry_at blo
 -- each block that an object holds is marked: its root, and what stands below it
 pub record AreMarked (a : Image) (g : Graph) (held : ℕ → Bool) : Type 0 where
   pub root : (id : Puid) (o : Object) → object_at g id ≡ Some o → held id.block ≡ true
-  pub inner : (id : Puid) (o : Object) (path : List ℕ) (h : Held) → object_at g id ≡ Some o → (tree_in a (block_at a id.block)).below path ≡ Some h → held h.block ≡ true
+  pub inner : (id : Puid) (o : Object) (path : List ℕ) (h : Held) → object_at g id ≡ Some o
+      → (tree_in a (block_at a id.block)).below path ≡ Some h → held h.block ≡ true
 
 -- a map block and the label keep theirs, what is held is Allocated, and all else is Free
 abbrev pub tidied : Bool → Bool → MapEntry → MapEntry
@@ -81,11 +94,13 @@ pub record IsHeldIn (a : Image) (g : Graph) (n : ℕ) : Type 0 where
 pub record IsTidied (a : Image) (g : Graph) (held : ℕ → Bool) (b : Image) : Type 0 where
   pub entries : (n : ℕ) (e : MapEntry) → entry_in a n ≡ Some e → entry_in b n ≡ Some (tidied (is_fixed n) (held n) e)
   pub only : (n : ℕ) → held n ≡ true → IsHeldIn a g n
-  pub all : (n : ℕ) (id : Puid) (o : Object) → object_at g id ≡ Some o → (n ≡ id.block) ⊎ StandsIn (tree_in a (block_at a id.block)) n → held n ≡ true
+  pub all : (n : ℕ) (id : Puid) (o : Object) → object_at g id ≡ Some o
+      → (n ≡ id.block) ⊎ StandsIn (tree_in a (block_at a id.block)) n → held n ≡ true
 
 -- a map of a cylinder with each entry tidied by these marks
 pub record IsTidiedMap (cylinder : ℕ) (map : List MapEntry) (held : List Bool) (tidy : List MapEntry) : Type 0 where
-  pub entries : (k : ℕ) (e : MapEntry) → k < 64 → slice_get map k ≡ Some e → slice_get tidy k ≡ Some (tidied (is_fixed (64 * cylinder + k)) (get_or held (64 * cylinder + k) false) e)
+  pub entries : (k : ℕ) (e : MapEntry) → k < 64 → slice_get map k ≡ Some e
+      → slice_get tidy k ≡ Some (tidied (is_fixed (64 * cylinder + k)) (get_or held (64 * cylinder + k) false) e)
   pub whole : IsMap tidy
 
 -- the image, each of whose objects is read by its own root, is tidied by these marks

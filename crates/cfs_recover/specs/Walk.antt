@@ -1,23 +1,27 @@
 -- One object of an image that is walked, block by block, and then all of them.
-use Rattle.std.specs.Prelude.{◌≡◌, ◌≢◌, ℕ, ◌+◌, ◌*◌, ◌<◌, true, List, length}
+use Rattle.std.specs.Prelude.{◌≡◌, ◌≢◌, ℕ, zero, suc, ◌+◌, ◌*◌, ◌<◌, true, List, ◌∷◌, ◌++◌, length, get_or, replicate}
 use Rattle.cfs_base.specs.Disk.{Image, block_at}
 use Rattle.cfs_base.specs.declared.disk.Disk.{Ghosts}
 use Rattle.cfs_base.specs.declared.identifier.Puid.{Puid}
 use Rattle.cfs_base.specs.declared.kind.Kind.TheVariants as kinds
 use Rattle.cfs_base.specs.declared.kind.Place.TheVariants as places
+use Rattle.block_tree.specs.declared.node.Node.{Node}
 use Rattle.block_tree.specs.declared.root.Root.{Root}
 use Rattle.block_tree.specs.Root.{IsRootBlock}
-use Rattle.block_tree.specs.Pointers.{leaf_pointers, node_pointers}
-use Rattle.block_tree.specs.Tree.{pointer}
+use Rattle.block_tree.specs.Pointers.{Level, leaf_pointers, node_pointers, pointers_of}
+use Rattle.block_tree.specs.Tree.{end_of, levels_of, path_to, pointer, tree_of, width}
 use Rattle.cyl_map.specs.declared.entry.MapEntry.{MapEntry}
 use Rattle.ufs_model.specs.declared.object.Object.{Object}
 use Rattle.ufs_model.specs.Object.{leaves_in}
-use Rattle.vol_image.specs.Fault.{IsReached, Shows, shown_tree}
+use Rattle.vol_image.specs.Fault.{IsReached, Shows, holder, shown_tree}
 use Rattle.vol_image.specs.Part.{BelongsTo, part_at}
 use Rattle.vol_image.specs.Reading.{leaf_in, object_with}
+use Rattle.vol_image.specs.Seen.{place_above}
 use Rattle.vol_image.specs.Sight.{source}
 use Rattle.cfs_recover.specs.declared.found.Found.{Found}
 use Rattle.cfs_recover.specs.declared.found.Walk.{Walk}
+use Rattle.cfs_recover.specs.declared.walk_below.Branch.{Branch}
+use Rattle.cfs_recover.specs.declared.walk_below.Twig.{Twig}
 use Rattle.cfs_recover.specs.Checks.{IsFilled}
 use Rattle.cfs_recover.specs.declared.head.Head.{Head}
 use Rattle.cfs_recover.specs.Found.{AreNoted, IsNamed, IsWalk, holds}
@@ -29,19 +33,16 @@ use Rattle.cfs_recover.specs.Stored.{AreMapsOf, Stores}
 abbrev pub shown : Image → Puid → Root → Object
 shown image id root = object_with root (leaf_in (shown_tree image id.block))
 
+-- the content of the block by which it is read
+abbrev pub content_of : Image → Puid → List ℕ
+content_of image id = block_at image (source image id.block)
+
 -- the object is reached, and read by this root, which stands in this block
 pub record IsShown (image : Image) (id : Puid) (from : ℕ) (root : Root) : Type 0 where
   pub reached : IsReached image id
   pub shows : Shows image id.block root (shown image id root)
   pub word : shows.own.word ≡ id.word
   pub from_is : from ≡ source image id.block
-
--- the block to which node pointer k of its root leads, and leaf pointer j of a node
-abbrev pub node_of : Image → ℕ → ℕ → ℕ
-node_of image from k = pointer node_pointers (block_at image from) k
-
-abbrev pub leaf_of : Image → ℕ → ℕ → ℕ
-leaf_of image p j = pointer leaf_pointers (block_at image p) j
 
 -- ---- an item of the list that is read
 
@@ -67,59 +68,99 @@ pub record IsCopy (image : Image) (r : ℕ) (head : Head) : Type 0 where
 
 -- ---- its blocks, each by what leads to it
 
--- the object with this root block is read by this root, which stands in the block `from`
-pub record IsRead (image : Image) (owner : ℕ) (root : Root) (from : ℕ) : Type 0 where
+-- The levels of pointers below a block that is no root, as many as this: all are nodes'.
+abbrev pub levels_below : ℕ → List Level
+levels_below height = replicate height leaf_pointers
+
+-- how many reads check such a block and all below it
+abbrev pub reads_of : ℕ → ℕ
+reads_of zero = 1
+reads_of (suc height) = 1 + 128 * reads_of height
+
+-- the object with this root block is read by this root
+pub record IsRead (image : Image) (owner : ℕ) (root : Root) : Type 0 where
   pub id : Puid
-  pub shown : IsShown image id from root
+  pub reached : IsReached image id
+  pub shows : Shows image id.block root (shown image id root)
   pub owner_is : owner ≡ id.block
 
--- its root leads to a node with this number, in block p; and that one to a leaf, in block q
-pub record HasNode (image : Image) (owner : ℕ) (root : Root) (from k p : ℕ) : Type 0 where
-  pub read : IsRead image owner root from
-  pub here : node_of image from k ≡ p
-  pub some : p ≢ 0
+-- A block of its tree has these pointers, as many as there are at a level: it is number `at.number` of those at the end
+-- of the levels above, and its tree goes on as the pointers say.
+pub record HasPointers (image : Image) (owner : ℕ) (root : Root) (at : Branch) (pointers : List ℕ) : Type 0 where
+  pub read : IsRead image owner root
+  pub above : List Level
+  pub level : Level
+  pub count : length pointers ≡ level.count
+  pub whole : levels_of (content_of image read.id) ≡ above ++ level ∷ levels_below at.height
+  pub inside : at.number < width above
+  pub leads : (k : ℕ) (path : List ℕ) → tree_of image (content_of image read.id) (path_to above at.number ++ k ∷ path)
+      ≡ end_of image (levels_below at.height) (get_or pointers k 0) path
+  pub here : at.block ≡ holder image read.id.block (path_to above at.number)
 
-pub record HasLeaf (image : Image) (owner : ℕ) (root : Root) (k p j q : ℕ) : Type 0 where
-  pub from : ℕ
-  pub node : HasNode image owner root from k p
-  pub here : leaf_of image p j ≡ q
-  pub some : q ≢ 0
+-- one of such pointers leads to this block
+pub record HasBlock (image : Image) (owner : ℕ) (root : Root) (twig : Twig) : Type 0 where
+  pub at : Branch
+  pub pointers : List ℕ
+  pub k : ℕ
+  pub from : HasPointers image owner root at pointers
+  pub is : twig ≡ record {
+    holder = at.block;
+    block = get_or pointers k 0;
+    number = at.number * length pointers + k;
+    height = at.height;
+  }
+  pub some : twig.block ≢ 0
 
 -- ---- its blocks, as they were checked and noted
 
-pub record IsGoodLeaf (image : Image) (owner : ℕ) (root : Root) (w : Walk) (leaf q : ℕ) : Type 0 where
-  pub on_disk : q < length image
-  pub owned : BelongsTo owner (places.Leaf leaf) (part_at image q)
-  pub within : leaf < leaves_in root.size
-  pub filled : IsFilled root leaf (block_at image q)
-  pub held : holds w q ≡ true
-  pub noted : root.kind ≡ kinds.Index → AreNoted w (block_at image q) root.size leaf
+-- the block holds this node, which leads on
+pub record IsNodeAt (image : Image) (block : ℕ) (node : Node) : Type 0 where
+  pub leaves : node.leaves ≡ pointers_of leaf_pointers (block_at image block)
+  pub leads_on : (j : ℕ) × (pointer leaf_pointers (block_at image block) j ≢ 0)
 
 -- what is known of a leaf once it was read, if its content matters
-pub record IsReadLeaf (image : Image) (root : Root) (w : Walk) (leaf q : ℕ) : Type 0 where
-  pub filled : IsFilled root leaf (block_at image q)
-  pub noted : root.kind ≡ kinds.Index → AreNoted w (block_at image q) root.size leaf
+pub record IsReadLeaf (image : Image) (root : Root) (w : Walk) (leaf block : ℕ) : Type 0 where
+  pub filled : IsFilled root leaf (block_at image block)
+  pub noted : root.kind ≡ kinds.Index → AreNoted w (block_at image block) root.size leaf
 
--- those to which a node's pointers below one lead
-abbrev pub AreGoodLeaves : Image → ℕ → Root → Walk → ℕ → ℕ → ℕ → Type 0
-AreGoodLeaves image owner root w k p below =
-    (j : ℕ) → j < below → leaf_of image p j ≢ 0 → IsGoodLeaf image owner root w (128 * k + j) (leaf_of image p j)
+-- a leaf with this number
+pub record IsGoodLeaf (image : Image) (root : Root) (w : Walk) (leaf block : ℕ) : Type 0 where
+  pub within : leaf < leaves_in root.size
+  pub read : IsReadLeaf image root w leaf block
 
-pub record IsGoodNode (image : Image) (owner : ℕ) (root : Root) (w : Walk) (k p : ℕ) : Type 0 where
-  pub on_disk : p < length image
-  pub owned : BelongsTo owner (places.Node k) (part_at image p)
-  pub held : holds w p ≡ true
-  pub leads_on : (j : ℕ) × (leaf_of image p j ≢ 0)
-  pub leaves : AreGoodLeaves image owner root w k p 128
+-- a block with this number among those above so many levels, by itself
+pub record IsGood (image : Image) (owner : ℕ) (root : Root) (w : Walk) (height number block : ℕ) : Type 0 where
+  pub on_disk : block < length image
+  pub owned : BelongsTo owner (place_above (levels_below height) number) (part_at image block)
+  pub held : holds w block ≡ true
+  pub leads_on : height ≢ 0 → (j : ℕ) × (pointer leaf_pointers (block_at image block) j ≢ 0)
+  pub leaf : height ≡ 0 → IsGoodLeaf image root w number block
 
-abbrev pub AreGoodNodes : Image → ℕ → Root → Walk → ℕ → ℕ → Type 0
-AreGoodNodes image owner root w from below =
-    (k : ℕ) → k < below → node_of image from k ≢ 0 → IsGoodNode image owner root w k (node_of image from k)
+-- with all below it
+abbrev pub AreGood : Image → ℕ → Root → Walk → ℕ → ℕ → ℕ → Type 0
+AreGood image owner root w zero number block = IsGood image owner root w zero number block
+AreGood image owner root w (suc height) number block = IsGood image owner root w (suc height) number block
+    × ((j : ℕ) → pointer leaf_pointers (block_at image block) j ≢ 0
+    → AreGood image owner root w height (number * 128 + j) (pointer leaf_pointers (block_at image block) j))
+
+-- to what one of these pointers leads, and to what all below one do
+abbrev pub IsGoodAt : Image → ℕ → Root → Walk → Branch → List ℕ → ℕ → Type 0
+IsGoodAt image owner root w at pointers k = get_or pointers k 0 ≢ 0
+    → AreGood image owner root w at.height (at.number * length pointers + k) (get_or pointers k 0)
+
+abbrev pub AreGoodBelow : Image → ℕ → Root → Walk → Branch → List ℕ → ℕ → Type 0
+AreGoodBelow image owner root w at pointers below = (k : ℕ) → k < below → IsGoodAt image owner root w at pointers k
+
+-- all below a root of this content
+abbrev pub IsGoodTree : Image → ℕ → Root → Walk → List ℕ → Type 0
+IsGoodTree image owner root w content = (k : ℕ) → pointer node_pointers content k ≢ 0
+    → AreGood image owner root w 1 (0 * 120 + k) (pointer node_pointers content k)
 
 -- ---- the walk
 
 -- a walk over the image that a disk holds, whose maps are these, has taken so many
-pub record Walks {D : Type 0} (g : Ghosts D) (d : D) (image : Image) (maps : List (List MapEntry)) (w : Walk) (done : ℕ) : Type 0 where
+pub record Walks {D : Type 0} (g : Ghosts D) (d : D) (image : Image) (maps : List (List MapEntry)) (w : Walk)
+    (done : ℕ) : Type 0 where
   pub stored : Stores g d image
   pub maps_are : AreMapsOf image maps
   pub walk : IsWalk image w done

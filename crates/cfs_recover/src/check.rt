@@ -12,8 +12,8 @@ use cfs_base::Disk;
 use std::alloc::Global;
 
 /// Whether a disk holds a sound volume: all tests that recovery makes before it writes. Reads the label, each map, each
-/// root, shadow root that stands, node and leaf of an index that is reached once, and of a file the leaf in which it ends.
-/// Refused for the first fault that is found, for a device call that failed, or for want of memory.
+/// root, shadow root that stands, node and leaf of an index that is reached once, and of a file the leaf in which it
+/// ends. Refused for the first fault that is found, for a device call that failed, or for want of memory.
 pub fn check_volume<D: Disk>(alloc: Global, disk: &mut D) -> Result<(), RecoverFault>
     ensures sound { Tells D.Disk disk.old → OnOk result (IsSound (D.content disk.old)) }
     ensures refused { Tells D.Disk disk.old → IfErr result (IsOpenFault (D.content disk.old)) }

@@ -1,5 +1,6 @@
 //! Roots that are to be copied, in five bytes for each root and each of its nodes.
-ghost use Rattle.std.specs.Prelude.{◌≡◌, ℕ, ◌+◌, ◌<◌, ◌^◌, List, ◌∷◌, ◌++◌, None, Some, slice_get, IfSome, IsSome, OnOk};
+ghost use Rattle.std.specs.Prelude.{◌≡◌, ℕ, ◌+◌, ◌<◌, ◌^◌, List, ◌∷◌, ◌++◌, None, Some, slice_get, IfSome, IsSome};
+ghost use Rattle.std.specs.Prelude.{OnOk};
 ghost use Rattle.block_tree.specs.Root.{IsGoodRoot};
 ghost use Rattle.block_tree.specs.declared.root.Root.{Root};
 ghost use Rattle.cfs_base.specs.Disk.{Image};
@@ -18,8 +19,8 @@ pub(crate) struct Copied {
     pub root: Root,
 }
 
-/// Five bytes of what is kept of a root. Of each node: its number, and its block. Before them, by the number `HEAD`: the
-/// fill byte, and the last three bytes of the size. The kind and the word are those of the object's identifier.
+/// Five bytes of what is kept of a root. Of each node: its number, and its block. Before them, by the number `HEAD`:
+/// the fill byte, and the last three bytes of the size. The kind and the word are those of the object's identifier.
 #[derive(Clone, Copy, Debug)]
 pub(crate) struct Piece {
     pub number: u8,
@@ -74,7 +75,8 @@ pub(crate) fn note_copy(kept: &mut Vec<Piece>, block: u32, head: &Head) -> Resul
 
 /// The block of the node with this number, where the first piece is of it, and the pieces that follow.
 fn next_node(kept: &[Piece], number: u8) -> Option<(u32, &[Piece])>
-    ensures some { (block : ℕ) (rest : List spec.Piece) → block < 2 ^ 32 → kept.now ≡ spec.node_piece number block ∷ rest
+    ensures some { (block : ℕ) (rest : List spec.Piece) → block < 2 ^ 32
+        → kept.now ≡ spec.node_piece number block ∷ rest
         → IsSome result × IfSome result (λ r. (r.0 ≡ block) × (r.1.now ≡ rest)) }
     ensures none { spec.BeginsWithout number kept.now → result ≡ None }
 {

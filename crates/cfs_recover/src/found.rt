@@ -18,7 +18,8 @@ pub(crate) struct Found {
 /// What a walk over the objects of a volume has found.
 #[derive(Debug, Drop)]
 pub(crate) struct Walk {
-    /// The identifiers that were found, at most one for each root block. Until an object is read it is listed as an index.
+    /// The identifiers that were found, at most one for each root block. Until an object is read it is listed as an
+    /// index.
     pub names: Directory,
     /// Their root blocks, in the order in which they were found.
     pub found: Vec<Found>,
@@ -30,7 +31,8 @@ pub(crate) struct Walk {
 }
 
 impl Walk {
-    ghost use Rattle.std.specs.Prelude.{◌≡◌, ◌≢◌, ℕ, ◌+◌, ◌<◌, [], true, false, None, IfErr, IfOk, MatchResult, OnOk, replicate};
+    ghost use Rattle.std.specs.Prelude.{◌≡◌, ◌≢◌, ℕ, ◌+◌, ◌<◌, [], true, false, None, IfErr, IfOk, MatchResult, OnOk};
+    ghost use Rattle.std.specs.Prelude.{replicate};
     ghost use Rattle.cfs_base.specs.Disk.{Image};
     ghost use Rattle.cfs_base.specs.declared.identifier.Puid.{Puid};
     ghost use Rattle.ufs_model.specs.declared.object.Object.{Object};
@@ -67,7 +69,8 @@ impl Walk {
         id.block < self.names.room() && self.names.kind(id).is_some()
     }
 
-    /// Notes an identifier that the block `by` names. Refused with code 6 of that block, where the identifier's is none.
+    /// Notes an identifier that the block `by` names. Refused with code 6 of that block, where the identifier's is
+    /// none.
     pub fn note(&mut self, id: Puid, by: u32) -> Result<(), RecoverFault>
         ensures told { (image : Image) (done : ℕ) → spec.IsWalk image self.old done → spec.IsNamed image id by
             → MatchResult result (λ _. spec.IsWalk image self.new done) (IsDamage (spec.IsFault image)) }

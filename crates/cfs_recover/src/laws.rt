@@ -10,7 +10,8 @@ ghost use Rattle.vol_image.specs.Part.{is_fixed};
 ghost use Rattle.vol_image.specs.Sight.{source};
 ghost use Rattle.vol_image.specs.Sound.{Holds, IsSoundAs};
 ghost use Rattle.vol_owners.specs.Account.{Accounts, IsSwept};
-ghost use Rattle.cfs_recover.specs.Tidy.{AreCopied, AreMarked, CopiesRoots, IsTidied, IsTidy, IsTidyMap, Tidies, tidied};
+ghost use Rattle.cfs_recover.specs.Tidy.{AreCopied, AreMarked, CopiesRoots, IsTidied, IsTidy, IsTidyMap, Tidies};
+ghost use Rattle.cfs_recover.specs.Tidy.{tidied};
 
 /// Roots may be copied in any order: whichever are, the image reads the same.
 pub fn copies_keep_the_reading()

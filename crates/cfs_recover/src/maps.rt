@@ -25,7 +25,8 @@ use vol_label::{Label, LabelFault};
 
 /// Reads the label of a volume, with one read. Refused as no volume, for its version, or with code 1 of block 1.
 pub(crate) fn read_label<D: Disk>(disk: &mut D) -> Result<Label, RecoverFault>
-    ensures told { (image : Image) → Stores D.Disk disk.old image → MatchResult result (HasLabel image) (IsOpenFault image) }
+    ensures told { (image : Image) → Stores D.Disk disk.old image
+        → MatchResult result (HasLabel image) (IsOpenFault image) }
     ensures size { IfOk result (λ label. D.blocks disk.old ≡ 64 * label.cylinders) }
     ensures few { IfOk result IsLabel }
     ensures cause { IfErr result (IsCaused D.Disk disk.old disk.new) }
@@ -89,7 +90,8 @@ pub(crate) fn read_maps<D: Disk>(
 ) -> Result<Vec<Map>, RecoverFault>
     requires few { cylinders ≤ 65536 }
     requires size { D.blocks disk.old ≡ 64 * cylinders }
-    ensures told { (image : Image) → Stores D.Disk disk.old image → MatchResult result (λ maps. AreMapsOf image maps.items
+    ensures told { (image : Image) → Stores D.Disk disk.old image
+        → MatchResult result (λ maps. AreMapsOf image maps.items
         × AllMapsStand maps.items) (IsDamage (IsFault image)) }
     ensures count { IfOk result (λ maps. length maps.items ≡ cylinders) }
     ensures cause { IfErr result (IsCaused D.Disk disk.old disk.new) }

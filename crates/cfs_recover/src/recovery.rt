@@ -86,9 +86,9 @@ fn open_settled<D: Disk>(alloc: Global, disk: &mut D) -> Result<Recovered, Recov
 }
 
 /// Opens the volume on a disk that a crash left. Makes a barrier, and all tests; then writes to the root block of each
-/// object the root by which it is read, where that stands elsewhere, and makes a barrier; then writes each map that isn't
-/// that of the objects alone, and makes a barrier. It may be stopped anywhere and begun again. Refused for the first fault
-/// that is found, for a device call that failed, or for want of memory.
+/// object the root by which it is read, where that stands elsewhere, and makes a barrier; then writes each map that
+/// isn't that of the objects alone, and makes a barrier. It may be stopped anywhere and begun again. Refused for the
+/// first fault that is found, for a device call that failed, or for want of memory.
 pub fn recover<D: Disk>(alloc: Global, disk: &mut D) -> Result<Recovered, RecoverFault>
     ensures opened { IsTrue (D.honest disk.old) → IfOk result (λ r.
         IsRecovered D.Disk (D.content disk.old) disk.new r.label r.names r.space) }
@@ -98,7 +98,8 @@ pub fn recover<D: Disk>(alloc: Global, disk: &mut D) -> Result<Recovered, Recove
         → IfErr result (λ e. (e ≡ RecoverFault.Disk) ⊎ (e ≡ RecoverFault.Memory)) }
     // Nothing was written where it is refused for another reason than a device call, or the volume isn't sound.
     ensures untouched { IfErr result (λ e. e ≢ RecoverFault.Disk → IsUntouched D.Disk disk.old disk.new) }
-    ensures unsound { IsTrue (D.honest disk.old) → ¬ IsSound (D.content disk.old) → IsUntouched D.Disk disk.old disk.new }
+    ensures unsound { IsTrue (D.honest disk.old) → ¬ IsSound (D.content disk.old)
+        → IsUntouched D.Disk disk.old disk.new }
     // A sound volume reads as it did, on the disk and in each image since the first barrier, Ok or not.
     ensures reading { IsTrue (D.honest disk.old) → (g : Graph) → IsSoundAs (D.content disk.old) g
         → IsSoundAs (D.content disk.new) g }

@@ -1,5 +1,6 @@
 //! A volume surveyed before anything is written.
-ghost use Rattle.std.specs.Prelude.{◌≡◌, ◌≢◌, ◌+◌, ◌*◌, ◌≤◌, ◌<◌, ℕ, Bool, None, length, count_by, IfErr, IfOk, MatchResult};
+ghost use Rattle.std.specs.Prelude.{◌≡◌, ◌≢◌, ◌+◌, ◌*◌, ◌≤◌, ◌<◌, ℕ, Bool, None, length, count_by, IfErr, IfOk};
+ghost use Rattle.std.specs.Prelude.{MatchResult};
 ghost use Rattle.cfs_base.specs.Calls.{OnlyReads};
 ghost use Rattle.cfs_base.specs.Codes as codes;
 ghost use Rattle.cfs_base.specs.Disk.{Image};
@@ -141,7 +142,8 @@ fn check_walked(walk: &Walk, label: Label) -> Result<(), Damage>
 
 /// Surveys a volume, with reads alone: Ok where it is sound, and else the refusal names what is wrong.
 pub(crate) fn survey_volume<D: Disk>(alloc: Global, disk: &mut D) -> Result<Survey, RecoverFault>
-    ensures told { (image : Image) → Stores D.Disk disk.old image → MatchResult result (IsSurvey image) (IsOpenFault image) }
+    ensures told { (image : Image) → Stores D.Disk disk.old image
+        → MatchResult result (IsSurvey image) (IsOpenFault image) }
     ensures fits { IfOk result (Fits (D.blocks disk.old)) }
     ensures cause { IfErr result (IsCaused D.Disk disk.old disk.new) }
     ensures reads { OnlyReads D.Disk (1 + 15483 * D.blocks disk.old) disk.old disk.new }

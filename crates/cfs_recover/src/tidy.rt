@@ -1,5 +1,6 @@
 //! The maps that recovery writes.
-ghost use Rattle.std.specs.Prelude.{◌≡◌, ◌≢◌, ◌⊎◌, ◌+◌, ◌*◌, ◌<◌, ◌≤◌, ℕ, length, get_or, replicate, set, IfOk, OnErr, OnOk};
+ghost use Rattle.std.specs.Prelude.{◌≡◌, ◌≢◌, ◌⊎◌, ◌+◌, ◌*◌, ◌<◌, ◌≤◌, ℕ, length, get_or, replicate, set, IfOk, OnErr};
+ghost use Rattle.std.specs.Prelude.{OnOk};
 ghost use Rattle.cfs_base.specs.Calls.{HasFailed, MakesAtMost};
 ghost use Rattle.cfs_base.specs.Disk.{Image, block_at};
 ghost use Rattle.cfs_base.specs.Run.{IsSettled};
@@ -66,8 +67,10 @@ fn write_tidy<D: Disk>(disk: &mut D, cylinder: u32, map: &Map, held: &[bool]) ->
         → spec.IsTidying a g held.now → spec.IsMapIn a cylinder map.now
         → OnOk result (Keeps D.Disk (spec.Tidies a g) start disk.new) }
     ensures leads { (a : Image) (g : Graph) (start : D) → Keeps D.Disk (spec.Tidies a g) start disk.old
-        → spec.IsTidying a g held.now → spec.IsMapIn a cylinder map.now → Leads D.Disk (spec.Tidies a g) start disk.new }
-    ensures written { IfOk result (λ tidy. (D.content disk.new ≡ set (D.content disk.old) (64 * cylinder) (map_spelling tidy))
+        → spec.IsTidying a g held.now → spec.IsMapIn a cylinder map.now
+        → Leads D.Disk (spec.Tidies a g) start disk.new }
+    ensures written { IfOk result
+        (λ tidy. (D.content disk.new ≡ set (D.content disk.old) (64 * cylinder) (map_spelling tidy))
         ⊎ ((D.content disk.new ≡ D.content disk.old) × (map_spelling tidy ≡ map_spelling map.now))) }
     ensures tidied { IfOk result (spec.IsTidiedMap cylinder map.now held.now) }
     ensures differs { IfOk result (λ tidy. D.tries disk.new
@@ -99,14 +102,17 @@ fn tidy_cylinder<D: Disk>(
         → spec.IsTidying a g held.now → spec.IsMapIn a cylinder map.now
         → OnOk result (Keeps D.Disk (spec.Tidies a g) start disk.new) }
     ensures leads { (a : Image) (g : Graph) (start : D) → Keeps D.Disk (spec.Tidies a g) start disk.old
-        → spec.IsTidying a g held.now → spec.IsMapIn a cylinder map.now → Leads D.Disk (spec.Tidies a g) start disk.new }
+        → spec.IsTidying a g held.now → spec.IsMapIn a cylinder map.now
+        → Leads D.Disk (spec.Tidies a g) start disk.new }
     ensures tidied { 64 * cylinder < length (D.content disk.old) → get_or space.old.free cylinder 0 ≡ 0
         → block_at (D.content disk.old) (64 * cylinder) ≡ map_spelling map.now
-        → OnOk result (spec.HasTidied (D.content disk.new) cylinder map.now held.now (get_or space.new.free cylinder 0)) }
+        → OnOk result (spec.HasTidied (D.content disk.new) cylinder map.now held.now
+        (get_or space.new.free cylinder 0)) }
     ensures others { (n : ℕ) → n ≢ 64 * cylinder
         → OnOk result (block_at (D.content disk.new) n ≡ block_at (D.content disk.old) n) }
     ensures differs { 64 * cylinder < length (D.content disk.old)
-        → block_at (D.content disk.old) (64 * cylinder) ≡ map_spelling map.now → OnOk result (D.tries disk.new ≤ D.tries disk.old
+        → block_at (D.content disk.old) (64 * cylinder) ≡ map_spelling map.now
+        → OnOk result (D.tries disk.new ≤ D.tries disk.old
         + changed (block_at (D.content disk.old) (64 * cylinder)) (block_at (D.content disk.new) (64 * cylinder))) }
     ensures counts { (k : ℕ) → k ≢ cylinder → OnOk result (get_or space.new.free k 0 ≡ get_or space.old.free k 0) }
     ensures size { length space.new.free ≡ length space.old.free }

@@ -1,5 +1,6 @@
 //! One object of a volume that is walked.
-ghost use Rattle.std.specs.Prelude.{◌≡◌, ◌+◌, ◌*◌, ◌<◌, ℕ, true, length, slice_get, Some, IfErr, IfOk, MatchResult, OnOk};
+ghost use Rattle.std.specs.Prelude.{◌≡◌, ◌+◌, ◌*◌, ◌<◌, ℕ, true, length, slice_get, Some, IfErr, IfOk, MatchResult};
+ghost use Rattle.std.specs.Prelude.{OnOk};
 ghost use Rattle.cfs_base.specs.Calls.{OnlyReads};
 ghost use Rattle.cfs_base.specs.Codes as codes;
 ghost use Rattle.cfs_base.specs.Disk.{Image};
@@ -18,13 +19,16 @@ use crate::found::{Found, Walk};
 use crate::head::{Head, check_root, check_root_index, read_block, read_head};
 use crate::spot::{Spot, check_spot};
 use crate::standing::Standing;
-use crate::walk_node::walk_nodes;
+use crate::walk_below::{Branch, walk_below};
 use block_tree::Root;
 use cfs_base::{Damage, Disk, Place, Puid, code};
 use cyl_map::Map;
 
 /// The root block of the root index.
 const ROOT_BLOCK: u32 = 2;
+
+/// The levels of nodes below a root.
+const NODE_LEVELS: u32 = 1;
 
 /// Reads the root block of an item of the list: the root that it holds, if that has the word of the identifier that is
 /// listed.
@@ -91,8 +95,8 @@ fn open_object<D: Disk>(
     Ok(head)
 }
 
-/// Checks the next object of the list, each of its blocks with at most one read, and notes them and what they name. Gives
-/// the root by which it is read.
+/// Checks the next object of the list, each of its blocks with at most one read, and notes them and what they name.
+/// Gives the root by which it is read.
 pub(crate) fn walk_object<D: Disk>(
     disk: &mut D,
     maps: &[Map],
@@ -116,7 +120,20 @@ pub(crate) fn walk_object<D: Disk>(
     let own = own_root(disk, walk, item)?;
     let head = open_object(disk, maps, standing, item, &own)?;
     walk.hold(item.block);
-    walk_nodes(disk, maps, walk, item.block, &head.root, head.from)?;
+    let top = Branch {
+        block: head.from,
+        number: 0,
+        height: NODE_LEVELS,
+    };
+    walk_below(
+        disk,
+        maps,
+        walk,
+        item.block,
+        &head.root,
+        top,
+        &head.root.nodes,
+    )?;
     let id = Puid {
         block: item.block,
         word: own.word,

@@ -1,5 +1,6 @@
 //! What recovery writes, block by block.
-ghost use Rattle.std.specs.Prelude.{◌≡◌, ◌≢◌, ◌+◌, ◌*◌, ◌<◌, ◌≤◌, ◌++◌, ℕ, List, None, IfSome, IsSome, IsTrue, OnErr, OnOk, length, set};
+ghost use Rattle.std.specs.Prelude.{◌≡◌, ◌≢◌, ◌+◌, ◌*◌, ◌<◌, ◌≤◌, ◌++◌, ℕ, List, None, IfSome, IsSome, IsTrue, OnErr};
+ghost use Rattle.std.specs.Prelude.{OnOk, length, set};
 ghost use Rattle.cfs_base.specs.Calls.{HasFailed, MakesAtMost};
 ghost use Rattle.cfs_base.specs.Disk.{Image};
 ghost use Rattle.cfs_base.specs.Outside.{count_after};
@@ -38,8 +39,8 @@ pub(crate) fn write_root<D: Disk>(disk: &mut D, copied: &Copied) -> Result<(), F
     Ok(())
 }
 
-/// The root of an item by which its object is read, where it stands elsewhere than in its root block, and the pieces that
-/// follow.
+/// The root of an item by which its object is read, where it stands elsewhere than in its root block, and the pieces
+/// that follow.
 fn next_copy<'a>(
     maps: &[Map],
     walked: &Walked,
@@ -48,7 +49,8 @@ fn next_copy<'a>(
 ) -> Option<(Copied, &'a [Piece])>
     requires below { item.block < length walked.now.standing }
     requires maps { length walked.now.standing ≡ 64 * length maps.now }
-    ensures own { (a : Image) → AreShown a maps.now walked.now item.block → source a item.block ≡ item.block → result ≡ None }
+    ensures own { (a : Image) → AreShown a maps.now walked.now item.block → source a item.block ≡ item.block
+        → result ≡ None }
     ensures copied { (a : Image) (c : Copied) (rest : List Piece) → AreShown a maps.now walked.now item.block
         → source a item.block ≢ item.block → c.block ≡ item.block → IsNamedCopy walked.now c
         → kept.now ≡ pieces_of c.root ++ rest → BeginsAnew rest
@@ -72,11 +74,13 @@ pub(crate) fn write_roots<D: Disk>(
 ) -> Result<(), Failed>
     requires maps { D.blocks disk.old ≡ 64 * length maps.now }
     requires size { IsOfSize (D.blocks disk.old) walked.now }
-    ensures keeps { (a : Image) (g : Graph) (start : D) (copies : List Copied) → Keeps D.Disk (CopiesRoots a g) start disk.old
+    ensures keeps { (a : Image) (g : Graph) (start : D) (copies : List Copied)
+        → Keeps D.Disk (CopiesRoots a g) start disk.old
         → AreKeptFor a g maps.now walked.now copies → OnOk result (Keeps D.Disk (CopiesRoots a g) start disk.new
         × AreWritten a copies (D.content disk.new) (length copies)
         × (D.tries disk.new ≤ D.tries disk.old + length copies)) }
-    ensures leads { (a : Image) (g : Graph) (start : D) (copies : List Copied) → Keeps D.Disk (CopiesRoots a g) start disk.old
+    ensures leads { (a : Image) (g : Graph) (start : D) (copies : List Copied)
+        → Keeps D.Disk (CopiesRoots a g) start disk.old
         → AreKeptFor a g maps.now walked.now copies → Leads D.Disk (CopiesRoots a g) start disk.new }
     ensures cause { OnErr result (HasFailed D.Disk disk.old disk.new) }
     ensures calls { MakesAtMost D.Disk (D.blocks disk.old) (D.blocks disk.old) disk.old disk.new }

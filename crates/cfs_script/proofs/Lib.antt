@@ -3,4 +3,4 @@ mod LineLemmas
 mod Lookups
 mod Naming
 mod Readings
-mod WordLemmas
+pub mod WordLemmas

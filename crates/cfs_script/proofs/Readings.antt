@@ -1,5 +1,5 @@
 -- Readings of several words, and what tells them.
-use Rattle.std.proofs.Common.{◌≡◌, Ok, Err, Result, refl, ◌∙◌}
+use Rattle.std.proofs.Common.{◌≡◌, Ok, Err, Result, refl}
 use Rattle.ufs_model.specs.Spoken.{Reading, Is, Unbound, Bad, ◌⊛◌}
 use Rattle.cfs_script.specs.declared.fault.ScriptFault.{ScriptFault}
 use Rattle.cfs_script.specs.declared.fault.ScriptFault.TheVariants as faults

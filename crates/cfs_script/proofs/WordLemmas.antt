@@ -1,5 +1,5 @@
 -- What single words say.
-use Rattle.std.proofs.Common.{◌≡◌, ℕ, ◌<◌, ◌≤◌, ◌^◌, Bool, true, List, [], ◌∷◌, length, get_or, take, drop, refl, sym, ap, ◌∙◌, arith, Ok}
+use Rattle.std.proofs.Common.{◌≡◌, ℕ, ◌<◌, ◌^◌, Bool, true, List, [], ◌∷◌, length, get_or, take, drop, refl, sym, ap, ◌∙◌, arith, Ok}
 use Rattle.std.specs.Prelude.{◌&&◌}
 use Rattle.std.proofs.lemmas.Bool.{le-ltb, and_right}
 use Rattle.std.proofs.lemmas.List.{drop_all, drop_more}
@@ -30,7 +30,7 @@ pub number_in-large : (word : List ℕ) → (digits_value 10 word < 2 ^ 64 → �
 number_in-large word h = rw (and_right _ _ (le-ltb (digits_value 10 word) (2 ^ 64) (omega (arith, h)))) refl
 
 -- a list of 8, item by item
-eight : (bytes : List ℕ) → length bytes ≡ 8
+pub eight : (bytes : List ℕ) → length bytes ≡ 8
     → bytes ≡ get_or bytes 0 0 ∷ get_or bytes 1 0 ∷ get_or bytes 2 0 ∷ get_or bytes 3 0 ∷ get_or bytes 4 0 ∷ get_or bytes 5 0 ∷ get_or bytes 6 0 ∷ get_or bytes 7 0 ∷ []
 eight bytes h =
     let a = drop_more bytes 0 0 (omega arith) in

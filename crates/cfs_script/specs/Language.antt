@@ -1,7 +1,7 @@
 -- The forms of lines that are read, by their verbs.
 use Rattle.std.specs.Prelude.{List, map}
-use Rattle.ufs_model.specs.Spoken.{Form, create_file_form, create_index_form, retain_form, retrieve_form, delete_form, slots_form}
-use Rattle.ufs_model.specs.Spoken.{open_form, close_form, read_form, write_form, size_form, resize_form}
+use Rattle.ufs_model.specs.Spoken.{Form, create_file_form, create_index_form, retain_form, retrieve_form, delete_form}
+use Rattle.ufs_model.specs.Spoken.{slots_form, open_form, close_form, read_form, write_form, size_form, resize_form}
 use Rattle.cfs_script.specs.declared.verb.Verb.{Verb}
 use Rattle.cfs_script.specs.declared.verb.Verb.TheVariants as verbs
 

@@ -1,5 +1,5 @@
 -- The room that a reply line takes.
-use Rattle.std.specs.Prelude.{ℕ, ◌≤◌, length, ⊤}
+use Rattle.std.specs.Prelude.{◌≤◌, length, ⊤}
 use Rattle.ufs_model.specs.declared.asked.Reply.{Reply}
 use Rattle.ufs_model.specs.declared.asked.Reply.TheVariants as replies
 use Rattle.ufs_model.specs.declared.limits.TheConstants.{MOST_AT_ONCE}

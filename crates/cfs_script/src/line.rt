@@ -1,5 +1,6 @@
 //! The request lines of a script, one after another.
-ghost use Rattle.std.specs.Prelude.{◌≡◌, ◌↔◌, ◌∷◌, [], ◌+◌, ◌<◌, ◌≤◌, length, drop, if◌then◌else◌, IsNone, IfSome, position, ◌==◌};
+ghost use Rattle.std.specs.Prelude.{◌≡◌, ◌↔◌, ◌∷◌, [], ◌+◌, ◌<◌, ◌≤◌, ◌==◌, if◌then◌else◌};
+ghost use Rattle.std.specs.Prelude.{length, drop, position, IsNone, IfSome};
 ghost use Rattle.std.specs.List.{list_all};
 ghost use Rattle.ufs_model.specs.Script.{LF, is_blank, is_request_line, request_lines, without_cr};
 
@@ -72,7 +73,8 @@ fn first_line(text: &[u8]) -> NextLine<'_>
 /// The first request line of the text; nothing where it has none.
 pub fn next_line(text: &[u8]) -> Option<NextLine<'_>>
     ensures none { IsNone result ↔ (request_lines text.now ≡ []) }
-    ensures line { IfSome result (λ next. request_lines text.now ≡ next.line.now ∷ request_lines (drop next.taken text.now)) }
+    ensures line { IfSome result (λ next.
+        request_lines text.now ≡ next.line.now ∷ request_lines (drop next.taken text.now)) }
     ensures some { IfSome result (λ next. 0 < next.taken) }
     ensures within { IfSome result (λ next. next.taken ≤ length text.now) }
 {

@@ -68,7 +68,8 @@ pub fn is_name(word: &[u8]) -> bool
 
 /// Whether the word has letters, digits and dashes alone.
 fn has_name_bytes(word: &[u8]) -> bool
-    ensures { result ≡ list_all (λ c. (nat_le (byte "a") c && nat_le c (byte "z")) || is_ascii_digit c || (c == byte "-")) word.now }
+    ensures { result ≡ list_all
+        (λ c. (nat_le (byte "a") c && nat_le c (byte "z")) || is_ascii_digit c || (c == byte "-")) word.now }
 {
     word.iter()
         .all(|c| matches!(*c, b'a'..=b'z' | b'0'..=b'9' | b'-'))

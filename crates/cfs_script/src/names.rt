@@ -23,7 +23,11 @@ impl Model for Names {
 
     ghost Value = { NameTable };
 
-    ghost view = { λ a. record { root = a.root; entries = map (λ e. (e.0.items, e.1)) a.bound.entries; room = spare a.bound } };
+    ghost view = { λ a. record {
+      root = a.root;
+      entries = map (λ e. (e.0.items, e.1)) a.bound.entries;
+      room = spare a.bound;
+    } };
 }
 
 impl Names {

@@ -1,6 +1,7 @@
 //! What the words of a line ask, a form a function.
 ghost use Rattle.std.specs.Prelude.{◌≡◌};
-ghost use Rattle.ufs_model.specs.Spoken.{spoken, create_file_form, create_index_form, retain_form, retrieve_form, delete_form, slots_form};
+ghost use Rattle.ufs_model.specs.Spoken.{spoken, create_file_form, create_index_form, retain_form, retrieve_form};
+ghost use Rattle.ufs_model.specs.Spoken.{delete_form, slots_form};
 ghost use Rattle.ufs_model.specs.Spoken.{open_form, close_form, read_form, write_form, size_form, resize_form};
 ghost use Rattle.cfs_script.specs.Language.{form_of_verb, forms_of};
 ghost use Rattle.cfs_script.specs.NameTable.{names_of};

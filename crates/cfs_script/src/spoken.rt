@@ -34,8 +34,8 @@ fn name_word<'a>(language: &[Verb], mut words: Words<'a>) -> Option<&'a [u8]>
     words.next()
 }
 
-/// Reads a line of this language, once. `Syntax` comes exactly where it has none of the forms; `NoName` where a name in it
-/// stands for nothing, or for the wrong sort; `Memory` may stand in place of any. What names stand for stays.
+/// Reads a line of this language, once. `Syntax` comes exactly where it has none of the forms; `NoName` where a name in
+/// it stands for nothing, or for the wrong sort; `Memory` may stand in place of any. What names stand for stays.
 pub fn read_line(
     alloc: Global,
     language: &[Verb],

@@ -4,7 +4,9 @@ ghost use Rattle.std.specs.Bool.{MatchBool};
 ghost use Rattle.hex.specs.Hex.{decode_of, hex_digit_value};
 ghost use Rattle.std.specs.List.{list_all};
 ghost use Rattle.std.specs.Char.{is_ascii_digit};
-ghost use Rattle.ufs_model.specs.Spoken.{Bad, Is, Reading, byte_in, bytes_in, commit_in, digits_in, grant_in, id_in, kind_in, mode_in, number_in, ref_in, ◌⊛◌};
+ghost use Rattle.ufs_model.specs.Spoken.{Bad, Is, Reading, ◌⊛◌};
+ghost use Rattle.ufs_model.specs.Spoken.{byte_in, bytes_in, commit_in, digits_in, grant_in, id_in, kind_in, mode_in};
+ghost use Rattle.ufs_model.specs.Spoken.{number_in, ref_in};
 ghost use Rattle.cfs_script.specs.NameTable.{names_of};
 ghost use Rattle.cfs_script.specs.Read.{Answers};
 
@@ -213,7 +215,8 @@ pub fn both<A: Drop, B: Drop>(
     a: Result<A, ScriptFault>,
     b: Result<B, ScriptFault>,
 ) -> Result<(A, B), ScriptFault>
-    ensures { (r : Reading A) (s : Reading B) → Answers a r → Answers b s → Answers result (Is (λ x y. (x, y)) ⊛ r ⊛ s) }
+    ensures { (r : Reading A) (s : Reading B) → Answers a r → Answers b s
+        → Answers result (Is (λ x y. (x, y)) ⊛ r ⊛ s) }
 {
     match (a, b) {
         (Ok(a), Ok(b)) => Ok((a, b)),

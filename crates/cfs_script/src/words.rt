@@ -62,7 +62,8 @@ impl<'a> Words<'a> {
 
     /// The three words that are left, where there are no more.
     pub fn three(mut self) -> Option<(&'a [u8], &'a [u8], &'a [u8])>
-        ensures { MatchOption result (length self.entry ≢ 3) (λ words. self.entry ≡ words.0.now ∷ words.1.now ∷ words.2.now ∷ []) }
+        ensures { MatchOption result (length self.entry ≢ 3)
+            (λ words. self.entry ≡ words.0.now ∷ words.1.now ∷ words.2.now ∷ []) }
     {
         let first = self.next()?;
         let (second, third) = self.two()?;
@@ -71,7 +72,8 @@ impl<'a> Words<'a> {
 
     /// The four words that are left, where there are no more.
     pub fn four(mut self) -> Option<(&'a [u8], &'a [u8], &'a [u8], &'a [u8])>
-        ensures { MatchOption result (length self.entry ≢ 4) (λ words. self.entry ≡ words.0.now ∷ words.1.now ∷ words.2.now ∷ words.3.now ∷ []) }
+        ensures { MatchOption result (length self.entry ≢ 4)
+            (λ words. self.entry ≡ words.0.now ∷ words.1.now ∷ words.2.now ∷ words.3.now ∷ []) }
     {
         let first = self.next()?;
         let (second, third, fourth) = self.three()?;
@@ -97,7 +99,8 @@ fn word_end(text: &[u8]) -> Option<usize>
 
 /// The text from its first word on.
 fn from_first_word(text: &[u8]) -> Option<&[u8]>
-    ensures { MatchOption result (words_of text.now ≡ []) (λ rest. (words_of rest.now ≡ words_of text.now) × BeginsWord rest.now) }
+    ensures { MatchOption result (words_of text.now ≡ [])
+        (λ rest. (words_of rest.now ≡ words_of text.now) × BeginsWord rest.now) }
 {
     let start = word_start(text)?;
     Some(&text[start..])

@@ -1,11 +1,7 @@
 -- What an answer is to the journal.
 use Rattle.std.proofs.Common.{◌≡◌, ℕ}
+use Rattle.cfs_serve.proofs.Cited.{IsAsked, Makes, Reply, Request, State}
 use Rattle.ufs_model.specs.declared.asked.Event.TheVariants as events
-use Rattle.ufs_model.specs.declared.asked.Reply.{Reply}
-use Rattle.ufs_model.specs.declared.asked.Request.{Request}
-use Rattle.ufs_model.specs.Asks.{IsAsked}
-use Rattle.ufs_model.specs.State.{State}
-use Rattle.cfs_serve.specs.Calls.{Makes}
 
 pub asked_makes : (stands : State → Type 0) (seed other : ℕ) → seed ≡ other → (s : State) (who : ℕ) (request : Request) (reply : Reply) → IsAsked stands seed s who request reply
     → Makes stands other s (events.Ask who request reply)

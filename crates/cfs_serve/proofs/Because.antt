@@ -1,26 +1,8 @@
 -- What each cause that is told shows, and what each status says by it.
 use Rattle.std.proofs.Common.{◌≡◌, ◌⊎◌, inl, inr, ℕ, Bool, true, false, List, length, Option, Some, None, IsSome, IsNone, refl, arith}
-use Rattle.std.specs.List.{list_all, list_any}
-use Rattle.cfs_streams.specs.Writing.{Wrote}
-use Rattle.ufs_model.specs.declared.asked.Event.{Event}
-use Rattle.ufs_model.specs.Script.{request_lines}
-use Rattle.ufs_model.specs.Turns.{turns_in}
-use Rattle.ufs_model.specs.Printed.{printed_replies}
-use Rattle.cfs_serve.specs.declared.report.Counts.{Counts}
-use Rattle.cfs_serve.specs.declared.report.Cause.{Cause}
+use Rattle.cfs_serve.proofs.Cited.{AreWithin, Asked, Cause, Counts, DiskFailed, EachSink, EachSource, EndedWell, Event, Format, Formats, Graph, Ground, HadLeft, HasNone, IsStatus, LimitPassed, Made, MemoryWanting, NoCountRose, Nothing, Outside, Page, Replied, Report, RoseIn, Showed, Shows, SinkFailed, SomeRose, SourceFailed, TellsMade, VolumeRefused, WritesReport, Wrote, collections_of, ended, finishes_in, is_calm, is_service, list_all, list_any, printed_replies, report_text, request_lines, sink_faults, source_faults, turns_in, wants_memory}
 use Rattle.cfs_serve.specs.declared.report.Cause.TheVariants as causes
-use Rattle.cfs_serve.specs.declared.report.Report.{Report}
-use Rattle.cfs_serve.specs.Report.{report_text}
-use Rattle.cfs_ports.specs.Port.{Replied}
-use Rattle.ufs_model.specs.Graph.{Graph}
-use Rattle.cfs_serve.specs.Events.{finishes_in, is_calm, wants_memory}
-use Rattle.cfs_serve.specs.Ground.{Ground}
-use Rattle.cfs_serve.specs.Played.{HasNone}
-use Rattle.cfs_serve.specs.declared.page.Page.{Page}
-use Rattle.cfs_serve.specs.Words.{Asked, Format, Shows, Formats, Nothing, collections_of, is_service}
-use Rattle.cfs_serve.specs.Whole.{RoseIn, TellsMade, ended}
-use Rattle.cfs_serve.specs.Scripts.{AreWithin}
-use Rattle.cfs_serve.specs.Top.{Outside, EachSource, EachSink, HadLeft, SomeRose, source_faults, sink_faults, NoCountRose, WritesReport, IsStatus, EndedWell, Showed, Made, VolumeRefused, DiskFailed, SinkFailed, SourceFailed, MemoryWanting, IsOver, LimitPassed}
+use Rattle.cfs_serve.specs.Top.{IsOver}
 
 -- a service whose sinks took all
 pub record Served (asked : Asked) (ground : Ground) (trail : List Event) (old new : Outside) (counts : Option Counts) : Type 0 where
@@ -46,7 +28,7 @@ module _ (asked : Asked) (ground : Ground) (old new : Outside) (counts : Option 
 
   -- a limit was passed
   abbrev Over : Cause → Type 0
-  Over cause = IsNone counts × IsOver cause old × ((scripts : List (List ℕ)) → HadLeft old scripts → ¬ (AreWithin scripts))
+  Over cause = IsNone counts × IsOver cause old new × ((scripts : List (List ℕ)) → HadLeft old scripts → ¬ (AreWithin scripts))
 
   -- a volume was asked for, so no source
   abbrev Volumed : Type 0
@@ -57,7 +39,8 @@ module _ (asked : Asked) (ground : Ground) (old new : Outside) (counts : Option 
   Because causes.Nothing = Served asked ground trail old new counts ⊎ Volumed
   Because (causes.Page page) = IsNone counts × (asked ≡ Shows page) × ((scripts : List (List ℕ)) → HadLeft old scripts → AreWithin scripts)
   Because causes.Words = IsNone counts × (asked ≡ Nothing) × ((scripts : List (List ℕ)) → HadLeft old scripts → AreWithin scripts)
-  Because (causes.Volume fault) = HasNone ground × ((scripts : List (List ℕ)) → HadLeft old scripts → AreWithin scripts)
+  Because (causes.Volume fault) =
+      HasNone ground × ((scripts : List (List ℕ)) → HadLeft old scripts → AreWithin scripts) × (IsNone counts → ground.faulty fault)
   Because (causes.Disk moment) = RoseIn old.disk new.disk × ((scripts : List (List ℕ)) → HadLeft old scripts → AreWithin scripts)
   Because causes.Sink = IsSome counts × ((scripts : List (List ℕ)) → HadLeft old scripts → AreWithin scripts) × SomeRose (sink_faults old) (sink_faults new)
   Because (causes.Source n) = SourceFailed (told (causes.Source n)) old new × SomeRose (source_faults old) (source_faults new)
@@ -116,7 +99,7 @@ module _ (asked : Asked) (ground : Ground) (old new : Outside) (counts : Option 
   status_2 cause false because is = absurd (omega (arith, is))
 
   pub status_3 : (cause : Cause) (written : Bool) → Because cause → ended written cause ≡ 3 → VolumeRefused ground (told cause)
-  status_3 (causes.Volume fault) written because is = ((fault, refl), because.0)
+  status_3 (causes.Volume fault) written because is = ((fault, refl, because.2), because.0)
   status_3 cause true because is = absurd (omega (arith, is))
   status_3 cause false because is = absurd (omega (arith, is))
 
@@ -145,7 +128,7 @@ module _ (asked : Asked) (ground : Ground) (old new : Outside) (counts : Option 
   status_7 cause true wrote is = absurd (omega (arith, is))
   status_7 cause false wrote is = absurd (omega (arith, is))
 
-  pub status_9 : (cause : Cause) (written : Bool) → Because cause → ended written cause ≡ 9 → LimitPassed (told cause) old
+  pub status_9 : (cause : Cause) (written : Bool) → Because cause → ended written cause ≡ 9 → LimitPassed (told cause) old new
   status_9 (causes.Long n) written because is = (because.0, because.1)
   status_9 causes.LongTotal written because is = (because.0, because.1)
   status_9 cause true because is = absurd (omega (arith, is))

@@ -1,35 +1,10 @@
 -- A step of the collector of a core, as the hall sees it.
-use Rattle.std.proofs.Common.{◌≡◌, ◌⊎◌, inl, inr, ℕ, ◌+◌, ◌-◌, ◌≤◌, Bool, true, false, List, [], ◌∷◌, ◌++◌, Option, Some, None, Result, Ok, Err, is_some, refl, sym, ap, ◌∙◌, subst, arith}
-use Rattle.std.specs.Prelude.{◌||◌, option_and_then}
-use Rattle.cfs_base.specs.Outside.{Rose}
-use Rattle.cfs_base.specs.declared.disk.Disk.{Ghosts}
-use Rattle.cfs_base.specs.declared.identifier.Puid.{Puid}
-use Rattle.cfs_core.specs.declared.collecting.Collections.{Collections}
-use Rattle.cfs_core.specs.declared.collecting.CollectFault.{CollectFault}
+use Rattle.std.proofs.Common.{◌≡◌, ◌⊎◌, inl, inr, ℕ, ◌+◌, ◌-◌, ◌≤◌, Bool, true, false, List, [], ◌∷◌, ◌++◌, Option, Some, None, Result, Ok, Err, is_some, refl, sym, ap, ◌∙◌, subst, arith, ◌||◌}
+use Rattle.cfs_serve.proofs.Cited.{CallKeeps, CollectFault, Collecting, Collection, Collections, Collects, EndsCollecting, Event, Ghosts, Graph, Happens, HappensOrRests, HasCollection, IsNextOf, IsStep, IsUnchanged, Kernel, MayGoOn, MayLose, MayMake, MayTally, Puid, Rests, Rose, RunSurvives, Serves, Stands, StandsFor, State, Step, Stop, Stops, Survived, Tallies, TellsStep, TellsStop, allowed, append-nil, damage_in, event_by, event_of, fails, is_calm_step, is_collecting, is_marking, is_sweeping, listed, lost_blocks, marks_in, next, option_and_then, pairs_of, recorded, refusal_by, replay, runs, starts_now, stops_in, sweeps_in, tally_of, tells_stop_at, without}
 use Rattle.cfs_core.specs.declared.collecting.CollectFault.TheVariants as faults
-use Rattle.cfs_core.specs.declared.collecting.Step.{Step}
 use Rattle.cfs_core.specs.declared.collecting.Step.TheVariants as steps
-use Rattle.cfs_core.specs.declared.kernel.Stop.{Stop}
-use Rattle.cfs_core.specs.Asked.{Happens}
-use Rattle.cfs_core.specs.Collect.{Collects, HappensOrRests, IsNextOf, IsStep, IsUnchanged, event_of}
-use Rattle.cfs_core.specs.Kernel.{Kernel, marks_in, runs, sweeps_in}
-use Rattle.cfs_core.specs.Room.{MayLose, lost_blocks}
-use Rattle.cfs_core.specs.StandsFor.{HasCollection, Serves, Stands, StandsFor, is_collecting, is_sweeping}
-use Rattle.collector_steps.specs.Collecting.{Collecting}
-use Rattle.marking.proofs.Asked.{allowed}
-use Rattle.survival.specs.Call.{CallKeeps, Survived}
-use Rattle.survival.specs.Trail.{RunSurvives}
-use Rattle.ufs_model.specs.declared.asked.Event.{Event}
 use Rattle.ufs_model.specs.declared.asked.Event.TheVariants as events
-use Rattle.ufs_model.specs.declared.collection.Collection.{Collection}
 use Rattle.ufs_model.specs.declared.collection.Collection.TheVariants as collections
-use Rattle.ufs_model.specs.Graph.{Graph, without}
-use Rattle.ufs_model.specs.Next.{next}
-use Rattle.ufs_model.specs.Reach.{starts_now}
-use Rattle.ufs_model.specs.Run.{replay}
-use Rattle.ufs_model.specs.State.{State, pairs_of}
-use Rattle.ufs_model.specs.Vanish.{is_marking}
-use Rattle.cfs_serve.specs.Calls.{MayGoOn, MayMake, MayTally, Rests, Tallies, TellsStep, event_by, fails, is_calm_step, tally_of, tells_stop_at}
 use Rattle.cfs_serve.proofs.Journals.{some_same}
 use Rattle.cfs_serve.proofs.Owed.{no_some, rescued_runs}
 
@@ -109,13 +84,16 @@ module _ {D : Type 0} (g : Ghosts D) (old new : Kernel D) (result : Result Step 
       at None is some = absurd (cc some)
 
   pub tells : TellsStep (λ (k : Kernel D). g.faults k.disk) (λ (k : Kernel D). is_some k.stop) (λ (k : Kernel D). damaged k.stop) old new result
-  tells = record {
-    later = did.calls.faults;
-    told = λ is. told_at result refl is;
-    stays = stays;
-    calm = λ runs none. calm_at result refl runs;
-    halts = λ stopped sound. halts_at old.stop refl stopped sound;
-  }
+  tells = (
+    record {
+      later = did.calls.faults;
+      told = λ is. absurd (cc is);
+      stays = stays;
+      calm = λ runs none. calm_at result refl runs;
+      halts = λ stopped sound. halts_at old.stop refl stopped sound;
+    },
+    told_at result refl,
+  )
     where
       told_at : (r : Result Step CollectFault) → result ≡ r → fails r ≡ true → Rose (g.faults old.disk) (g.faults new.disk)
       told_at (Err (faults.Disk None)) same is = (rw same at did.cause).failed.cause
@@ -189,6 +167,46 @@ module _ {D : Type 0} (g : Ghosts D) (old new : Kernel D) (result : Result Step 
           at : (o : Option Stop) → old.stop ≡ o → Rose (g.faults old.disk) (g.faults new.disk)
           at None none = running none r same is
           at (Some stop) there = absurd (cc (subst (λ x. tells_stop_at (event_by x) ≡ true) (sym same ∙ (did.stopped stop there).1) is))
+
+  -- ---- why it stopped
+
+  pub stops : Stops old.stop new.stop (recorded (event_by result)) × TellsStop (refusal_by result) new.stop
+  stops = by result refl
+    where
+      Told : Result Step CollectFault → Type 0
+      Told r = Stops old.stop new.stop (recorded (event_by r)) × TellsStop (refusal_by r) new.stop
+
+      calm : (step : Step) → stops_in (damage_in new.stop) (recorded (event_of step)) ≡ []
+      calm steps.Idle = refl
+      calm steps.Began = refl
+      calm steps.Took = refl
+      calm steps.Scanned = refl
+      calm (steps.Condemned ids) = refl
+      calm steps.Swept = refl
+      calm steps.Finished = refl
+
+      still : (made : List Event) → stops_in (damage_in new.stop) made ≡ [] → new.stop ≡ old.stop → Stops old.stop new.stop made
+      still made none same = ap listed same ∙ sym (rw none (append-nil (listed old.stop)))
+
+      -- one that stopped in it ran before
+      ran_before : (fault : CollectFault) → result ≡ Err fault → ((moment : ℕ) → fault ≡ faults.Stopped moment → ⊥) → old.stop ≡ None
+      ran_before fault same other = at old.stop refl
+        where
+          at : (o : Option Stop) → old.stop ≡ o → old.stop ≡ None
+          at None is = is
+          at (Some stop) is = absurd (other stop.moment (cc (same, (did.stopped stop is).1)))
+
+      by : (r : Result Step CollectFault) → result ≡ r → Told r
+      by (Ok step) same = (still (recorded (event_of step)) (calm step) (rw same at did.goes_on), tt)
+      by (Err faults.Memory) same = (still [] refl (rw same at did.stops), tt)
+      by (Err (faults.Disk None)) same = (still [] refl (rw same at did.stops), tt)
+      by (Err (faults.Stopped moment)) same = (still [] refl (rw same at did.stops), tt)
+      by (Err (faults.Disk (Some moment))) same =
+          let is : new.stop ≡ Some (record { moment = moment; damage = None }) = rw same at did.stops in
+          (rw (ran_before (faults.Disk (Some moment)) same (λ m e. cc e), is) refl, is)
+      by (Err (faults.Damaged damage moment)) same =
+          let is : new.stop ≡ Some (record { moment = moment; damage = Some damage }) = rw same at did.stops in
+          (rw (ran_before (faults.Damaged damage moment) same (λ m e. cc e), is) refl, is)
 
   -- ---- what becomes of the collections
 
@@ -301,8 +319,24 @@ module _ {D : Type 0} (g : Ghosts D) (old new : Kernel D) (result : Result Step 
       by (Err (faults.Stopped moment)) same = subst (λ (k : Kernel D). Rests stopped (tally_of g) old k s) (sym (event (Err (faults.Stopped moment)) same)) (record { counts = (refl, refl); lost = λ runs. omega arith })
 
   -- nothing is left to do once all that were called for are finished
-  pub idle : result ≡ Ok steps.Idle → (is_some new.stop ≡ false) × (new.collections.finished ≡ new.collections.called)
+  idle : result ≡ Ok steps.Idle → (is_some new.stop ≡ false) × (new.collections.finished ≡ new.collections.called)
   idle same =
       let due = rw same at did.due in
       let stays = rw same at did.counted in
       (ap is_some (goes steps.Idle same), ap (λ (c : Collections). c.finished) stays ∙ due.1 ∙ sym (ap (λ (c : Collections). c.called) stays))
+
+  -- memory is wanted where a collection would begin
+  ran_on : (fault : CollectFault) → result ≡ Err fault → ((moment : ℕ) → fault ≡ faults.Stopped moment → ⊥) → is_some old.stop ≡ false
+  ran_on fault same other = at old.stop refl
+    where
+      at : (o : Option Stop) → old.stop ≡ o → is_some old.stop ≡ false
+      at None is = ap is_some is
+      at (Some stop) is = absurd (other stop.moment (cc (same, (did.stopped stop is).1)))
+
+  pub ends : EndsCollecting stopped (tally_of g) old new result
+  ends = by result refl
+    where
+      by : (r : Result Step CollectFault) → result ≡ r → EndsCollecting stopped (tally_of g) old new r
+      by (Ok steps.Idle) same = idle same
+      by (Err faults.Memory) same = let due = did.wants same in (ran_on faults.Memory same (λ m e. cc e), due.0, due.1)
+      by r same = tt

@@ -1,6 +1,6 @@
 -- How many events of a beginning pass a test, one event further.
 use Rattle.std.proofs.Common.{◌≡◌, ℕ, zero, suc, ◌+◌, Bool, true, false, cond, List, [], ◌∷◌, length, filter, take, Some, slice_get, refl, arith, subst}
-use Rattle.ufs_model.specs.declared.asked.Event.{Event}
+use Rattle.cfs_serve.proofs.Cited.{Event}
 use Rattle.cfs_serve.proofs.Journals.{some_same}
 
 one_more : (test : Event → Bool) (es : List Event) (n : ℕ) (e : Event) → slice_get es n ≡ Some e

@@ -1,247 +1,18 @@
 -- What `top` says of a run, from what the run came to.
-use Rattle.std.proofs.Common.{◌≡◌, ◌↔◌, inl, inr, ℕ, ◌<◌, ◌≤◌, Bool, true, false, not, List, [], ◌∷◌, ◌++◌, length, map, slice_get, Option, Some, None, refl, sym, ap, ◌∙◌, subst, arith}
-use Rattle.std.specs.Prelude.{◌||◌, get_or, option_map, slice_index_or}
-use Rattle.std.specs.List.{list_any}
-use Rattle.std.proofs.lemmas.List.{length-map}
-use Rattle.std.proofs.lemmas.Option.{slice_get-get_or, slice_get-map, slice_get_within}
-use Rattle.cfs_base.specs.Outside.{Intake, Rose, Supply}
-use Rattle.cfs_ports.specs.Port.{Replied}
-use Rattle.cfs_streams.proofs.WriteLaws.{nothing}
-use Rattle.ufs_model.specs.declared.asked.Event.{Event}
-use Rattle.ufs_model.specs.Printed.{printed_replies}
-use Rattle.ufs_model.specs.Script.{request_lines}
-use Rattle.ufs_model.specs.State.{opening}
-use Rattle.cfs_serve.specs.Limits.{most_script, most_lines}
-use Rattle.cfs_serve.specs.declared.report.Counts.{Counts}
-use Rattle.cfs_serve.specs.declared.report.Cause.{Cause}
+use Rattle.std.proofs.Common.{◌≡◌, inl, inr, ℕ, ◌<◌, ◌≤◌, Bool, true, false, not, List, [], ◌∷◌, ◌++◌, length, map, slice_get, Option, Some, refl, sym, ap, ◌∙◌, subst, arith, ◌||◌}
+use Rattle.cfs_serve.proofs.Cited.{AreOver, AreSeated, AreWithin, Asked, Asks, BreaksOff, Cause, Counts, Ending, Event, Formats, Ground, HadLeft, HasBroken, HasPlaces, HasScript, HaveScripts, Intake, IsOver, IsPlayed, IsRunOf, IsServedFrom, Nothing, Outside, Page, Puid, Reading, Replied, Report, RoseIn, Seat, Service, Shows, SomeRose, Supply, Wrote, all_forms, counts_of, events_of, has_broken, has_failed, is_short, length-map, list_any, most_lines, no_names, option_map, printed_replies, request_lines, slice_get-map, slice_get_within, turns_from, turns_in, wants_memory}
 use Rattle.cfs_serve.specs.declared.report.Cause.TheVariants as causes
-use Rattle.cfs_serve.specs.declared.report.Report.{Report}
-use Rattle.cfs_serve.specs.Events.{BreaksOff, begins_in, events_of, wants_memory}
-use Rattle.cfs_serve.specs.Ground.{Ground}
-use Rattle.cfs_serve.specs.declared.page.Page.{Page}
-use Rattle.cfs_serve.specs.Words.{Asked, Format, Service, Shows, Formats, Serves, Nothing}
-use Rattle.cfs_base.specs.declared.identifier.Puid.{Puid}
-use Rattle.cfs_ports.specs.Port.{Reading}
-use Rattle.ufs_model.specs.Spoken.{all_forms}
-use Rattle.cfs_streams.specs.Writing.{Wrote}
+use Rattle.cfs_serve.specs.Words.{Serves}
 use Rattle.ufs_model.specs.declared.asked.Event.TheVariants as events
-use Rattle.ufs_model.specs.Names.{no_names}
-use Rattle.ufs_model.specs.Turns.{turns_from, turns_in}
-use Rattle.cfs_serve.specs.Charter.{Seat}
-use Rattle.cfs_serve.specs.Hall.{AreOver, IsOver}
-use Rattle.cfs_serve.specs.Played.{AreSeated, IsPlayed, IsCause, IsRunOf, counts_of, has_broken}
-use Rattle.cfs_serve.specs.Scripts.{AreWithin, Had, HasScript, HaveScripts, faults_of}
-use Rattle.cfs_serve.specs.Whole.{HasPlaces, Asks, RoseIn, TellsMade}
-use Rattle.cfs_serve.specs.Top.{Outside, HadLeft, IsServedFrom, SomeRose, TookAll, is_mild, Did}
+use Rattle.cfs_serve.specs.Played.{AreCounted}
 use Rattle.cfs_serve.proofs.Lists.{each_of, failed_at, item, map_at, mapped, no_items, none_failed, one_failed, one_rose, same_length}
-use Rattle.cfs_serve.proofs.Journals.{some_same}
-use Rattle.cfs_serve.proofs.Scripted.{had_count, one_few, within}
+use Rattle.cfs_serve.proofs.Scripted.{one_few, within}
 use Rattle.cfs_serve.proofs.Because.{Because}
-
--- what a run did and told, and what its cause shows
-abbrev pub Facts : Asked → Ground → (old new : Outside) → Report → List Event → Type 0
-Facts asked ground old new told trail = Did asked ground old new told trail × Because asked ground old new told.counts trail told.cause
-
-abbrev pub places : Option ℕ → List Supply → List Intake → Intake → Outside
-places disk sources sinks report = record { disk = disk; sources = sources; sinks = sinks; report = report }
-
-pub clash : true ≡ false → ⊥
-clash e = cc
-
-pub clash-sym : false ≡ true → ⊥
-clash-sym e = cc
-
-no_scripts : (scripts : List (List ℕ)) → Had [] scripts → AreWithin scripts
-no_scripts [] had = ((λ k d below. absurd (omega (arith, below))), omega arith)
-no_scripts (left ∷ rest) had = absurd (some had)
-  where
-    some : {x : Option (List ℕ)} {xs : List (Option (List ℕ))} → [] ≡ x ∷ xs → ⊥
-    some e = cc
-
--- ---- no service was asked for
-
-pub of_nothing : (ground : Ground) (disk disk_after : Option ℕ) (report report_after : Intake) → Facts Nothing ground (places disk [] [] report) (places disk_after [] [] report_after) (record { counts = None; cause = causes.Words }) []
-of_nothing ground disk disk_after report report_after = (
-  record {
-    places = (refl, refl);
-    unserved = λ none. (refl, refl);
-    unasked = λ none. refl;
-    leaves = λ served. absurd (clash-sym served);
-    sessions = λ none. refl;
-    others = λ k past. refl;
-    on = tt;
-    sound = λ served. absurd (clash-sym served);
-    took = λ k. true;
-    takes = λ k. refl;
-    turns = tt;
-    replied = tt;
-    broken = λ served. absurd (clash-sym served);
-    words = ((λ is. refl), (λ is. refl));
-    page = λ page. ((λ is. cc), (λ is. cc));
-    cause = λ none no e. cc;
-    made = λ no. absurd (clash-sym no);
-    wanting = false;
-    wanted = λ none. refl;
-    memory = λ served. absurd (clash-sym served);
-  },
-  (refl, refl, no_scripts),
-)
-
-pub of_page : (ground : Ground) (shown : Page) (disk disk_after : Option ℕ) (report report_after : Intake)
-    → Facts (Shows shown) ground (places disk [] [] report) (places disk_after [] [] report_after) (record { counts = None; cause = causes.Page shown }) []
-of_page ground shown disk disk_after report report_after = (
-  record {
-    places = (refl, refl);
-    unserved = λ none. (refl, refl);
-    unasked = λ none. refl;
-    leaves = λ served. absurd (clash-sym served);
-    sessions = λ none. refl;
-    others = λ k past. refl;
-    on = tt;
-    sound = λ served. absurd (clash-sym served);
-    took = λ k. true;
-    takes = λ k. refl;
-    turns = tt;
-    replied = tt;
-    broken = λ served. absurd (clash-sym served);
-    words = ((λ is. cc), (λ is. cc));
-    page = λ page. ((λ is. cc), (λ is. cc));
-    cause = λ none no e. cc;
-    made = λ no. absurd (clash-sym no);
-    wanting = false;
-    wanted = λ none. refl;
-    memory = λ served. absurd (clash-sym served);
-  },
-  (refl, refl, no_scripts),
-)
-
--- ---- a volume was asked for
-
-module _ (ground : Ground) (format : Format) (disk disk_after : Option ℕ) (report report_after : Intake) where
-  abbrev Volumed : Cause → Type 0
-  Volumed cause = Facts (Formats format) ground (places disk [] [] report) (places disk_after [] [] report_after) (record { counts = None; cause = cause }) []
-
-  volumed : (cause : Cause) → ¬ (cause ≡ causes.Words) → ((page : Page) → ¬ (cause ≡ causes.Page page)) → TellsMade cause disk disk_after
-      → TookAll cause (places disk [] [] report) (λ k. true) → Because (Formats format) ground (places disk [] [] report) (places disk_after [] [] report_after) None [] cause → Volumed cause
-  volumed cause other paged told takes because = (
-    record {
-      places = (refl, refl);
-      unserved = λ none. (refl, refl);
-      unasked = λ none. refl;
-      leaves = λ served. absurd (clash-sym served);
-      sessions = λ none. refl;
-      others = λ k past. refl;
-      on = tt;
-      sound = λ served. absurd (clash-sym served);
-      took = λ k. true;
-      takes = takes;
-      turns = tt;
-      replied = tt;
-      broken = λ served. absurd (clash-sym served);
-      words = ((λ is. absurd (other is)), (λ is. cc));
-      page = λ page. ((λ is. absurd (paged page is)), (λ is. cc));
-      cause = λ none no. absurd (clash no);
-      made = λ makes. told;
-      wanting = false;
-      wanted = λ none. refl;
-      memory = λ served. absurd (clash-sym served);
-    },
-    because,
-  )
-
-  pub of_format : (cause : Cause) → TellsMade cause disk disk_after → Volumed cause
-  of_format cause (inl is) = rw is (volumed causes.Nothing (λ e. cc) (λ page e. cc) (inl refl) (λ k. refl) (inr (refl, (format, refl), no_scripts)))
-  of_format cause (inr failed) = rw failed.0 (volumed (causes.Disk None) (λ e. cc) (λ page e. cc) (inr (refl, failed.1)) tt (failed.1, no_scripts))
-
--- ---- nothing was served
-
-module _ (service : Service) (ground : Ground) (disk disk_after : Option ℕ) (sources sources_after : List Supply) (sinks : List Intake) (report report_after : Intake)
-    (given : HasPlaces (Serves service) (length sources) (length sinks)) (count : length sources_after ≡ length sources) where
-  abbrev old : Outside
-  old = places disk sources sinks report
-
-  abbrev new : Outside
-  new = places disk_after sources_after sinks report_after
-
-  abbrev Unserved : Cause → Type 0
-  Unserved cause = Facts (Serves service) ground old new (record { counts = None; cause = cause }) []
-
-  unserved : (cause : Cause) → TookAll cause old (λ k. true) → ¬ (cause ≡ causes.Words) → ((page : Page) → ¬ (cause ≡ causes.Page page)) → ¬ (cause ≡ causes.Nothing)
-      → Because (Serves service) ground old new None [] cause → Unserved cause
-  unserved cause takes other paged told because = (
-    record {
-      places = (count ∙ given.0, given.1);
-      unserved = λ none. (refl, refl);
-      unasked = λ no. absurd (clash no);
-      leaves = λ served. absurd (clash-sym served);
-      sessions = λ none. refl;
-      others = λ k past. refl;
-      on = λ graph reads. record {
-        last = opening graph;
-        legal = refl;
-        exact = λ some. tt;
-        calm = λ never. refl;
-        stop = λ served. absurd (clash-sym served);
-        counted = tt;
-        few = let none : begins_in [] ≡ 0 = refl in omega (arith, none);
-        rests = λ runs all. refl;
-      };
-      sound = λ served. absurd (clash-sym served);
-      took = λ k. true;
-      takes = takes;
-      turns = λ served. absurd (clash-sym served);
-      replied = each_of (λ session sink after. Replied sink after (printed_replies session []) true) sinks sinks refl
-          (λ k sink after at there. subst (λ x. Replied sink x (printed_replies k []) true) (some_same _ _ (sym at ∙ there)) (nothing sink));
-      broken = λ served. absurd (clash-sym served);
-      words = ((λ is. absurd (other is)), (λ is. cc));
-      page = λ page. ((λ is. absurd (paged page is)), (λ is. cc));
-      cause = λ none no. told;
-      made = λ no. absurd (clash-sym no);
-      wanting = false;
-      wanted = λ none. refl;
-      memory = λ served. absurd (clash-sym served);
-    },
-    because,
-  )
-
-  -- one of the counts of faults rose
-  source_rose : (n : ℕ) → n < length sources → Rose (get_or (faults_of sources) n 0) (get_or (faults_of sources_after) n 0) → SomeRose (faults_of sources) (faults_of sources_after)
-  source_rose n below rose = one_rose (faults_of sources) (faults_of sources_after) n _ _
-      (slice_get-get_or (faults_of sources) n 0 (omega (arith, below, length-map sources (λ (s : Supply). s.faults))))
-      (slice_get-get_or (faults_of sources_after) n 0 (omega (arith, below, count, length-map sources_after (λ (s : Supply). s.faults)))) rose
-
-  pub of_none : (cause : Cause) → IsCause ground (RoseIn disk disk_after) sources sources_after cause → Unserved cause
-  of_none (causes.Source n) is = unserved (causes.Source n) (λ k. refl) (λ e. cc) (λ page e. cc) (λ e. cc) ((n, refl, is.0, is.1), source_rose n is.0 is.1)
-  of_none (causes.Long n) is = unserved (causes.Long n) (λ k. refl) (λ e. cc) (λ page e. cc) (λ e. cc) (
-    refl,
-    is,
-    (λ scripts had few.
-        let long : most_script < length (slice_index_or scripts n []) = is.1 scripts had in
-        let least : length (slice_index_or scripts n []) ≤ most_script = few.0 n [] (omega (arith, is.0, had_count sources scripts had)) in
-        omega (arith, long, least)),
-  )
-  of_none causes.LongTotal is = unserved causes.LongTotal (λ k. refl) (λ e. cc) (λ page e. cc) (λ e. cc) (
-    refl,
-    is,
-    (λ scripts had few. let over = is scripts had in omega (arith, over.1, few.1)),
-  )
-  of_none causes.Memory is = unserved causes.Memory (λ k. refl) (λ e. cc) (λ page e. cc) (λ e. cc) tt
-  of_none (causes.Volume fault) is = unserved (causes.Volume fault) tt (λ e. cc) (λ page e. cc) (λ e. cc) (is.0, within sources is.1.0 is.1.1)
-  of_none (causes.Disk moment) is = unserved (causes.Disk moment) tt (λ e. cc) (λ page e. cc) (λ e. cc) (is.1, within sources is.2.0 is.2.1)
-  of_none causes.Nothing is = absurd is
-  of_none (causes.Page page) is = absurd is
-  of_none causes.Words is = absurd is
-  of_none causes.Sink is = absurd is
+use Rattle.cfs_serve.proofs.Endings.{Shown, shown, went_well}
+use Rattle.cfs_serve.proofs.Stopping.{undamaged}
+use Rattle.cfs_serve.proofs.NoneServed.{Facts, clash, clash-sym, of_format, of_none, of_nothing, of_page, places}
 
 -- ---- sessions were served
-
-no_first : (a b : Bool) → (a || b) ≡ false → a ≡ false
-no_first true b is = absurd (clash is)
-no_first false b is = refl
-
-no_second : (a b : Bool) → (a || b) ≡ false → b ≡ false
-no_second true b is = absurd (clash is)
-no_second false b is = is
 
 off : (b : Bool) → not b ≡ true → b ≡ false
 off true is = absurd (clash-sym is)
@@ -251,7 +22,7 @@ on : (b : Bool) → not b ≡ false → b ≡ true
 on true is = refl
 on false is = absurd (clash is)
 
-module _ (service : Service) (ground : Ground) (disk disk_after : Option ℕ) (sources sources_after : List Supply) (sinks sinks_after : List Intake) (report report_after : Intake) (trail : List Event)
+module _ (service : Service) (ground : Ground) (disk disk_after : Option ℕ) (sources sources_after : List Supply) (sinks sinks_after : List Intake) (report report_after : Intake) (ending : Ending) (trail : List Event)
     (given : HasPlaces (Serves service) (length sources) (length sinks)) (sources_count : length sources_after ≡ length sources) (sinks_count : length sinks_after ≡ length sinks)
     (scripts : List (List ℕ)) (have : HaveScripts sources scripts) (sound : ¬ ground.unsound) (counts : Counts) (seats : List Seat) (ports : List Reading)
     (seated : AreSeated scripts sinks sinks_after seats ports) where
@@ -262,10 +33,10 @@ module _ (service : Service) (ground : Ground) (disk disk_after : Option ℕ) (s
   ended = places disk_after sources_after sinks_after report_after
 
   abbrev Played : Cause → Type 0
-  Played cause = IsPlayed ground service.seed service.collections (RoseIn disk disk_after) seats ports counts cause trail
+  Played cause = IsPlayed ground service.seed service.collections (RoseIn disk disk_after) seats ports counts cause ending trail
 
   abbrev Sessions : Cause → Type 0
-  Sessions cause = Facts (Serves service) ground begun ended (record { counts = Some counts; cause = cause }) trail
+  Sessions cause = Facts (Serves service) ground begun ended (record { counts = Some counts; cause = cause }) ending trail
 
   few : (left : List (List ℕ)) → HadLeft begun left → AreWithin left
   few = within sources scripts have
@@ -372,9 +143,16 @@ module _ (service : Service) (ground : Ground) (disk disk_after : Option ℕ) (s
           (slice_get-map (λ (s : Intake). s.faults) sinks broke.0 ∙ ap (option_map (λ (s : Intake). s.faults)) sink.1)
           (slice_get-map (λ (s : Intake). s.faults) sinks_after broke.0 ∙ ap (option_map (λ (s : Intake). s.faults)) after.1) replied.failed
 
-  sessions : (cause : Cause) (played : Played cause) → TookAll cause begun (took played.root played.over) → ¬ (cause ≡ causes.Words) → ((page : Page) → ¬ (cause ≡ causes.Page page))
-      → (is_mild cause ≡ true → ((cause ≡ causes.Memory) ↔ ((list_any wants_memory trail || played.wanting) ≡ true))) → Because (Serves service) ground begun ended (Some counts) trail cause → Sessions cause
-  sessions cause played takes other paged memory because = (
+    falls : HasBroken (has_broken ports) begun took
+    falls = at (has_broken ports) refl
+      where
+        at : (b : Bool) → has_broken ports ≡ b → HasBroken b begun took
+        at true some = ((broke some).0, sink_there some, lost some)
+        at false none = went none
+
+  sessions : (cause : Cause) (played : Played cause) → ¬ (cause ≡ causes.Words) → ((page : Page) → ¬ (cause ≡ causes.Page page))
+      → Because (Serves service) ground begun ended (Some counts) trail cause → Sessions cause
+  sessions cause played other paged because = (
     record {
       places = (sources_count ∙ given.0, sinks_count ∙ given.1);
       unserved = λ none. absurd (clash none);
@@ -388,6 +166,8 @@ module _ (service : Service) (ground : Ground) (disk disk_after : Option ℕ) (s
         legal = run.legal;
         exact = run.exact;
         calm = run.calm;
+        undamaged = (undamaged ending.stop trail (played.undamaged graph reads) played.ends.stops, played.undamaged graph reads);
+        wanting = λ wants. played.wanting wants graph reads;
         stop = λ served. run.stop;
         counted = (subst (λ n. counts ≡ counts_of n trail run.last.graph counts.free) seats_count run.counted, run.free);
         few = run.few;
@@ -395,7 +175,9 @@ module _ (service : Service) (ground : Ground) (disk disk_after : Option ℕ) (s
       };
       sound = λ served. sound;
       took = took played.root played.over;
-      takes = takes;
+      fell = has_broken ports;
+      falls = falls played.root played.over;
+      stands = λ none. absurd (clash none);
       turns = λ served. (
         played.root,
         played.rooted,
@@ -410,70 +192,71 @@ module _ (service : Service) (ground : Ground) (disk disk_after : Option ℕ) (s
       page = λ page. ((λ is. absurd (paged page is)), (λ is. cc));
       cause = λ none. absurd (clash none);
       made = λ no. absurd (clash-sym no);
-      wanting = played.wanting;
-      wanted = played.wanted;
-      memory = λ served. memory;
+      ends = λ served. played.ends;
+      spoiled = λ served. played.spoiled;
+      counts = subst (λ n. AreCounted n trail counts) seats_count played.counted;
     },
     because,
   )
 
-  pub of_sessions : (cause : Cause) → Played cause → Sessions cause
-  of_sessions causes.Nothing played = sessions causes.Nothing played (went played.root played.over played.spoiled.0) (λ e. cc) (λ page e. cc)
-      (λ mild. ((λ m. absurd (clash-memory m)), (λ m. absurd (clash-sym (sym played.spoiled.1 ∙ m))))) (inl (record {
+  -- what the cause shows
+  abbrev ShownBy : Cause → Type 0
+  ShownBy cause = Shown (has_failed ending trail) (has_broken ports) (list_any wants_memory trail || is_short ending) cause
+
+  by_cause : (cause : Cause) → Played cause → ShownBy cause → Sessions cause
+  by_cause causes.Nothing played is =
+      let well = went_well ending trail (has_broken ports) played.ends.refusal (sym played.spoiled) in
+      sessions causes.Nothing played (λ e. cc) (λ page e. cc) (inl (record {
         served = refl;
         sound = sound;
         within = few;
         answered = each_of (λ k source after. (left : List ℕ) → source.left ≡ Some left → length (turns_in k trail) ≡ length (request_lines left)) sources sources_after sources_count
-            (λ k source after at there. answered_at played.root played.over played.spoiled.0 k source (at_source played.root played.over k source at));
+            (λ k source after at there. answered_at played.root played.over is.1 k source (at_source played.root played.over k source at));
         replied = each_of (λ k sink after. Wrote sink after (printed_replies k trail)) sinks sinks_after sinks_count
-            (λ k sink after at there. wrote_at played.root played.over played.spoiled.0 k sink after (at_sink played.root played.over k sink after at there));
-        memory = no_first (list_any wants_memory trail) played.wanting played.spoiled.1;
-        calm = played.spoiled.2;
-        collected = played.collected (no_second (list_any wants_memory trail) played.wanting played.spoiled.1);
+            (λ k sink after at there. wrote_at played.root played.over is.1 k sink after (at_sink played.root played.over k sink after at there));
+        memory = well.memory;
+        calm = played.ends.calm well.runs well.disk;
+        collected = played.collected well.refused well.spent;
       }))
-    where
-      clash-memory : causes.Nothing ≡ causes.Memory → ⊥
-      clash-memory e = cc
-  of_sessions (causes.Disk moment) played = sessions (causes.Disk moment) played tt (λ e. cc) (λ page e. cc) (λ is. absurd (clash-sym is)) (played.spoiled, few)
-  of_sessions (causes.Volume fault) played = sessions (causes.Volume fault) played tt (λ e. cc) (λ page e. cc) (λ is. absurd (clash-sym is))
-      ((λ graph reads. (played.run graph reads).stop), few)
-  of_sessions causes.Sink played =
-      let broke = one_failed ports played.spoiled in
-      sessions causes.Sink played (broke.0, sink_there played.root played.over played.spoiled, lost played.root played.over played.spoiled) (λ e. cc) (λ page e. cc) (λ is. absurd (clash-sym is))
-      (refl, few, sinks_rose played.root played.over played.spoiled)
-  of_sessions causes.Memory played = sessions causes.Memory played (went played.root played.over played.spoiled.0) (λ e. cc) (λ page e. cc) (λ mild. ((λ m. played.spoiled.1), (λ m. refl))) tt
-  of_sessions (causes.Page page) played = absurd played.spoiled
-  of_sessions causes.Words played = absurd played.spoiled
-  of_sessions (causes.Source i) played = absurd played.spoiled
-  of_sessions (causes.Long i) played = absurd played.spoiled
-  of_sessions causes.LongTotal played = absurd played.spoiled
+  by_cause (causes.Disk moment) played is = sessions (causes.Disk moment) played (λ e. cc) (λ page e. cc) (played.ends.failed is, few)
+  by_cause (causes.Volume fault) played is = sessions (causes.Volume fault) played (λ e. cc) (λ page e. cc) ((λ graph reads. (played.run graph reads).stop), few, (λ none. absurd (clash none)))
+  by_cause causes.Sink played is = sessions causes.Sink played (λ e. cc) (λ page e. cc) (refl, few, sinks_rose played.root played.over is)
+  by_cause causes.Memory played is = sessions causes.Memory played (λ e. cc) (λ page e. cc) tt
+  by_cause (causes.Page page) played is = absurd is
+  by_cause causes.Words played is = absurd is
+  by_cause (causes.Source i) played is = absurd is
+  by_cause (causes.Long i) played is = absurd is
+  by_cause causes.LongTotal played is = absurd is
+
+  pub of_sessions : (cause : Cause) → Played cause → Sessions cause
+  of_sessions cause played = by_cause cause played (subst ShownBy (sym played.spoiled) (shown ending trail (has_broken ports)))
 
 -- ---- every run
 
-of_run : (service : Service) (ground : Ground) (disk disk_after : Option ℕ) (sources sources_after : List Supply) (sinks sinks_after : List Intake) (report report_after : Intake) (told : Report) (trail : List Event)
+of_run : (service : Service) (ground : Ground) (disk disk_after : Option ℕ) (sources sources_after : List Supply) (sinks sinks_after : List Intake) (report report_after : Intake) (told : Report) (ending : Ending) (trail : List Event)
     → HasPlaces (Serves service) (length sources) (length sinks) → length sources_after ≡ length sources → length sinks_after ≡ length sinks
-    → IsRunOf ground service.seed service.collections (RoseIn disk disk_after) sources sources_after sinks sinks_after told trail
-    → Facts (Serves service) ground (places disk sources sinks report) (places disk_after sources_after sinks_after report_after) told trail
-of_run service ground disk disk_after sources sources_after sinks sinks_after report report_after told trail given sources_count sinks_count (inl s) =
-    rw s.told (of_sessions service ground disk disk_after sources sources_after sinks sinks_after report report_after trail given sources_count sinks_count s.scripts s.have s.sound s.counts s.seats s.ports s.seated s.cause s.played)
-of_run service ground disk disk_after sources sources_after sinks sinks_after report report_after told trail given sources_count sinks_count (inr n) =
-    rw (n.nothing.told, n.nothing.no_event, n.nothing.untouched) (of_none service ground disk disk_after sources sources_after sinks report report_after given sources_count n.cause n.is)
+    → IsRunOf ground service.seed service.collections (RoseIn disk disk_after) sources sources_after sinks sinks_after told ending trail
+    → Facts (Serves service) ground (places disk sources sinks report) (places disk_after sources_after sinks_after report_after) told ending trail
+of_run service ground disk disk_after sources sources_after sinks sinks_after report report_after told ending trail given sources_count sinks_count (inl s) =
+    rw s.told (of_sessions service ground disk disk_after sources sources_after sinks sinks_after report report_after ending trail given sources_count sinks_count s.scripts s.have s.sound s.counts s.seats s.ports s.seated s.cause s.played)
+of_run service ground disk disk_after sources sources_after sinks sinks_after report report_after told ending trail given sources_count sinks_count (inr n) =
+    rw (n.nothing.told, n.nothing.no_event, n.nothing.no_end, n.nothing.untouched) (of_none service ground disk disk_after sources sources_after sinks report report_after given sources_count n.cause n.is)
 
-module _ (disk disk_after : Option ℕ) (sources sources_after : List Supply) (sinks sinks_after : List Intake) (report report_after : Intake) (told : Report) (trail : List Event) where
+module _ (disk disk_after : Option ℕ) (sources sources_after : List Supply) (sinks sinks_after : List Intake) (report report_after : Intake) (told : Report) (ending : Ending) (trail : List Event) where
   abbrev From : Asked → Ground → Type 0
   From asked ground = HasPlaces asked (length sources) (length sinks)
-      → Asks asked ground (record { disk = disk; sources = sources; sinks = sinks }) (record { disk = disk_after; sources = sources_after; sinks = sinks_after }) told trail
-      → Facts asked ground (places disk sources sinks report) (places disk_after sources_after sinks_after report_after) told trail
+      → Asks asked ground (record { disk = disk; sources = sources; sinks = sinks }) (record { disk = disk_after; sources = sources_after; sinks = sinks_after }) told ending trail
+      → Facts asked ground (places disk sources sinks report) (places disk_after sources_after sinks_after report_after) told ending trail
 
   pub facts : (asked : Asked) (ground : Ground) → From asked ground
   facts Nothing ground none asks =
-      rw (asks.told, asks.no_event, asks.sources, asks.sinks, no_items sources none.0, no_items sinks none.1)
+      rw (asks.told, asks.no_event, asks.no_end, asks.sources, asks.sinks, no_items sources none.0, no_items sinks none.1)
       (of_nothing ground disk disk_after report report_after)
   facts (Formats format) ground none asks =
-      rw (asks.0.told, asks.0.no_event, asks.0.sources, asks.0.sinks, no_items sources none.0, no_items sinks none.1)
+      rw (asks.0.told, asks.0.no_event, asks.0.no_end, asks.0.sources, asks.0.sinks, no_items sources none.0, no_items sinks none.1)
       (of_format ground format disk disk_after report report_after told.cause asks.1)
   facts (Shows page) ground none asks =
-      rw (asks.told, asks.no_event, asks.sources, asks.sinks, no_items sources none.0, no_items sinks none.1)
+      rw (asks.told, asks.no_event, asks.no_end, asks.sources, asks.sinks, no_items sources none.0, no_items sinks none.1)
       (of_page ground page disk disk_after report report_after)
   facts (Serves service) ground given asks =
-      of_run service ground disk disk_after sources sources_after sinks sinks_after report report_after told trail given asks.sources asks.sinks asks.run
+      of_run service ground disk disk_after sources sources_after sinks sinks_after report report_after told ending trail given asks.sources asks.sinks asks.run

@@ -1,8 +1,7 @@
 -- A disk that fits the volume that the words name is the one that they want.
 use Rattle.std.proofs.Common.{ℕ, List, Option, subst}
-use Rattle.cfs_serve.specs.Words.{Asked, Files, Place, InFile, InMemory, Shows, Formats, Serves, Nothing}
-use Rattle.cfs_serve.specs.Whole.{FitsVolume, HasDisk, NamesVolume}
-use Rattle.cfs_serve.specs.declared.paths.Volume.{Volume}
+use Rattle.cfs_serve.proofs.Cited.{Asked, Files, FitsVolume, Formats, HasDisk, InFile, InMemory, NamesVolume, Nothing, Place, Shows, Volume}
+use Rattle.cfs_serve.specs.Words.{Serves}
 
 -- a service on a volume at this place
 abbrev served_at : Place → (seed collections : ℕ) → List Files → Asked

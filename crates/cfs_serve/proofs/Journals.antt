@@ -1,23 +1,8 @@
 -- A call keeps the run.
-use Rattle.std.proofs.Common.{◌≡◌, ◌⊎◌, inl, inr, ℕ, ◌+◌, ◌<◌, ◌≤◌, Bool, true, false, cond, List, [], ◌∷◌, ◌++◌, length, filter, Option, Some, None, Result, refl, sym, ap, ◌∙◌, subst, arith}
-use Rattle.std.specs.Prelude.{◌||◌, option_and_then}
-use Rattle.std.specs.List.{list_all, list_any}
-use Rattle.std.specs.Option.{option_map_or}
-use Rattle.std.proofs.lemmas.List.Folds.{list_all-append}
-use Rattle.cfs_core.specs.declared.collecting.CollectFault.{CollectFault}
-use Rattle.cfs_core.specs.declared.collecting.Step.{Step}
-use Rattle.ufs_model.specs.declared.asked.Event.{Event}
+use Rattle.std.proofs.Common.{◌≡◌, ◌⊎◌, inl, inr, ℕ, ◌+◌, ◌<◌, ◌≤◌, Bool, true, false, cond, List, [], ◌∷◌, ◌++◌, length, filter, Option, Some, None, refl, sym, ap, ◌∙◌, subst, arith, ◌||◌}
+use Rattle.cfs_serve.proofs.Cited.{AreExact, AsBefore, Event, GoesOn, Graph, IsExactEvent, IsRun, IsTallied, IsTold, Lasts, Makes, MayGoOn, Rests, Rose, State, Tallies, Tally, Tells, TellsSo, Terms, Told, Unread, append-nil, begins_in, begun, is_begin, is_calm, is_calm_step, is_finish, list_all, list_all-append, list_any, lost_by, lost_in, next, opening, option_and_then, option_map_or, recorded, replay_from, replay_from-push, tells_disk}
 use Rattle.ufs_model.specs.declared.asked.Event.TheVariants as events
-use Rattle.ufs_model.specs.declared.asked.Unread.{Unread}
-use Rattle.ufs_model.specs.Graph.{Graph}
-use Rattle.ufs_model.specs.State.{State, opening}
-use Rattle.ufs_model.specs.Next.{next}
-use Rattle.ufs_model.specs.Run.{replay_from}
-use Rattle.ufs_model.proofs.Legal.{replay_from-push}
-use Rattle.cfs_serve.specs.Calls.{AreExact, AsBefore, Counts, GoesOn, IsExactEvent, IsTallied, Makes, MayGoOn, Rests, Tallies, Tally, Tells, TellsSo, TellsStep, begun, event_by, fails, is_calm_step, lost_by, lost_in}
-use Rattle.cfs_serve.specs.Charter.{Terms}
-use Rattle.cfs_serve.specs.Events.{begins_in, is_begin, is_calm, is_finish, tells_disk}
-use Rattle.cfs_serve.specs.Journal.{IsRun, IsTold, Lasts, Told, recorded}
+use Rattle.cfs_serve.specs.Calls.{Counts}
 
 -- ---- lists with one event more
 
@@ -187,48 +172,52 @@ pub or_true : (a b : Bool) → (a || b) ≡ true → (a ≡ true) ⊎ (b ≡ tru
 or_true true b is = inl refl
 or_true false b is = inr is
 
-or_false : (a b : Bool) → (a || b) ≡ false → (a ≡ false) × (b ≡ false)
+pub or_false : (a b : Bool) → (a || b) ≡ false → (a ≡ false) × (b ≡ false)
 or_false true b is = absurd (cc is)
 or_false false b is = (refl, is)
 
 -- what the trail tells of the disk, by one call more
-module _ {A : Type 0} (faults : A → ℕ) (has_stopped is_damaged : A → Bool) (t : Terms A) (trail : List Event) (old new : A) (failed fault calms : Bool) where
-  told_more : (more : List Event) → (calms ≡ true → list_all is_calm more ≡ true) → IsTold faults has_stopped is_damaged t old failed trail → TellsSo faults has_stopped is_damaged old new fault calms
-      → IsTold faults has_stopped is_damaged t new (fault || failed) (trail ++ more)
-  told_more more calm was one = record {
+module _ {A : Type 0} (faults : A → ℕ) (has_stopped is_damaged : A → Bool) (t : Terms A) (trail : List Event) (old new : A)
+    (was : IsTold faults has_stopped is_damaged t old trail) where
+  halts_on : (begun : A) (fault calms : Bool) → Told faults has_stopped is_damaged begun old trail
+      → TellsSo faults has_stopped is_damaged old new fault calms
+      → has_stopped new ≡ true → is_damaged new ≡ false → Rose (faults begun) (faults new)
+  halts_on begun fault calms before one stopped sound = elim (one.halts stopped sound) [
+    | inl earlier ↦ let rose = before.halts earlier.0 earlier.1 in omega (arith, rose, one.later)
+    | inr here ↦ omega (arith, here, before.later)
+  ]
+
+  told_by : (e : Event) (fault : Bool) → (tells_disk e ≡ false → fault ≡ false)
+      → TellsSo faults has_stopped is_damaged old new fault (is_calm e) → IsTold faults has_stopped is_damaged t new (trail ++ e ∷ [])
+  told_by e fault silent one = record {
     since = λ begun is.
         let before = was.since begun is in
         record {
           later = omega (arith, before.later, one.later);
-          told = λ some. elim (or_true fault failed some) [
-            | inl here ↦ let rose = one.told here in omega (arith, rose, before.later)
-            | inr earlier ↦ let rose = before.told earlier in omega (arith, rose, one.later)
-          ];
           calm = λ runs none.
-              let two = or_false fault failed none in
-              rw (list_all-append is_calm trail more, before.calm (was_running (has_stopped old) (has_stopped new) one.stays runs) two.1, calm (one.calm runs two.0)) refl;
-          halts = λ stopped sound. elim (one.halts stopped sound) [
-            | inl earlier ↦ let rose = before.halts earlier.0 earlier.1 in omega (arith, rose, one.later)
-            | inr here ↦ omega (arith, here, before.later)
-          ];
+              let two = or_false (tells_disk e) (list_any tells_disk trail) (sym (any-push tells_disk trail e) ∙ none) in
+              let earlier = before.calm (was_running (has_stopped old) (has_stopped new) one.stays runs) two.1 in
+              all-push is_calm trail e earlier (one.calm runs (silent two.0));
+          halts = halts_on begun fault (is_calm e) before one;
         };
   }
 
-pub told_on : {A : Type 0} (faults : A → ℕ) (has_stopped is_damaged : A → Bool) (t : Terms A) (trail : List Event) (old new : A) (failed : Bool) (e : Event)
-    → IsTold faults has_stopped is_damaged t old failed trail → Tells faults has_stopped is_damaged old new e → IsTold faults has_stopped is_damaged t new (tells_disk e || failed) (trail ++ e ∷ [])
-told_on faults has_stopped is_damaged t trail old new failed e was one =
-    told_more faults has_stopped is_damaged t trail old new failed (tells_disk e) (is_calm e) (e ∷ []) (λ calm. all-push is_calm [] e refl calm) was one
+  pub told_on : (e : Event) → Tells faults has_stopped is_damaged old new e → IsTold faults has_stopped is_damaged t new (trail ++ e ∷ [])
+  told_on e one = told_by e (tells_disk e) (λ silent. silent) one
 
--- by a step of the collector
-pub told_step : {A : Type 0} (faults : A → ℕ) (has_stopped is_damaged : A → Bool) (t : Terms A) (trail : List Event) (old new : A) (failed : Bool) (result : Result Step CollectFault)
-    → IsTold faults has_stopped is_damaged t old failed trail → TellsStep faults has_stopped is_damaged old new result
-    → IsTold faults has_stopped is_damaged t new (fails result || failed) (trail ++ recorded (event_by result))
-told_step faults has_stopped is_damaged t trail old new failed result was one =
-    told_more faults has_stopped is_damaged t trail old new failed (fails result) (is_calm_step (event_by result)) (recorded (event_by result)) (all_calm (event_by result)) was one
-  where
-    all_calm : (o : Option Event) → is_calm_step o ≡ true → list_all is_calm (recorded o) ≡ true
-    all_calm None calm = refl
-    all_calm (Some e) calm = all-push is_calm [] e refl calm
+  -- by a step of the collector
+  pub told_step : (o : Option Event) → TellsSo faults has_stopped is_damaged old new false (is_calm_step o)
+      → IsTold faults has_stopped is_damaged t new (trail ++ recorded o)
+  told_step (Some e) one = told_by e false (λ silent. refl) one
+  told_step None one = subst (IsTold faults has_stopped is_damaged t new) (sym (append-nil trail)) (record {
+    since = λ begun is.
+        let before = was.since begun is in
+        record {
+          later = omega (arith, before.later, one.later);
+          calm = λ runs none. before.calm (was_running (has_stopped old) (has_stopped new) one.stays runs) none;
+          halts = halts_on begun false true before one;
+        };
+  })
 
 pub unread_tells : {A : Type 0} (faults : A → ℕ) (has_stopped is_damaged : A → Bool) (server : A) (who : ℕ) (why : Unread) → Tells faults has_stopped is_damaged server server (events.Unread who why)
 unread_tells faults has_stopped is_damaged server who why = record {
@@ -294,11 +283,11 @@ begins stands has_stopped is_damaged tally t server is idle swept = λ begun gra
     }
 
 pub told_begins : {A : Type 0} (faults : A → ℕ) (has_stopped is_damaged : A → Bool) (t : Terms A) (server : A) → t.began ≡ Some server → has_stopped server ≡ false
-    → IsTold faults has_stopped is_damaged t server false []
+    → IsTold faults has_stopped is_damaged t server []
 told_begins faults has_stopped is_damaged t server is runs = record {
   since = λ begun at.
-      subst (λ a. Told faults has_stopped is_damaged a server false []) (some_same server begun (sym is ∙ at))
-      (record { later = omega arith; told = λ some. absurd (cc some); calm = λ none no. refl; halts = λ stopped sound. absurd (cc (stopped, runs)) });
+      subst (λ a. Told faults has_stopped is_damaged a server []) (some_same server begun (sym is ∙ at))
+      (record { later = omega arith; calm = λ none no. refl; halts = λ stopped sound. absurd (cc (stopped, runs)) });
 }
 
 pub lasts_begins : {A : Type 0} (stands : A → State → Type 0) (clock : A → ℕ) (lasts : A → ℕ → Graph → List Event → List ℕ → Type 0) (t : Terms A) (server : A)

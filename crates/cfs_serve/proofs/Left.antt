@@ -1,38 +1,10 @@
 -- A session that has left has no grant; once all have left there is none.
 use Rattle.std.proofs.Common.{◌≡◌, ℕ, zero, suc, ◌+◌, ◌≤◌, ◌==◌, ◌&&◌, Bool, true, false, not, cond, List, [], ◌∷◌, ◌++◌, length, filter, Option, Some, None, slice_get, refl, sym, ap, ◌∙◌, subst, arith}
-use Rattle.std.specs.Prelude.{option_and_then}
-use Rattle.std.specs.List.{list_all}
-use Rattle.std.proofs.lemmas.Bool.{and_parts}
-use Rattle.cfs_base.specs.declared.identifier.Puid.{Puid}
-use Rattle.cfs_base.specs.declared.identifier.Tuid.{Tuid}
-use Rattle.cfs_ports.specs.Port.{Reading}
-use Rattle.ufs_model.specs.declared.asked.Event.{Event}
+use Rattle.cfs_serve.proofs.Cited.{AreOver, Change, Direct, Draft, Event, Fill, Grant, Graph, Object, Overwrite, Puid, Reading, Ref, Reply, Request, Seat, SetSize, State, Through, Tuid, after_leave, all_filter, all_passing, allowed_if, and_parts, block_named, by_outcome, changed_draft, created, draft_of, events_of, grant_of, is_grant, is_of, is_outcome, list_all, named, new_file, new_index, next, opening, option_and_then, outcome_of, put, put_draft-at, put_object-at, replay, replay_from, seen, stopped_at, turns_in, with_draft, with_object, word}
 use Rattle.ufs_model.specs.declared.asked.Event.TheVariants as events
-use Rattle.ufs_model.specs.declared.asked.Ref.{Ref}
-use Rattle.ufs_model.specs.declared.asked.Ref.TheVariants.{Direct, Through}
-use Rattle.ufs_model.specs.declared.asked.Reply.{Reply}
 use Rattle.ufs_model.specs.declared.asked.Reply.TheVariants as replies
-use Rattle.ufs_model.specs.declared.asked.Request.{Request}
 use Rattle.ufs_model.specs.declared.asked.Request.TheVariants as asks
-use Rattle.ufs_model.specs.declared.change.Change.{Change}
-use Rattle.ufs_model.specs.declared.change.Change.TheVariants.{Fill, Overwrite, SetSize}
-use Rattle.ufs_model.specs.declared.object.Draft.{Draft}
-use Rattle.ufs_model.specs.declared.object.Grant.{Grant}
-use Rattle.ufs_model.specs.declared.object.Object.{Object}
 use Rattle.ufs_model.specs.declared.object.Object.TheVariants as objects
-use Rattle.ufs_model.specs.Graph.{Graph, with_object}
-use Rattle.ufs_model.specs.Next.{allowed_if, by_outcome, is_outcome, next}
-use Rattle.ufs_model.specs.Object.{new_file, new_index}
-use Rattle.ufs_model.specs.Outcome.{block_named, created, outcome_of}
-use Rattle.ufs_model.specs.Run.{replay, replay_from}
-use Rattle.ufs_model.specs.State.{State, after_leave, changed_draft, draft_of, grant_of, is_grant, named, opening, put, seen, stopped_at, with_draft}
-use Rattle.ufs_model.specs.Turns.{turns_in}
-use Rattle.ufs_model.specs.Word.{word}
-use Rattle.ufs_model.proofs.Tests.{all_filter, all_passing}
-use Rattle.ufs_model.proofs.WellStates.{put_draft-at, put_object-at}
-use Rattle.cfs_serve.specs.Charter.{Seat}
-use Rattle.cfs_serve.specs.Events.{events_of, is_of}
-use Rattle.cfs_serve.specs.Hall.{AreOver}
 use Rattle.cfs_serve.proofs.Journals.{all-push, some_same}
 use Rattle.cfs_serve.proofs.Sessions.{test_refl}
 

@@ -1,5 +1,7 @@
 mod Asking
 mod Journals
+mod Stopping
+mod Endings
 mod Sessions
 mod Stepping
 mod Raising
@@ -9,6 +11,7 @@ mod SureDisks
 mod Counting
 mod Texts
 mod Because
+mod NoneServed
 mod Facts
 mod Saying
 mod Owed
@@ -22,3 +25,4 @@ mod Leaves
 mod Playing
 mod Volumes
 mod Through
+mod Cited

@@ -1,17 +1,7 @@
 -- Lists, item by item.
 use Rattle.std.proofs.Common.{◌≡◌, ◌≢◌, ℕ, zero, suc, ◌+◌, ◌<◌, Bool, true, false, ◌||◌, inl, inr, List, [], ◌∷◌, ◌++◌, length, map, set, Option, Some, None, slice_get, refl, sym, ap, ◌∙◌, subst, arith}
-use Rattle.std.specs.Prelude.{reverse}
-use Rattle.std.specs.List.{sum_by}
-use Rattle.std.proofs.lemmas.List.{append_assoc, length-map, map-append, reverse-append}
-use Rattle.std.proofs.lemmas.List.Sums.{sum_by-cons}
-use Rattle.cfs_base.specs.Outside.{Rose}
-use Rattle.ufs_model.specs.Script.{request_lines}
-use Rattle.cfs_base.specs.declared.identifier.Puid.{Puid}
-use Rattle.cfs_ports.specs.Port.{IsNew, Reading}
-use Rattle.cfs_serve.specs.Hall.{AreNew, seat_of, turns_left}
-use Rattle.cfs_serve.specs.Played.{has_broken}
-use Rattle.cfs_serve.specs.Scripts.{lines_in}
-use Rattle.cfs_serve.specs.Top.{EachFrom, SomeRose}
+use Rattle.cfs_serve.proofs.Cited.{AreNew, EachFrom, IsNew, Puid, Reading, Rose, SomeRose, has_broken, length-map, lines_in, map-append, request_lines, reverse, reverse-append, seat_of, sum_by, sum_by-cons, turns_left}
+use Rattle.std.proofs.lemmas.List.{append_assoc}
 use Rattle.cfs_serve.proofs.Journals.{some_same}
 
 -- ---- any lists

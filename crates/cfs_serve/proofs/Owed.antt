@@ -1,37 +1,9 @@
 -- A reply that is owed is exact.
-use Rattle.std.proofs.Common.{◌≡◌, ◌⊎◌, inl, inr, ℕ, ◌+◌, ◌<◌, ◌≤◌, Bool, true, false, ◌&&◌, Option, List, Some, None, refl, sym, ap, ◌∙◌, subst, arith, length}
-use Rattle.std.specs.Prelude.{◌||◌, is_none, is_some, option_and_then, sum}
-use Rattle.std.proofs.lemmas.Bool.{cases_lt}
-use Rattle.cfs_base.specs.Disk.{Image}
-use Rattle.cfs_base.specs.Outside.{Rose}
-use Rattle.cfs_base.specs.declared.disk.Disk.{Ghosts}
-use Rattle.cfs_base.specs.declared.refusal.Need.{Need}
-use Rattle.cfs_core.specs.declared.collecting.Collections.{Collections}
-use Rattle.cfs_core.specs.declared.kernel.Stop.{Stop}
-use Rattle.cfs_core.specs.Asked.{Asks, Happens, IsShortContent, stopped_by}
-use Rattle.cfs_core.specs.Calls.{ByOutcome, ByRefusal, ByWant, IsOwed, Owes, is_delete}
-use Rattle.cfs_core.specs.Kernel.{Kernel, marks_in, runs, sweeps_in}
-use Rattle.cfs_core.specs.Rescues.{AreRescued}
-use Rattle.cfs_core.specs.Room.{IsRoom, lost_blocks}
-use Rattle.cfs_core.specs.StandsFor.{Serves, Stands, StandsFor, is_sweeping}
-use Rattle.collector_steps.specs.Collecting.{Collecting}
-use Rattle.marking.specs.declared.memory.Rescue.{Rescue}
+use Rattle.std.proofs.Common.{◌≡◌, ◌⊎◌, inl, inr, ℕ, ◌+◌, ◌<◌, ◌≤◌, Bool, true, false, ◌&&◌, Option, List, [], ◌∷◌, Some, None, refl, sym, ap, ◌∙◌, subst, arith, length, ◌||◌, is_some}
+use Rattle.cfs_serve.proofs.Cited.{AreRescued, ByOutcome, ByRefusal, ByWant, Collecting, Collections, Fits, FitsLine, Ghosts, Happens, Image, IsAsked, IsExact, IsOwed, IsPlainReply, IsRoom, IsShortContent, Kernel, Need, Owes, Reply, Request, Rescue, Rose, Serves, Stands, StandsFor, State, Stop, Stops, Tallies, Tells, allowed_if, answered, append-nil, by_outcome, cases_lt, goes_through, is_calm, is_delete, is_full, is_none, is_outcome, is_running, is_sweeping, listed, lost_blocks, marks_in, need_of, option_and_then, outcome_of, outcome_plain, refusal_of, reserve, runs, stopped_by, sum, sweeps_in, tally_of, tells_disk, tells_outcome}
+use Rattle.cfs_core.specs.Asked.{Asks}
 use Rattle.ufs_model.specs.declared.asked.Event.TheVariants as events
-use Rattle.ufs_model.specs.declared.asked.Reply.{Reply}
 use Rattle.ufs_model.specs.declared.asked.Reply.TheVariants as replies
-use Rattle.ufs_model.specs.declared.asked.Request.{Request}
-use Rattle.ufs_model.specs.Asks.{IsAsked}
-use Rattle.ufs_model.specs.Limits.{reserve}
-use Rattle.ufs_model.specs.Need.{need_of}
-use Rattle.ufs_model.specs.Next.{allowed_if, answered, by_outcome, goes_through, is_full, is_outcome}
-use Rattle.ufs_model.specs.Outcome.{outcome_of}
-use Rattle.ufs_model.specs.Plain.{IsPlainReply}
-use Rattle.ufs_model.specs.Refusal.{refusal_of}
-use Rattle.ufs_model.specs.State.{State, is_running}
-use Rattle.ufs_model.proofs.Outcomes.{outcome_plain}
-use Rattle.cfs_script.specs.Room.{FitsLine}
-use Rattle.cfs_serve.specs.Calls.{Fits, IsExact, Tallies, Tells, tally_of, tells_outcome}
-use Rattle.cfs_serve.specs.Events.{is_calm, tells_disk}
 use Rattle.cfs_serve.proofs.Journals.{some_same, was_running}
 
 -- ---- what is answered by its outcome, or is Full, wasn't refused
@@ -209,6 +181,16 @@ module _ {D : Type 0} (g : Ghosts D) (old new : Kernel D) (who : ℕ) (request :
           → ((is_some old.stop ≡ true) × (damaged old.stop ≡ false)) ⊎ Rose (g.faults old.disk) (g.faults new.disk)
       halts_at (Some stop) is stopped sound = inl (rw (← stood stop is) (stopped, sound))
       halts_at None is stopped sound = inr (halts_in reply refl is (asks.stops is) stopped sound)
+
+  -- why it stopped
+  pub stops : Stops old.stop new.stop (events.Ask who request reply ∷ [])
+  stops = at old.stop refl
+    where
+      at : (o : Option Stop) → old.stop ≡ o → Stops old.stop new.stop (events.Ask who request reply ∷ [])
+      at None is = rw is (ap listed (asks.stops is) ∙ sym (append-nil (listed (stopped_by reply None))))
+      at (Some stop) is =
+          let stood = asks.stopped stop is in
+          rw stood.1 (ap (λ (k : Kernel D). listed k.stop) stood.0 ∙ sym (append-nil (listed old.stop)))
 
   -- what becomes of the collections
   pub tallied : (s : State) → StandsFor g old s → Tallies (λ (k : Kernel D). is_some k.stop) (tally_of g) old.words.seed old new s (events.Ask who request reply)

@@ -1,47 +1,13 @@
 -- A service on a core.
-use Rattle.std.proofs.Common.{◌≡◌, ℕ, ◌/◌, ◌≤◌, Bool, true, false, cond, List, [], ◌∷◌, length, map, filter, Some, None, Option, IsTrue, is_some, refl, sym, ap, ◌∙◌, subst, arith}
-use Rattle.std.specs.Prelude.{◌||◌, ◌+◌, option_and_then, option_map, sum}
-use Rattle.std.specs.List.{list_all, list_any, sum_by}
-use Rattle.std.proofs.lemmas.List.{length-map}
-use Rattle.std.proofs.lemmas.List.Sums.{sum_by-cons}
-use Rattle.cfs_base.specs.Disk.{Image}
-use Rattle.cfs_base.specs.Outside.{Rose}
-use Rattle.cfs_base.specs.Run.{left_now}
-use Rattle.cfs_base.specs.declared.disk.Disk.{Ghosts}
-use Rattle.cfs_base.specs.declared.identifier.Puid.{Puid}
-use Rattle.cfs_base.specs.declared.refusal.Damage.{Damage}
-use Rattle.cfs_core.specs.declared.collecting.CollectFault.{CollectFault}
-use Rattle.cfs_core.specs.declared.kernel.Stop.{Stop}
-use Rattle.cfs_core.specs.Kernel.{Kernel, runs}
-use Rattle.cfs_core.specs.Room.{IsRoom}
-use Rattle.cfs_core.specs.StandsFor.{IsFront, Serves, Stands, StandsFor, front_of, is_collecting, is_sweeping}
-use Rattle.cfs_core.proofs.Serving.{fits, pending}
-use Rattle.cfs_ports.specs.Port.{Reading}
+use Rattle.std.proofs.Common.{◌≡◌, ℕ, ◌/◌, ◌≤◌, Bool, true, false, cond, List, [], ◌∷◌, length, map, filter, Some, None, IsTrue, is_some, refl, sym, ap, ◌∙◌, subst, arith, ◌+◌}
+use Rattle.cfs_serve.proofs.Cited.{AreOver, Cause, Collection, Counts, Ending, EndsSo, Event, Ghosts, Graph, Holds, Image, IsFront, IsRoom, IsRunFrom, IsRunOn, IsSoundAs, IsStop, IsTallied, IsWanting, Kernel, Object, Puid, Reading, Report, Rose, RunSurvives, Serves, ServesSessions, Stands, StandsFor, State, begins_in, blocks_of, cause_of, counts_of, damage_in, faults_after, finishes_in, first_fault, fits, free_of, front_of, graph_blocks, has_broken, is_among, is_calm, is_collecting, is_reply, is_sweeping, left_now, length-map, list_all, moment_in, opening, pending, rooted, rooted_part, rooted_reads, runs, seat_of, sum, sum_by, sum_by-cons, tally_of, tells_disk, tells_fault}
+use Rattle.cfs_core.specs.declared.collecting.CollectFault.TheVariants as faulted
 use Rattle.survival.specs.Held.{Fits}
-use Rattle.survival.specs.Trail.{RunSurvives}
-use Rattle.ufs_model.specs.declared.asked.Event.{Event}
-use Rattle.ufs_model.specs.declared.collection.Collection.{Collection}
 use Rattle.ufs_model.specs.declared.collection.Collection.TheVariants as collections
-use Rattle.ufs_model.specs.declared.object.Object.{Object}
-use Rattle.ufs_model.specs.Graph.{Graph}
-use Rattle.ufs_model.specs.Identifier.{is_among}
-use Rattle.ufs_model.specs.Reach.{rooted}
-use Rattle.ufs_model.specs.Object.{blocks_of}
-use Rattle.ufs_model.specs.State.{State, opening}
-use Rattle.vol_image.specs.Sound.{Holds, IsSoundAs, graph_blocks, rooted_part}
-use Rattle.vol_image.proofs.Rooted.{rooted_reads}
-use Rattle.cfs_serve.specs.declared.report.Cause.{Cause}
-use Rattle.cfs_serve.specs.declared.report.Cause.TheVariants as causes
-use Rattle.cfs_serve.specs.declared.report.Counts.{Counts}
-use Rattle.cfs_serve.specs.declared.report.Report.{Report}
 use Rattle.cfs_serve.specs.Calls as calls
-use Rattle.cfs_serve.specs.Calls.{IsTallied, tally_of}
-use Rattle.cfs_serve.specs.Events.{begins_in, finishes_in, is_calm, is_reply, tells_disk, tells_fault, wants_memory}
-use Rattle.cfs_serve.specs.Hall.{AreOver, seat_of}
-use Rattle.cfs_serve.specs.Journal.{IsRunOn, Told, faults_after, first_fault}
-use Rattle.cfs_serve.specs.Played.{IsRunFrom, IsSpoiled, IsStop, counts_of, free_of, has_broken, spoiled_by}
-use Rattle.cfs_serve.specs.Volume.{ServesSessions}
+use Rattle.cfs_serve.proofs.Endings.{calm_by, no_damage, stop_told, went_well}
 use Rattle.cfs_serve.proofs.Journals.{some_same}
+use Rattle.cfs_serve.proofs.Stopping.{stop_none}
 use Rattle.cfs_serve.proofs.Collecting.{runs_so}
 use Rattle.cfs_serve.proofs.Left.{none_stands}
 
@@ -73,56 +39,6 @@ module _ {D : Type 0} (g : Ghosts D) (sized : (d : D) → IsTrue (g.honest d) �
   sound_left c left = held_reads (g.blocks k.disk) c s.graph (pending g k s serves c left) (fits g k s serves (g.blocks k.disk) wide) (left_sized k.disk (g.moment k.disk) c left)
 
 -- ---- what is told
-
-abbrev damage_in : Option Stop → Option Damage
-damage_in stop = option_and_then (λ (x : Stop). x.damage) stop
-
-abbrev moment_in : Option Stop → Option ℕ
-moment_in stop = option_map (λ (x : Stop). x.moment) stop
-
--- of a server in which no damage was found
-stop_with : (damage : Option Damage) (moment : ℕ) (broken starved : Bool) → is_some damage ≡ false → IsStop (spoiled_by false (Some moment) damage broken starved) (Some moment)
-stop_with None moment broken starved none = refl
-stop_with (Some d) moment broken starved none = absurd (cc none)
-
-stop_told : (failed : Bool) (stop : Option Stop) (broken starved : Bool) → is_some (damage_in stop) ≡ false → IsStop (spoiled_by failed (moment_in stop) (damage_in stop) broken starved) (moment_in stop)
-stop_told true stop broken starved none = refl
-stop_told false None true starved none = refl
-stop_told false None false true none = refl
-stop_told false None false false none = refl
-stop_told false (Some stop) broken starved none = stop_with stop.damage stop.moment broken starved none
-
--- all is well only where the server runs
-well_with : (damage : Option Damage) (moment : ℕ) (broken starved : Bool) → spoiled_by false (Some moment) damage broken starved ≡ causes.Nothing → ⊥
-well_with None moment broken starved well = cc well
-well_with (Some d) moment broken starved well = cc well
-
-well_runs : (failed : Bool) (stop : Option Stop) (broken starved : Bool) → spoiled_by failed (moment_in stop) (damage_in stop) broken starved ≡ causes.Nothing → stop ≡ None
-well_runs true stop broken starved well = absurd (cc well)
-well_runs false None broken starved well = refl
-well_runs false (Some stop) broken starved well = absurd (well_with stop.damage stop.moment broken starved well)
-
-module _ (rose : Type 0) (trail : List Event) where
-  spoiled_with : (damage : Option Damage) (moment : ℕ) (broken wanting starved : Bool) → (is_some damage ≡ false → rose) → IsSpoiled rose broken wanting trail (spoiled_by false (Some moment) damage broken starved)
-  spoiled_with None moment broken wanting starved halts = halts refl
-  spoiled_with (Some d) moment broken wanting starved halts = tt
-
-  spoiled : (failed : Bool) (stop : Option Stop) (broken wanting starved : Bool) → (failed ≡ true → rose) → (is_some stop ≡ true → is_some (damage_in stop) ≡ false → rose)
-      → (is_some stop ≡ false → failed ≡ false → list_all is_calm trail ≡ true) → starved ≡ (list_any wants_memory trail || wanting)
-      → IsSpoiled rose broken wanting trail (spoiled_by failed (moment_in stop) (damage_in stop) broken starved)
-  spoiled true stop broken wanting starved told halts calm wants = told refl
-  spoiled false (Some stop) broken wanting starved told halts calm wants = spoiled_with stop.damage stop.moment broken wanting starved (halts refl)
-  spoiled false None true wanting starved told halts calm wants = refl
-  spoiled false None false wanting true told halts calm wants = (refl, sym wants)
-  spoiled false None false wanting false told halts calm wants = (refl, sym wants, calm refl refl)
-
-no_moment : (stop : Option Stop) → moment_in stop ≡ None → stop ≡ None
-no_moment None is = refl
-no_moment (Some stop) is = absurd (cc is)
-
-or_else : (b : Bool) → (b ≡ true → ⊥) → b ≡ false
-or_else true never = absurd (never refl)
-or_else false never = refl
 
 abbrev counted_as : (sessions : ℕ) → List Event → (objects free : ℕ) → Counts
 counted_as sessions trail objects free = record { sessions = sessions; replies = length (filter is_reply trail); collections = finishes_in trail; objects = objects; free = free }
@@ -171,19 +87,24 @@ rests_at g k s n trail serves few tallied all = at (runs k.collections.collector
 -- ---- sessions on a core
 
 -- what is known of a service that a core began for which so many collections were called
-pub record IsServed {D : Type 0} (g : Ghosts D) (n : ℕ) (refused : Option CollectFault) (wanting failed : Bool) (server : Kernel D) (trail : List Event) (moments : List ℕ) (k : Kernel D) : Type 0 where
+pub record IsServed {D : Type 0} (g : Ghosts D) (n : ℕ) (ending : Ending) (server : Kernel D) (trail : List Event)
+    (moments : List ℕ) (k : Kernel D) : Type 0 where
   pub run : (graph : Graph) → StandsFor g k (opening graph)
       → IsRunOn (λ x s. StandsFor g x s) (λ (x : Kernel D). is_some x.stop) (λ (x : Kernel D). is_some (damage_in x.stop)) (tally_of g) k.words.seed (length k.space.free) n graph k server trail
-  pub told : Told (λ (x : Kernel D). g.faults x.disk) (λ (x : Kernel D). is_some x.stop) (λ (x : Kernel D). is_some (damage_in x.stop)) k server failed trail
-  pub collected : wanting ≡ false → (graph : Graph) → StandsFor g k (opening graph) → finishes_in trail ≡ n
+  pub later : g.faults k.disk ≤ g.faults server.disk
+  pub ends : EndsSo (Rose (g.faults k.disk) (g.faults server.disk)) n ending trail
+  pub stop : ending.stop ≡ server.stop
+  pub collected : ending.refused ≡ None → ending.spent ≡ false → (graph : Graph) → StandsFor g k (opening graph)
+      → finishes_in trail ≡ n
+  pub wanting : ending.refused ≡ Some faulted.Memory → (graph : Graph) → StandsFor g k (opening graph) → IsWanting n trail
   pub size : length server.space.free ≡ length k.space.free
   pub lasts : (graph : Graph) → StandsFor g k (opening graph) → RunSurvives g k.words.seed graph [] (g.moment k.disk ∷ []) k.disk
       → RunSurvives g k.words.seed graph trail (g.moment k.disk ∷ moments) server.disk
-  pub faults : faults_after tells_disk trail (first_fault refused (g.faults k.disk)) ≤ g.faults server.disk
-  pub stops : (graph : Graph) → StandsFor g k (opening graph) → faults_after tells_fault trail (first_fault refused (g.faults k.disk)) ≤ g.faults server.disk
+  pub faults : faults_after tells_disk trail (first_fault ending.refused (g.faults k.disk)) ≤ g.faults server.disk
+  pub stops : (graph : Graph) → StandsFor g k (opening graph) → faults_after tells_fault trail (first_fault ending.refused (g.faults k.disk)) ≤ g.faults server.disk
 
 module _ {D : Type 0} (g : Ghosts D) (sized : (d : D) → IsTrue (g.honest d) → length (g.content d) ≡ g.blocks d) (left_sized : (d : D) (t : ℕ) (c : Image) → g.left_since d t c → length c ≡ g.blocks d)
-    (core server : Kernel D) (before ports : List Reading) (trail : List Event) (moments : List ℕ) (sessions : ℕ) (starved failed : Bool) (report : Report) where
+    (core server : Kernel D) (before ports : List Reading) (trail : List Event) (moments : List ℕ) (sessions : ℕ) (ending : Ending) (report : Report) where
   abbrev faults : Kernel D → ℕ
   faults k = g.faults k.disk
 
@@ -197,12 +118,12 @@ module _ {D : Type 0} (g : Ghosts D) (sized : (d : D) → IsTrue (g.honest d) �
   counts = counted_as sessions trail (length server.names.named) (sum server.space.free)
 
   abbrev cause : Cause
-  cause = spoiled_by failed (moment_in server.stop) (damage_in server.stop) (has_broken ports) starved
+  cause = cause_of ending trail (has_broken ports)
 
   abbrev rose : Type 0
   rose = Rose (g.faults core.disk) (g.faults server.disk)
 
-  module _ (n : ℕ) (refused : Option CollectFault) (wanting : Bool) (runs : core.stop ≡ None) (is : IsServed g n refused wanting failed server trail moments (called core n)) (wanted : n ≡ 0 → wanting ≡ false) (starved_is : starved ≡ (list_any wants_memory trail || wanting))
+  module _ (n : ℕ) (runs : core.stop ≡ None) (is : IsServed g n ending server trail moments (called core n))
       (over : AreOver core.root n (map seat_of before) trail ports) (count : sessions ≡ length ports)
       (report_is : report ≡ record { counts = Some counts; cause = cause }) (free_is : (s : State) → Serves g server s → is_sweeping s.collection ≡ false → s.grants ≡ [] → sum server.space.free ≡ free_of (length server.space.free) s.graph) where
     undamaged : damaged (called core n) ≡ false
@@ -221,8 +142,11 @@ module _ {D : Type 0} (g : Ghosts D) (sized : (d : D) → IsTrue (g.honest d) �
       front : IsFront server on.last
       front = front_of g server on.last on.standing
 
+      whole : damage_in ending.stop ≡ None
+      whole = no_damage (damage_in ending.stop) (ap (λ o. is_some (damage_in o)) is.stop ∙ on.undamaged undamaged)
+
       calm : ¬ rose → list_all is_calm trail ≡ true
-      calm never = is.told.calm (or_else (stopped server) (λ halted. never (is.told.halts halted (on.undamaged undamaged)))) (or_else failed (λ some. never (is.told.told some)))
+      calm never = calm_by ending trail whole (λ some. never (is.ends.failed some)) is.ends.calm
 
       serving : server.stop ≡ None → Serves g server on.last
       serving none = subst (Stands g server on.last) none on.standing
@@ -233,18 +157,18 @@ module _ {D : Type 0} (g : Ghosts D) (sized : (d : D) → IsTrue (g.honest d) �
         legal = on.legal;
         exact = on.exact;
         calm = calm;
-        stop = rw front.stopped (stop_told failed server.stop (has_broken ports) starved (on.undamaged undamaged));
+        stop = subst (IsStop cause) (ap moment_in is.stop ∙ sym front.stopped) (stop_told ending trail (has_broken ports) whole);
         counted = counts_same sessions (length (map seat_of before)) trail (sum server.space.free) (length server.names.named) on.last.graph (count ∙ over.count) (ap length front.names ∙ length-map on.last.graph.objects _);
-        free = λ none swept. free_is on.last (serving (no_moment server.stop (sym front.stopped ∙ none))) swept
+        free = λ none swept. free_is on.last (serving (stop_none server.stop (sym front.stopped ∙ none))) swept
             (none_stands core.root n (map seat_of before) trail ports core.words.seed graph on.last over on.legal) ∙ ap (λ m. free_of m on.last.graph) is.size;
         few = on.few;
         rests = λ none all.
-            let here = no_moment server.stop (sym front.stopped ∙ none) in
+            let here = stop_none server.stop (sym front.stopped ∙ none) in
             rests_at g server on.last n trail (serving here) on.few (on.tallied (ap is_some here)) all;
       }
 
     pub served : (begins : (graph : Graph) → ((c : Image) → left_now g core.disk c → IsSoundAs c (rooted_part graph)) → RunSurvives g core.words.seed graph [] (g.moment core.disk ∷ []) core.disk)
-        → ServesSessions g core n (map seat_of before) ports report trail moments server.disk
+        → ServesSessions g core n (map seat_of before) ports report ending trail moments server.disk
     served begins = record {
       counts = counts;
       cause = cause;
@@ -254,17 +178,18 @@ module _ {D : Type 0} (g : Ghosts D) (sized : (d : D) → IsTrue (g.honest d) �
         rooted = λ graph stands. (begun graph stands).root;
         run = is_run;
         over = over;
-        wanting = wanting;
-        wanted = wanted;
-        collected = λ none graph stands. is.collected none graph (stands_on graph stands);
-        spoiled = spoiled rose trail failed server.stop (has_broken ports) wanting starved is.told.told is.told.halts is.told.calm starved_is;
+        counted = (count ∙ over.count, refl, refl);
+        ends = is.ends;
+        collected = λ none unspent graph stands. is.collected none unspent graph (stands_on graph stands);
+        wanting = λ wants graph stands. is.wanting wants graph (stands_on graph stands);
+        undamaged = whole;
+        spoiled = refl;
       };
-      later = is.told.later;
-      refused = refused;
+      later = is.later;
       faults = is.faults;
       stops = λ graph stands. is.stops graph (stands_on graph stands);
       crashes = λ graph stands. is.lasts graph (stands_on graph stands) (begins graph (sound_left g sized left_sized core (opening graph) (begun graph stands)));
       sound = λ well graph stands last legal.
           let here : (on graph stands).last ≡ last = some_same _ _ (sym (on graph stands).legal ∙ legal) in
-          rw (← here) (sound_now g sized left_sized server (on graph stands).last (serving graph stands (well_runs failed server.stop (has_broken ports) starved well)));
+          rw (← here) (sound_now g sized left_sized server (on graph stands).last (serving graph stands (sym is.stop ∙ (went_well ending trail (has_broken ports) is.ends.refusal well).runs)));
     }

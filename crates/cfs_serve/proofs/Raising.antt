@@ -1,19 +1,7 @@
 -- A turn raises the count of failed calls as its event tells.
-use Rattle.std.proofs.Common.{◌≡◌, inl, inr, ℕ, ◌≤◌, Bool, true, false, cond, List, [], ◌∷◌, ◌++◌, Option, Some, None, Result, refl, sym, ap, ◌∙◌, subst, arith}
-use Rattle.std.specs.Prelude.{IsSome}
-use Rattle.std.proofs.lemmas.List.{append-nil}
-use Rattle.cfs_base.specs.Outside.{Rose, count_after}
-use Rattle.cfs_core.specs.declared.collecting.CollectFault.{CollectFault}
-use Rattle.cfs_core.specs.declared.collecting.Step.{Step}
-use Rattle.ufs_model.specs.declared.asked.Event.{Event}
+use Rattle.std.proofs.Common.{◌≡◌, inl, inr, ℕ, ◌≤◌, Bool, true, false, cond, List, [], ◌∷◌, ◌++◌, Option, Some, None, Result, refl, sym, ap, ◌∙◌, subst, arith, ◌||◌, IsSome}
+use Rattle.cfs_serve.proofs.Cited.{AreCounted, CollectFault, Event, IsRun, Kept, Raises, Reply, Request, Rose, State, Step, Tally, Terms, append-nil, count_after, event_by, fails, faults_after, first_fault, is_quiet_fault, list_any, recorded, tells_disk, tells_fault, tells_stop, tells_stop_at}
 use Rattle.ufs_model.specs.declared.asked.Event.TheVariants as events
-use Rattle.ufs_model.specs.declared.asked.Reply.{Reply}
-use Rattle.ufs_model.specs.declared.asked.Request.{Request}
-use Rattle.ufs_model.specs.State.{State}
-use Rattle.cfs_serve.specs.Calls.{Tally, event_by, fails, tells_stop_at}
-use Rattle.cfs_serve.specs.Charter.{Terms}
-use Rattle.cfs_serve.specs.Events.{tells_disk, tells_fault, tells_stop}
-use Rattle.cfs_serve.specs.Journal.{AreCounted, IsRun, Kept, Raises, faults_after, first_fault, is_quiet_fault, recorded}
 use Rattle.cfs_serve.proofs.Journals.{or_true}
 use Rattle.cfs_serve.proofs.Stepping.{nobodys, silent}
 
@@ -79,6 +67,21 @@ module _ (counts : Event → Bool) where
   counted_push : (trail : List Event) (e : Event) (n : ℕ) → faults_after counts (trail ++ e ∷ []) n ≡ cond (counts e) (count_after (faults_after counts trail n)) (faults_after counts trail n)
   counted_push [] e n = refl
   counted_push (x ∷ trail) e n = counted_push trail e (cond (counts x) (count_after n) n)
+
+  -- up to the last number of a u64 the count doesn't fall
+  pub counted_least : (trail : List Event) (n m : ℕ) → count_after n ≤ m → count_after n ≤ faults_after counts trail m
+  counted_least [] n m least = least
+  counted_least (e ∷ trail) n m least = elim (counts e) as (λ b. count_after n ≤ faults_after counts trail (cond b (count_after m) m)) [
+    | true ↦ counted_least trail n (count_after m) (omega (arith, least))
+    | false ↦ counted_least trail n m least
+  ]
+
+  pub counted_some : (trail : List Event) (n : ℕ) → list_any counts trail ≡ true → count_after n ≤ faults_after counts trail n
+  counted_some [] n some = absurd (cc some)
+  counted_some (e ∷ trail) n some = elim (counts e) as (λ b. (b || list_any counts trail) ≡ true → count_after n ≤ faults_after counts trail (cond b (count_after n) n)) [
+    | true ↦ λ yes. counted_least trail n (count_after n) (omega arith)
+    | false ↦ λ later. counted_some trail n later
+  ] some
 
   counted_more : (trail : List Event) (n : ℕ) → faults_after counts trail (count_after n) ≡ count_after (faults_after counts trail n)
   counted_more [] n = refl

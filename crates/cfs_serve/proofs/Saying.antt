@@ -1,20 +1,15 @@
 -- What `top` says follows from the steps of the run.
 use Rattle.std.proofs.Common.{◌≡◌, ℕ, List, length, sym, ◌∙◌}
-use Rattle.ufs_model.specs.declared.asked.Event.{Event}
-use Rattle.cfs_serve.specs.declared.report.Report.{Report}
-use Rattle.cfs_serve.specs.Ground.{Ground}
-use Rattle.cfs_serve.specs.Words.{Asked}
-use Rattle.cfs_serve.specs.Whole.{HasPlaces, IsWhole, ended}
-use Rattle.cfs_serve.specs.Top.{Outside, Said}
+use Rattle.cfs_serve.proofs.Cited.{Asked, Ending, Event, Ground, HasPlaces, IsWhole, Outside, Report, Said, ended}
 use Rattle.cfs_serve.proofs.Because as why
 use Rattle.cfs_serve.proofs.Facts.{facts}
 
-pub said : (asked : Asked) (ground : Ground) (old new : Outside) (told : Report) (status : ℕ) (trail : List Event)
+pub said : (asked : Asked) (ground : Ground) (old new : Outside) (told : Report) (status : ℕ) (ending : Ending) (trail : List Event)
     → HasPlaces asked (length old.sources) (length old.sinks)
-    → IsWhole asked ground (record { disk = old.disk; sources = old.sources; sinks = old.sinks }) (record { disk = new.disk; sources = new.sources; sinks = new.sinks }) old.report new.report told status trail
-    → Said asked ground old new told status trail
-said asked ground old new told status trail given whole =
-    let f = facts old.disk new.disk old.sources new.sources old.sinks new.sinks old.report new.report told trail asked ground given whole.run in
+    → IsWhole asked ground (record { disk = old.disk; sources = old.sources; sinks = old.sinks }) (record { disk = new.disk; sources = new.sources; sinks = new.sinks }) old.report new.report told status ending trail
+    → Said asked ground old new told status ending trail
+said asked ground old new told status ending trail given whole =
+    let f = facts old.disk new.disk old.sources new.sources old.sinks new.sinks old.report new.report told ending trail asked ground given whole.run in
     let counts = told.counts in
     let cause = told.cause in
     let wrote = whole.reported in

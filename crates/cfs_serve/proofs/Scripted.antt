@@ -1,14 +1,7 @@
 -- The scripts that were read of the sources, and why they are not served.
-use Rattle.std.proofs.Common.{◌≡◌, ◌⊎◌, inl, inr, ℕ, zero, suc, ◌+◌, ◌<◌, ◌≤◌, List, [], ◌∷◌, ◌++◌, length, map, set, Some, slice_get, refl, sym, ap, ◌∙◌, subst, arith, length-append}
-use Rattle.std.specs.Prelude.{get_or, option_map, slice_index_or}
-use Rattle.std.proofs.lemmas.List.Sums.{get_or-le-sum_by, sum_by_push}
-use Rattle.std.proofs.lemmas.Option.{slice_get-map, slice_get-get_or, slice_get_within, get_or_from_slice_get}
-use Rattle.cfs_base.specs.Outside.{Rose, Supply}
-use Rattle.ufs_model.specs.Script.{request_lines}
-use Rattle.cfs_serve.specs.Limits.{most_lines, most_script}
-use Rattle.cfs_serve.specs.declared.report.Cause.{Cause}
+use Rattle.std.proofs.Common.{◌≡◌, ◌⊎◌, inl, inr, ℕ, zero, suc, ◌+◌, ◌<◌, ◌≤◌, List, [], ◌∷◌, ◌++◌, length, map, set, Some, slice_get, refl, sym, ap, ◌∙◌, subst, arith, length-append, get_or}
+use Rattle.cfs_serve.proofs.Cited.{AreShort, AreWithin, Cause, Had, HasScript, HaveFirst, HaveScripts, IsFirst, IsOneCause, IsSourceCause, Supply, faults_of, get_or-le-sum_by, get_or_from_slice_get, lines_in, most_lines, most_script, option_map, request_lines, slice_get-get_or, slice_get-map, slice_get_within, slice_index_or, sum_by_push}
 use Rattle.cfs_serve.specs.declared.report.Cause.TheVariants as causes
-use Rattle.cfs_serve.specs.Scripts.{AreShort, AreWithin, Had, HasScript, HaveFirst, HaveScripts, IsOneCause, IsSourceCause, faults_of, lines_in}
 use Rattle.cfs_serve.proofs.Lists.{get-set_other, get-set_same, item, map_at, never_none, same_items, same_length}
 use Rattle.cfs_serve.proofs.Journals.{some_same}
 
@@ -78,6 +71,10 @@ module _ {S : Type 0} (supply : S → Supply) (first now : List S) (at : ℕ) (r
   pub rest_stays : (source : S) (k : ℕ) → at + 1 ≤ k → slice_get (set now at source) k ≡ slice_get first k
   rest_stays source k past = get-set_other now at k source (omega arith) ∙ rest k (omega arith)
 
+  pub behind : (source : S) (k : ℕ) → at < k → slice_get (map supply (set now at source)) k ≡ slice_get (map supply first) k
+  behind source k past =
+      slice_get-map supply (set now at source) k ∙ ap (option_map supply) (rest_stays source k (omega (arith, past))) ∙ sym (slice_get-map supply first k)
+
 pub one_counted : (scripts : List (List ℕ)) (script : List ℕ) → lines_in (scripts ++ script ∷ []) ≡ lines_in scripts + length (request_lines script)
 one_counted scripts script = sum_by_push (λ (s : List ℕ). length (request_lines s)) scripts script
 
@@ -94,21 +91,21 @@ long_at sources n source at long scripts had =
 
 -- why the source of that number has no script is why none is served
 pub one_cause : (sources after : List Supply) (n : ℕ) (source source_after : Supply) → slice_get sources n ≡ Some source → slice_get after n ≡ Some source_after
-    → (cause : Cause) → IsOneCause n source source_after cause → IsSourceCause sources after cause
-one_cause sources after n source source_after at there (causes.Source i) is =
-    subst (λ j. (j < length sources) × Rose (get_or (faults_of sources) j 0) (get_or (faults_of after) j 0)) (sym is.0)
-    (slice_get_within sources n source at, rw (faults_at sources n source at, faults_at after n source_after there) is.1)
-one_cause sources after n source source_after at there (causes.Long i) is =
-    subst (λ j. (j < length sources) × ((scripts : List (List ℕ)) → Had sources scripts → most_script < length (slice_index_or scripts j []))) (sym is.0)
-    (slice_get_within sources n source at, long_at sources n source at is.1)
-one_cause sources after n source source_after at there causes.Memory is = tt
-one_cause sources after n source source_after at there causes.Nothing is = absurd is
-one_cause sources after n source source_after at there (causes.Page page) is = absurd is
-one_cause sources after n source source_after at there causes.Words is = absurd is
-one_cause sources after n source source_after at there (causes.Volume fault) is = absurd is
-one_cause sources after n source source_after at there (causes.Disk moment) is = absurd is
-one_cause sources after n source source_after at there causes.Sink is = absurd is
-one_cause sources after n source source_after at there causes.LongTotal is = absurd is
+    → IsFirst sources after n → (cause : Cause) → IsOneCause n source source_after cause → IsSourceCause sources after cause
+one_cause sources after n source source_after at there first (causes.Source i) is =
+    subst (λ j. IsSourceCause sources after (causes.Source j)) (sym is.0)
+    (slice_get_within sources n source at, rw (faults_at sources n source at, faults_at after n source_after there) is.1, first)
+one_cause sources after n source source_after at there first (causes.Long i) is =
+    subst (λ j. IsSourceCause sources after (causes.Long j)) (sym is.0)
+    (slice_get_within sources n source at, long_at sources n source at is.1, first)
+one_cause sources after n source source_after at there first causes.Memory is = tt
+one_cause sources after n source source_after at there first causes.Nothing is = absurd is
+one_cause sources after n source source_after at there first (causes.Page page) is = absurd is
+one_cause sources after n source source_after at there first causes.Words is = absurd is
+one_cause sources after n source source_after at there first (causes.Volume fault) is = absurd is
+one_cause sources after n source source_after at there first (causes.Disk moment) is = absurd is
+one_cause sources after n source source_after at there first causes.Sink is = absurd is
+one_cause sources after n source source_after at there first causes.LongTotal is = absurd is
 
 -- all were read, and have too many lines together
 pub total_cause : (sources after : List Supply) (scripts : List (List ℕ)) → HaveFirst sources scripts → length scripts ≡ length sources → most_lines < lines_in scripts

@@ -1,15 +1,6 @@
 -- How a service begins, and what it comes to.
 use Rattle.std.proofs.Common.{◌≡◌, ℕ, zero, suc, true, List, [], ◌∷◌, ◌++◌, length, map, Some, slice_get, refl, sym, ap, ◌∙◌, subst, arith}
-use Rattle.std.proofs.lemmas.List.{append-nil}
-use Rattle.cfs_base.specs.declared.identifier.Puid.{Puid}
-use Rattle.cfs_streams.proofs.WriteLaws.{nothing}
-use Rattle.ufs_model.specs.declared.asked.Event.{Event}
-use Rattle.ufs_model.specs.Names.{no_names}
-use Rattle.ufs_model.specs.Spoken.{all_forms}
-use Rattle.ufs_model.specs.Turns.{turns_in, turns_from}
-use Rattle.cfs_ports.specs.Port.{Reading}
-use Rattle.cfs_serve.specs.Charter.{Seat, Terms}
-use Rattle.cfs_serve.specs.Hall.{IsSession, AreHeard, AllLeft, IsLeave, IsFresh, AreFresh, AreNew, has_left_at, seat_of, IsOver, AreOver}
+use Rattle.cfs_serve.proofs.Cited.{AllLeft, AreFresh, AreHeard, AreNew, AreOver, Event, IsFresh, IsLeave, IsOver, IsSession, Puid, Reading, Seat, Terms, all_forms, append-nil, has_left_at, no_names, nothing, seat_of, turns_from, turns_in}
 
 -- ---- as it begins
 

@@ -1,36 +1,15 @@
 -- An event keeps what the hall keeps of its sessions.
 use Rattle.std.proofs.Common.{◌≡◌, ◌≢◌, ◌⊎◌, inl, inr, ℕ, ◌+◌, ◌<◌, ◌≤◌, ◌==◌, Bool, true, false, not, cond, List, [], ◌∷◌, ◌++◌, length, filter, set, get_or, Option, Some, None, slice_get, refl, sym, ap, ◌∙◌, subst, arith, append_assoc, length-append, length-set}
-use Rattle.std.specs.List.{sum_by}
-use Rattle.std.proofs.lemmas.List.{append-nil}
-use Rattle.std.proofs.lemmas.List.Sums.{sum_by-set}
-use Rattle.std.proofs.lemmas.Option.{slice_get_within, get_or_from_slice_get, slice_get-get_or}
-use Rattle.std.proofs.lemmas.Bool.Decides.{nat_tests}
-use Rattle.cfs_base.specs.declared.identifier.Puid.{Puid}
-use Rattle.cfs_streams.specs.Writing.{Wrote}
-use Rattle.cfs_streams.proofs.WriteLaws.{then, then_some}
-use Rattle.ufs_model.specs.declared.asked.Event.{Event}
+use Rattle.cfs_serve.proofs.Cited.{AreCollected, AreHeard, AreWanting, Departs, Event, Hearing, Hears, IsLeave, IsSession, IsSessionTurn, Names, Puid, Replied, Request, Seat, State, TakesLine, Terms, Turned, Unread, Wrote, all_forms, append-nil, get_or_from_slice_get, has_left_at, is_begin, is_finish, is_of, is_sessions, is_turn_of, name_spoken, names_after, names_after_reply, names_of, nat_tests, no_names, printed, printed_replies, reading_of, slice_get-get_or, slice_get_within, sum_by, sum_by-set, then, then_some, turn_of, turns_from, turns_in, turns_left, turns_left_at, words_of}
 use Rattle.ufs_model.specs.declared.asked.Event.TheVariants as events
 use Rattle.ufs_model.specs.declared.asked.Reply.TheVariants as replies
-use Rattle.ufs_model.specs.declared.asked.Request.{Request}
-use Rattle.ufs_model.specs.declared.asked.Unread.{Unread}
 use Rattle.ufs_model.specs.declared.asked.Unread.TheVariants as unread
-use Rattle.ufs_model.specs.Names.{Names, no_names}
-use Rattle.ufs_model.specs.Script.{words_of}
-use Rattle.ufs_model.specs.State.{State}
-use Rattle.ufs_model.specs.Spoken.{Reading, all_forms, reading_of, name_spoken}
-use Rattle.ufs_model.specs.Turns.{is_turn_of, turns_in, turn_of, turns_from, names_after, names_after_reply}
-use Rattle.ufs_model.specs.Printed.{printed, printed_replies}
-use Rattle.cfs_script.specs.NameTable.{names_of}
+use Rattle.ufs_model.specs.Spoken.{Reading}
 use Rattle.cfs_ports.specs.declared.hearing.Heard.TheVariants as heard
-use Rattle.cfs_ports.specs.Heard.{Hears}
-use Rattle.cfs_ports.specs.Port.{Replied, TakesLine, Tells}
+use Rattle.cfs_ports.specs.Port.{Tells}
 use Rattle.cfs_ports.specs.Port as ports
-use Rattle.cfs_serve.specs.Charter.{Seat, Terms}
-use Rattle.cfs_serve.specs.Events.{is_finish, is_of, is_sessions}
-use Rattle.cfs_serve.specs.Journal.{AreCollected}
 use Rattle.cfs_serve.proofs.Journals.{all-push, push_out, some_same}
 use Rattle.cfs_serve.proofs.Lists.{get-set_other, get-set_same}
-use Rattle.cfs_serve.specs.Hall.{IsLeave, IsSession, AreHeard, Hearing, IsSessionTurn, Turned, Departs, turns_left, turns_left_at, has_left_at}
 
 -- ---- numbers and lists
 
@@ -308,17 +287,25 @@ left_of_stay ps now i p same within stays is =
 
 -- ---- collections that are finished
 
--- no event of a session is the end of a collection
-no_finish : (i : ℕ) (e : Event) → is_of i e ≡ true → is_finish e ≡ false
-no_finish i (events.Unread who why) mine = refl
-no_finish i (events.Ask who request reply) mine = refl
-no_finish i (events.Leave who stopped) mine = refl
-no_finish i e mine = absurd (cc mine)
+-- no event of a session is the beginning of a collection, or the end of one
+no_bound : (i : ℕ) (e : Event) → is_of i e ≡ true → (is_begin e ≡ false) × (is_finish e ≡ false)
+no_bound i (events.Unread who why) mine = (refl, refl)
+no_bound i (events.Ask who request reply) mine = (refl, refl)
+no_bound i (events.Leave who stopped) mine = (refl, refl)
+no_bound i e mine = absurd (cc mine)
 
-no_end : (i : ℕ) (p q : ports.Reading) (e : Event) → Turned i p q e ⊎ Departs i p q e → is_finish e ≡ false
-no_end i p q e (inl turned) = no_finish i e turned.whole
-no_end i p q e (inr departs) = rw departs.is refl
+no_end : (i : ℕ) (p q : ports.Reading) (e : Event) → Turned i p q e ⊎ Departs i p q e → (is_begin e ≡ false) × (is_finish e ≡ false)
+no_end i p q e (inl turned) = no_bound i e turned.whole
+no_end i p q e (inr departs) = rw departs.is (refl, refl)
 
 pub collected_by : {A : Type 0} (stands : A → State → Type 0) (t : Terms A) (trail : List Event) (i : ℕ) (p q : ports.Reading) (e : Event) → Turned i p q e ⊎ Departs i p q e
     → AreCollected stands t trail → AreCollected stands t (trail ++ e ∷ [])
-collected_by stands t trail i p q e kind all = λ begun graph is standing. push_out is_finish trail e (no_end i p q e kind) ∙ all begun graph is standing
+collected_by stands t trail i p q e kind all = λ begun graph is standing. push_out is_finish trail e (no_end i p q e kind).1 ∙ all begun graph is standing
+
+pub wanting_by : {A : Type 0} (stands : A → State → Type 0) (t : Terms A) (trail : List Event) (i : ℕ) (p q : ports.Reading) (e : Event) → Turned i p q e ⊎ Departs i p q e
+    → AreWanting stands t trail → AreWanting stands t (trail ++ e ∷ [])
+wanting_by stands t trail i p q e kind all = λ begun graph is standing.
+    let two = all begun graph is standing in
+    let begins = push_out is_begin trail e (no_end i p q e kind).0 in
+    let ends = push_out is_finish trail e (no_end i p q e kind).1 in
+    (begins ∙ two.0 ∙ sym ends, omega (arith, ends, two.1))

@@ -1,20 +1,10 @@
 -- A step of the collector keeps what the journal keeps.
-use Rattle.std.proofs.Common.{◌≡◌, ℕ, ◌==◌, Bool, true, false, List, [], ◌++◌, Option, Some, None, Result, Ok, Err, refl, sym, ap, ◌∙◌, subst}
-use Rattle.std.specs.Prelude.{◌||◌}
-use Rattle.std.specs.List.{list_any}
-use Rattle.std.proofs.lemmas.List.{append-nil}
-use Rattle.cfs_core.specs.declared.collecting.CollectFault.{CollectFault}
+use Rattle.std.proofs.Common.{◌≡◌, ℕ, ◌+◌, ◌<◌, ◌==◌, Bool, true, false, cond, arith, List, [], ◌++◌, Option, Some, None, Result, Ok, Err, refl, sym, ap, ◌∙◌, subst, ◌||◌}
+use Rattle.cfs_serve.proofs.Cited.{AreCollected, AreWanting, CollectFault, Event, Graph, IsExactEvent, IsRun, Lasts, MayGoOn, MayMake, MayTally, State, Step, Tally, Terms, append-nil, event_by, is_of, is_quiet_fault, list_any, recorded, refusal_by, stamps, tells_disk, wants_memory}
 use Rattle.cfs_core.specs.declared.collecting.CollectFault.TheVariants as faults
-use Rattle.cfs_core.specs.declared.collecting.Step.{Step}
 use Rattle.cfs_core.specs.declared.collecting.Step.TheVariants as steps
-use Rattle.ufs_model.specs.declared.asked.Event.{Event}
 use Rattle.ufs_model.specs.declared.asked.Event.TheVariants as events
-use Rattle.ufs_model.specs.Graph.{Graph}
-use Rattle.ufs_model.specs.State.{State}
-use Rattle.cfs_serve.specs.Calls.{IsExactEvent, MayGoOn, MayMake, MayTally, Tally, event_by}
-use Rattle.cfs_serve.specs.Charter.{Terms}
-use Rattle.cfs_serve.specs.Events.{is_of, tells_disk, wants_memory}
-use Rattle.cfs_serve.specs.Journal.{AreCollected, IsRun, Lasts, recorded, stamps}
+use Rattle.cfs_serve.specs.Calls as calls
 use Rattle.cfs_serve.proofs.Journals.{any-push, lasts_on, lasts_rests, run_on, run_rests}
 use Rattle.cfs_serve.proofs.Sessions.{test_refl}
 
@@ -36,6 +26,22 @@ nobodys (Err faults.Memory) e is k = absurd (cc is)
 nobodys (Err (faults.Disk None)) e is k = absurd (cc is)
 nobodys (Err (faults.Stopped moment)) e is k = absurd (cc is)
 
+-- one that was refused for a failed call without a doubt
+pub quiet_made : (made : Result Step CollectFault) → is_quiet_fault (refusal_by made) ≡ true → made ≡ Err (faults.Disk None)
+quiet_made (Err (faults.Disk None)) quiet = refl
+quiet_made (Err (faults.Disk (Some moment))) quiet = absurd (cc quiet)
+quiet_made (Err faults.Memory) quiet = absurd (cc quiet)
+quiet_made (Err (faults.Damaged damage moment)) quiet = absurd (cc quiet)
+quiet_made (Err (faults.Stopped moment)) quiet = absurd (cc quiet)
+quiet_made (Ok step) quiet = absurd (cc quiet)
+
+pub wanting_made : (made : Result Step CollectFault) → refusal_by made ≡ Some faults.Memory → made ≡ Err faults.Memory
+wanting_made (Err fault) is = ap (λ (f : CollectFault). Err f) (the_fault fault is)
+  where
+    the_fault : (x : CollectFault) → Some x ≡ Some faults.Memory → x ≡ faults.Memory
+    the_fault x e = cc e
+wanting_made (Ok step) is = absurd (cc is)
+
 never : (who : ℕ) → (who == who) ≡ false → ⊥
 never who other = absurd (cc (other, test_refl who))
 
@@ -43,25 +49,35 @@ exact_nobody : (cylinders lost : ℕ) (s : State) (e : Event) → ((k : ℕ) →
 exact_nobody cylinders lost s (events.Ask who request reply) nobody = absurd (never who (nobody who))
 exact_nobody cylinders lost s e nobody = tt
 
-calm_nobody : (e : Event) → ((k : ℕ) → is_of k e ≡ false) → wants_memory e ≡ false
-calm_nobody (events.Ask who request reply) nobody = absurd (never who (nobody who))
-calm_nobody (events.Unread who why) nobody = absurd (never who (nobody who))
-calm_nobody e nobody = refl
+pub unwanting : (e : Event) → ((k : ℕ) → is_of k e ≡ false) → wants_memory e ≡ false
+unwanting (events.Ask who request reply) nobody = absurd (never who (nobody who))
+unwanting (events.Unread who why) nobody = absurd (never who (nobody who))
+unwanting e nobody = refl
 
 pub silent : (e : Event) → ((k : ℕ) → is_of k e ≡ false) → tells_disk e ≡ false
 silent (events.Ask who request reply) nobody = absurd (never who (nobody who))
 silent e nobody = refl
 
 module _ (trail : List Event) where
-  -- want of memory is told by sessions alone
-  pub starved_step : (o : Option Event) → ((e : Event) → o ≡ Some e → (k : ℕ) → is_of k e ≡ false) → list_any wants_memory trail ≡ list_any wants_memory (trail ++ recorded o)
-  starved_step None nobody = ap (λ es. list_any wants_memory es) (sym (append-nil trail))
-  starved_step (Some e) nobody = sym (any-push wants_memory trail e ∙ ap (λ b. b || list_any wants_memory trail) (calm_nobody e (nobody e refl)))
+  -- what sessions alone tell
+  pub silent_step : (test : Event → Bool) → ((e : Event) → ((k : ℕ) → is_of k e ≡ false) → test e ≡ false) → (o : Option Event)
+      → ((e : Event) → o ≡ Some e → (k : ℕ) → is_of k e ≡ false) → list_any test trail ≡ list_any test (trail ++ recorded o)
+  silent_step test silent None nobody = ap (λ es. list_any test es) (sym (append-nil trail))
+  silent_step test silent (Some e) nobody = sym (any-push test trail e ∙ ap (λ b. b || list_any test trail) (silent e (nobody e refl)))
 
   -- a server that runs, and for which nothing is left to do
   pub collected_at : {A : Type 0} (stands : A → State → Type 0) (has_stopped is_damaged : A → Bool) (tally : A → Tally) (t : Terms A) (server : A) (o : Option Event)
       → IsRun stands has_stopped is_damaged tally t server (trail ++ recorded o) → has_stopped server ≡ false → (tally server).finished ≡ t.collections → AreCollected stands t (trail ++ recorded o)
   collected_at stands has_stopped is_damaged tally t server o run runs all = λ begun graph is standing. ((run begun graph is standing).tallied runs).1 ∙ all
+
+  -- where no collection runs, and more were called for
+  pub wanting_at : {A : Type 0} (stands : A → State → Type 0) (has_stopped is_damaged : A → Bool) (tally : A → Tally) (t : Terms A) (server : A)
+      → IsRun stands has_stopped is_damaged tally t server trail → has_stopped server ≡ false → (tally server).running ≡ false
+      → (tally server).finished < (tally server).called → (tally server).called ≡ t.collections → AreWanting stands t trail
+  wanting_at stands has_stopped is_damaged tally t server run runs none more called = λ begun graph is standing.
+      let tallied = (run begun graph is standing).tallied runs in
+      let count : calls.begun (tally server) ≡ (tally server).finished + 0 = ap (λ b. (tally server).finished + cond b 1 0) none in
+      (omega (arith, tallied.0, tallied.1, count), omega (arith, tallied.1, more, called))
 
   module _ {A : Type 0} (stands : A → State → Type 0) (has_stopped is_damaged : A → Bool) (tally : A → Tally) (t : Terms A) (old new : A) (was : IsRun stands has_stopped is_damaged tally t old trail)
       (o : Option Event) (nobody : (e : Event) → o ≡ Some e → (k : ℕ) → is_of k e ≡ false) where

@@ -1,10 +1,6 @@
 -- A disk of which no call is listed to fail, and that keeps none, never fails.
-use Rattle.std.proofs.Common.{inl, inr, ℕ, [], false, ◌∙◌, arith}
-use Rattle.std.specs.Prelude.{Contains, IsTrue}
-use Rattle.cfs_base.specs.Disk.{Image}
-use Rattle.cfs_fakes.specs.declared.memory_disk.MemoryDisk.{MemoryDisk}
-use Rattle.cfs_fakes.specs.Memory.{IsDue, IsMade, IsSamePlan, is_recording}
-use Rattle.cfs_serve.specs.SureDisk.{IsSure}
+use Rattle.std.proofs.Common.{inl, inr, ℕ, [], false, ◌∙◌, arith, IsTrue}
+use Rattle.cfs_serve.proofs.Cited.{Contains, Image, IsDue, IsMade, IsSamePlan, IsSure, MemoryDisk, is_recording}
 
 pub made_sure : (d : MemoryDisk) (blocks : Image) → IsMade d blocks [] false → IsSure d
 made_sure d blocks made = record { none = λ m listed. in_none m ((made.listed m).0 listed); forgets = made.recording }

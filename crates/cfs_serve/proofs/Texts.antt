@@ -1,9 +1,6 @@
 -- Texts that are written one after the other: what is left where one fails, and what the last leaves.
-use Rattle.std.proofs.Common.{ℕ, List, ◌++◌}
-use Rattle.std.specs.Prelude.{Result}
-use Rattle.cfs_base.specs.Outside.{Intake}
-use Rattle.cfs_streams.specs.Writing.{Wrote, WroteSome, WritesWhole}
-use Rattle.cfs_streams.proofs.WriteLaws.{then, then_some, then_whole, cut}
+use Rattle.std.proofs.Common.{ℕ, List, ◌++◌, Result}
+use Rattle.cfs_serve.proofs.Cited.{Intake, WritesWhole, Wrote, WroteSome, cut, then, then_some, then_whole}
 
 pub first_of_three : (a b : Intake) (x y z : List ℕ) → WroteSome a b x → WroteSome a b (x ++ y ++ z)
 first_of_three a b x y z one = cut a b (x ++ y) z (cut a b x y one)

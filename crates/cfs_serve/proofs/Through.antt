@@ -1,14 +1,7 @@
 -- What is said of a volume that is served through a cache is so of the disk below it.
 use Rattle.std.proofs.Common.{inl, inr, ℕ, List, ap}
-use Rattle.cfs_base.specs.Disk.{Image}
-use Rattle.cfs_base.specs.Run.{IsSettled, Leaves}
-use Rattle.cfs_base.specs.declared.disk.Disk.{Ghosts}
-use Rattle.cfs_recover.specs.Recovered.{IsUntouched}
-use Rattle.map_cache.specs.Cache.{Cache, blocks_of, content_of, faults_of, is_honest, is_telling, is_told, left_of, moment_of, tries_of}
-use Rattle.ufs_model.specs.declared.asked.Event.{Event}
-use Rattle.vol_image.specs.Sound.{IsSoundAs}
-use Rattle.cfs_serve.specs.declared.report.Report.{Report}
-use Rattle.cfs_serve.specs.Disks.{LeavesSinceTry, ServesVolume}
+use Rattle.cfs_serve.proofs.Cited.{Cache, Ending, Event, Ghosts, Image, IsSettled, IsSoundAs, IsUntouched, Leaves, LeavesSinceTry, Report, ServesVolume, content_of, is_honest, is_telling, is_told, left_of, moment_of, tries_of}
+use Rattle.map_cache.specs.Cache.{blocks_of, faults_of}
 
 -- the cache as a disk
 abbrev pub cached : {D : Type 0} → Ghosts D → Ghosts (Cache D)
@@ -39,10 +32,12 @@ module _ {D : Type 0} (g : Ghosts D) where
   since_try old new P (inl f) = inl (record { cause = f.0.cause; clock = f.0.clock }, untouched old new f.1, f.2)
   since_try old new P (inr m) = inr (m.0.lower, settled m.0 m.1, untouched old m.0 m.2, m.3, leaves m.0 new P m.4)
 
-  pub through : (seed : ℕ) (told : Report) (trail : List Event) (moments : List ℕ) (old new : Cache D) → ServesVolume (cached g) seed told trail moments old new
-      → ServesVolume g seed told trail moments old.lower new.lower
-  through seed told trail moments old new is = record {
+  pub through : (seed : ℕ) (told : Report) (ending : Ending) (trail : List Event) (moments : List ℕ) (old new : Cache D)
+      → ServesVolume (cached g) seed told ending trail moments old new → ServesVolume g seed told ending trail moments old.lower new.lower
+  through seed told ending trail moments old new is = record {
     opened = is.opened.lower;
+    later = is.later;
+    rises = is.rises;
     opening = λ honest graph sound. elim (is.opening honest graph sound) [
       | inl same ↦ inl (ap (λ (c : Cache D). c.lower) same)
       | inr since ↦ inr (since_try old is.opened (λ c. IsSoundAs c graph) since)
@@ -51,7 +46,6 @@ module _ {D : Type 0} (g : Ghosts D) where
     crashes = λ some honest graph sound. let run = is.crashes some honest graph sound in
         record { count = run.count; past = run.past; rising = run.rising; each = run.each; now = run.now };
     sound = is.sound;
-    refused = is.refused;
     faults = is.faults;
     stops = is.stops;
   }

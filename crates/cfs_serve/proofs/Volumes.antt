@@ -1,34 +1,8 @@
 -- A volume that was opened, and what a service comes to on it.
-use Rattle.std.proofs.Common.{◌≡◌, ◌⊎◌, inl, inr, ℕ, ◌*◌, ◌≤◌, Bool, List, [], Option, Some, None, Result, Ok, Err, IfOk, IsTrue, refl, sym, ap, ◌∙◌, subst, arith, length}
-use Rattle.std.specs.Prelude.{IfSome, option_map}
-use Rattle.std.specs.Result.{result_ok}
-use Rattle.cfs_base.specs.Disk.{Image}
-use Rattle.cfs_base.specs.Outside.{Intake, Rose, Supply}
-use Rattle.cfs_base.specs.declared.disk.Disk.{Ghosts}
-use Rattle.cfs_core.specs.Kernel.{Kernel}
-use Rattle.cfs_core.specs.Opened.{IsOpened}
-use Rattle.cfs_core.specs.StandsFor.{StandsFor, front_of}
-use Rattle.cfs_recover.specs.declared.fault.RecoverFault.{RecoverFault}
+use Rattle.std.proofs.Common.{◌≡◌, ◌⊎◌, inl, inr, ℕ, ◌*◌, ◌≤◌, List, [], Option, Some, None, Result, Ok, Err, IfOk, IsTrue, refl, sym, ap, ◌∙◌, subst, arith, length}
+use Rattle.cfs_serve.proofs.Cited.{AsksSessions, Cause, Counts, Ending, EndsSo, Event, Ghosts, Graph, Ground, HaveScripts, IfSome, Image, Intake, IsCause, IsCaused, IsLater, IsNewCore, IsOpenFault, IsOpened, IsPlayed, IsRefusal, IsRunFrom, IsRunOf, IsSound, IsSoundAs, IsSourceCause, Kernel, LeavesSinceBarrier, LeavesSinceTry, Places, Reading, RecoverFault, Report, Rose, RoseIn, Seat, ServesScripts, ServesVolume, StandsFor, Supply, front_of, ground_at, ground_on, not_begun, opened, opening, option_map, result_ok, told_of}
 use Rattle.cfs_recover.specs.declared.fault.RecoverFault.TheVariants as whys
-use Rattle.cfs_recover.specs.Recovered.{LeavesSinceBarrier}
-use Rattle.cfs_recover.specs.Refusals.{IsCaused}
-use Rattle.ufs_model.specs.declared.asked.Event.{Event}
-use Rattle.ufs_model.specs.Graph.{Graph}
-use Rattle.ufs_model.specs.State.{opening}
-use Rattle.vol_image.specs.Sound.{IsSound, IsSoundAs}
-use Rattle.cfs_serve.specs.declared.report.Cause.{Cause}
 use Rattle.cfs_serve.specs.declared.report.Cause.TheVariants as causes
-use Rattle.cfs_serve.specs.declared.report.Counts.{Counts}
-use Rattle.cfs_serve.specs.declared.report.Report.{Report}
-use Rattle.cfs_serve.specs.Disks.{LeavesSinceTry, ServesVolume}
-use Rattle.cfs_serve.specs.Ground.{Ground, ground_on, opened}
-use Rattle.cfs_serve.specs.Opening.{IsRefusal, told_of}
-use Rattle.cfs_ports.specs.Port.{Reading}
-use Rattle.cfs_serve.specs.Charter.{Seat}
-use Rattle.cfs_serve.specs.Played.{IsCause, IsPlayed, IsRunFrom, IsRunOf, IsSpoiled, has_broken}
-use Rattle.cfs_serve.specs.Scripts.{HaveScripts, IsSourceCause}
-use Rattle.cfs_serve.specs.Volume.{IsNewCore, ServesScripts, ground_at}
-use Rattle.cfs_serve.specs.Whole.{AsksSessions, Places, RoseIn}
 
 pub both_some : {A E : Type 0} (P Q R : A → Type 0) (r : Result A E) → IfOk r P → IfOk r Q → ((x : A) → P x → Q x → R x) → IfSome (result_ok r) R
 both_some P Q R (Ok x) p q both = both x p q
@@ -57,17 +31,15 @@ never_rose rose = absurd (omega (arith, rose))
 
 -- ---- a session, by what its volume may read as
 
-spoiled_on : (rose wide : Type 0) (broken wanting : Bool) (trail : List Event) → (rose → wide) → (cause : Cause) → IsSpoiled rose broken wanting trail cause → IsSpoiled wide broken wanting trail cause
-spoiled_on rose wide broken wanting trail to causes.Nothing is = is
-spoiled_on rose wide broken wanting trail to (causes.Disk moment) is = to is
-spoiled_on rose wide broken wanting trail to (causes.Volume fault) is = tt
-spoiled_on rose wide broken wanting trail to causes.Sink is = is
-spoiled_on rose wide broken wanting trail to causes.Memory is = is
-spoiled_on rose wide broken wanting trail to (causes.Page page) is = is
-spoiled_on rose wide broken wanting trail to causes.Words is = is
-spoiled_on rose wide broken wanting trail to (causes.Source i) is = is
-spoiled_on rose wide broken wanting trail to (causes.Long i) is = is
-spoiled_on rose wide broken wanting trail to causes.LongTotal is = is
+ends_on : (rose wide : Type 0) (collections : ℕ) (ending : Ending) (trail : List Event) → (rose → wide) → EndsSo rose collections ending trail
+    → EndsSo wide collections ending trail
+ends_on rose wide collections ending trail to is = record {
+  stops = is.stops;
+  refusal = is.refusal;
+  quiet = is.quiet;
+  failed = λ some. to (is.failed some);
+  calm = is.calm;
+}
 
 module _ (a b : Ground) (seed collections : ℕ) (rose wide : Type 0) (cylinders : a.cylinders ≡ b.cylinders) (reads : (graph : Graph) → b.reads graph → a.reads graph) (to : rose → wide) where
   run_on : (graph : Graph) (sessions : ℕ) (counts : Counts) (cause : Cause) (trail : List Event) → IsRunFrom a.cylinders seed collections graph rose sessions counts cause trail
@@ -84,24 +56,27 @@ module _ (a b : Ground) (seed collections : ℕ) (rose wide : Type 0) (cylinders
     rests = run.rests;
   })
 
-  pub played_on : (seats : List Seat) (ports : List Reading) (counts : Counts) (cause : Cause) (trail : List Event) → IsPlayed a seed collections rose seats ports counts cause trail
-      → IsPlayed b seed collections wide seats ports counts cause trail
-  played_on seats ports counts cause trail played = record {
+  pub played_on : (seats : List Seat) (ports : List Reading) (counts : Counts) (cause : Cause) (ending : Ending) (trail : List Event)
+      → IsPlayed a seed collections rose seats ports counts cause ending trail → IsPlayed b seed collections wide seats ports counts cause ending trail
+  played_on seats ports counts cause ending trail played = record {
     root = played.root;
     rooted = λ graph is. played.rooted graph (reads graph is);
     run = λ graph is. run_on graph (length seats) counts cause trail (played.run graph (reads graph is));
     over = played.over;
-    wanting = played.wanting;
-    wanted = played.wanted;
-    collected = λ none graph is. played.collected none graph (reads graph is);
-    spoiled = spoiled_on rose wide (has_broken ports) played.wanting trail to cause played.spoiled;
+    counted = played.counted;
+    ends = ends_on rose wide collections ending trail to played.ends;
+    collected = λ none unspent graph is. played.collected none unspent graph (reads graph is);
+    wanting = λ wants graph is. played.wanting wants graph (reads graph is);
+    undamaged = λ graph is. played.undamaged graph (reads graph is);
+    spoiled = played.spoiled;
   }
 
 -- scripts that were served on a core, or memory was wanting
-module _ {D : Type 0} (g : Ghosts D) (core : Kernel D) (scripts : List (List ℕ)) (sources sources_after : List Supply) (sinks after : List Intake) (report : Report) (trail : List Event)
-    (moments : List ℕ) (disk : D) (ground : Ground) (seed collections : ℕ) (wide : Type 0) (have : HaveScripts sources scripts) (sound : ¬ ground.unsound) (words : core.words.seed ≡ seed)
+module _ {D : Type 0} (g : Ghosts D) (core : Kernel D) (scripts : List (List ℕ)) (sources sources_after : List Supply) (sinks after : List Intake) (report : Report) (ending : Ending)
+    (trail : List Event) (moments : List ℕ) (disk : D) (ground : Ground) (seed collections : ℕ) (wide : Type 0) (have : HaveScripts sources scripts) (sound : ¬ ground.unsound) (words : core.words.seed ≡ seed)
     (cylinders : length core.space.free ≡ ground.cylinders) (reads : (graph : Graph) → ground.reads graph → StandsFor g core (opening graph)) (to : Rose (g.faults core.disk) (g.faults disk) → wide) where
-  pub script_run : ServesScripts g core collections scripts sinks after report trail moments disk → IsRunOf ground seed collections wide sources sources_after sinks after report trail
+  pub script_run : ServesScripts g core collections scripts sinks after report ending trail moments disk
+      → IsRunOf ground seed collections wide sources sources_after sinks after report ending trail
   script_run (inl s) = inl (record {
     scripts = scripts;
     have = have;
@@ -112,25 +87,25 @@ module _ {D : Type 0} (g : Ghosts D) (core : Kernel D) (scripts : List (List ℕ
     seats = s.seats;
     ports = s.ports;
     seated = s.seated;
-    played = played_on (ground_at g core) ground seed collections (Rose (g.faults core.disk) (g.faults disk)) wide cylinders reads to s.seats s.ports s.serves.counts s.serves.cause trail
-        (subst (λ w. IsPlayed (ground_at g core) w collections (Rose (g.faults core.disk) (g.faults disk)) s.seats s.ports s.serves.counts s.serves.cause trail) words s.serves.played);
+    played = played_on (ground_at g core) ground seed collections (Rose (g.faults core.disk) (g.faults disk)) wide cylinders reads to s.seats s.ports s.serves.counts s.serves.cause ending trail
+        (subst (λ w. IsPlayed (ground_at g core) w collections (Rose (g.faults core.disk) (g.faults disk)) s.seats s.ports s.serves.counts s.serves.cause ending trail) words s.serves.played);
   })
   script_run (inr n) = inr (record { cause = causes.Memory; is = tt; nothing = n.0 })
 
 -- nothing was served
-none_run : (ground : Ground) (seed collections : ℕ) (wide : Type 0) (sources sources_after : List Supply) (sinks after : List Intake) (report : Report) (trail : List Event) (cause : Cause)
-    → IsCause ground wide sources sources_after cause → after ≡ sinks → report ≡ record { counts = None; cause = cause } → trail ≡ []
-    → IsRunOf ground seed collections wide sources sources_after sinks after report trail
-none_run ground seed collections wide sources sources_after sinks after report trail cause is same told none =
-    inr (record { cause = cause; is = is; nothing = record { no_event = none; untouched = same; told = told } })
+none_run : (ground : Ground) (seed collections : ℕ) (wide : Type 0) (sources sources_after : List Supply) (sinks after : List Intake) (report : Report) (ending : Ending)
+    (trail : List Event) (cause : Cause) → IsCause ground wide sources sources_after cause → after ≡ sinks → report ≡ record { counts = None; cause = cause } → trail ≡ []
+    → ending ≡ not_begun → IsRunOf ground seed collections wide sources sources_after sinks after report ending trail
+none_run ground seed collections wide sources sources_after sinks after report ending trail cause is same told none no_end =
+    inr (record { cause = cause; is = is; nothing = record { no_event = none; no_end = no_end; untouched = same; told = told } })
 
-pub none_asks : (ground : Ground) (seed collections : ℕ) (old new : Places) (report : Report) (trail : List Event) (cause : Cause) → length new.sources ≡ length old.sources
+pub none_asks : (ground : Ground) (seed collections : ℕ) (old new : Places) (report : Report) (ending : Ending) (trail : List Event) (cause : Cause) → length new.sources ≡ length old.sources
     → IsCause ground (RoseIn old.disk new.disk) old.sources new.sources cause → new.sinks ≡ old.sinks → report ≡ record { counts = None; cause = cause } → trail ≡ []
-    → AsksSessions ground seed collections old new report trail
-none_asks ground seed collections old new report trail cause count is same told none = record {
+    → ending ≡ not_begun → AsksSessions ground seed collections old new report ending trail
+none_asks ground seed collections old new report ending trail cause count is same told none no_end = record {
   sources = count;
   sinks = ap length same;
-  run = none_run ground seed collections (RoseIn old.disk new.disk) old.sources new.sources old.sinks new.sinks report trail cause is same told none;
+  run = none_run ground seed collections (RoseIn old.disk new.disk) old.sources new.sources old.sinks new.sinks report ending trail cause is same told none no_end;
 }
 
 pub source_cause : (ground : Ground) (wide : Type 0) (source after : List Supply) (cause : Cause) → IsSourceCause source after cause → IsCause ground wide source after cause
@@ -159,7 +134,8 @@ module _ {D : Type 0} (g : Ghosts D) (old : D) (seed : ℕ) where
   -- it was refused
   pub refusal_cause : (new : D) (source after : List Supply) (script : List (List ℕ)) → HaveScripts source script → (cause : Cause) → IsRefusal g old new cause
       → IsCause (ground_on g old) (Rose (g.faults old) (g.faults new)) source after cause
-  refusal_cause new source after script has (causes.Volume fault) is = ((λ graph reads. is reads.0 (graph, reads.1)), (script, has))
+  refusal_cause new source after script has (causes.Volume fault) is =
+      ((λ graph reads. (is reads.0).0 (graph, reads.1)), (script, has), (λ honest. (is honest).1))
   refusal_cause new source after script has (causes.Disk moment) is = (is.0, is.1, (script, has))
   refusal_cause new source after script has causes.Memory is = tt
   refusal_cause new source after script has causes.Nothing is = absurd is
@@ -171,53 +147,58 @@ module _ {D : Type 0} (g : Ghosts D) (old : D) (seed : ℕ) where
   refusal_cause new source after script has causes.LongTotal is = absurd is
 
   -- nothing was served on it
-  pub unserved : (new : D) (report : Report) (trail : List Event) (moments : List ℕ) (cause : Cause) → report ≡ record { counts = None; cause = cause } → ¬ (cause ≡ causes.Nothing)
-      → (IsTrue (g.honest old) → (graph : Graph) → IsSoundAs (g.content old) graph → (new ≡ old) ⊎ LeavesSinceTry g old new (λ c. IsSoundAs c graph)) → ServesVolume g seed report trail moments old new
-  unserved new report trail moments cause told ill images = record {
+  pub unserved : (new : D) (report : Report) (ending : Ending) (trail : List Event) (moments : List ℕ) (cause : Cause) → IsLater g old new → report ≡ record { counts = None; cause = cause } → ¬ (cause ≡ causes.Nothing)
+      → (IsTrue (g.honest old) → (graph : Graph) → IsSoundAs (g.content old) graph → (new ≡ old) ⊎ LeavesSinceTry g old new (λ c. IsSoundAs c graph)) → ServesVolume g seed report ending trail moments old new
+  unserved new report ending trail moments cause later told ill images = record {
     opened = new;
+    later = later;
+    rises = omega arith;
     opening = images;
     unserved = λ none. refl;
     crashes = λ served. absurd (cc (rw told at served));
     sound = λ well. absurd (ill (sym (ap (λ (r : Report). r.cause) told) ∙ well));
-    refused = None;
     faults = λ served. absurd (cc (rw told at served));
     stops = λ served. absurd (cc (rw told at served));
   }
 
   -- scripts were
-  pub served : (core : Kernel D) (collections : ℕ) (scripts : List (List ℕ)) (sinks after : List Intake) (report : Report) (trail : List Event) (moments : List ℕ) (new : D) → core.words.seed ≡ seed
+  pub served : (core : Kernel D) (collections : ℕ) (scripts : List (List ℕ)) (sinks after : List Intake) (report : Report) (ending : Ending) (trail : List Event) (moments : List ℕ)
+      (new : D) → IsLater g old core.disk → core.words.seed ≡ seed
       → (IsTrue (g.honest old) → (graph : Graph) → IsSoundAs (g.content old) graph → StandsFor g core (opening graph))
       → (IsTrue (g.honest old) → (graph : Graph) → IsSoundAs (g.content old) graph → LeavesSinceBarrier g old core.disk (λ c. IsSoundAs c graph))
-      → ServesScripts g core collections scripts sinks after report trail moments new → ServesVolume g seed report trail moments old new
-  served core collections scripts sinks after report trail moments new words stands images (inl s) = record {
+      → ServesScripts g core collections scripts sinks after report ending trail moments new → ServesVolume g seed report ending trail moments old new
+  served core collections scripts sinks after report ending trail moments new later words stands images (inl s) = record {
     opened = core.disk;
+    later = later;
+    rises = s.serves.later;
     opening = λ honest graph sound. inr (since_try g old core.disk _ (images honest graph sound));
     unserved = λ none. absurd (some_none (sym (ap (λ (r : Report). r.counts) s.serves.told) ∙ none));
     crashes = λ some honest graph sound. rw (← words) (s.serves.crashes graph (stands honest graph sound));
     sound = λ well honest graph sound last legal. s.serves.sound (sym (ap (λ (r : Report). r.cause) s.serves.told) ∙ well) graph (stands honest graph sound) last (rw words legal);
-    refused = s.serves.refused;
     faults = λ some. s.serves.faults;
     stops = λ some honest graph sound. s.serves.stops graph (stands honest graph sound);
   }
     where
       some_none : {x : Counts} → Some x ≡ None → ⊥
       some_none e = cc
-  served core collections scripts sinks after report trail moments new words stands images (inr n) = rw n.1 (unserved core.disk report trail moments causes.Memory n.0.told (λ e. cc) (λ honest graph sound. inr (since_try g old core.disk _ (images honest graph sound))))
+  served core collections scripts sinks after report ending trail moments new later words stands images (inr n) = rw n.1 (unserved core.disk report ending trail moments causes.Memory later n.0.told (λ e. cc) (λ honest graph sound. inr (since_try g old core.disk _ (images honest graph sound))))
+
+pub refusal_ill : {D : Type 0} (g : Ghosts D) (old new : D) (cause : Cause) → IsRefusal g old new cause → ¬ (cause ≡ causes.Nothing)
+refusal_ill g old new cause is well = absurd (rw well at is)
 
 -- what is told of a refusal
-pub refusal_of : {D : Type 0} (g : Ghosts D) (old new : D) (why : RecoverFault) → (IsTrue (g.honest old) → IsSound (g.content old) → (why ≡ whys.Disk) ⊎ (why ≡ whys.Memory)) → IsCaused g old new why
-    → IsRefusal g old new (told_of why)
-refusal_of g old new whys.Disk free caused = (refl, caused.cause)
-refusal_of g old new whys.NotVolume free caused = λ honest sound. elim (free honest sound) [
-  | inl is ↦ cc is
-  | inr is ↦ cc is
-]
-refusal_of g old new (whys.Version found) free caused = λ honest sound. elim (free honest sound) [
-  | inl is ↦ cc is
-  | inr is ↦ cc is
-]
-refusal_of g old new (whys.Damaged d) free caused = λ honest sound. elim (free honest sound) [
-  | inl is ↦ cc is
-  | inr is ↦ cc is
-]
-refusal_of g old new whys.Memory free caused = tt
+module _ {D : Type 0} (g : Ghosts D) (old new : D) where
+  never_free : (why : RecoverFault) → ¬ (why ≡ whys.Disk) → ¬ (why ≡ whys.Memory) → (IsTrue (g.honest old) → IsSound (g.content old) → (why ≡ whys.Disk) ⊎ (why ≡ whys.Memory))
+      → IsTrue (g.honest old) → ¬ IsSound (g.content old)
+  never_free why disk memory free honest sound = elim (free honest sound) [
+    | inl is ↦ disk is
+    | inr is ↦ memory is
+  ]
+
+  pub refusal_of : (why : RecoverFault) → (IsTrue (g.honest old) → IsSound (g.content old) → (why ≡ whys.Disk) ⊎ (why ≡ whys.Memory))
+      → (IsTrue (g.honest old) → IsOpenFault (g.content old) why) → IsCaused g old new why → IsRefusal g old new (told_of why)
+  refusal_of whys.Disk free fault caused = (refl, caused.cause)
+  refusal_of whys.NotVolume free fault caused = λ honest. (never_free whys.NotVolume (λ e. cc e) (λ e. cc e) free honest, fault honest)
+  refusal_of (whys.Version found) free fault caused = λ honest. (never_free (whys.Version found) (λ e. cc e) (λ e. cc e) free honest, fault honest)
+  refusal_of (whys.Damaged d) free fault caused = λ honest. (never_free (whys.Damaged d) (λ e. cc e) (λ e. cc e) free honest, fault honest)
+  refusal_of whys.Memory free fault caused = tt

@@ -1,7 +1,6 @@
 -- Words that name the files of sessions.
 use Rattle.std.proofs.Common.{◌≡◌, ℕ, ◌*◌, ◌<◌, ◌≤◌, List, [], ◌∷◌, length, map, None, refl, arith}
-use Rattle.std.specs.Prelude.{String, string_bytes}
-use Rattle.cfs_serve.specs.Words.{files_in, play_in, serve_in}
+use Rattle.cfs_serve.proofs.Cited.{String, files_in, play_in, serve_in, string_bytes}
 
 -- two words a session
 pub two_words : (words : List (List ℕ)) → 2 * length (files_in words) ≤ length words

@@ -1,17 +1,6 @@
 -- A turn of a worker, of a session or of the collector.
 use Rattle.std.proofs.Common.{◌≡◌, ◌≢◌, inl, inr, ℕ, zero, suc, ◌+◌, ◌<◌, ◌≤◌, ◌==◌, Bool, true, false, cond, List, [], ◌∷◌, ◌++◌, Option, Some, None, length, slice_get, refl, sym, ap, ◌∙◌, subst, arith, length-append}
-use Rattle.std.specs.List.{sum_by}
-use Rattle.std.proofs.lemmas.List.{append-nil}
-use Rattle.std.proofs.lemmas.Bool.Decides.{nat_tests}
-use Rattle.std.proofs.lemmas.Option.{slice_get_within}
-use Rattle.cfs_core.specs.declared.collecting.CollectFault.{CollectFault}
-use Rattle.cfs_ports.specs.Port.{Reading}
-use Rattle.ufs_model.specs.declared.asked.Event.{Event}
-use Rattle.cfs_serve.specs.declared.journal.Progress.{Progress}
-use Rattle.cfs_serve.specs.Charter.{Terms}
-use Rattle.cfs_serve.specs.Events.{is_of}
-use Rattle.cfs_serve.specs.Journal.{Kept, Steps, recorded}
-use Rattle.cfs_serve.specs.Hall.{AreHeard, HasNoCollector, Hearing, IsSessionTurn, IsTurn, has_left_at, is_done_in, left_in, turns_left, turns_left_at}
+use Rattle.cfs_serve.proofs.Cited.{AreHeard, CollectFault, Event, HasNoCollector, Hearing, IsSessionTurn, IsTurn, Kept, Progress, Reading, Steps, Terms, append-nil, has_left_at, is_done_in, is_of, left_in, nat_tests, recorded, slice_get_within, sum_by, turns_left, turns_left_at}
 use Rattle.cfs_serve.proofs.Sessions as sessions
 use Rattle.cfs_serve.proofs.Sessions.{heard_beside}
 
@@ -106,9 +95,9 @@ as_told true o none = one_at_most o
 as_told false o none = rw (none refl) (omega arith)
 
 -- what the hall keeps, where the collector has a turn left
-module _ {A : Type 0} (t : Terms A) (clock : A → ℕ) (old new : Kept A) (ports : List Reading) (progress : Progress) (turns events : ℕ) (refused : Option CollectFault)
+module _ {A : Type 0} (t : Terms A) (clock : A → ℕ) (old new : Kept A) (ports : List Reading) (progress : Progress) (turns events : ℕ) (refused : Option CollectFault) (spent : Bool)
     (heard : AreHeard t old.events ports) (room : sum_by turns_left ports + events ≤ old.room) (few : length old.events + sum_by turns_left ports + events < 4294967295)
-    (paired : 0 < turns → 0 < events) (quiet : HasNoCollector t turns refused) (some : 0 < turns) (steps : Steps clock old new progress) where
+    (paired : 0 < turns → 0 < events) (quiet : HasNoCollector t turns refused spent) (some : 0 < turns) (steps : Steps clock old new progress) where
   called : t.collections ≡ 0 → ⊥
   called none = absurd (omega (arith, (quiet none).0, some))
 
@@ -128,5 +117,5 @@ module _ {A : Type 0} (t : Terms A) (clock : A → ℕ) (old new : Kept A) (port
   pub few_on : (left : ℕ) → left + length (recorded steps.event) ≤ events → length new.events + sum_by turns_left ports + left < 4294967295
   few_on left less = omega (arith, few, less, ap length steps.events, length-append old.events (recorded steps.event))
 
-  pub quiet_on : (now : ℕ) (after : Option CollectFault) → HasNoCollector t now after
-  quiet_on now after = λ none. absurd (called none)
+  pub quiet_on : (now : ℕ) (after : Option CollectFault) (ends : Bool) → HasNoCollector t now after ends
+  quiet_on now after ends = λ none. absurd (called none)

@@ -1,5 +1,6 @@
 -- What a server's calls make: one event each, or none; how exact a reply is; and what becomes of the collections.
-use Rattle.std.specs.Prelude.{◌≡◌, ◌⊎◌, ℕ, ◌+◌, ◌-◌, ◌≤◌, ◌<◌, Bool, true, false, if◌then◌else◌, List, [], ◌∷◌, ◌++◌, Option, Some, None, Result, Ok, Err}
+use Rattle.std.specs.Prelude.{◌≡◌, ◌⊎◌, ℕ, ◌+◌, ◌-◌, ◌≤◌, ◌<◌, Bool, true, false, if◌then◌else◌, List, [], ◌∷◌, ◌++◌}
+use Rattle.std.specs.Prelude.{Option, Some, None, Result, Ok, Err}
 use Rattle.std.specs.Option.{option_map_or}
 use Rattle.cfs_base.specs.Outside.{Rose}
 use Rattle.cfs_base.specs.declared.disk.Disk.{Ghosts}
@@ -12,6 +13,7 @@ use Rattle.cfs_core.specs.StandsFor.{is_sweeping}
 use Rattle.cfs_core.specs.declared.collecting.CollectFault.{CollectFault}
 use Rattle.cfs_core.specs.declared.collecting.CollectFault.TheVariants as faults
 use Rattle.cfs_core.specs.declared.collecting.Step.{Step}
+use Rattle.cfs_core.specs.declared.collecting.Step.TheVariants as steps
 use Rattle.ufs_model.specs.declared.asked.Event.{Event}
 use Rattle.ufs_model.specs.declared.asked.Event.TheVariants as events
 use Rattle.ufs_model.specs.declared.asked.Reply.{Reply}
@@ -36,8 +38,8 @@ tells_outcome (replies.Number n) = true
 tells_outcome (replies.Content bytes) = true
 tells_outcome reply = false
 
--- So many blocks are Free in this state: its room; but while a collection sweeps less than that by as many at most as the objects
--- had that are gone.
+-- So many blocks are Free in this state: its room; but while a collection sweeps less than that by as many at most as
+-- the objects had that are gone.
 pub record Fits (cylinders lost : ℕ) (s : State) (free : ℕ) : Type 0 where
   pub room : ℕ
   pub is_room : IsRoom cylinders s room
@@ -45,10 +47,12 @@ pub record Fits (cylinders lost : ℕ) (s : State) (free : ℕ) : Type 0 where
   pub least : room ≤ free + lost
   pub all : is_sweeping s.collection ≡ false → free ≡ room
 
--- A Full names what is Free. A request that was done, other than a delete, left four blocks of the room beside its need.
+-- A Full names what is Free. A request that was done, other than a delete, left four blocks of the room beside its
+-- need.
 pub record IsExact (cylinders lost : ℕ) (s : State) (who : ℕ) (request : Request) (reply : Reply) : Type 0 where
   pub full : (need : Need) → reply ≡ replies.Full need → Fits cylinders lost s need.free
-  pub done : tells_outcome reply ≡ true → is_delete request ≡ false → (free : ℕ) → IsRoom cylinders s free → need_of s who request + reserve ≤ free
+  pub done : tells_outcome reply ≡ true → is_delete request ≡ false → (free : ℕ) → IsRoom cylinders s free
+      → need_of s who request + reserve ≤ free
 
 abbrev pub IsExactEvent : (cylinders lost : ℕ) → State → Event → Type 0
 IsExactEvent cylinders lost s (events.Ask who request reply) = IsExact cylinders lost s who request reply
@@ -68,7 +72,8 @@ lost_in seed lost s (e ∷ trail) = option_map_or (λ t. lost_in seed (lost_by e
 abbrev pub AreExact : (cylinders seed lost : ℕ) → State → List Event → Type 0
 AreExact cylinders seed lost s [] = Unit {0}
 AreExact cylinders seed lost s (e ∷ trail) =
-    IsExactEvent cylinders lost s e × ((t : State) → next seed s e ≡ Some t → AreExact cylinders seed (lost_by e s t lost) t trail)
+    IsExactEvent cylinders lost s e × ((t : State) → next seed s e ≡ Some t
+    → AreExact cylinders seed (lost_by e s t lost) t trail)
 
 -- ---- one event
 
@@ -79,13 +84,16 @@ pub record Makes (stands : State → Type 0) (seed : ℕ) (s : State) (e : Event
   pub standing : stands after
 
 -- What is known of crashes, event by event, goes on by this one, which is recorded as the call ends.
-abbrev pub GoesOn : {A : Type 0} → (A → State → Type 0) → (A → ℕ) → (A → ℕ → Graph → List Event → List ℕ → Type 0) → (seed : ℕ) → A → A → Event → Type 0
-GoesOn stands clock lasts seed old new e = (graph : Graph) (trail : List Event) (marks : List ℕ) (s : State) → replay seed graph trail ≡ Some s → stands old s
+abbrev pub GoesOn : {A : Type 0} → (A → State → Type 0) → (A → ℕ) → (A → ℕ → Graph → List Event → List ℕ → Type 0)
+    → (seed : ℕ) → A → A → Event → Type 0
+GoesOn stands clock lasts seed old new e = (graph : Graph) (trail : List Event) (marks : List ℕ) (s : State)
+    → replay seed graph trail ≡ Some s → stands old s
     → lasts old seed graph trail marks → lasts new seed graph (trail ++ e ∷ []) (marks ++ clock new ∷ [])
 
--- What a call tells of the disk, on any disk: a failed call that is told was one, and so was one by which the server stopped,
--- unless a block was damaged. Of a server that runs no other trouble is told; one that stopped stays so.
-pub record TellsSo {A : Type 0} (faults : A → ℕ) (has_stopped is_damaged : A → Bool) (old new : A) (fails calms : Bool) : Type 0 where
+-- What a call tells of the disk, on any disk: a failed call that is told was one, and so was one by which the server
+-- stopped, unless a block was damaged. Of a server that runs no other trouble is told; one that stopped stays so.
+pub record TellsSo {A : Type 0} (faults : A → ℕ) (has_stopped is_damaged : A → Bool) (old new : A)
+    (fails calms : Bool) : Type 0 where
   pub later : faults old ≤ faults new
   pub told : fails ≡ true → Rose (faults old) (faults new)
   pub stays : has_stopped old ≡ true → has_stopped new ≡ true
@@ -125,8 +133,17 @@ abbrev pub is_calm_step : Option Event → Bool
 is_calm_step None = true
 is_calm_step (Some e) = is_calm e
 
-abbrev pub TellsStep : {A : Type 0} → (A → ℕ) → (has_stopped is_damaged : A → Bool) → A → A → Result Step CollectFault → Type 0
-TellsStep faults has_stopped is_damaged old new result = TellsSo faults has_stopped is_damaged old new (fails result) (is_calm_step (event_by result))
+-- a failed call that a step tells was one, and its event tells no other trouble of a server that runs
+abbrev pub TellsStep : {A : Type 0} → (A → ℕ) → (has_stopped is_damaged : A → Bool) → A → A
+    → Result Step CollectFault → Type 0
+TellsStep faults has_stopped is_damaged old new result =
+    TellsSo faults has_stopped is_damaged old new false (is_calm_step (event_by result))
+    × (fails result ≡ true → Rose (faults old) (faults new))
+
+-- the refusal of a step, if it is one
+abbrev pub refusal_by : Result Step CollectFault → Option CollectFault
+refusal_by (Ok step) = None
+refusal_by (Err fault) = Some fault
 
 -- the event may come, or the server stands for the state on
 abbrev pub MayMake : (State → Type 0) → (seed : ℕ) → State → Option Event → Type 0
@@ -134,20 +151,33 @@ MayMake stands seed s None = stands s
 MayMake stands seed s (Some e) = Makes stands seed s e
 
 -- and what is known of crashes goes on
-abbrev pub MayGoOn : {A : Type 0} → (A → State → Type 0) → (A → ℕ) → (A → ℕ → Graph → List Event → List ℕ → Type 0) → (seed : ℕ) → A → A → Option Event → Type 0
-MayGoOn stands clock lasts seed old new None = (graph : Graph) (trail : List Event) (marks : List ℕ) (s : State) → replay seed graph trail ≡ Some s → stands old s
+abbrev pub MayGoOn : {A : Type 0} → (A → State → Type 0) → (A → ℕ) → (A → ℕ → Graph → List Event → List ℕ → Type 0)
+    → (seed : ℕ) → A → A → Option Event → Type 0
+MayGoOn stands clock lasts seed old new None = (graph : Graph) (trail : List Event) (marks : List ℕ) (s : State)
+    → replay seed graph trail ≡ Some s → stands old s
     → lasts old seed graph trail marks → lasts new seed graph trail marks
 MayGoOn stands clock lasts seed old new (Some e) = GoesOn stands clock lasts seed old new e
 
 -- ---- collections
 
--- How many collections were called for and how many of them are finished; whether one runs; and how many blocks objects have still
--- that are gone from a graph.
+-- How many collections were called for and how many of them are finished; whether one runs; and how many blocks objects
+-- have still that are gone from a graph.
 pub record Tally : Type 0 where
   pub called : ℕ
   pub finished : ℕ
   pub running : Bool
   pub lost : Graph → ℕ
+
+-- Where nothing is left to do a server that runs has finished as many collections as were called for. It wants memory
+-- only where a collection would begin: none runs, and more were called for.
+abbrev pub EndsCollecting : {A : Type 0} → (has_stopped : A → Bool) → (tally : A → Tally) → A → A
+    → Result Step CollectFault
+    → Type 0
+EndsCollecting has_stopped tally old new (Ok steps.Idle) =
+    (has_stopped new ≡ false) × ((tally new).finished ≡ (tally new).called)
+EndsCollecting has_stopped tally old new (Err faults.Memory) =
+    (has_stopped old ≡ false) × ((tally old).running ≡ false) × ((tally old).finished < (tally old).called)
+EndsCollecting has_stopped tally old new result = Unit {0}
 
 -- those of a core
 abbrev pub tally_of : {D : Type 0} → Ghosts D → Kernel D → Tally
@@ -165,7 +195,8 @@ begun c = c.finished + (if c.running then 1 else 0)
 abbrev pub AsBefore : Tally → Tally → Type 0
 AsBefore c d = (d.finished ≡ c.finished) × (d.running ≡ c.running)
 
--- what an event does to the counts of a server that runs on: a collection begins where none runs and more were called for
+-- what an event does to the counts of a server that runs on: a collection begins where none runs and more were called
+-- for
 abbrev pub Counts : Event → Tally → Tally → Type 0
 Counts events.Began c d = (c.finished < c.called) × (c.running ≡ false) × (d.finished ≡ c.finished) × (d.running ≡ true)
 Counts events.Finished c d = (c.running ≡ true) × (d.finished ≡ c.finished + 1) × (d.running ≡ false)
@@ -173,7 +204,8 @@ Counts (events.Halted moment) c d = ⊥
 Counts e c d = AsBefore c d
 
 -- and to the blocks of what is gone
-pub record Tallies {A : Type 0} (has_stopped : A → Bool) (tally : A → Tally) (seed : ℕ) (old new : A) (s : State) (e : Event) : Type 0 where
+pub record Tallies {A : Type 0} (has_stopped : A → Bool) (tally : A → Tally) (seed : ℕ) (old new : A) (s : State)
+    (e : Event) : Type 0 where
   pub counts : has_stopped new ≡ false → Counts e (tally old) (tally new)
   pub runs : is_begin e ≡ true → has_stopped new ≡ false
   pub lost : has_stopped new ≡ false → (t : State) → next seed s e ≡ Some t
@@ -184,7 +216,8 @@ pub record Rests {A : Type 0} (has_stopped : A → Bool) (tally : A → Tally) (
   pub counts : AsBefore (tally old) (tally new)
   pub lost : has_stopped new ≡ false → (tally new).lost s.graph ≤ (tally old).lost s.graph
 
-abbrev pub MayTally : {A : Type 0} → (has_stopped : A → Bool) → (tally : A → Tally) → (seed : ℕ) → A → A → State → Option Event → Type 0
+abbrev pub MayTally : {A : Type 0} → (has_stopped : A → Bool) → (tally : A → Tally) → (seed : ℕ) → A → A → State
+    → Option Event → Type 0
 MayTally has_stopped tally seed old new s None = Rests has_stopped tally old new s
 MayTally has_stopped tally seed old new s (Some e) = Tallies has_stopped tally seed old new s e
 

@@ -8,8 +8,8 @@ pub record Seat : Type 0 where
   pub lines : List (List ℕ)
   pub sink : Intake
 
--- The server as it was handed in, which tells the graphs on which it began; its seed, and the cylinders of its disk; the
--- root index, which each session knows; how many collections are called for; and the sessions.
+-- The server as it was handed in, which tells the graphs on which it began; its seed, and the cylinders of its disk;
+-- the root index, which each session knows; how many collections are called for; and the sessions.
 pub record Terms (A : Type 0) : Type 0 where
   pub began : Option A
   pub seed : ℕ
@@ -19,4 +19,11 @@ pub record Terms (A : Type 0) : Type 0 where
   pub seats : List Seat
 
 abbrev pub nothing : {A : Type 0} → Terms A
-nothing = record { began = None; seed = 0; cylinders = 0; root = record { block = 2; word = 0 }; collections = 0; seats = [] }
+nothing = record {
+  began = None;
+  seed = 0;
+  cylinders = 0;
+  root = record { block = 2; word = 0 };
+  collections = 0;
+  seats = [];
+}

@@ -5,7 +5,6 @@ use Rattle.cfs_base.specs.Disk.{Image}
 use Rattle.cfs_base.specs.Outside.{count_after}
 use Rattle.cfs_base.specs.Run.{IsSettled, Leaves}
 use Rattle.cfs_base.specs.declared.disk.Disk.{Ghosts}
-use Rattle.cfs_core.specs.declared.collecting.CollectFault.{CollectFault}
 use Rattle.cfs_recover.specs.Recovered.{IsUntouched}
 use Rattle.survival.specs.Trail.{RunSurvives}
 use Rattle.ufs_model.specs.declared.asked.Event.{Event}
@@ -17,6 +16,7 @@ use Rattle.vol_format.specs.Fresh.{IsFormatted, MayBeFresh}
 use Rattle.vol_image.specs.Sound.{IsSoundAs, rooted_part}
 use Rattle.cfs_serve.specs.declared.report.Cause.{Cause}
 use Rattle.cfs_serve.specs.declared.report.Cause.TheVariants as causes
+use Rattle.cfs_serve.specs.declared.ending.Ending.{Ending}
 use Rattle.cfs_serve.specs.declared.report.Report.{Report}
 use Rattle.cfs_serve.specs.Events.{tells_disk, tells_fault}
 use Rattle.cfs_serve.specs.Journal.{faults_after, first_fault}
@@ -24,54 +24,71 @@ use Rattle.cfs_serve.specs.Words.{Asked, Format, Formats, InFile, InMemory, Noth
 
 -- A volume was made on a disk, or the disk failed.
 pub record MakesVolume {D : Type 0} (g : Ghosts D) (format : Format) (cause : Cause) (old new : D) : Type 0 where
-  -- where no failure is told, an honest disk is sound, reads as a root index of 64 empty slots whose identifier is block 2 and
-  -- the seed's first word, and has nothing else
+  -- where no failure is told, an honest disk is sound, reads as a root index of 64 empty slots whose identifier is
+  -- block 2 and the seed's first word, and has nothing else
   pub made : IsTrue (g.honest old) → cause ≡ causes.Nothing → IsFormatted g new (word format.seed 0)
   -- a crash on the way leaves what it might have left before, or no volume, or that one
   pub images : IsTrue (g.honest old) → Leaves g old new (MayBeFresh (word format.seed 0))
   -- a call for each cylinder, and six more
   pub calls : MakesAtMost g (format.cylinders + 6) (format.cylinders + 6) old new
 
--- The first write or barrier that was tried is a barrier. Where it was done, whatever a crash left since, or leaves now, has P.
+-- The first write or barrier that was tried is a barrier. Where it was done, whatever a crash left since, or leaves
+-- now, has P.
 abbrev pub LeavesSinceTry : {D : Type 0} → Ghosts D → D → D → (Image → Type 0) → Type 0
-LeavesSinceTry {D} g old new P = (HasFailed g old new × IsUntouched g old new × (g.tries new ≡ count_after (g.tries old)))
-    ⊎ ((mid : D) × IsSettled g mid × IsUntouched g old mid × (g.tries mid ≡ count_after (g.tries old)) × Leaves g mid new P)
+LeavesSinceTry {D} g old new P = (HasFailed g old new × IsUntouched g old new
+    × (g.tries new ≡ count_after (g.tries old)))
+    ⊎ ((mid : D) × IsSettled g mid × IsUntouched g old mid × (g.tries mid ≡ count_after (g.tries old))
+    × Leaves g mid new P)
+
+-- neither its count of failed calls nor its clock has fallen
+abbrev pub IsLater : {D : Type 0} → Ghosts D → D → D → Type 0
+IsLater g old new = (g.faults old ≤ g.faults new) × (g.moment old ≤ g.moment new)
 
 -- A volume was served: of an honest disk that held a sound one, which read as some graph.
-pub record ServesVolume {D : Type 0} (g : Ghosts D) (seed : ℕ) (told : Report) (trail : List Event) (moments : List ℕ) (old new : D) : Type 0 where
+pub record ServesVolume {D : Type 0} (g : Ghosts D) (seed : ℕ) (told : Report) (ending : Ending) (trail : List Event)
+    (moments : List ℕ) (old new : D) : Type 0 where
   -- the disk as the opening ended, or as it was where it came to none
   pub opened : D
+  pub later : IsLater g old opened
+  pub rises : g.faults opened ≤ g.faults new
   -- what a crash leaves since the first barrier of the opening reads as before
   pub opening : IsTrue (g.honest old) → (graph : Graph) → IsSoundAs (g.content old) graph
       → (opened ≡ old) ⊎ LeavesSinceTry g old opened (λ c. IsSoundAs c graph)
   pub unserved : told.counts ≡ None → new ≡ opened
-  -- what one leaves since an event was recorded survives so many events of the run or more, and since the opening any number
+  -- what one leaves since an event was recorded survives so many events of the run or more, and since the opening any
+  -- number
   pub crashes : IsSome told.counts → IsTrue (g.honest old) → (graph : Graph) → IsSoundAs (g.content old) graph
       → RunSurvives g seed graph trail (g.moment opened ∷ moments) new
   -- where all went well the disk that is handed back is sound, and reads as what is rooted after the last event
   pub sound : told.cause ≡ causes.Nothing → IsTrue (g.honest old) → (graph : Graph) → IsSoundAs (g.content old) graph
       → (last : State) → replay seed graph trail ≡ Some last → IsSoundAs (g.content new) (rooted_part last.graph)
-  -- The count of failed calls rose since the opening by the Disk replies of the trail at least, and by one for a step of the
-  -- collector that was refused for one without a doubt; of an honest disk that held a sound volume by its stops besides.
-  pub refused : Option CollectFault
-  pub faults : IsSome told.counts → faults_after tells_disk trail (first_fault refused (g.faults opened)) ≤ g.faults new
+  -- The count of failed calls rose since the opening by the Disk replies of the trail at least, and by one for a step
+  -- of the collector that was refused for one without a doubt; of an honest disk that held a sound volume by its stops
+  -- besides.
+  pub faults : IsSome told.counts → faults_after tells_disk trail
+      (first_fault ending.refused (g.faults opened)) ≤ g.faults new
   pub stops : IsSome told.counts → IsTrue (g.honest old) → (graph : Graph) → IsSoundAs (g.content old) graph
-      → faults_after tells_fault trail (first_fault refused (g.faults opened)) ≤ g.faults new
+      → faults_after tells_fault trail (first_fault ending.refused (g.faults opened)) ≤ g.faults new
 
 abbrev MakesOn : {D : Type 0} → Ghosts D → Format → Cause → Option D → Option D → Type 0
 MakesOn g format cause (Some old) (Some new) = MakesVolume g format cause old new
 MakesOn g format cause (Some old) None = ⊥
 MakesOn g format cause None new = ⊥
 
-abbrev ServesOn : {D : Type 0} → Ghosts D → Place → (seed : ℕ) → Report → List Event → List ℕ → Option D → Option D → Type 0
-ServesOn g (InMemory cylinders) seed told trail moments old new = new ≡ old
-ServesOn g (InFile path pair) seed told trail moments (Some old) (Some new) = ServesVolume g seed told trail moments old new
-ServesOn g (InFile path pair) seed told trail moments (Some old) None = ⊥
-ServesOn g (InFile path pair) seed told trail moments None new = ⊥
+abbrev ServesOn : {D : Type 0} → Ghosts D → Place → (seed : ℕ) → Report → Ending → List Event → List ℕ
+    → Option D → Option D
+    → Type 0
+ServesOn g (InMemory cylinders) seed told ending trail moments old new = new ≡ old
+ServesOn g (InFile path pair) seed told ending trail moments (Some old) (Some new) =
+    ServesVolume g seed told ending trail moments old new
+ServesOn g (InFile path pair) seed told ending trail moments (Some old) None = ⊥
+ServesOn g (InFile path pair) seed told ending trail moments None new = ⊥
 
 -- a volume is made or served on the disk that is asked for; else there is none, before and after
-abbrev pub OnDisk : {D : Type 0} → Ghosts D → Asked → Report → List Event → List ℕ → Option D → Option D → Type 0
-OnDisk g (Formats format) told trail moments old new = MakesOn g format told.cause old new
-OnDisk g (Serves service) told trail moments old new = ServesOn g service.volume service.seed told trail moments old new
-OnDisk g (Shows page) told trail moments old new = new ≡ old
-OnDisk g Nothing told trail moments old new = new ≡ old
+abbrev pub OnDisk : {D : Type 0} → Ghosts D → Asked → Report → Ending → List Event → List ℕ → Option D
+    → Option D → Type 0
+OnDisk g (Formats format) told ending trail moments old new = MakesOn g format told.cause old new
+OnDisk g (Serves service) told ending trail moments old new =
+    ServesOn g service.volume service.seed told ending trail moments old new
+OnDisk g (Shows page) told ending trail moments old new = new ≡ old
+OnDisk g Nothing told ending trail moments old new = new ≡ old

@@ -29,6 +29,11 @@ tells_stop event = false
 abbrev pub tells_fault : Event → Bool
 tells_fault event = tells_disk event || tells_stop event
 
+-- a block was found damaged
+abbrev pub tells_damage : Event → Bool
+tells_damage (events.Ask who request (replies.Damaged damage moment)) = true
+tells_damage event = false
+
 abbrev pub is_calm_reply : Reply → Bool
 is_calm_reply (replies.Stopped moment) = false
 is_calm_reply (replies.Disk doubt) = false

@@ -3,6 +3,11 @@ use Rattle.std.specs.Prelude.{◌≡◌, ℕ, ◌/◌, IsTrue, Option, Some, Non
 use Rattle.cfs_base.specs.declared.disk.Disk.{Ghosts}
 use Rattle.ufs_model.specs.Graph.{Graph, fresh_graph}
 use Rattle.vol_image.specs.Sound.{IsSound, IsSoundAs}
+use Rattle.cfs_recover.specs.Grounds.{IsOpenFault}
+use Rattle.cfs_recover.specs.declared.fault.RecoverFault.{RecoverFault}
+use Rattle.cfs_recover.specs.declared.fault.RecoverFault.TheVariants as whys
+use Rattle.cfs_serve.specs.declared.report.VolumeFault.{VolumeFault}
+use Rattle.cfs_serve.specs.declared.report.VolumeFault.TheVariants as faults
 use Rattle.cfs_serve.specs.Words.{Asked, Formats, InFile, InMemory, Nothing, Place, Serves, Shows, root_of}
 
 -- the cylinders of the volume, the graphs that it may read as, and that it is known to be no sound one
@@ -10,13 +15,22 @@ pub record Ground : Type 1 where
   pub cylinders : ℕ
   pub reads : Graph → Type 0
   pub unsound : Type 0
+  -- and that this is wrong with it
+  pub faulty : VolumeFault → Type 0
 
 -- the graph of a new volume: a root index of empty slots
 abbrev pub opened : ℕ → Graph
 opened seed = fresh_graph (root_of seed)
 
 abbrev pub new_ground : (cylinders seed : ℕ) → Ground
-new_ground cylinders seed = record { cylinders = cylinders; reads = λ graph. graph ≡ opened seed; unsound = ⊥ }
+new_ground cylinders seed =
+    record { cylinders = cylinders; reads = λ graph. graph ≡ opened seed; unsound = ⊥; faulty = λ fault. ⊥ }
+
+-- why it isn't opened
+abbrev pub why : VolumeFault → RecoverFault
+why faults.NotVolume = whys.NotVolume
+why (faults.Version found) = whys.Version found
+why (faults.Damaged damage) = whys.Damaged damage
 
 -- a volume on a disk: of one that isn't honest nothing is known
 abbrev pub ground_on : {D : Type 0} → Ghosts D → D → Ground
@@ -24,10 +38,11 @@ ground_on g d = record {
   cylinders = g.blocks d / 64;
   reads = λ graph. IsTrue (g.honest d) × IsSoundAs (g.content d) graph;
   unsound = IsTrue (g.honest d) × ¬ IsSound (g.content d);
+  faulty = λ fault. IsTrue (g.honest d) → IsOpenFault (g.content d) (why fault);
 }
 
 abbrev pub no_ground : Ground
-no_ground = record { cylinders = 0; reads = λ graph. ⊥; unsound = ⊥ }
+no_ground = record { cylinders = 0; reads = λ graph. ⊥; unsound = ⊥; faulty = λ fault. ⊥ }
 
 abbrev ground_at : {D : Type 0} → Ghosts D → Place → (seed : ℕ) → Option D → Ground
 ground_at g (InMemory cylinders) seed disk = new_ground cylinders seed

@@ -1,7 +1,11 @@
 -- The hall: a journal and the sessions' ports, and what is kept of each session.
-use Rattle.std.specs.Prelude.{◌≡◌, ◌⊎◌, map, ℕ, zero, suc, refl, set, ◌+◌, ◌≤◌, ◌<◌, ◌==◌, Bool, true, false, not, List, [], ◌∷◌, ◌++◌, length, Option, Some, None, slice_get, if◌then◌else◌}
+use Rattle.std.specs.Prelude.{◌≡◌, ◌⊎◌, map, ℕ, zero, suc, refl, set, ◌+◌, ◌≤◌, ◌<◌, ◌==◌, Bool, true, false, not, List}
+use Rattle.std.specs.Prelude.{[], ◌∷◌, ◌++◌, length, Option, Some, None, slice_get, if◌then◌else◌}
 use Rattle.std.specs.List.{list_all}
+use Rattle.std.proofs.Common.{inl, inr, ◌∙◌}
 use Rattle.std.proofs.Math.Nat.{not-suc-le-zero, le_of_suc-le-suc}
+use Rattle.std.proofs.lemmas.List.{append-nil}
+use Rattle.cfs_base.specs.Log.{AddsAtMostOne}
 use Rattle.cfs_base.specs.declared.identifier.Puid.{Puid}
 use Rattle.cfs_base.specs.Outside.{Intake}
 use Rattle.ufs_model.specs.declared.asked.Event.{Event}
@@ -15,7 +19,7 @@ use Rattle.cfs_ports.specs.Port.{Reading, IsNew, Replied}
 use Rattle.cfs_serve.specs.Charter.{Seat, Terms}
 use Rattle.cfs_serve.specs.Events.{BreaksOff, events_of, is_of, is_sessions}
 use Rattle.cfs_core.specs.declared.collecting.CollectFault.{CollectFault}
-use Rattle.cfs_serve.specs.Journal.{IsStamped, Kept, Steps}
+use Rattle.cfs_serve.specs.Journal.{IsStamped, Kept, Steps, recorded}
 use Rattle.cfs_serve.specs.declared.journal.Progress.{Progress}
 
 pub record Hearing (A : Type 0) : Type 0 where
@@ -24,8 +28,9 @@ pub record Hearing (A : Type 0) : Type 0 where
   -- the turns that the collector has left, and how many events of it there is room for
   pub turns : ℕ
   pub events : ℕ
-  -- the refusal at which it was done
+  -- the refusal at which it was done, or that it was given no more turns
   pub refused : Option CollectFault
+  pub spent : Bool
 
 -- ---- what is kept of a session
 
@@ -35,8 +40,8 @@ IsLeave i false leaves = leaves ≡ []
 IsLeave i true leaves = (stopped : Option ℕ) × (leaves ≡ events.Leave i stopped ∷ [])
 
 -- Session i: its events are the turns of its script as far as it was read, and then one leave where it has left, which
--- it does at the script's end or once its sink failed. Its sink has taken its replies; where it failed, all but the last,
--- and some beginning of that one.
+-- it does at the script's end or once its sink failed. Its sink has taken its replies; where it failed, all but the
+-- last, and some beginning of that one.
 pub record IsSession (root : Puid) (i : ℕ) (seat : Seat) (p : Reading) (trail : List Event) : Type 0 where
   pub leaves : List Event
   pub split : events_of i trail ≡ turns_in i trail ++ leaves
@@ -48,16 +53,18 @@ pub record IsSession (root : Puid) (i : ℕ) (seat : Seat) (p : Reading) (trail 
   pub replied : Replied seat.sink p.sink (printed_replies i trail) (not p.failed)
   pub broken : p.failed ≡ true → BreaksOff i seat.sink p.sink (turns_in i trail)
 
--- So it is with each session, and no event is of a session without a script; where no collection is called for, each is of one.
+-- So it is with each session, and no event is of a session without a script; where no collection is called for, each is
+-- of one.
 pub record AreHeard {A : Type 0} (t : Terms A) (trail : List Event) (ports : List Reading) : Type 0 where
   pub count : length ports ≡ length t.seats
-  pub each : (k : ℕ) (seat : Seat) (p : Reading) → slice_get t.seats k ≡ Some seat → slice_get ports k ≡ Some p → IsSession t.root k seat p trail
+  pub each : (k : ℕ) (seat : Seat) (p : Reading) → slice_get t.seats k ≡ Some seat → slice_get ports k ≡ Some p
+      → IsSession t.root k seat p trail
   pub none : (k : ℕ) → length ports ≤ k → events_of k trail ≡ []
   pub sessions : t.collections ≡ 0 → list_all is_sessions trail ≡ true
 
 -- where no collection is called for, the collector has no turn and was refused none
-abbrev pub HasNoCollector : {A : Type 0} → Terms A → (turns : ℕ) → Option CollectFault → Type 0
-HasNoCollector t turns refused = t.collections ≡ 0 → (turns ≡ 0) × (refused ≡ None)
+abbrev pub HasNoCollector : {A : Type 0} → Terms A → (turns : ℕ) → Option CollectFault → (spent : Bool) → Type 0
+HasNoCollector t turns refused spent = t.collections ≡ 0 → (turns ≡ 0) × (refused ≡ None) × (spent ≡ false)
 
 -- ---- the turns that are left
 
@@ -106,8 +113,8 @@ pub record Moves {A : Type 0} (i : ℕ) (old new : Kept A) (p q : Reading) : Typ
   pub others : (k : ℕ) → (i == k) ≡ false → is_of k event ≡ false
   pub kind : Turned i p q event ⊎ Departs i p q event
 
--- A turn of session i, which stayed: its port made one event, recorded with the disk's moment as the turn returned, and the other
--- ports are as they were.
+-- A turn of session i, which stayed: its port made one event, recorded with the disk's moment as the turn returned, and
+-- the other ports are as they were.
 pub record IsSessionTurn {A : Type 0} (clock : A → ℕ) (i : ℕ) (old new : Hearing A) : Type 0 where
   pub before : Reading
   pub after : Reading
@@ -116,6 +123,7 @@ pub record IsSessionTurn {A : Type 0} (clock : A → ℕ) (i : ℕ) (old new : H
   pub moves : Moves i old.journal new.journal before after
   pub stamped : IsStamped clock old.journal new.journal
   pub collector : (new.turns ≡ old.turns) × (new.events ≡ old.events) × (new.refused ≡ old.refused)
+      × (new.spent ≡ old.spent)
 
 -- A turn of the collector, which wasn't done: a step, and one turn less at least; the ports are as they were.
 pub record IsStep {A : Type 0} (clock : A → ℕ) (old new : Hearing A) : Type 0 where
@@ -127,6 +135,11 @@ pub record IsStep {A : Type 0} (clock : A → ℕ) (old new : Hearing A) : Type 
 -- A turn of a worker: past the sessions it is the collector.
 abbrev pub IsTurn : {A : Type 0} → (A → ℕ) → (worker : ℕ) → Hearing A → Hearing A → Type 0
 IsTurn clock worker old new = IsSessionTurn clock worker old new ⊎ ((worker ≡ length old.ports) × IsStep clock old new)
+
+-- a turn adds an event to the trail, or none
+pub adds_one : (old new : List Event) (made : Option Event) → new ≡ old ++ recorded made → AddsAtMostOne old new
+adds_one old new None is = inl (is ∙ append-nil old)
+adds_one old new (Some e) is = inr (e, is)
 
 -- ---- the workers
 
@@ -167,7 +180,8 @@ pub record IsFresh (root : Puid) (seat : Seat) (p : Reading) : Type 0 where
 
 pub record AreFresh {A : Type 0} (t : Terms A) (ports : List Reading) : Type 0 where
   pub count : length ports ≡ length t.seats
-  pub each : (k : ℕ) (seat : Seat) (p : Reading) → slice_get t.seats k ≡ Some seat → slice_get ports k ≡ Some p → IsFresh t.root seat p
+  pub each : (k : ℕ) (seat : Seat) (p : Reading) → slice_get t.seats k ≡ Some seat → slice_get ports k ≡ Some p
+      → IsFresh t.root seat p
 
 abbrev pub AreNew : Puid → List Reading → Type 0
 AreNew root ports = (k : ℕ) (p : Reading) → slice_get ports k ≡ Some p → IsNew root p
@@ -178,13 +192,21 @@ seat_of p = record { lines = p.lines; sink = p.sink }
 -- the charter of a service by this server and these ports
 abbrev pub charter_of : {A : Type 0} → A → (seed cylinders : ℕ) → Puid → (collections : ℕ) → List Reading → Terms A
 charter_of server seed cylinders root collections ports =
-    record { began = Some server; seed = seed; cylinders = cylinders; root = root; collections = collections; seats = map seat_of ports }
+    record {
+      began = Some server;
+      seed = seed;
+      cylinders = cylinders;
+      root = root;
+      collections = collections;
+      seats = map seat_of ports;
+    }
 
 -- ---- what it comes to
 
--- A session that has left: its events are turns of its script, all of them or else its sink failed, and then its leave; its
--- sink has taken the replies.
-pub record IsOver (root : Puid) (trail : List Event) (i : ℕ) (seat : Seat) (after : Intake) (failed : Bool) : Type 0 where
+-- A session that has left: its events are turns of its script, all of them or else its sink failed, and then its leave;
+-- its sink has taken the replies.
+pub record IsOver (root : Puid) (trail : List Event) (i : ℕ) (seat : Seat) (after : Intake)
+    (failed : Bool) : Type 0 where
   pub turns : turns_in i trail ≡ turns_from all_forms i (no_names root) seat.lines (turns_in i trail)
   pub answered : failed ≡ false → length (turns_in i trail) ≡ length seat.lines
   pub stopped : Option ℕ
@@ -193,8 +215,10 @@ pub record IsOver (root : Puid) (trail : List Event) (i : ℕ) (seat : Seat) (af
   pub broken : failed ≡ true → BreaksOff i seat.sink after (turns_in i trail)
 
 -- So it is with each of them, and no event is of another session; where no collection is called for, of nobody else.
-pub record AreOver (root : Puid) (collections : ℕ) (seats : List Seat) (trail : List Event) (ports : List Reading) : Type 0 where
+pub record AreOver (root : Puid) (collections : ℕ) (seats : List Seat) (trail : List Event)
+    (ports : List Reading) : Type 0 where
   pub count : length ports ≡ length seats
-  pub each : (k : ℕ) (seat : Seat) (p : Reading) → slice_get seats k ≡ Some seat → slice_get ports k ≡ Some p → IsOver root trail k seat p.sink p.failed
+  pub each : (k : ℕ) (seat : Seat) (p : Reading) → slice_get seats k ≡ Some seat → slice_get ports k ≡ Some p
+      → IsOver root trail k seat p.sink p.failed
   pub none : (k : ℕ) → length seats ≤ k → events_of k trail ≡ []
   pub sessions : collections ≡ 0 → list_all is_sessions trail ≡ true

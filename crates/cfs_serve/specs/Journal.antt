@@ -1,6 +1,7 @@
 -- A server and its trail.
-use Rattle.std.specs.Prelude.{◌≡◌, ℕ, ◌+◌, ◌<◌, ◌≤◌, Bool, true, false, List, [], ◌∷◌, ◌++◌, Option, Some, None, length, if◌then◌else◌}
-use Rattle.std.specs.List.{list_all}
+use Rattle.std.specs.Prelude.{◌≡◌, ℕ, ◌+◌, ◌<◌, ◌≤◌, Bool, true, false, List, [], ◌∷◌, ◌++◌, Option, Some, None, length}
+use Rattle.std.specs.Prelude.{if◌then◌else◌}
+use Rattle.std.specs.List.{list_all, list_any}
 use Rattle.ufs_model.specs.declared.asked.Event.{Event}
 use Rattle.ufs_model.specs.declared.asked.Event.TheVariants as events
 use Rattle.ufs_model.specs.declared.asked.Request.{Request}
@@ -12,9 +13,12 @@ use Rattle.cfs_ports.specs.Port.{Reading, Answers}
 use Rattle.cfs_base.specs.Outside.{Rose, count_after}
 use Rattle.cfs_serve.specs.Calls.{AreExact, IsTallied, Tally, lost_in}
 use Rattle.cfs_serve.specs.Charter.{Terms}
+use Rattle.cfs_serve.specs.Ending.{EndsSo, IsWanting}
+use Rattle.cfs_serve.specs.declared.ending.Ending.{Ending}
 use Rattle.cfs_serve.specs.Events.{begins_in, finishes_in, is_calm, is_of, tells_disk, tells_fault, tells_stop}
 use Rattle.cfs_core.specs.declared.collecting.CollectFault.{CollectFault}
 use Rattle.cfs_core.specs.declared.collecting.CollectFault.TheVariants as faults
+use Rattle.cfs_core.specs.declared.kernel.Stop.{Stop}
 use Rattle.cfs_serve.specs.declared.journal.Progress.{Progress}
 use Rattle.cfs_serve.specs.declared.journal.Progress.TheVariants as progresses
 
@@ -26,17 +30,18 @@ pub record Kept (A : Type 0) : Type 0 where
   pub room : ℕ
   -- want of memory was told
   pub starved : Bool
-  -- a call of the disk failed, in a request or in a step of the collector
+  -- a failed call of the disk was told
   pub failed : Bool
 
 -- one event more was recorded, with the disk's moment as it is now
 abbrev pub IsStamped : {A : Type 0} → (A → ℕ) → Kept A → Kept A → Type 0
 IsStamped clock old new = new.moments ≡ old.moments ++ clock new.server ∷ []
 
--- The trail is a legal run on this graph, and the server stands for the state after it; on a disk each answer is exact; and
--- no block was found damaged. No more collections began than were called for; and as long as the server runs, it counts those of
--- the trail, and of objects that are gone it has no more blocks than the last ones had.
-pub record IsRunOn {A : Type 0} (stands : A → State → Type 0) (has_stopped is_damaged : A → Bool) (tally : A → Tally) (seed cylinders collections : ℕ) (graph : Graph) (begun server : A) (trail : List Event) : Type 0 where
+-- The trail is a legal run on this graph, and the server stands for the state after it; on a disk each answer is exact;
+-- and no block was found damaged. No more collections began than were called for; and as long as the server runs, it
+-- counts those of the trail, and of objects that are gone it has no more blocks than the last ones had.
+pub record IsRunOn {A : Type 0} (stands : A → State → Type 0) (has_stopped is_damaged : A → Bool) (tally : A → Tally)
+    (seed cylinders collections : ℕ) (graph : Graph) (begun server : A) (trail : List Event) : Type 0 where
   pub last : State
   pub legal : replay seed graph trail ≡ Some last
   pub standing : stands server last
@@ -47,25 +52,46 @@ pub record IsRunOn {A : Type 0} (stands : A → State → Type 0) (has_stopped i
   pub lost : has_stopped server ≡ false → (tally server).lost last.graph ≤ lost_in seed 0 (opening graph) trail
 
 -- so it is on each graph on which the server began
-abbrev pub IsRun : {A : Type 0} → (A → State → Type 0) → (has_stopped is_damaged : A → Bool) → (A → Tally) → Terms A → A → List Event → Type 0
-IsRun {A} stands has_stopped is_damaged tally t server trail = (begun : A) (graph : Graph) → t.began ≡ Some begun → stands begun (opening graph)
+abbrev pub IsRun : {A : Type 0} → (A → State → Type 0) → (has_stopped is_damaged : A → Bool) → (A → Tally) → Terms A → A
+    → List Event → Type 0
+IsRun {A} stands has_stopped is_damaged tally t server trail = (begun : A) (graph : Graph) → t.began ≡ Some begun
+    → stands begun (opening graph)
     → IsRunOn stands has_stopped is_damaged tally t.seed t.cylinders t.collections graph begun server trail
 
 -- on each graph on which the server began, as many collections are finished as were called for
 abbrev pub AreCollected : {A : Type 0} → (A → State → Type 0) → Terms A → List Event → Type 0
-AreCollected {A} stands t trail = (begun : A) (graph : Graph) → t.began ≡ Some begun → stands begun (opening graph) → finishes_in trail ≡ t.collections
+AreCollected {A} stands t trail = (begun : A) (graph : Graph) → t.began ≡ Some begun → stands begun (opening graph)
+    → finishes_in trail ≡ t.collections
 
--- What the trail tells of the disk, whatever disk it is, and whether a call of the disk failed in a request or a step: that was
--- one, and so was one by which the server stopped, unless a block was damaged. Of a server that runs no other trouble is told.
-pub record Told {A : Type 0} (faults : A → ℕ) (has_stopped is_damaged : A → Bool) (begun server : A) (failed : Bool) (trail : List Event) : Type 0 where
+-- on each graph on which the server began, no collection runs that was called for, and one more would begin
+abbrev pub AreWanting : {A : Type 0} → (A → State → Type 0) → Terms A → List Event → Type 0
+AreWanting {A} stands t trail = (begun : A) (graph : Graph) → t.began ≡ Some begun → stands begun (opening graph)
+    → IsWanting t.collections trail
+
+-- What the trail tells of the disk, whatever disk it is. Of a server that runs, and no failed call of which is told, no
+-- trouble is; one that stopped did so by a failed call, unless a block was damaged.
+pub record Told {A : Type 0} (faults : A → ℕ) (has_stopped is_damaged : A → Bool) (begun server : A)
+    (trail : List Event)
+    : Type 0 where
   pub later : faults begun ≤ faults server
-  pub told : failed ≡ true → Rose (faults begun) (faults server)
-  pub calm : has_stopped server ≡ false → failed ≡ false → list_all is_calm trail ≡ true
+  pub calm : has_stopped server ≡ false → list_any tells_disk trail ≡ false → list_all is_calm trail ≡ true
   pub halts : has_stopped server ≡ true → is_damaged server ≡ false → Rose (faults begun) (faults server)
 
 -- so it is since the server began
-pub record IsTold {A : Type 0} (faults : A → ℕ) (has_stopped is_damaged : A → Bool) (t : Terms A) (server : A) (failed : Bool) (trail : List Event) : Type 0 where
-  pub since : (begun : A) → t.began ≡ Some begun → Told faults has_stopped is_damaged begun server failed trail
+pub record IsTold {A : Type 0} (faults : A → ℕ) (has_stopped is_damaged : A → Bool) (t : Terms A) (server : A)
+    (trail : List Event) : Type 0 where
+  pub since : (begun : A) → t.began ≡ Some begun → Told faults has_stopped is_damaged begun server trail
+
+-- how it ended since the server began
+pub record HasEnded {A : Type 0} (faults : A → ℕ) (t : Terms A) (server : A) (ending : Ending)
+    (trail : List Event) : Type 0 where
+  pub later : (begun : A) → t.began ≡ Some begun → faults begun ≤ faults server
+  pub since : (begun : A) → t.began ≡ Some begun → EndsSo (Rose (faults begun) (faults server))
+      t.collections ending trail
+
+-- a server that stopped stays so
+abbrev pub StaysStopped : {A : Type 0} → (A → Option Stop) → Kept A → Kept A → Type 0
+StaysStopped stop old new = (s : Stop) → stop old.server ≡ Some s → stop new.server ≡ Some s
 
 -- one event was recorded, or none
 abbrev pub recorded : Option Event → List Event
@@ -88,28 +114,36 @@ abbrev pub faults_after : (Event → Bool) → List Event → ℕ → ℕ
 faults_after counts [] n = n
 faults_after counts (e ∷ trail) n = faults_after counts trail (if counts e then count_after n else n)
 
--- It is at least what the trail's Disk replies come to; and, where the server began on a sound volume, its stops with them.
-pub record AreCounted {A : Type 0} (faults : A → ℕ) (stands : A → State → Type 0) (t : Terms A) (first : ℕ → ℕ) (server : A) (trail : List Event) : Type 0 where
+-- It is at least what the trail's Disk replies come to; and, where the server began on a sound volume, its stops with
+-- them.
+pub record AreCounted {A : Type 0} (faults : A → ℕ) (stands : A → State → Type 0) (t : Terms A) (first : ℕ → ℕ)
+    (server : A) (trail : List Event) : Type 0 where
   pub told : (begun : A) → t.began ≡ Some begun → faults_after tells_disk trail (first (faults begun)) ≤ faults server
-  pub stops : (begun : A) (graph : Graph) → t.began ≡ Some begun → stands begun (opening graph) → faults_after tells_fault trail (first (faults begun)) ≤ faults server
+  pub stops : (begun : A) (graph : Graph) → t.began ≡ Some begun → stands begun (opening graph)
+      → faults_after tells_fault trail (first (faults begun)) ≤ faults server
 
--- A turn made an event, or none. The count didn't fall in it; where the event has a Disk reply it rose, and so it did where the
--- event tells a stop of a server that began on a sound volume.
-pub record Raises {A : Type 0} (faults : A → ℕ) (stands : A → State → Type 0) (t : Terms A) (old new : Kept A) : Type 0 where
+-- A turn made an event, or none. The count didn't fall in it; where the event has a Disk reply it rose, and so it did
+-- where the event tells a stop of a server that began on a sound volume.
+pub record Raises {A : Type 0} (faults : A → ℕ) (stands : A → State → Type 0) (t : Terms A)
+    (old new : Kept A) : Type 0 where
   pub made : Option Event
   pub recorded : new.events ≡ old.events ++ recorded made
   pub later : faults old.server ≤ faults new.server
   pub disk : (e : Event) → made ≡ Some e → tells_disk e ≡ true → Rose (faults old.server) (faults new.server)
-  pub stops : (e : Event) → made ≡ Some e → tells_stop e ≡ true → (begun : A) (graph : Graph) → t.began ≡ Some begun → stands begun (opening graph)
+  pub stops : (e : Event) → made ≡ Some e → tells_stop e ≡ true → (begun : A) (graph : Graph) → t.began ≡ Some begun
+      → stands begun (opening graph)
       → Rose (faults old.server) (faults new.server)
 
 -- What was known of crashes as the server began is known of the trail, with the moments at which it was recorded.
-abbrev pub Lasts : {A : Type 0} → (A → State → Type 0) → (A → ℕ) → (A → ℕ → Graph → List Event → List ℕ → Type 0) → Terms A → A → List Event → List ℕ → Type 0
-Lasts {A} stands clock lasts t server trail moments = (begun : A) (graph : Graph) → t.began ≡ Some begun → stands begun (opening graph)
+abbrev pub Lasts : {A : Type 0} → (A → State → Type 0) → (A → ℕ) → (A → ℕ → Graph → List Event → List ℕ → Type 0)
+    → Terms A → A → List Event → List ℕ → Type 0
+Lasts {A} stands clock lasts t server trail moments = (begun : A) (graph : Graph) → t.began ≡ Some begun
+    → stands begun (opening graph)
     → lasts begun t.seed graph [] (clock begun ∷ []) → lasts server t.seed graph trail (clock begun ∷ moments)
 
 -- a session was answered, and its port wrote the reply
-pub record Serves {A : Type 0} (old new : Kept A) (who : ℕ) (request : Request) (name : Option (List ℕ)) (p q : Reading) : Type 0 where
+pub record Serves {A : Type 0} (old new : Kept A) (who : ℕ) (request : Request) (name : Option (List ℕ))
+    (p q : Reading) : Type 0 where
   pub reply : Reply
   pub answered : Answers p q name reply
   pub events : new.events ≡ old.events ++ events.Ask who request reply ∷ []
@@ -128,11 +162,20 @@ is_recorded progresses.Quiet = false
 is_recorded progresses.Recorded = true
 is_recorded (progresses.Refused fault) = true
 
-abbrev pub is_quiet : Progress → Bool
-is_quiet (progresses.Refused fault) = is_quiet_fault (Some fault)
-is_quiet progress = false
+-- a step was made, an event or not
+abbrev pub is_made : Progress → Bool
+is_made progresses.Idle = false
+is_made progresses.Quiet = true
+is_made progresses.Recorded = true
+is_made (progresses.Refused fault) = false
 
--- It is an event of no session, recorded with the disk's moment; and there is none where nothing is told to be recorded.
+-- the refusal of the step, if it is one
+abbrev pub refusal_in : Progress → Option CollectFault
+refusal_in (progresses.Refused fault) = Some fault
+refusal_in progress = None
+
+-- It is an event of no session, recorded with the disk's moment; and there is none where nothing is told to be
+-- recorded.
 pub record Steps {A : Type 0} (clock : A → ℕ) (old new : Kept A) (progress : Progress) : Type 0 where
   pub event : Option Event
   pub events : new.events ≡ old.events ++ recorded event

@@ -4,6 +4,7 @@ pub mod Pages
 pub mod Report
 pub mod Words
 pub mod Events
+pub mod Ending
 pub mod Calls
 pub mod Charter
 pub mod Journal

@@ -6,6 +6,8 @@ use Rattle.cfs_core.specs.Kernel.{Kernel}
 use Rattle.cfs_recover.specs.declared.fault.RecoverFault.{RecoverFault}
 use Rattle.cfs_recover.specs.declared.fault.RecoverFault.TheVariants as whys
 use Rattle.vol_image.specs.Sound.{IsSound}
+use Rattle.cfs_recover.specs.Grounds.{IsOpenFault}
+use Rattle.cfs_serve.specs.Ground.{why}
 use Rattle.cfs_serve.specs.declared.report.Cause.{Cause}
 use Rattle.cfs_serve.specs.declared.report.Cause.TheVariants as causes
 use Rattle.cfs_serve.specs.declared.report.VolumeFault.TheVariants as faults
@@ -18,9 +20,11 @@ told_of (whys.Version found) = causes.Volume (faults.Version found)
 told_of (whys.Damaged d) = causes.Volume (faults.Damaged d)
 told_of whys.Memory = causes.Memory
 
--- a fault of the volume only where an honest disk holds no sound one, a failed call only where one failed; else want of memory
+-- a fault that an honest disk has, and then it holds no sound volume; a failed call only where one failed; else want of
+-- memory
 abbrev pub IsRefusal : {D : Type 0} → Ghosts D → D → D → Cause → Type 0
-IsRefusal g old new (causes.Volume fault) = IsTrue (g.honest old) → ¬ IsSound (g.content old)
+IsRefusal g old new (causes.Volume fault) =
+    IsTrue (g.honest old) → (¬ IsSound (g.content old)) × IsOpenFault (g.content old) (why fault)
 IsRefusal g old new (causes.Disk moment) = (moment ≡ None) × Rose (g.faults old) (g.faults new)
 IsRefusal g old new causes.Memory = Unit {0}
 IsRefusal g old new cause = ⊥

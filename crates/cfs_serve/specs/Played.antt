@@ -1,28 +1,30 @@
 -- A service: what it comes to, by what it begins on, its sources, its sinks, the report and the trail.
-use Rattle.std.specs.Prelude.{◌≡◌, ℕ, ◌-◌, ◌*◌, ◌<◌, ◌≤◌, ◌⊎◌, ◌||◌, Bool, true, false, List, [], length, map, filter, Option, Some, None}
+use Rattle.std.specs.Prelude.{◌≡◌, ℕ, ◌-◌, ◌*◌, ◌<◌, ◌≤◌, ◌⊎◌, Bool, true, false, List, [], length, map, filter}
+use Rattle.std.specs.Prelude.{Option, Some, None}
 use Rattle.std.specs.List.{list_any, list_all}
 use Rattle.cfs_base.specs.Outside.{Intake, Supply}
 use Rattle.cfs_base.specs.declared.identifier.Puid.{Puid}
-use Rattle.cfs_base.specs.declared.refusal.Damage.{Damage}
 use Rattle.ufs_model.specs.declared.asked.Event.{Event}
 use Rattle.ufs_model.specs.Graph.{Graph}
 use Rattle.ufs_model.specs.State.{State, opening}
 use Rattle.ufs_model.specs.Run.{replay}
 use Rattle.ufs_model.specs.Script.{request_lines}
 use Rattle.vol_image.specs.Sound.{graph_blocks}
+use Rattle.cfs_core.specs.declared.collecting.CollectFault.TheVariants as faults
 use Rattle.cfs_core.specs.StandsFor.{is_sweeping}
 use Rattle.cfs_serve.specs.Calls.{AreExact}
 use Rattle.cfs_ports.specs.Port.{Reading}
 use Rattle.cfs_serve.specs.Charter.{Seat}
-use Rattle.cfs_serve.specs.Events.{begins_in, finishes_in, is_calm, is_reply, wants_memory}
+use Rattle.cfs_serve.specs.Ending.{EndsSo, IsWanting, cause_of, damage_in, not_begun}
+use Rattle.cfs_serve.specs.Events.{begins_in, finishes_in, is_calm, is_reply}
 use Rattle.cfs_serve.specs.Ground.{Ground}
 use Rattle.cfs_serve.specs.Hall.{AreOver}
 use Rattle.cfs_serve.specs.Scripts.{HaveScripts, IsSourceCause}
 use Rattle.cfs_serve.specs.declared.report.Counts.{Counts}
 use Rattle.cfs_serve.specs.declared.report.Cause.{Cause}
 use Rattle.cfs_serve.specs.declared.report.Cause.TheVariants as causes
+use Rattle.cfs_serve.specs.declared.ending.Ending.{Ending}
 use Rattle.cfs_serve.specs.declared.report.Report.{Report}
-use Rattle.cfs_serve.specs.declared.report.VolumeFault.TheVariants as faults
 
 -- ---- what is counted and told
 
@@ -36,32 +38,15 @@ counts_of sessions trail graph free = record {
   free = free;
 }
 
+-- the sessions, their replies and the finished collections are counted
+abbrev pub AreCounted : (sessions : ℕ) → List Event → Counts → Type 0
+AreCounted sessions trail counts =
+    (counts.sessions ≡ sessions) × (counts.replies ≡ length (filter is_reply trail))
+    × (counts.collections ≡ finishes_in trail)
+
 -- what is Free is all but the map of each cylinder, the label, and the blocks of the objects
 abbrev pub free_of : (cylinders : ℕ) → Graph → ℕ
 free_of cylinders graph = 63 * cylinders - 1 - graph_blocks graph
-
--- what spoiled a service, the worst first: a disk that failed, with the moment at which the server stopped if it did; a
--- block that is damaged; a sink that failed; memory that was wanting
-abbrev pub spoiled_by : (failed : Bool) (stopped : Option ℕ) (damage : Option Damage) (broken starved : Bool) → Cause
-spoiled_by true stopped damage broken starved = causes.Disk stopped
-spoiled_by false stopped (Some d) broken starved = causes.Volume (faults.Damaged d)
-spoiled_by false (Some moment) None broken starved = causes.Disk (Some moment)
-spoiled_by false None None true starved = causes.Sink
-spoiled_by false None None false true = causes.Memory
-spoiled_by false None None false false = causes.Nothing
-
--- what is told shows of the service, where the sink failed or didn't, and a step of the collector was refused or none was
-abbrev pub IsSpoiled : (rose : Type 0) (broken wanting : Bool) → List Event → Cause → Type 0
-IsSpoiled rose broken wanting trail causes.Nothing = (broken ≡ false) × ((list_any wants_memory trail || wanting) ≡ false) × (list_all is_calm trail ≡ true)
-IsSpoiled rose broken wanting trail (causes.Disk moment) = rose
-IsSpoiled rose broken wanting trail (causes.Volume fault) = Unit {0}
-IsSpoiled rose broken wanting trail causes.Sink = broken ≡ true
-IsSpoiled rose broken wanting trail causes.Memory = (broken ≡ false) × ((list_any wants_memory trail || wanting) ≡ true)
-IsSpoiled rose broken wanting trail (causes.Page page) = ⊥
-IsSpoiled rose broken wanting trail causes.Words = ⊥
-IsSpoiled rose broken wanting trail (causes.Source i) = ⊥
-IsSpoiled rose broken wanting trail (causes.Long i) = ⊥
-IsSpoiled rose broken wanting trail causes.LongTotal = ⊥
 
 -- Of a sound volume: the server stopped at the moment that is told of the disk, and else not, and no block is damaged.
 abbrev pub IsStop : Cause → (stopped : Option ℕ) → Type 0
@@ -71,9 +56,10 @@ IsStop cause stopped = stopped ≡ None
 
 -- ---- sessions that were served
 
--- From this graph the trail is a legal run, and each reply exact; where no call of the disk failed, none is behind an event. No more
--- collections began than were called for.
-pub record IsRunFrom (cylinders seed collections : ℕ) (graph : Graph) (rose : Type 0) (sessions : ℕ) (counts : Counts) (cause : Cause) (trail : List Event) : Type 0 where
+-- From this graph the trail is a legal run, and each reply exact; where no call of the disk failed, none is behind an
+-- event. No more collections began than were called for.
+pub record IsRunFrom (cylinders seed collections : ℕ) (graph : Graph) (rose : Type 0) (sessions : ℕ) (counts : Counts)
+    (cause : Cause) (trail : List Event) : Type 0 where
   pub last : State
   pub legal : replay seed graph trail ≡ Some last
   pub exact : 0 < cylinders → AreExact cylinders seed 0 (opening graph) trail
@@ -90,28 +76,39 @@ abbrev pub has_broken : List Reading → Bool
 has_broken ports = list_any (λ p. p.failed) ports
 
 -- The sessions of these seats were served, and left their ports so.
-pub record IsPlayed (ground : Ground) (seed collections : ℕ) (rose : Type 0) (seats : List Seat) (ports : List Reading) (counts : Counts) (cause : Cause) (trail : List Event) : Type 0 where
+pub record IsPlayed (ground : Ground) (seed collections : ℕ) (rose : Type 0) (seats : List Seat) (ports : List Reading)
+    (counts : Counts) (cause : Cause) (ending : Ending) (trail : List Event) : Type 0 where
   -- the root index is that of each graph that the volume may read as
   pub root : Puid
   pub rooted : (graph : Graph) → ground.reads graph → graph.root ≡ root
-  pub run : (graph : Graph) → ground.reads graph → IsRunFrom ground.cylinders seed collections graph rose (length seats) counts cause trail
+  pub run : (graph : Graph) → ground.reads graph → IsRunFrom ground.cylinders seed collections graph rose
+      (length seats) counts cause trail
   -- all events of sessions are theirs
   pub over : AreOver root collections seats trail ports
-  -- a step of the collector was refused; where none was, as many collections are finished as were called for
-  pub wanting : Bool
-  pub wanted : collections ≡ 0 → wanting ≡ false
-  pub collected : wanting ≡ false → (graph : Graph) → ground.reads graph → finishes_in trail ≡ collections
-  pub spoiled : IsSpoiled rose (has_broken ports) wanting trail cause
+  pub counted : AreCounted (length seats) trail counts
+  pub ends : EndsSo rose collections ending trail
+  -- where the collector was done at no refusal, as many collections are finished as were called for
+  pub collected : ending.refused ≡ None → ending.spent ≡ false → (graph : Graph) → ground.reads graph
+      → finishes_in trail ≡ collections
+  -- it wanted memory only where one would begin
+  pub wanting : ending.refused ≡ Some faults.Memory → (graph : Graph) → ground.reads graph → IsWanting collections trail
+  -- no block of a sound volume is found damaged
+  pub undamaged : (graph : Graph) → ground.reads graph → damage_in ending.stop ≡ None
+  pub spoiled : cause ≡ cause_of ending trail (has_broken ports)
 
 -- The sessions of these scripts and sinks have these seats, and their sinks are so as they have left.
-pub record AreSeated (scripts : List (List ℕ)) (sinks after : List Intake) (seats : List Seat) (ports : List Reading) : Type 0 where
+pub record AreSeated (scripts : List (List ℕ)) (sinks after : List Intake) (seats : List Seat)
+    (ports : List Reading) : Type 0 where
   pub lines : map (λ s. s.lines) seats ≡ map request_lines scripts
   pub begun : map (λ s. s.sink) seats ≡ sinks
   pub left : map (λ p. p.sink) ports ≡ after
 
 -- nothing was served: no event, and no sink took a byte
-pub record ServesNothing (sinks after : List Intake) (report : Report) (trail : List Event) (cause : Cause) : Type 0 where
+pub record ServesNothing (sinks after : List Intake) (report : Report) (ending : Ending) (trail : List Event)
+    (cause : Cause)
+    : Type 0 where
   pub no_event : trail ≡ []
+  pub no_end : ending ≡ not_begun
   pub untouched : after ≡ sinks
   pub told : report ≡ record { counts = None; cause = cause }
 
@@ -123,12 +120,15 @@ HasNone ground = (graph : Graph) → ¬ ground.reads graph
 
 -- why nothing was served
 abbrev pub IsCause : Ground → (rose : Type 0) → (sources after : List Supply) → Cause → Type 0
-IsCause ground rose sources after (causes.Volume fault) = HasNone ground × ((scripts : List (List ℕ)) × HaveScripts sources scripts)
-IsCause ground rose sources after (causes.Disk moment) = (moment ≡ None) × rose × ((scripts : List (List ℕ)) × HaveScripts sources scripts)
+IsCause ground rose sources after (causes.Volume fault) =
+    HasNone ground × ((scripts : List (List ℕ)) × HaveScripts sources scripts) × ground.faulty fault
+IsCause ground rose sources after (causes.Disk moment) = (moment ≡ None) × rose
+    × ((scripts : List (List ℕ)) × HaveScripts sources scripts)
 IsCause ground rose sources after cause = IsSourceCause sources after cause
 
 -- the sources were read and their scripts served, within the limits
-pub record ServesSources (ground : Ground) (seed collections : ℕ) (rose : Type 0) (sources : List Supply) (sinks after : List Intake) (report : Report) (trail : List Event) : Type 0 where
+pub record ServesSources (ground : Ground) (seed collections : ℕ) (rose : Type 0) (sources : List Supply)
+    (sinks after : List Intake) (report : Report) (ending : Ending) (trail : List Event) : Type 0 where
   pub scripts : List (List ℕ)
   pub have : HaveScripts sources scripts
   pub sound : ¬ ground.unsound
@@ -138,14 +138,18 @@ pub record ServesSources (ground : Ground) (seed collections : ℕ) (rose : Type
   pub seats : List Seat
   pub ports : List Reading
   pub seated : AreSeated scripts sinks after seats ports
-  pub played : IsPlayed ground seed collections rose seats ports counts cause trail
+  pub played : IsPlayed ground seed collections rose seats ports counts cause ending trail
 
 -- nothing was served, for this cause
-pub record ServesNone (ground : Ground) (rose : Type 0) (sources sources_after : List Supply) (sinks after : List Intake) (report : Report) (trail : List Event) : Type 0 where
+pub record ServesNone (ground : Ground) (rose : Type 0) (sources sources_after : List Supply)
+    (sinks after : List Intake)
+    (report : Report) (ending : Ending) (trail : List Event) : Type 0 where
   pub cause : Cause
   pub is : IsCause ground rose sources sources_after cause
-  pub nothing : ServesNothing sinks after report trail cause
+  pub nothing : ServesNothing sinks after report ending trail cause
 
-abbrev pub IsRunOf : Ground → (seed collections : ℕ) → (rose : Type 0) → (sources sources_after : List Supply) → (sinks after : List Intake) → Report → List Event → Type 0
-IsRunOf ground seed collections rose sources sources_after sinks after report trail =
-    ServesSources ground seed collections rose sources sinks after report trail ⊎ ServesNone ground rose sources sources_after sinks after report trail
+abbrev pub IsRunOf : Ground → (seed collections : ℕ) → (rose : Type 0) → (sources sources_after : List Supply)
+    → (sinks after : List Intake) → Report → Ending → List Event → Type 0
+IsRunOf ground seed collections rose sources sources_after sinks after report ending trail =
+    ServesSources ground seed collections rose sources sinks after report ending trail
+    ⊎ ServesNone ground rose sources sources_after sinks after report ending trail

@@ -1,7 +1,9 @@
 -- What a whole run comes to, for whoever started it: the trail, the sinks, what is told, and what the status says.
-use Rattle.std.specs.Prelude.{◌≡◌, ◌↔◌, ℕ, ◌+◌, ◌<◌, ◌≤◌, ◌⊎◌, ◌||◌, Bool, true, false, List, [], ◌∷◌, ◌++◌, map, length, get_or, slice_index_or, Option, Some, None, IfSome, IsSome, IsNone, option_map}
+use Rattle.std.specs.Prelude.{◌≡◌, ◌↔◌, ℕ, ◌+◌, ◌<◌, ◌≤◌, ◌⊎◌, Bool, true, false, List, [], ◌∷◌, ◌++◌, map, length}
+use Rattle.std.specs.Prelude.{get_or, slice_index_or, Option, Some, None, IfSome, IsSome, IsNone, option_map}
 use Rattle.std.specs.List.{list_any, list_all}
 use Rattle.cfs_base.specs.Outside.{Intake, Supply, Rose}
+use Rattle.cfs_core.specs.declared.collecting.CollectFault.TheVariants as faults
 use Rattle.cfs_core.specs.StandsFor.{is_sweeping}
 use Rattle.cfs_ports.specs.Port.{Replied}
 use Rattle.cfs_streams.specs.Writing.{Wrote, WroteSome}
@@ -16,6 +18,7 @@ use Rattle.ufs_model.specs.Turns.{AreTurns, turns_in}
 use Rattle.ufs_model.specs.Printed.{printed_replies}
 use Rattle.cfs_serve.specs.Limits.{most_script, most_lines}
 use Rattle.cfs_serve.specs.declared.run.Bay.{Bay}
+use Rattle.cfs_serve.specs.declared.ending.Ending.{Ending}
 use Rattle.cfs_serve.specs.declared.run.Ended.{Ended}
 use Rattle.cfs_serve.specs.declared.report.Cause.{Cause}
 use Rattle.cfs_serve.specs.declared.report.Cause.TheVariants as causes
@@ -26,17 +29,20 @@ use Rattle.cfs_serve.specs.declared.page.Page.{Page}
 use Rattle.cfs_serve.specs.Pages.{page_text}
 use Rattle.cfs_serve.specs.Report.{report_text, status_of}
 use Rattle.cfs_serve.specs.Calls.{AreExact}
-use Rattle.cfs_serve.specs.Events.{BreaksOff, begins_in, events_of, finishes_in, is_calm, is_sessions, wants_memory}
+use Rattle.cfs_serve.specs.Ending.{EndsSo, IsWanting, cause_of, damage_in, not_begun}
+use Rattle.cfs_serve.specs.Events.{BreaksOff, begins_in, events_of, finishes_in, is_calm, is_sessions, tells_damage}
+use Rattle.cfs_serve.specs.Events.{wants_memory}
 use Rattle.cfs_serve.specs.Ground.{Ground}
-use Rattle.cfs_serve.specs.Played.{HasNone, IsStop, counts_of, free_of}
-use Rattle.cfs_serve.specs.Scripts.{AreShort, AreWithin, Had, faults_of, lines_in}
+use Rattle.cfs_serve.specs.Played.{AreCounted, HasNone, IsStop, counts_of, free_of}
+use Rattle.cfs_serve.specs.Scripts.{AreShort, AreWithin, Had, IsFirst, faults_of, lines_in}
 use Rattle.cfs_serve.specs.Whole.{HasPlaces, RoseIn, TellsMade}
-use Rattle.cfs_serve.specs.Words.{Asked, Format, Service, Formats, Shows, Nothing, IfServes, collections_of, is_format, is_service}
+use Rattle.cfs_serve.specs.Words.{Asked, Format, Service, Formats, Shows, Nothing, IfServes, collections_of, is_format}
+use Rattle.cfs_serve.specs.Words.{is_service}
 
 -- ---- what is outside
 
--- how often the volume's disk failed, where there is one; and what is known of the sources, of the sinks, and of the sink
--- of the report
+-- how often the volume's disk failed, where there is one; and what is known of the sources, of the sinks, and of the
+-- sink of the report
 pub record Outside : Type 0 where
   pub disk : Option ℕ
   pub sources : List Supply
@@ -45,10 +51,20 @@ pub record Outside : Type 0 where
 
 -- as a run begins, and as it has ended
 abbrev pub before : {D S K : Type 0} → (D → ℕ) → (S → Supply) → (K → Intake) → Bay D S K → Outside
-before faults supply intake bay = record { disk = option_map faults bay.disk; sources = map supply bay.sources.items; sinks = map intake bay.sinks.items; report = intake bay.report }
+before faults supply intake bay = record {
+  disk = option_map faults bay.disk;
+  sources = map supply bay.sources.items;
+  sinks = map intake bay.sinks.items;
+  report = intake bay.report;
+}
 
 abbrev pub after : {D S K : Type 0} → (D → ℕ) → (S → Supply) → (K → Intake) → Ended D S K → Outside
-after faults supply intake ended = record { disk = option_map faults ended.disk; sources = map supply ended.sources.items; sinks = map intake ended.sinks.items; report = intake ended.report }
+after faults supply intake ended = record {
+  disk = option_map faults ended.disk;
+  sources = map supply ended.sources.items;
+  sinks = map intake ended.sinks.items;
+  report = intake ended.report;
+}
 
 -- this holds of each session, counted from n, and of its source or its sink before and after
 abbrev pub EachFrom : {P : Type 0} → (ℕ → P → P → Type 0) → ℕ → List P → List P → Type 0
@@ -106,12 +122,10 @@ pub record IsServedFrom (root : Puid) (trail : List Event) (all : Bool) (session
 abbrev pub WasServed : Report → Type 0
 WasServed told = IsSome told.counts
 
--- whether each session's sink took all replies, as far as that is told
-abbrev pub TookAll : Cause → Outside → (took : ℕ → Bool) → Type 0
-TookAll causes.Sink o took = (k : ℕ) × (k < length o.sinks) × (took k ≡ false)
-TookAll (causes.Disk moment) o took = Unit {0}
-TookAll (causes.Volume fault) o took = Unit {0}
-TookAll cause o took = (k : ℕ) → took k ≡ true
+-- a session's sink broke; or each took all replies
+abbrev pub HasBroken : Bool → Outside → (took : ℕ → Bool) → Type 0
+HasBroken true o took = (k : ℕ) × (k < length o.sinks) × (took k ≡ false)
+HasBroken false o took = (k : ℕ) → took k ≡ true
 
 -- nothing is told that is worse than want of memory
 abbrev pub is_mild : Cause → Bool
@@ -128,7 +142,8 @@ is_mild causes.LongTotal = false
 
 -- the report was written whole, or its sink failed and has some of its beginning
 abbrev pub WritesReport : Report → Outside → Outside → Type 0
-WritesReport told old new = Wrote old.report new.report (report_text told) ⊎ WroteSome old.report new.report (report_text told)
+WritesReport told old new = Wrote old.report new.report (report_text told) ⊎ WroteSome old.report new.report
+    (report_text told)
 
 -- the sink of the report failed, and nothing worse is told
 abbrev pub SpoilsReport : Cause → Outside → Outside → Type 0
@@ -141,11 +156,13 @@ abbrev pub IsStatus : ℕ → Cause → Outside → Outside → Type 0
 IsStatus status cause old new = (status ≡ status_of cause) ⊎ ((status ≡ 5) × SpoilsReport cause old new)
 
 -- 0: a run that ended well
-pub record EndedWell (asked : Asked) (ground : Ground) (told : Report) (trail : List Event) (old new : Outside) : Type 0 where
+pub record EndedWell (asked : Asked) (ground : Ground) (told : Report) (trail : List Event)
+    (old new : Outside) : Type 0 where
   pub served : WasServed told
   pub nothing : told.cause ≡ causes.Nothing
   -- each script was read to its end, and each of its request lines has one reply
-  pub answered : EachSource (λ session source _. (left : List ℕ) → source.left ≡ Some left → length (turns_in session trail) ≡ length (request_lines left)) old new
+  pub answered : EachSource (λ session source _. (left : List ℕ) → source.left ≡ Some left
+      → length (turns_in session trail) ≡ length (request_lines left)) old new
   -- each sink holds all replies of its session, and none of them tells want of memory
   pub replied : EachSink (λ session sink after. Wrote sink after (printed_replies session trail)) old new
   pub memory : list_any wants_memory trail ≡ false
@@ -168,9 +185,12 @@ pub record Made (asked : Asked) (told : Report) (old new : Outside) : Type 0 whe
   pub is : told ≡ record { counts = None; cause = causes.Nothing }
   pub written : Wrote old.report new.report (report_text told)
 
--- 3: the volume was refused as it was opened, or a block of it was damaged, and so it is told; it isn't known to be sound
+-- 3: the volume was refused as it was opened, and this is wrong with it; or the core stopped at a block that is
+-- damaged. It isn't known to be sound.
 abbrev pub VolumeRefused : Ground → Report → Type 0
-VolumeRefused ground told = ((fault : VolumeFault) × (told.cause ≡ causes.Volume fault)) × HasNone ground
+VolumeRefused ground told =
+    ((fault : VolumeFault) × (told.cause ≡ causes.Volume fault) × (IsNone told.counts → ground.faulty fault))
+    × HasNone ground
 
 -- 4: the disk failed, and so it is told
 abbrev pub DiskFailed : Report → Outside → Outside → Type 0
@@ -178,95 +198,119 @@ DiskFailed told old new = ((moment : Option ℕ) × (told.cause ≡ causes.Disk 
 
 -- 5: a session's sink failed, and so it is told; or that of the report
 abbrev pub SinkFailed : Report → Outside → Outside → Type 0
-SinkFailed told old new = (WasServed told × (told.cause ≡ causes.Sink) × SomeRose (sink_faults old) (sink_faults new)) ⊎ SpoilsReport told.cause old new
+SinkFailed told old new = (WasServed told × (told.cause ≡ causes.Sink) × SomeRose (sink_faults old) (sink_faults new))
+    ⊎ SpoilsReport told.cause old new
 
--- 6: nothing was served, and the source failed whose number is told
+-- 6: nothing was served, and the source failed whose number is told, the first that failed or is too long
 abbrev pub SourceFailed : Report → Outside → Outside → Type 0
 SourceFailed told old new =
     (n : ℕ) × (told ≡ record { counts = None; cause = causes.Source n }) × (n < length old.sources)
-    × Rose (get_or (source_faults old) n 0) (get_or (source_faults new) n 0)
+    × Rose (get_or (source_faults old) n 0) (get_or (source_faults new) n 0) × IsFirst old.sources new.sources n
 
 -- 7: want of memory is told, in a report that is whole
 abbrev pub MemoryWanting : Report → Outside → Outside → Type 0
 MemoryWanting told old new = (told.cause ≡ causes.Memory) × Wrote old.report new.report (report_text told)
 
--- the source of that number had more than its limit; or all of them together, and none alone
-abbrev pub IsOver : Cause → Outside → Type 0
-IsOver (causes.Long n) o = (n < length o.sources) × ((scripts : List (List ℕ)) → HadLeft o scripts → most_script < length (slice_index_or scripts n []))
-IsOver causes.LongTotal o = (scripts : List (List ℕ)) → HadLeft o scripts → AreShort scripts × (most_lines < lines_in scripts)
-IsOver causes.Nothing o = ⊥
-IsOver (causes.Page page) o = ⊥
-IsOver causes.Words o = ⊥
-IsOver (causes.Volume fault) o = ⊥
-IsOver (causes.Disk moment) o = ⊥
-IsOver causes.Sink o = ⊥
-IsOver (causes.Source n) o = ⊥
-IsOver causes.Memory o = ⊥
+-- the source of that number is the first that failed or had more than its limit; or all of them together had more, and
+-- none alone
+abbrev pub IsOver : Cause → (old new : Outside) → Type 0
+IsOver (causes.Long n) old new =
+    (n < length old.sources)
+    × ((scripts : List (List ℕ)) → HadLeft old scripts → most_script < length (slice_index_or scripts n []))
+    × IsFirst old.sources new.sources n
+IsOver causes.LongTotal old new =
+    (scripts : List (List ℕ)) → HadLeft old scripts → AreShort scripts × (most_lines < lines_in scripts)
+IsOver causes.Nothing old new = ⊥
+IsOver (causes.Page page) old new = ⊥
+IsOver causes.Words old new = ⊥
+IsOver (causes.Volume fault) old new = ⊥
+IsOver (causes.Disk moment) old new = ⊥
+IsOver causes.Sink old new = ⊥
+IsOver (causes.Source n) old new = ⊥
+IsOver causes.Memory old new = ⊥
 
 -- 9: nothing was served, and it is told which limit was passed
-abbrev pub LimitPassed : Report → Outside → Type 0
-LimitPassed told old = IsNone told.counts × IsOver told.cause old
+abbrev pub LimitPassed : Report → Outside → Outside → Type 0
+LimitPassed told old new = IsNone told.counts × IsOver told.cause old new
 
 -- ---- all that is said
 
--- Of a service on a volume that reads as this graph: the trail is a legal run on it, and each answer exact; and what is told.
-pub record DidOn (service : Service) (ground : Ground) (graph : Graph) (old new : Outside) (told : Report) (trail : List Event) : Type 0 where
+-- Of a service on a volume that reads as this graph: the trail is a legal run on it, and each answer exact; and what is
+-- told.
+pub record DidOn (service : Service) (ground : Ground) (graph : Graph) (old new : Outside) (told : Report)
+    (ending : Ending)
+    (trail : List Event) : Type 0 where
   pub last : State
   pub legal : replay service.seed graph trail ≡ Some last
-  -- each Full names the room of the state before it, but for blocks not yet swept of objects that are gone; and each request that
-  -- was done left four blocks of the room beside its need
+  -- each Full names the room of the state before it, but for blocks not yet swept of objects that are gone; and each
+  -- request that was done left four blocks of the room beside its need
   pub exact : 0 < ground.cylinders → AreExact ground.cylinders service.seed 0 (opening graph) trail
   -- where no call of the disk failed, none is behind an event, and no stop
   pub calm : ¬ (RoseIn old.disk new.disk) → list_all is_calm trail ≡ true
+  -- no block is damaged: no event tells one, and the core stopped at none
+  pub undamaged : (list_any tells_damage trail ≡ false) × (damage_in ending.stop ≡ None)
+  -- memory was wanting for the collector only where a collection would begin
+  pub wanting : ending.refused ≡ Some faults.Memory → IsWanting service.collections trail
   -- the moment that is told of a disk is that of the stop; with another cause there was none, and no block was damaged
   pub stop : WasServed told → IsStop told.cause last.stopped
-  -- the counts are those of the trail and of the last graph; of what is Free, where there was no stop and nothing sweeps
+  -- the counts are those of the trail and of the last graph; of what is Free, where there was no stop and nothing
+  -- sweeps
   pub counted : IfSome told.counts (λ counts. (counts ≡ counts_of (length old.sources) trail last.graph counts.free)
       × (last.stopped ≡ None → is_sweeping last.collection ≡ false → counts.free ≡ free_of ground.cylinders last.graph))
   -- no more collections began than were called for; and once so many are finished, nothing sweeps
   pub few : begins_in trail ≤ service.collections
   pub rests : last.stopped ≡ None → finishes_in trail ≡ service.collections → is_sweeping last.collection ≡ false
 
--- What a run does and tells: by what its words ask for, what its volume is, what is outside before and after, what is told,
--- and the trail.
-pub record Did (asked : Asked) (ground : Ground) (old new : Outside) (told : Report) (trail : List Event) : Type 0 where
+-- What a run does and tells: by what its words ask for, what its volume is, what is outside before and after, what is
+-- told, and the trail.
+pub record Did (asked : Asked) (ground : Ground) (old new : Outside) (told : Report) (ending : Ending)
+    (trail : List Event)
+    : Type 0 where
   -- as many sources and sinks are handed back as there were
   pub places : HasPlaces asked (length new.sources) (length new.sinks)
-  -- nothing was served, and then there is no event and no sink took a byte; or one session was, and left
-  pub unserved : IsNone told.counts → (trail ≡ []) × (new.sinks ≡ old.sinks)
+  -- nothing was served, and then there is no event, no sink took a byte, and nothing ended; or each session left
+  pub unserved : IsNone told.counts → (trail ≡ []) × (new.sinks ≡ old.sinks) × (ending ≡ not_begun)
   pub unasked : is_service asked ≡ false → IsNone told.counts
   pub leaves : WasServed told → EachSource (λ session _ _. (stopped : Option ℕ)
       × (events_of session trail ≡ turns_in session trail ++ events.Leave session stopped ∷ [])) old new
   pub sessions : collections_of asked ≡ 0 → list_all is_sessions trail ≡ true
   pub others : (k : ℕ) → length old.sources ≤ k → events_of k trail ≡ []
   -- from each graph that the volume may read as, the events are a legal run
-  pub on : IfServes asked (λ service. (graph : Graph) → ground.reads graph → DidOn service ground graph old new told trail)
+  pub on : IfServes asked (λ service. (graph : Graph) → ground.reads graph
+      → DidOn service ground graph old new told ending trail)
   -- a volume that is known to be no sound one is never served
   pub sound : WasServed told → ¬ ground.unsound
   -- whether each session's sink took all replies
   pub took : ℕ → Bool
-  pub takes : TookAll told.cause old took
+  pub fell : Bool
+  pub falls : HasBroken fell old took
+  pub stands : IsNone told.counts → fell ≡ false
   -- the events are the turns of the script that the source had; their names are bound from the root index on
-  pub turns : IfServes asked (λ service. WasServed told → (root : Puid) × ((graph : Graph) → ground.reads graph → graph.root ≡ root)
+  pub turns : IfServes asked (λ service. WasServed told → (root : Puid)
+      × ((graph : Graph) → ground.reads graph → graph.root ≡ root)
       × EachSource (λ session source _. IsServedFrom root trail (took session) session source) old new)
   -- the sink has taken the replies, all or some of their beginning
-  pub replied : EachSink (λ session sink after. Replied sink after (printed_replies session trail) (took session)) old new
+  pub replied : EachSink (λ session sink after. Replied sink after (printed_replies session trail)
+      (took session)) old new
   -- a session whose sink failed ends with the reply in which it failed: no line after it was served
-  pub broken : WasServed told → EachSink (λ session sink after. took session ≡ false → BreaksOff session sink after (turns_in session trail)) old new
+  pub broken : WasServed told → EachSink (λ session sink after. took session ≡ false
+      → BreaksOff session sink after (turns_in session trail)) old new
   -- it is told exactly that the words are of no form, or that this page was asked for
   pub words : (told.cause ≡ causes.Words) ↔ (asked ≡ Nothing)
   pub page : (page : Page) → (told.cause ≡ causes.Page page) ↔ (asked ≡ Shows page)
   -- where nothing was served it is told why, unless a volume was to be made: of that only a failed disk is told
   pub cause : IsNone told.counts → is_format asked ≡ false → ¬ (told.cause ≡ causes.Nothing)
   pub made : is_format asked ≡ true → TellsMade told.cause old.disk new.disk
-  -- a service that tells nothing worse tells want of memory exactly where a reply told it, or a step of the collector was refused
-  pub wanting : Bool
-  pub wanted : collections_of asked ≡ 0 → wanting ≡ false
-  pub memory : WasServed told → is_mild told.cause ≡ true → ((told.cause ≡ causes.Memory) ↔ ((list_any wants_memory trail || wanting) ≡ true))
+  -- after serving the first is told that has come: a failed call, a damage, a sink that broke, want of memory
+  pub ends : WasServed told → EndsSo (RoseIn old.disk new.disk) (collections_of asked) ending trail
+  pub spoiled : WasServed told → told.cause ≡ cause_of ending trail fell
+  -- whatever volume it is, the report counts the sessions, the replies and the finished collections of the trail
+  pub counts : IfSome told.counts (AreCounted (length old.sources) trail)
 
 -- What `top` says: all this, and what the status says.
-pub record Said (asked : Asked) (ground : Ground) (old new : Outside) (told : Report) (status : ℕ) (trail : List Event) : Type 0 where
-  pub did : Did asked ground old new told trail
+pub record Said (asked : Asked) (ground : Ground) (old new : Outside) (told : Report) (status : ℕ) (ending : Ending)
+    (trail : List Event) : Type 0 where
+  pub did : Did asked ground old new told ending trail
   -- the report's sink has taken the report, all or some of its beginning
   pub reported : WritesReport told old new
   -- the status is that of the cause, or 5 for a report that failed; and what each status says
@@ -278,12 +322,12 @@ pub record Said (asked : Asked) (ground : Ground) (old new : Outside) (told : Re
   pub status_5 : status ≡ 5 → SinkFailed told old new
   pub status_6 : status ≡ 6 → SourceFailed told old new
   pub status_7 : status ≡ 7 → MemoryWanting told old new
-  pub status_9 : status ≡ 9 → LimitPassed told old
+  pub status_9 : status ≡ 9 → LimitPassed told old new
   -- a limit that was passed gives 9, unless a source failed or memory was wanting
   pub over : (scripts : List (List ℕ)) → HadLeft old scripts → ¬ (AreWithin scripts)
       → (status ≡ 9) ⊎ (told.cause ≡ causes.Memory) ⊎ (status ≡ 6)
-  -- Where no limit was passed and no count rose: a service on a sound volume gives 0 or 7, and on one that is known to be no
-  -- sound one 3 or 7; and a page, or a volume to be made, gives 0.
+  -- Where no limit was passed and no count rose: a service on a sound volume gives 0 or 7, and on one that is known to
+  -- be no sound one 3 or 7; and a page, or a volume to be made, gives 0.
   pub complete : is_service asked ≡ true → (scripts : List (List ℕ)) → HadLeft old scripts → AreWithin scripts
       → NoCountRose old new → (graph : Graph) → ground.reads graph → (status ≡ 0) ⊎ (status ≡ 7)
   pub refused : is_service asked ≡ true → (scripts : List (List ℕ)) → HadLeft old scripts → AreWithin scripts

@@ -1,8 +1,7 @@
 -- A volume that was opened, and a session that is served on it.
-use Rattle.std.specs.Prelude.{◌≡◌, ◌⊎◌, ℕ, ◌≤◌, List, ◌∷◌, length, Option, Some, None}
+use Rattle.std.specs.Prelude.{◌≡◌, ◌⊎◌, ℕ, ◌≤◌, List, [], ◌∷◌, length, Some, None}
 use Rattle.cfs_base.specs.Outside.{Intake, Rose}
 use Rattle.cfs_base.specs.declared.disk.Disk.{Ghosts}
-use Rattle.cfs_core.specs.declared.collecting.CollectFault.{CollectFault}
 use Rattle.cfs_core.specs.Kernel.{Kernel}
 use Rattle.cfs_core.specs.StandsFor.{StandsFor}
 use Rattle.survival.specs.Trail.{RunSurvives}
@@ -14,7 +13,9 @@ use Rattle.vol_image.specs.Sound.{IsSoundAs, rooted_part}
 use Rattle.cfs_serve.specs.declared.report.Counts.{Counts}
 use Rattle.cfs_serve.specs.declared.report.Cause.{Cause}
 use Rattle.cfs_serve.specs.declared.report.Cause.TheVariants as causes
+use Rattle.cfs_serve.specs.declared.ending.Ending.{Ending}
 use Rattle.cfs_serve.specs.declared.report.Report.{Report}
+use Rattle.cfs_serve.specs.Ending.{not_begun}
 use Rattle.cfs_serve.specs.Ground.{Ground, opened}
 use Rattle.cfs_ports.specs.Port.{Reading}
 use Rattle.cfs_serve.specs.Charter.{Seat}
@@ -22,8 +23,8 @@ use Rattle.cfs_serve.specs.Events.{tells_disk, tells_fault}
 use Rattle.cfs_serve.specs.Journal.{faults_after, first_fault}
 use Rattle.cfs_serve.specs.Played.{AreSeated, IsPlayed, ServesNothing}
 
--- the core stands for a root index of empty slots on so many cylinders; no word was drawn, it hasn't stopped, and no collection
--- was called for
+-- the core stands for a root index of empty slots on so many cylinders; no word was drawn, it hasn't stopped, and no
+-- collection was called for
 pub record IsNewCore {D : Type 0} (g : Ghosts D) (cylinders seed : ℕ) (k : Kernel D) : Type 0 where
   pub stands : StandsFor g k (opening (opened seed))
   pub words : k.words ≡ record { seed = seed; drawn = 0 }
@@ -38,32 +39,52 @@ ground_at g core = record {
   cylinders = length core.space.free;
   reads = λ graph. StandsFor g core (opening graph);
   unsound = ⊥;
+  faulty = λ fault. ⊥;
 }
 
 -- The sessions of these seats were served by a core, which is over, and left their ports so; its disk is handed back.
-pub record ServesSessions {D : Type 0} (g : Ghosts D) (core : Kernel D) (collections : ℕ) (seats : List Seat) (ports : List Reading) (report : Report) (trail : List Event) (moments : List ℕ) (disk : D) : Type 0 where
+pub record ServesSessions {D : Type 0} (g : Ghosts D) (core : Kernel D) (collections : ℕ) (seats : List Seat)
+    (ports : List Reading) (report : Report) (ending : Ending) (trail : List Event) (moments : List ℕ)
+    (disk : D) : Type 0 where
   pub counts : Counts
   pub cause : Cause
   pub told : report ≡ record { counts = Some counts; cause = cause }
-  pub played : IsPlayed (ground_at g core) core.words.seed collections (Rose (g.faults core.disk) (g.faults disk)) seats ports counts cause trail
+  pub played : IsPlayed (ground_at g core) core.words.seed collections (Rose (g.faults core.disk) (g.faults disk)) seats
+      ports
+      counts cause ending trail
   pub later : g.faults core.disk ≤ g.faults disk
-  pub crashes : (graph : Graph) → StandsFor g core (opening graph) → RunSurvives g core.words.seed graph trail (g.moment core.disk ∷ moments) disk
-  pub sound : cause ≡ causes.Nothing → (graph : Graph) → StandsFor g core (opening graph) → (last : State) → replay core.words.seed graph trail ≡ Some last
+  pub crashes : (graph : Graph) → StandsFor g core (opening graph) → RunSurvives g core.words.seed graph trail
+      (g.moment core.disk ∷ moments) disk
+  pub sound : cause ≡ causes.Nothing → (graph : Graph) → StandsFor g core (opening graph) → (last : State)
+      → replay core.words.seed graph trail ≡ Some last
       → IsSoundAs (g.content disk) (rooted_part last.graph)
-  -- the refusal at which the collector was done; and what the count of failed calls came to by it and the trail
-  pub refused : Option CollectFault
-  pub faults : faults_after tells_disk trail (first_fault refused (g.faults core.disk)) ≤ g.faults disk
-  pub stops : (graph : Graph) → StandsFor g core (opening graph) → faults_after tells_fault trail (first_fault refused (g.faults core.disk)) ≤ g.faults disk
+  -- what the count of failed calls came to by the trail and the refusal at which the collector was done
+  pub faults : faults_after tells_disk trail (first_fault ending.refused (g.faults core.disk)) ≤ g.faults disk
+  pub stops : (graph : Graph) → StandsFor g core (opening graph)
+      → faults_after tells_fault trail (first_fault ending.refused (g.faults core.disk)) ≤ g.faults disk
+
+-- memory was wanting before a session was served
+pub record IsUnserved {D : Type 0} (core : Kernel D) (before after : List Reading) (report : Report) (ending : Ending)
+    (trail : List Event) (disk : D) : Type 0 where
+  pub told : report ≡ record { counts = None; cause = causes.Memory }
+  pub no_event : trail ≡ []
+  pub no_end : ending ≡ not_begun
+  pub ports : after ≡ before
+  pub disk_is : disk ≡ core.disk
 
 -- the sessions of these scripts were
-pub record ServesSeated {D : Type 0} (g : Ghosts D) (core : Kernel D) (collections : ℕ) (scripts : List (List ℕ)) (sinks after : List Intake) (report : Report) (trail : List Event) (moments : List ℕ) (disk : D) : Type 0 where
+pub record ServesSeated {D : Type 0} (g : Ghosts D) (core : Kernel D) (collections : ℕ) (scripts : List (List ℕ))
+    (sinks after : List Intake) (report : Report) (ending : Ending) (trail : List Event) (moments : List ℕ)
+    (disk : D) : Type 0 where
   pub seats : List Seat
   pub ports : List Reading
   pub seated : AreSeated scripts sinks after seats ports
-  pub serves : ServesSessions g core collections seats ports report trail moments disk
+  pub serves : ServesSessions g core collections seats ports report ending trail moments disk
 
 -- the scripts are served, or memory was wanting before
-abbrev pub ServesScripts : {D : Type 0} → Ghosts D → Kernel D → (collections : ℕ) → List (List ℕ) → (sinks after : List Intake) → Report → List Event → List ℕ → D → Type 0
-ServesScripts g core collections scripts sinks after report trail moments disk =
-    ServesSeated g core collections scripts sinks after report trail moments disk
-    ⊎ (ServesNothing sinks after report trail causes.Memory × (disk ≡ core.disk))
+abbrev pub ServesScripts : {D : Type 0} → Ghosts D → Kernel D → (collections : ℕ) → List (List ℕ)
+    → (sinks after : List Intake)
+    → Report → Ending → List Event → List ℕ → D → Type 0
+ServesScripts g core collections scripts sinks after report ending trail moments disk =
+    ServesSeated g core collections scripts sinks after report ending trail moments disk
+    ⊎ (ServesNothing sinks after report ending trail causes.Memory × (disk ≡ core.disk))

@@ -1,19 +1,23 @@
--- A whole run, step by step: the words, the sources and the sinks, the report and the status. What `top` says follows from it.
+-- A whole run, step by step: the words, the sources and the sinks, the report and the status. What `top` says follows
+-- from it.
 use Rattle.std.specs.Prelude.{◌≡◌, ℕ, ◌*◌, ◌≤◌, ◌⊎◌, Bool, true, false, List, [], length, Option, Some, None, IsSome}
 use Rattle.cfs_base.specs.Outside.{Intake, Supply, Rose}
 use Rattle.cfs_ports.specs.Port.{Replied}
 use Rattle.ufs_model.specs.declared.asked.Event.{Event}
 use Rattle.cfs_serve.specs.declared.report.Cause.{Cause}
 use Rattle.cfs_serve.specs.declared.report.Cause.TheVariants as causes
+use Rattle.cfs_serve.specs.declared.ending.Ending.{Ending}
 use Rattle.cfs_serve.specs.declared.report.Report.{Report}
 use Rattle.cfs_serve.specs.declared.paths.Volume.{Volume}
 use Rattle.cfs_serve.specs.declared.paths.Volume.TheVariants as volumes
 use Rattle.cfs_serve.specs.Words.{Asked, Place, InFile, InMemory, Shows, Formats, Serves, Nothing, most_made}
+use Rattle.cfs_serve.specs.Ending.{not_begun}
 use Rattle.cfs_serve.specs.Ground.{Ground}
 use Rattle.cfs_serve.specs.Report.{status_of, report_text}
 use Rattle.cfs_serve.specs.Played.{IsRunOf}
 
--- what is outside: how often the volume's disk failed, where there is one, and what is known of the sources and of the sinks
+-- what is outside: how often the volume's disk failed, where there is one, and what is known of the sources and of the
+-- sinks
 pub record Places : Type 0 where
   pub disk : Option ℕ
   pub sources : List Supply
@@ -61,8 +65,10 @@ HasPlaces (Shows page) sources sinks = (sources ≡ 0) × (sinks ≡ 0)
 HasPlaces Nothing sources sinks = (sources ≡ 0) × (sinks ≡ 0)
 
 -- no service was asked for: nothing was served, no sink took a byte, and this is told
-pub record AsksNone (cause : Cause) (old new : Places) (report : Report) (trail : List Event) : Type 0 where
+pub record AsksNone (cause : Cause) (old new : Places) (report : Report) (ending : Ending)
+    (trail : List Event) : Type 0 where
   pub no_event : trail ≡ []
+  pub no_end : ending ≡ not_begun
   pub sources : new.sources ≡ old.sources
   pub sinks : new.sinks ≡ old.sinks
   pub told : report ≡ record { counts = None; cause = cause }
@@ -78,16 +84,21 @@ abbrev pub TellsMade : Cause → (old new : Option ℕ) → Type 0
 TellsMade cause old new = (cause ≡ causes.Nothing) ⊎ ((cause ≡ causes.Disk None) × RoseIn old new)
 
 -- sessions were asked for, and so it went
-pub record AsksSessions (ground : Ground) (seed collections : ℕ) (old new : Places) (report : Report) (trail : List Event) : Type 0 where
+pub record AsksSessions (ground : Ground) (seed collections : ℕ) (old new : Places) (report : Report) (ending : Ending)
+    (trail : List Event) : Type 0 where
   pub sources : length new.sources ≡ length old.sources
   pub sinks : length new.sinks ≡ length old.sinks
-  pub run : IsRunOf ground seed collections (RoseIn old.disk new.disk) old.sources new.sources old.sinks new.sinks report trail
+  pub run : IsRunOf ground seed collections (RoseIn old.disk new.disk) old.sources new.sources old.sinks
+      new.sinks report
+      ending trail
 
-abbrev pub Asks : Asked → Ground → (old new : Places) → Report → List Event → Type 0
-Asks (Serves service) ground old new report trail = AsksSessions ground service.seed service.collections old new report trail
-Asks (Formats format) ground old new report trail = AsksNone report.cause old new report trail × TellsMade report.cause old.disk new.disk
-Asks (Shows page) ground old new report trail = AsksNone (causes.Page page) old new report trail
-Asks Nothing ground old new report trail = AsksNone causes.Words old new report trail
+abbrev pub Asks : Asked → Ground → (old new : Places) → Report → Ending → List Event → Type 0
+Asks (Serves service) ground old new report ending trail =
+    AsksSessions ground service.seed service.collections old new report ending trail
+Asks (Formats format) ground old new report ending trail =
+    AsksNone report.cause old new report ending trail × TellsMade report.cause old.disk new.disk
+Asks (Shows page) ground old new report ending trail = AsksNone (causes.Page page) old new report ending trail
+Asks Nothing ground old new report ending trail = AsksNone causes.Words old new report ending trail
 
 -- the status: that of the cause, but for a report that could not be written where nothing worse is told
 abbrev pub ended : (written : Bool) → Cause → ℕ
@@ -104,8 +115,9 @@ ended false (causes.Long i) = 9
 ended false causes.LongTotal = 9
 
 -- the report of the run is this one, and so it was written
-pub record IsWhole (asked : Asked) (ground : Ground) (old new : Places) (report report_after : Intake) (told : Report) (status : ℕ) (trail : List Event) : Type 0 where
-  pub run : Asks asked ground old new told trail
+pub record IsWhole (asked : Asked) (ground : Ground) (old new : Places) (report report_after : Intake) (told : Report)
+    (status : ℕ) (ending : Ending) (trail : List Event) : Type 0 where
+  pub run : Asks asked ground old new told ending trail
   -- the sink of the report has taken all of it, or some of its beginning
   pub written : Bool
   pub reported : Replied report report_after (report_text told) written

@@ -1,5 +1,6 @@
 -- What the words of a command ask for.
-use Rattle.std.specs.Prelude.{ℕ, ◌*◌, ◌%◌, Bool, true, false, ◌&&◌, ◌==◌, not, nat_lt, nat_le, if◌then◌else◌, List, [], ◌∷◌, length, filter, map, String, string_bytes, Option, Some, None, codes}
+use Rattle.std.specs.Prelude.{ℕ, ◌*◌, ◌%◌, Bool, true, false, ◌&&◌, ◌==◌, not, nat_lt, nat_le, if◌then◌else◌, List, []}
+use Rattle.std.specs.Prelude.{◌∷◌, length, filter, map, String, string_bytes, Option, Some, None, codes}
 use Rattle.std.specs.List.{list_all}
 use Rattle.std.specs.Str.{bytes_eq}
 use Rattle.cfs_base.specs.declared.identifier.Puid.{Puid}
@@ -7,9 +8,11 @@ use Rattle.ufs_model.specs.Spoken.{Reading, Is, Unbound, Bad, number_in}
 use Rattle.ufs_model.specs.Word.{word}
 use Rattle.cfs_serve.specs.declared.page.Page.{Page}
 use Rattle.cfs_serve.specs.declared.page.Page.TheVariants as pages
-use Rattle.cfs_serve.specs.Limits.{most_collections, most_cylinders, most_file_cylinders, most_pair_cylinders, most_sessions}
+use Rattle.cfs_serve.specs.Limits.{most_collections, most_cylinders, most_file_cylinders, most_pair_cylinders}
+use Rattle.cfs_serve.specs.Limits.{most_sessions}
 
--- where the volume of a service is: a new one in memory, of so many cylinders, or one in a file, which may be of pairs of blocks
+-- where the volume of a service is: a new one in memory, of so many cylinders, or one in a file, which may be of pairs
+-- of blocks
 pub data Place : Type 0 where
   InMemory : (cylinders : ℕ) → Place
   InFile : (path : List ℕ) (pair : Bool) → Place
@@ -64,13 +67,19 @@ streams_in words = length (filter is_stream words)
 -- They are 1 to 64 pairs of file words, and at most one input and one output is a standard stream.
 abbrev pub are_files : List (List ℕ) → Bool
 are_files words =
-    (length words % 2 == 0) && nat_lt 0 (length words) && nat_le (length words) (2 * most_sessions) && list_all is_file_word words
+    (length words % 2 == 0) && nat_lt 0 (length words) && nat_le (length words) (2 * most_sessions) && list_all
+    is_file_word words
     && nat_le (streams_in (inputs_in words)) 1 && nat_le (streams_in (outputs_in words)) 1
 
 abbrev play_of : (cylinders seed collections : ℕ) (files : List (List ℕ)) → Option Service
 play_of cylinders seed collections files =
     if nat_lt 0 cylinders && nat_le cylinders most_cylinders && nat_le collections most_collections && are_files files
-    then Some (record { volume = InMemory cylinders; seed = seed; collections = collections; sessions = files_in files }) else None
+    then Some (record {
+      volume = InMemory cylinders;
+      seed = seed;
+      collections = collections;
+      sessions = files_in files;
+    }) else None
 
 abbrev numbered : Option ℕ → Option ℕ → Option ℕ → List (List ℕ) → Option Service
 numbered (Some cylinders) (Some seed) (Some collections) files = play_of cylinders seed collections files
@@ -85,7 +94,12 @@ is_volume_word w = is_file_word w && not (is_stream w)
 abbrev serve_of : (pair : Bool) (volume : List ℕ) (seed collections : ℕ) (files : List (List ℕ)) → Option Service
 serve_of pair volume seed collections files =
     if is_volume_word volume && nat_le collections most_collections && are_files files
-    then Some (record { volume = InFile volume pair; seed = seed; collections = collections; sessions = files_in files }) else None
+    then Some (record {
+      volume = InFile volume pair;
+      seed = seed;
+      collections = collections;
+      sessions = files_in files;
+    }) else None
 
 abbrev seeded : (pair : Bool) → List ℕ → Option ℕ → Option ℕ → List (List ℕ) → Option Service
 seeded pair volume (Some seed) (Some collections) files = serve_of pair volume seed collections files
@@ -95,15 +109,18 @@ seeded pair volume None collections files = None
 -- `serve VOLUME SEED COLLECTIONS` or `pair-serve ..`, and then the pairs `IN OUT`
 abbrev pub serve_in : List (List ℕ) → Option Service
 serve_in (verb ∷ volume ∷ seed ∷ collections ∷ files) =
-    if bytes_eq verb (codes "serve") then seeded false volume (read_or_none (number_in seed)) (read_or_none (number_in collections)) files
-    else if bytes_eq verb (codes "pair-serve") then seeded true volume (read_or_none (number_in seed)) (read_or_none (number_in collections)) files
+    if bytes_eq verb (codes "serve") then seeded false volume (read_or_none (number_in seed))
+    (read_or_none (number_in collections)) files
+    else if bytes_eq verb (codes "pair-serve") then seeded true volume (read_or_none (number_in seed))
+    (read_or_none (number_in collections)) files
     else None
 serve_in words = None
 
 -- `play CYLINDERS SEED COLLECTIONS`, and then the pairs `IN OUT`
 abbrev pub play_in : List (List ℕ) → Option Service
 play_in (verb ∷ cylinders ∷ seed ∷ collections ∷ files) =
-    if bytes_eq verb (codes "play") then numbered (read_or_none (number_in cylinders)) (read_or_none (number_in seed)) (read_or_none (number_in collections)) files else None
+    if bytes_eq verb (codes "play") then numbered (read_or_none (number_in cylinders)) (read_or_none (number_in seed))
+    (read_or_none (number_in collections)) files else None
 play_in words = None
 
 -- the cylinders of the largest volume that is made, of pairs of blocks or not
@@ -124,14 +141,17 @@ sized pair volume None seed = None
 -- `format VOLUME CYLINDERS SEED` or `pair-format ..`
 abbrev pub format_in : List (List ℕ) → Option Format
 format_in (verb ∷ volume ∷ cylinders ∷ seed ∷ []) =
-    if bytes_eq verb (codes "format") then sized false volume (read_or_none (number_in cylinders)) (read_or_none (number_in seed))
-    else if bytes_eq verb (codes "pair-format") then sized true volume (read_or_none (number_in cylinders)) (read_or_none (number_in seed))
+    if bytes_eq verb (codes "format") then sized false volume (read_or_none (number_in cylinders))
+    (read_or_none (number_in seed))
+    else if bytes_eq verb (codes "pair-format") then sized true volume (read_or_none (number_in cylinders))
+    (read_or_none (number_in seed))
     else None
 format_in words = None
 
 -- a page, by its word alone
 abbrev pub page_in : List (List ℕ) → Option Page
-page_in (word ∷ []) = if bytes_eq word (codes "--help") then Some pages.Help else if bytes_eq word (codes "--version") then Some pages.Version else None
+page_in (word ∷ []) = if bytes_eq word (codes "--help") then Some pages.Help else if bytes_eq word (codes "--version")
+    then Some pages.Version else None
 page_in words = None
 
 -- what the words of a command ask for: a page, a volume, a service, or nothing

@@ -13,8 +13,8 @@ use std::alloc::Global;
 use std::sync::Wait;
 use std::thread::Threads;
 
-/// Reads the sources, and serves their scripts on the volume of this disk, which comes back; so many collections are called for.
-/// Map blocks are read of the disk once, and then held.
+/// Reads the sources, and serves their scripts on the volume of this disk, which comes back; so many collections are
+/// called for. Map blocks are read of the disk once, and then held.
 pub(crate) fn serve_cached<
     D: Disk + Send,
     S: Source,
@@ -35,10 +35,20 @@ pub(crate) fn serve_cached<
     requires sessions { length sinks.old.items ≤ 64 }
     requires few { collections ≤ 1000 }
     ensures asks { AsksSessions (ground_on D.Disk disk) seed collections
-        (record { disk = Some (D.faults disk); sources = map S.supply sources.old.items; sinks = map K.intake sinks.old.items })
-        (record { disk = Some (D.faults result.1); sources = map S.supply sources.new.items; sinks = map K.intake sinks.new.items })
-        result.0.report result.0.trail.events }
-    ensures volume { ServesVolume D.Disk seed result.0.report result.0.trail.events result.0.trail.moments disk result.1 }
+        (record {
+          disk = Some (D.faults disk);
+          sources = map S.supply sources.old.items;
+          sinks = map K.intake sinks.old.items;
+        })
+        (record {
+          disk = Some (D.faults result.1);
+          sources = map S.supply sources.new.items;
+          sinks = map K.intake sinks.new.items;
+        })
+        result.0.report result.0.ending result.0.trail.events }
+    ensures volume { ServesVolume D.Disk seed result.0.report result.0.ending result.0.trail.events
+        result.0.trail.moments
+        disk result.1 }
 {
     let cache = match MapCache::new(alloc, disk, HELD_MAPS) {
         Ok(cache) => cache,

@@ -1,57 +1,65 @@
 //! The hall of one service.
-ghost use Rattle.std.specs.Prelude.{◌≡◌, ◌<◌, ◌≤◌, ◌+◌, ◌*◌, ◌==◌, if◌then◌else◌, [], ◌∷◌, true, false, ℕ, None, map, length, slice_get};
+ghost use Rattle.std.specs.Prelude.{◌≡◌, ◌<◌, ◌≤◌, ◌+◌, ◌*◌, [], false, None, Some, length, slice_get};
 ghost use Rattle.std.specs.List.{list_any, sum_by};
-ghost use Rattle.cfs_serve.specs.Events.{finishes_in, tells_disk, tells_fault, wants_memory};
-ghost use Rattle.cfs_serve.specs.Journal.{AreCollected, AreCounted, IsRun, IsRunOn, IsStamped, IsTold, Lasts, Raises, Told, faults_after, first_fault, is_quiet, is_quiet_fault, is_recorded};
-ghost use Rattle.cfs_serve.specs.Hall.{AllLeft, AreFresh, AreHeard, AreNew, AreOver, IsSessionTurn, IsStep, IsTurn, Moves, has_left_at, is_done_in, left_in, seat_of, turns_left, turns_left_at};
-ghost use Rattle.ufs_model.specs.Graph.{Graph};
-ghost use Rattle.ufs_model.specs.State.{opening};
+ghost use Rattle.cfs_serve.specs.Events.{tells_disk, wants_memory};
+ghost use Rattle.cfs_core.specs.declared.collecting.CollectFault.TheVariants as faults;
+ghost use Rattle.cfs_serve.specs.Journal.{AreCollected, AreWanting, AreCounted, HasEnded, IsRun, IsStamped};
+ghost use Rattle.cfs_serve.specs.Journal.{IsTold, Lasts};
+ghost use Rattle.cfs_serve.specs.Journal.{Raises, StaysStopped, first_fault};
+ghost use Rattle.cfs_serve.specs.Hall.{AreFresh, AreHeard, IsSessionTurn, IsStep, IsTurn};
+ghost use Rattle.cfs_serve.specs.Hall.{Moves, has_left_at, is_done_in, left_in, turns_left, turns_left_at};
 
-use crate::journal::{Charter, Journal, Progress};
-use crate::limits::MOST_STEPS;
+use crate::ending::Ending;
+use crate::journal::{Charter, Journal};
+use crate::rest::Rest;
 use crate::server::Server;
-use cfs_base::{Gate, Machine, Puid, Session, Sink};
-use cfs_core::CollectFault;
-use cfs_floor::make_all_turns;
+use cfs_base::{Logged, Machine, Session, Sink};
 use cfs_ports::{Heard, Port};
 use cfs_trail::Trail;
 use std::alloc::Global;
-use std::marker::{Brand, Model};
-use std::sync::Wait;
-use std::thread::Threads;
+use std::marker::Model;
+use ufs_model::Event;
 
 /// The journal, the sessions and the collector of one service.
 #[derive(Drop)]
 pub struct Hall<A: Server, J: Charter<A>, K: Sink> {
     journal: Journal<A, J>,
     ports: Vec<Port<K>>,
-    /// The turns that the collector has left.
-    turns: u64,
-    /// How many events of the collector there is room for.
-    events: u64,
-    /// The refusal at which the collector was done. Where its turns or the room for its events came to an end, that is want of
-    /// memory.
-    refused: Option<CollectFault>,
+    rest: Rest,
     /// Where the answers' memory comes from.
     alloc: Global,
 }
 
 impl<A: Server, J: Charter<A>, K: Sink> Model for Hall<A, J, K> {
-    ghost use Rattle.std.specs.Prelude.{◌≡◌, ◌+◌, ◌≤◌, ◌<◌, None, length};
+    ghost use Rattle.std.specs.Prelude.{◌≡◌, ◌+◌, ◌≤◌, ◌<◌, None, Some, false, length};
+    ghost use Rattle.cfs_core.specs.declared.collecting.CollectFault.TheVariants as faults;
     ghost use Rattle.std.specs.List.{sum_by};
     ghost use Rattle.cfs_serve.specs.Hall.{Hearing, AreHeard, HasNoCollector, turns_left};
-    ghost use Rattle.cfs_serve.specs.Journal.{AreCollected, AreCounted, first_fault};
+    ghost use Rattle.cfs_serve.specs.Ending.{TellsStop};
+    ghost use Rattle.cfs_serve.specs.Journal.{AreCollected, AreCounted, AreWanting, first_fault};
 
     ghost Value = { Hearing A };
 
-    ghost view = { λ h. record { journal = h.journal; ports = h.ports.items; turns = h.turns; events = h.events; refused = h.refused } };
+    ghost view = { λ h. record {
+      journal = h.journal;
+      ports = h.ports.items;
+      turns = h.rest.turns;
+      events = h.rest.events;
+      refused = h.rest.refused;
+      spent = h.rest.spent;
+    } };
 
     ghost invariant = { λ h. AreHeard J.charter h.journal.events h.ports.items
-        × (sum_by turns_left h.ports.items + h.events ≤ h.journal.room)
-        × (length h.journal.events + sum_by turns_left h.ports.items + h.events < 4294967295) × (length h.ports.items ≤ 64)
-        × (0 < h.turns → 0 < h.events) × HasNoCollector J.charter h.turns h.refused
-        × (h.turns ≡ 0 → h.refused ≡ None → AreCollected A.stands J.charter h.journal.events) × (0 < h.turns → h.refused ≡ None)
-        × AreCounted A.faults A.stands J.charter (first_fault h.refused) h.journal.server h.journal.events };
+        × (sum_by turns_left h.ports.items + h.rest.events ≤ h.journal.room)
+        × (length h.journal.events + sum_by turns_left h.ports.items + h.rest.events < 4294967295)
+        × (length h.ports.items ≤ 64) × (0 < h.rest.turns → 0 < h.rest.events)
+        × HasNoCollector J.charter h.rest.turns h.rest.refused h.rest.spent
+        × (h.rest.turns ≡ 0 → h.rest.refused ≡ None → h.rest.spent ≡ false
+        → AreCollected A.stands J.charter h.journal.events)
+        × (0 < h.rest.turns → h.rest.refused ≡ None)
+        × AreCounted A.faults A.stands J.charter (first_fault h.rest.refused) h.journal.server h.journal.events
+        × TellsStop h.rest.refused (A.stop h.journal.server)
+        × (h.rest.refused ≡ Some faults.Memory → AreWanting A.stands J.charter h.journal.events) };
 }
 
 /// One turn of a session: its next line or, at the script's end and once its sink failed, its leave.
@@ -67,6 +75,7 @@ fn port_turn<A: Server, J: Charter<A>, K: Sink>(
     ensures moves { Moves session journal.old journal.new port.old port.new }
     // Its event is recorded with the disk's moment as the turn returns.
     ensures stamped { IsStamped A.clock journal.old journal.new }
+    ensures stays { StaysStopped A.stop journal.old journal.new }
     ensures raised { Raises A.faults A.stands J.charter journal.old journal.new }
 {
     if port.has_failed() {
@@ -87,28 +96,6 @@ fn port_turn<A: Server, J: Charter<A>, K: Sink>(
     }
 }
 
-/// The turns that the collector has left after a step, for how many events there is room, and the refusal at which it is done, if
-/// it is. It is done once nothing is left to do, and at a refusal; and where its turns or the room for its events come to an end,
-/// that is a refusal for want of memory.
-fn rest_after(progress: Progress, turns: u64, events: u64) -> (u64, u64, Option<CollectFault>)
-    requires some { 0 < turns }
-    requires room { 0 < events }
-    ensures fewer { result.0 < turns }
-    ensures room { result.1 + (if is_recorded progress then 1 else 0) ≤ events }
-    ensures paired { 0 < result.0 → 0 < result.1 }
-    ensures idle { result.0 ≡ 0 → result.2 ≡ None → progress ≡ Progress.Idle }
-    ensures on { 0 < result.0 → result.2 ≡ None }
-    ensures quiet { is_quiet_fault result.2 ≡ true → is_quiet progress ≡ true }
-{
-    match progress {
-        Progress::Quiet if turns > 1 => (turns - 1, events, None),
-        Progress::Recorded if turns > 1 && events > 1 => (turns - 1, events - 1, None),
-        Progress::Quiet | Progress::Recorded => (0, 0, Some(CollectFault::Memory)),
-        Progress::Refused(fault) => (0, 0, Some(fault)),
-        Progress::Idle => (0, 0, None),
-    }
-}
-
 impl<A: Server, J: Charter<A>, K: Sink> Hall<A, J, K> {
     /// A hall in which nothing happened.
     pub fn new(
@@ -121,7 +108,7 @@ impl<A: Server, J: Charter<A>, K: Sink> Hall<A, J, K> {
         requires no_event { trail.events ≡ [] }
         requires opens { IsRun A.stands A.has_stopped A.is_damaged A.tally J.charter server [] }
         requires lasts { Lasts A.stands A.clock A.lasts J.charter server [] [] }
-        requires told { IsTold A.faults A.has_stopped A.is_damaged J.charter server false [] }
+        requires told { IsTold A.faults A.has_stopped A.is_damaged J.charter server [] }
         requires runs { A.has_stopped server ≡ false }
         requires seed { A.seed server ≡ J.charter.seed }
         requires size { A.cylinders server ≡ J.charter.cylinders }
@@ -133,14 +120,13 @@ impl<A: Server, J: Charter<A>, K: Sink> Hall<A, J, K> {
         requires few { sum_by turns_left ports.items + 3 * collections + 1 < 4294967295 }
         requires sessions { length ports.items ≤ 64 }
         requires most { collections ≤ 1000 }
-        ensures { result.ports ≡ ports.items }
+        ensures ports { result.ports ≡ ports.items }
+        ensures server { result.journal.server ≡ server }
     {
         Hall {
             journal: Journal::new(server, trail),
             ports,
-            turns: u64::from(collections) * MOST_STEPS,
-            events: 3 * u64::from(collections) + 1,
-            refused: None,
+            rest: Rest::new(collections),
             alloc,
         }
     }
@@ -163,10 +149,7 @@ impl<A: Server, J: Charter<A>, K: Sink> Hall<A, J, K> {
         ensures raised { Raises A.faults A.stands J.charter self.old.journal self.new.journal }
     {
         let progress = self.journal.collect(self.alloc);
-        let (turns, events, refused) = rest_after(progress, self.turns, self.events);
-        self.turns = turns;
-        self.events = events;
-        self.refused = refused;
+        self.rest = self.rest.after(progress);
     }
 
     /// Whether a session has left. One that isn't there has.
@@ -196,7 +179,7 @@ impl<A: Server, J: Charter<A>, K: Sink> Hall<A, J, K> {
         ensures { result ≡ is_done_in self.now.ports self.now.turns worker }
     {
         if worker as usize == self.ports.len() {
-            self.turns == 0
+            self.rest.turns == 0
         } else {
             self.has_left(worker)
         }
@@ -208,7 +191,7 @@ impl<A: Server, J: Charter<A>, K: Sink> Hall<A, J, K> {
         ensures { result ≡ left_in self.now.ports self.now.turns worker }
     {
         if worker as usize == self.ports.len() {
-            self.turns
+            self.rest.turns
         } else {
             self.left_of(worker)
         }
@@ -228,36 +211,62 @@ impl<A: Server, J: Charter<A>, K: Sink> Hall<A, J, K> {
         }
     }
 
-    /// The server, the trail, the ports and the refusal.
+    /// The server, the trail, the ports and how it ended.
     pub fn into_parts(self) -> Parts<A, K>
         ensures size { A.cylinders result.server ≡ J.charter.cylinders }
         ensures run { IsRun A.stands A.has_stopped A.is_damaged A.tally J.charter result.server result.trail.events }
-        ensures lasts { Lasts A.stands A.clock A.lasts J.charter result.server result.trail.events result.trail.moments }
-        ensures told { IsTold A.faults A.has_stopped A.is_damaged J.charter result.server result.failed result.trail.events }
+        ensures lasts { Lasts A.stands A.clock A.lasts J.charter result.server result.trail.events
+            result.trail.moments }
+        ensures ends { HasEnded A.faults J.charter result.server result.ending result.trail.events }
+        ensures stop { result.ending.stop ≡ A.stop result.server }
         ensures heard { AreHeard J.charter result.trail.events result.ports.items }
         ensures ports { result.ports.items ≡ self.ports }
         ensures starved { result.starved ≡ list_any wants_memory result.trail.events }
-        ensures quiet { J.charter.collections ≡ 0 → result.refused ≡ None }
-        ensures collected { self.turns ≡ 0 → result.refused ≡ None → AreCollected A.stands J.charter result.trail.events }
-        ensures counted { AreCounted A.faults A.stands J.charter (first_fault result.refused) result.server result.trail.events }
+        ensures failed { result.failed ≡ list_any tells_disk result.trail.events }
+        ensures collected { self.turns ≡ 0 → result.ending.refused ≡ None → result.ending.spent ≡ false
+            → AreCollected A.stands J.charter result.trail.events }
+        ensures wanting { result.ending.refused ≡ Some faults.Memory
+            → AreWanting A.stands J.charter result.trail.events }
+        ensures counted { AreCounted A.faults A.stands J.charter (first_fault result.ending.refused) result.server
+            result.trail.events }
     {
         let Hall {
             journal,
             ports,
-            turns: _,
-            events: _,
-            refused,
+            rest,
             alloc: _,
         } = self;
         let (server, trail, starved, failed) = journal.into_parts();
+        let stop = server.stopped();
         Parts {
             server,
             trail,
             ports,
             starved,
             failed,
-            refused,
+            ending: Ending {
+                stop,
+                refused: rest.refused,
+                spent: rest.spent,
+            },
         }
+    }
+}
+
+impl<A: Server, J: Charter<A>, K: Sink> Hall<A, J, K> {
+    /// The server and the ports.
+    pub fn into_unserved(self) -> Unserved<A, K>
+        ensures server { result.server ≡ self.journal.server }
+        ensures ports { result.ports.items ≡ self.ports }
+    {
+        let Hall {
+            journal,
+            ports,
+            rest: _,
+            alloc: _,
+        } = self;
+        let (server, _trail, _starved, _failed) = journal.into_parts();
+        Unserved { server, ports }
     }
 }
 
@@ -274,7 +283,8 @@ impl<A: Server, J: Charter<A>, K: Sink> Machine for Hall<A, J, K> {
 
     ghost left = { λ h w. left_in h.ports h.turns w };
 
-    ghost turned = { λ old w new. IsTurn A.clock w old new × Raises A.faults A.stands J.charter old.journal new.journal };
+    ghost turned = { λ old w new. IsTurn A.clock w old new × Raises A.faults A.stands J.charter old.journal
+        new.journal };
 
     ghost outside = { λ h w beyond. done_beyond h.ports h.turns w beyond };
 
@@ -301,8 +311,23 @@ impl<A: Server, J: Charter<A>, K: Sink> Machine for Hall<A, J, K> {
     }
 }
 
-/// What a service leaves: the server, the trail, the ports, whether want of memory was told, whether a call of the disk failed in a
-/// request or in a step of the collector, and the refusal at which the collector was done.
+/// Its log is its trail.
+impl<A: Server, J: Charter<A>, K: Sink> Logged for Hall<A, J, K> {
+    ghost use Rattle.cfs_serve.specs.Hall.{adds_one};
+
+    type Entry = Event;
+
+    ghost log = { λ h. h.journal.events };
+
+    ghost adds = { λ h w n turned. adds_one h.journal.events n.journal.events turned.1.made turned.1.recorded };
+
+    fn events(&self) -> u64 {
+        self.journal.events()
+    }
+}
+
+/// What a service leaves: the server, the trail, the ports, whether want of memory and a failed call of the disk were
+/// told, and how it ended.
 #[derive(Drop)]
 pub struct Parts<A, K: Sink> {
     pub server: A,
@@ -310,100 +335,12 @@ pub struct Parts<A, K: Sink> {
     pub ports: Vec<Port<K>>,
     pub starved: bool,
     pub failed: bool,
-    pub refused: Option<CollectFault>,
+    pub ending: Ending,
 }
 
-/// Makes a hall of this charter, and all its turns.
-fn serve_so<
-    A: Server + Send,
-    J: Charter<A> + Send,
-    K: Sink + Send,
-    G: Gate + Sync,
-    R: Threads + Wait + Sync,
->(
-    rt: &R,
-    alloc: Global,
-    gate: &G,
-    server: A,
-    trail: Trail,
-    _root: Puid,
-    ports: Vec<Port<K>>,
-    collections: u32,
-) -> Parts<A, K>
-    requires no_event { trail.events ≡ [] }
-    requires opens { IsRun A.stands A.has_stopped A.is_damaged A.tally J.charter server [] }
-    requires lasts { Lasts A.stands A.clock A.lasts J.charter server [] [] }
-    requires told { IsTold A.faults A.has_stopped A.is_damaged J.charter server false [] }
-    requires runs { A.has_stopped server ≡ false }
-    requires seed { A.seed server ≡ J.charter.seed }
-    requires size { A.cylinders server ≡ J.charter.cylinders }
-    requires words { A.words server ≡ 0 }
-    requires fresh { AreFresh J.charter ports.items }
-    requires called { (A.tally server).called ≡ collections }
-    requires charter { J.charter.collections ≡ collections }
-    requires room { sum_by turns_left ports.items + 3 * collections + 1 ≤ trail.room }
-    requires few { sum_by turns_left ports.items + 3 * collections + 1 < 4294967295 }
-    requires sessions { length ports.items ≤ 64 }
-    requires most { collections ≤ 1000 }
-    ensures size { A.cylinders result.server ≡ J.charter.cylinders }
-    ensures run { IsRun A.stands A.has_stopped A.is_damaged A.tally J.charter result.server result.trail.events }
-    ensures lasts { Lasts A.stands A.clock A.lasts J.charter result.server result.trail.events result.trail.moments }
-    ensures told { IsTold A.faults A.has_stopped A.is_damaged J.charter result.server result.failed result.trail.events }
-    ensures heard { AreHeard J.charter result.trail.events result.ports.items }
-    ensures left { AllLeft result.ports.items }
-    ensures starved { result.starved ≡ list_any wants_memory result.trail.events }
-    ensures quiet { J.charter.collections ≡ 0 → result.refused ≡ None }
-    ensures collected { result.refused ≡ None → AreCollected A.stands J.charter result.trail.events }
-    ensures counted { AreCounted A.faults A.stands J.charter (first_fault result.refused) result.server result.trail.events }
-{
-    let hall: Hall<A, J, K> = Hall::new(alloc, server, trail, ports, collections);
-    make_all_turns(rt, alloc, gate, hall).into_parts()
-}
-
-/// Serves the sessions of these ports, each in a thread, until each has left: at its script's end, or once its sink failed. Beside
-/// them, in a thread of its own, the collector makes its steps, until as many collections are finished as were called for or a step
-/// is refused. Before each of its turns a session or the collector passes the gate. Takes no memory but for the threads, the
-/// answers and the collector.
-pub fn serve<A: Server + Send, K: Sink + Send, G: Gate + Sync, R: Threads + Wait + Sync>(
-    rt: &R,
-    alloc: Global,
-    gate: &G,
-    server: A,
-    trail: Trail,
-    root: Puid,
-    ports: Vec<Port<K>>,
-    collections: u32,
-) -> Parts<A, K>
-    requires no_event { trail.events ≡ [] }
-    requires runs { A.has_stopped server ≡ false }
-    requires words { A.words server ≡ 0 }
-    requires new { AreNew root ports.items }
-    requires called { (A.tally server).called ≡ collections }
-    requires idle { ((A.tally server).finished ≡ 0) × ((A.tally server).running ≡ false) }
-    requires swept { (graph : Graph) → A.stands server (opening graph) → (A.tally server).lost graph ≡ 0 }
-    requires room { sum_by turns_left ports.items + 3 * collections + 1 ≤ trail.room }
-    requires few { sum_by turns_left ports.items + 3 * collections + 1 < 4294967295 }
-    requires sessions { length ports.items ≤ 64 }
-    requires most { collections ≤ 1000 }
-    // on each graph that the server stood for, a legal run, of which it stands for the last state
-    ensures run { (graph : Graph) → A.stands server (opening graph)
-        → IsRunOn A.stands A.has_stopped A.is_damaged A.tally (A.seed server) (A.cylinders server) collections graph server result.server result.trail.events }
-    // what it tells of the disk, whatever disk it is
-    ensures told { Told A.faults A.has_stopped A.is_damaged server result.server result.failed result.trail.events }
-    // and what was known of crashes as it began is known of the whole trail, from the moments of its events on
-    ensures lasts { (graph : Graph) → A.stands server (opening graph) → A.lasts server (A.seed server) graph [] (A.clock server ∷ [])
-        → A.lasts result.server (A.seed server) graph result.trail.events (A.clock server ∷ result.trail.moments) }
-    ensures size { A.cylinders result.server ≡ A.cylinders server }
-    ensures over { AreOver root collections (map seat_of ports.items) result.trail.events result.ports.items }
-    ensures starved { result.starved ≡ list_any wants_memory result.trail.events }
-    ensures quiet { collections ≡ 0 → result.refused ≡ None }
-    // where no step was refused, as many collections are finished as were called for
-    ensures collected { result.refused ≡ None → (graph : Graph) → A.stands server (opening graph) → finishes_in result.trail.events ≡ collections }
-    // The disk's count of failed calls is at least what the Disk replies come to, and a step that was refused for one without a doubt;
-    // and the stops with them, on each graph that the server stood for.
-    ensures counted { faults_after tells_disk result.trail.events (first_fault result.refused (A.faults server)) ≤ A.faults result.server }
-    ensures stops { (graph : Graph) → A.stands server (opening graph)
-        → faults_after tells_fault result.trail.events (first_fault result.refused (A.faults server)) ≤ A.faults result.server }
-{
-    serve_so::<A, Brand, K, G, R>(rt, alloc, gate, server, trail, root, ports, collections)
+/// A service that memory was wanting for: the server and the ports, as they were.
+#[derive(Drop)]
+pub struct Unserved<A, K: Sink> {
+    pub server: A,
+    pub ports: Vec<Port<K>>,
 }

@@ -1,5 +1,6 @@
 //! A server and its trail.
-ghost use Rattle.std.specs.Prelude.{◌≡◌, ◌+◌, ◌<◌, [], ◌∷◌, ◌++◌, ◌||◌, Err, Ok, None, false, true, length, Option, ℕ};
+ghost use Rattle.std.specs.Prelude.{◌≡◌, ◌+◌, ◌<◌, [], ◌∷◌, ◌++◌, ◌||◌, Err, Ok, None, Some, false, true, length};
+ghost use Rattle.std.specs.Prelude.{Option, ℕ};
 ghost use Rattle.std.specs.List.{list_any};
 ghost use Rattle.ufs_model.specs.declared.asked.Event.TheVariants as events;
 ghost use Rattle.ufs_model.specs.declared.asked.Request as requests;
@@ -7,8 +8,11 @@ ghost use Rattle.cfs_ports.specs.Heard.{HasRoom};
 ghost use Rattle.cfs_base.specs.Outside.{Rose};
 ghost use Rattle.cfs_serve.specs.Charter.{Terms};
 ghost use Rattle.cfs_serve.specs.Events.{tells_disk, wants_memory};
-ghost use Rattle.cfs_serve.specs.Calls.{event_by, fails};
-ghost use Rattle.cfs_serve.specs.Journal.{AreCollected, IsRun, IsStamped, IsTold, Lasts, Raises, Serves, Steps, is_quiet, is_recorded, recorded, stamps};
+ghost use Rattle.cfs_serve.specs.Calls.{event_by, refusal_by};
+ghost use Rattle.cfs_serve.specs.Ending.{Stops, TellsStop};
+ghost use Rattle.cfs_serve.specs.Journal.{AreCollected, AreWanting, IsRun, IsStamped, IsTold, Lasts, Raises, Serves};
+ghost use Rattle.cfs_serve.specs.Journal.{StaysStopped};
+ghost use Rattle.cfs_serve.specs.Journal.{Steps, is_quiet_fault, is_recorded, recorded, refusal_in, stamps};
 
 use crate::server::Server;
 use cfs_base::{Session, Sink};
@@ -20,8 +24,8 @@ use std::alloc::Global;
 use std::marker::{Brand, Model, PhantomData};
 use ufs_model::{Event, Reply, Request, Unread};
 
-/// Which service it is: what was fixed when it was made. It is part of a hall's type, so that no hall can be taken for that
-/// of another service.
+/// Which service it is: what was fixed when it was made. It is part of a hall's type, so that no hall can be taken for
+/// that of another service.
 pub trait Charter<A> {
     ghost use Rattle.cfs_serve.specs.Charter.{Terms};
 
@@ -42,7 +46,7 @@ pub struct Journal<A: Server, J: Charter<A>> {
     trail: Trail,
     /// Want of memory was told.
     starved: bool,
-    /// A call of the disk failed, in a request or in a step of the collector.
+    /// A failed call of the disk was told.
     failed: bool,
     of: PhantomData<J>,
 }
@@ -64,18 +68,28 @@ impl<A: Server, J: Charter<A>> Model for Journal<A, J> {
     ghost use Rattle.std.specs.Prelude.{◌≡◌, ◌≤◌, length};
     ghost use Rattle.std.specs.List.{list_any};
     ghost use Rattle.cfs_serve.specs.Events.{tells_disk, wants_memory};
+    ghost use Rattle.std.specs.Prelude.{None};
+    ghost use Rattle.cfs_serve.specs.Ending.{Stops};
     ghost use Rattle.cfs_serve.specs.Journal.{Kept, IsRun, IsTold, Lasts};
 
     ghost Value = { Kept A };
 
-    ghost view = { λ j. record { server = j.server; events = j.trail.events; moments = j.trail.moments; room = j.trail.room; starved = j.starved; failed = j.failed } };
+    ghost view = { λ j. record {
+      server = j.server;
+      events = j.trail.events;
+      moments = j.trail.moments;
+      room = j.trail.room;
+      starved = j.starved;
+      failed = j.failed;
+    } };
 
     ghost invariant = { λ j. IsRun A.stands A.has_stopped A.is_damaged A.tally J.charter j.server j.trail.events
         × (A.seed j.server ≡ J.charter.seed) × (A.cylinders j.server ≡ J.charter.cylinders)
         × (A.words j.server ≤ length j.trail.events) × (j.starved ≡ list_any wants_memory j.trail.events)
         × Lasts A.stands A.clock A.lasts J.charter j.server j.trail.events j.trail.moments
-        × IsTold A.faults A.has_stopped A.is_damaged J.charter j.server j.failed j.trail.events
-        × ((A.tally j.server).called ≡ J.charter.collections) };
+        × IsTold A.faults A.has_stopped A.is_damaged J.charter j.server j.trail.events
+        × ((A.tally j.server).called ≡ J.charter.collections) × (j.failed ≡ list_any tells_disk j.trail.events)
+        × Stops None (A.stop j.server) j.trail.events };
 }
 
 impl<A: Server, J: Charter<A>> Journal<A, J> {
@@ -84,7 +98,7 @@ impl<A: Server, J: Charter<A>> Journal<A, J> {
         requires no_event { trail.events ≡ [] }
         requires opens { IsRun A.stands A.has_stopped A.is_damaged A.tally J.charter server [] }
         requires lasts { Lasts A.stands A.clock A.lasts J.charter server [] [] }
-        requires told { IsTold A.faults A.has_stopped A.is_damaged J.charter server false [] }
+        requires told { IsTold A.faults A.has_stopped A.is_damaged J.charter server [] }
         requires runs { A.has_stopped server ≡ false }
         requires seed { A.seed server ≡ J.charter.seed }
         requires size { A.cylinders server ≡ J.charter.cylinders }
@@ -104,11 +118,19 @@ impl<A: Server, J: Charter<A>> Journal<A, J> {
         }
     }
 
+    /// How many events the trail has.
+    pub fn events(&self) -> u64
+        ensures { result ≡ length self.now.events }
+    {
+        self.trail.len()
+    }
+
     /// Records that a session's line was no request.
     pub fn unread(&mut self, session: Session, why: Unread)
         requires { 0 < self.old.room }
         ensures events { self.new.events ≡ self.old.events ++ events.Unread session why ∷ [] }
         ensures stamped { IsStamped A.clock self.old self.new }
+        ensures stays { StaysStopped A.stop self.old self.new }
         ensures raised { Raises A.faults A.stands J.charter self.old self.new }
         ensures room { self.new.room + 1 ≡ self.old.room }
     {
@@ -131,6 +153,7 @@ impl<A: Server, J: Charter<A>> Journal<A, J> {
         requires name { HasRoom name port.old.names.room }
         ensures serves { Serves self.old self.new session request name port.old port.new }
         ensures stamped { IsStamped A.clock self.old self.new }
+        ensures stays { StaysStopped A.stop self.old self.new }
         ensures raised { Raises A.faults A.stands J.charter self.old self.new }
     {
         let reply = self.server.answer(alloc, session, &request);
@@ -151,8 +174,10 @@ impl<A: Server, J: Charter<A>> Journal<A, J> {
     /// A session leaves.
     pub fn leave(&mut self, session: Session)
         requires { 0 < self.old.room }
-        ensures events { (stopped : Option ℕ) × (self.new.events ≡ self.old.events ++ events.Leave session stopped ∷ []) }
+        ensures events { (stopped : Option ℕ) × (self.new.events ≡ self.old.events
+            ++ events.Leave session stopped ∷ []) }
         ensures stamped { IsStamped A.clock self.old self.new }
+        ensures stays { StaysStopped A.stop self.old self.new }
         ensures raised { Raises A.faults A.stands J.charter self.old self.new }
         ensures room { self.new.room + 1 ≡ self.old.room }
     {
@@ -166,28 +191,32 @@ impl<A: Server, J: Charter<A>> Journal<A, J> {
         requires { 0 < self.old.room }
         ensures steps { Steps A.clock self.old self.new result }
         ensures raised { Raises A.faults A.stands J.charter self.old self.new }
-        ensures quiet { is_quiet result ≡ true
+        ensures refusal { TellsStop (refusal_in result) (A.stop self.new.server) }
+        ensures quiet { is_quiet_fault (refusal_in result) ≡ true
             → Rose (A.faults self.old.server) (A.faults self.new.server) × (self.new.events ≡ self.old.events) }
+        ensures wanting { refusal_in result ≡ Some CollectFault.Memory
+            → AreWanting A.stands J.charter self.new.events }
         // Nothing is left to do once as many collections are finished as were called for.
         ensures idle { result ≡ Progress.Idle → AreCollected A.stands J.charter self.new.events }
     {
         let made = self.server.collect(alloc);
         let moment = self.server.moment();
-        self.failed = failed_in(&made, self.failed);
         let (event, progress) = told_of(made);
         push_some(&mut self.trail, event, moment);
         progress
     }
 
-    /// The server, the trail, whether want of memory was told, and whether a call of the disk failed.
+    /// The server, the trail, and whether want of memory and a failed call of the disk were told.
     pub fn into_parts(self) -> (A, Trail, bool, bool)
         ensures server { result.0 ≡ self.server }
         ensures events { result.1.events ≡ self.events }
         ensures starved { result.2 ≡ list_any wants_memory self.events }
+        ensures failed { result.3 ≡ list_any tells_disk self.events }
+        ensures stops { Stops None (A.stop self.server) self.events }
         ensures size { A.cylinders self.server ≡ J.charter.cylinders }
         ensures run { IsRun A.stands A.has_stopped A.is_damaged A.tally J.charter self.server self.events }
         ensures lasts { Lasts A.stands A.clock A.lasts J.charter self.server self.events result.1.moments }
-        ensures told { IsTold A.faults A.has_stopped A.is_damaged J.charter self.server result.3 self.events }
+        ensures told { IsTold A.faults A.has_stopped A.is_damaged J.charter self.server self.events }
     {
         let Journal {
             server,
@@ -202,7 +231,8 @@ impl<A: Server, J: Charter<A>> Journal<A, J> {
 
 /// Whether this reply tells want of memory, or memory was wanting before.
 fn starved_by(reply: &Reply, before: bool) -> bool
-    ensures { (who : ℕ) (request : requests.Request) → result ≡ (wants_memory (events.Ask who request reply.now) || before) }
+    ensures { (who : ℕ) (request : requests.Request)
+        → result ≡ (wants_memory (events.Ask who request reply.now) || before) }
 {
     match reply {
         Reply::Memory => true,
@@ -212,7 +242,8 @@ fn starved_by(reply: &Reply, before: bool) -> bool
 
 /// Whether this reply tells a failed call of the disk, or one was told before.
 fn failed_by(reply: &Reply, before: bool) -> bool
-    ensures { (who : ℕ) (request : requests.Request) → result ≡ (tells_disk (events.Ask who request reply.now) || before) }
+    ensures { (who : ℕ) (request : requests.Request)
+        → result ≡ (tells_disk (events.Ask who request reply.now) || before) }
 {
     match reply {
         Reply::Disk { .. } => true,
@@ -230,22 +261,12 @@ fn starved_at(why: Unread, before: bool) -> bool
     }
 }
 
-/// Whether a call of the disk failed in this step of the collector, or before.
-fn failed_in(made: &Result<Step, CollectFault>, before: bool) -> bool
-    ensures { result ≡ (fails made.now || before) }
-{
-    match made {
-        Err(CollectFault::Disk { .. }) => true,
-        _ => before,
-    }
-}
-
 /// The event of a step of the collector, if it is one, and how far it came.
 fn told_of(made: Result<Step, CollectFault>) -> (Option<Event>, Progress)
     ensures event { result.0 ≡ event_by made }
     ensures none { is_recorded result.1 ≡ false → event_by made ≡ None }
     ensures idle { result.1 ≡ Progress.Idle → made ≡ Ok Step.Idle }
-    ensures quiet { is_quiet result.1 ≡ true → made ≡ Err (CollectFault.Disk None) }
+    ensures refusal { refusal_in result.1 ≡ refusal_by made }
 {
     match made {
         Ok(Step::Idle) => (None, Progress::Idle),

@@ -1,33 +1,39 @@
-//! A whole run: words are read; a volume is made on a disk, or sources are read whole and their sessions served, on a volume in
-//! memory or on a disk; and a report is written. The program above
-//! uses one contract, that of `top`. Below it, `serve` serves any number of sessions, and a collector, on whatever server.
+//! A whole run: words are read; a volume is made on a disk, or sources are read whole and their sessions served, on a
+//! volume in memory or on a disk; and a report is written. The program above uses one contract, that of `top`. Below
+//! it, `serve` serves any number of sessions, and a collector, on whatever server.
 #![tactic(auto)]
 
 mod cached;
+mod ending;
 mod hall;
 mod journal;
 mod limits;
+mod naming;
 mod page;
 mod paths;
 mod play;
 mod report;
+mod rest;
 mod run;
 mod script;
 mod scripts;
 mod seats;
 mod server;
+mod serving;
 mod sure_disk;
 mod volume;
 mod words;
 
-pub use hall::{Parts, serve};
+pub use ending::Ending;
+pub use hall::{Parts, Unserved};
 pub use limits::{
     HELD_MAPS, MOST_COLLECTIONS, MOST_CYLINDERS, MOST_FILE_CYLINDERS, MOST_LINES, MOST_SCRIPT,
     MOST_SESSIONS,
 };
+pub use naming::names;
 pub use page::Page;
 pub use paths::{Names, Path, Paths, Volume, WordsFault};
 pub use report::{Cause, Counts, Report, VolumeFault};
 pub use run::{Bay, Ended, top};
 pub use server::Server;
-pub use words::names;
+pub use serving::serve;

@@ -24,5 +24,6 @@ pub const MOST_SESSIONS: usize = 64;
 /// The collections that a service may be called for.
 pub const MOST_COLLECTIONS: u64 = 1_000;
 
-/// More steps than a collection takes: no volume has as many blocks, with all request lines and two sweeps of each cylinder.
+/// The steps of the collector for each collection. No volume has as many blocks, with all request lines and two sweeps
+/// of each cylinder.
 pub const MOST_STEPS: u64 = 8_589_934_592;

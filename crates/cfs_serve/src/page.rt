@@ -18,21 +18,28 @@ impl Page {
         match self {
             Page::Help => {
                 b"cfs play CYLINDERS SEED COLLECTIONS IN OUT ..
-    serve 1 to 64 sessions on a new volume in memory, one for each pair IN OUT: the request lines of IN, replies to OUT;
-    a report to standard output; IN and OUT are files, and one IN and one OUT may be - for a standard stream
+    serve 1 to 64 sessions on a new volume in memory, one for each pair IN OUT:
+    replies to the request lines of IN go to OUT, a report to standard output;
+    one IN and one OUT may be -, for a standard stream
 cfs format VOLUME CYLINDERS SEED
     make a volume in the file VOLUME, which must not be there yet
 cfs serve VOLUME SEED COLLECTIONS IN OUT ..
     serve the sessions on the volume in the file VOLUME
 cfs pair-format VOLUME CYLINDERS SEED
 cfs pair-serve VOLUME SEED COLLECTIONS IN OUT ..
-    the same two on a file of three times the blocks, which keeps each block twice, for a device that may tear blocks
+    the same two for a device that may tear blocks: each is kept twice, and the
+    file has three blocks for each of the volume's
 cfs --help
     print this page
 cfs --version
     print the version
-status: 0 all is well, 2 the words are of no form, 3 the volume is none or damaged, 4 a disk failed, 5 a sink failed,
-    6 a source failed, 7 memory was wanting, 9 a limit was passed, 10 a file cannot be opened or made
+
+status  0  all is well                    5  a sink failed
+        2  the words are of no form       6  a source failed
+        3  the volume is none or damaged  7  memory was wanting
+        4  a disk failed                  9  a limit was passed
+                                         10  a file cannot be opened or made
+
 manual: docs/cfs.1, docs/PROGRAM.md
 "
             }

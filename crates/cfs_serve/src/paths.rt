@@ -58,8 +58,8 @@ pub enum Volume {
     Fresh { path: Path, cylinders: u32 },
 }
 
-/// What a command names: its volume, where it has one in a file; the sources of its sessions and their sinks, session by session; and
-/// whether the file is one of pairs of blocks.
+/// What a command names: its volume, where it has one in a file; the sources of its sessions and their sinks, session
+/// by session; and whether the file is one of pairs of blocks.
 #[derive(Debug, Drop)]
 pub struct Names {
     pub volume: Option<Volume>,
@@ -85,9 +85,11 @@ pub(crate) fn path_of(alloc: Global, text: &str) -> Result<Path, AllocError>
     })
 }
 
-/// The files that these words name, two and two: where the requests of each session come from, and where its replies go.
+/// The files that these words name, two and two: where the requests of each session come from, and where its replies
+/// go.
 pub(crate) fn session_paths(alloc: Global, words: &[String]) -> Result<(Paths, Paths), AllocError>
-    ensures { IfOk result (λ p. (p.0 ≡ inputs_in (map string_bytes words.now)) × (p.1 ≡ outputs_in (map string_bytes words.now))) }
+    ensures { IfOk result (λ p. (p.0 ≡ inputs_in (map string_bytes words.now))
+        × (p.1 ≡ outputs_in (map string_bytes words.now))) }
 {
     let mut inputs = Vec::new(alloc);
     let mut outputs = Vec::new(alloc);

@@ -1,26 +1,29 @@
 //! A service.
-ghost use Rattle.std.specs.Prelude.{◌≡◌, ◌||◌, ◌<◌, ◌≤◌, ◌+◌, ◌*◌, ℕ, [], None, Some, false, filter, is_some, length, map, option_map, option_and_then, sum};
+ghost use Rattle.std.specs.Prelude.{◌≡◌, ◌⊎◌, ◌<◌, ◌≤◌, ◌+◌, ◌*◌, [], None, Some, false, filter, length, map, sum};
 ghost use Rattle.std.specs.List.{sum_by};
 ghost use Rattle.cfs_core.specs.StandsFor.{Serves, is_sweeping};
 ghost use Rattle.ufs_model.specs.State.{State};
 ghost use Rattle.cfs_serve.specs.Disks.{ServesVolume};
+ghost use Rattle.cfs_serve.specs.Ending.{cause_by, not_begun};
 ghost use Rattle.cfs_serve.specs.Events as spec;
 ghost use Rattle.cfs_serve.specs.Ground.{ground_on, new_ground};
 ghost use Rattle.cfs_serve.specs.Hall.{AreNew, seat_of, turns_left};
 ghost use Rattle.cfs_serve.specs.Played as played;
 ghost use Rattle.cfs_serve.specs.Played.{free_of};
 ghost use Rattle.cfs_serve.specs.Scripts.{lines_in};
-ghost use Rattle.cfs_serve.specs.Volume.{ServesScripts, ServesSessions};
+ghost use Rattle.cfs_serve.specs.Volume.{IsUnserved, ServesScripts, ServesSessions};
 ghost use Rattle.cfs_serve.specs.Whole.{AsksSessions};
 
-use crate::hall::{Parts, serve};
-use crate::report::{Cause, Counts, Report, VolumeFault};
+use crate::ending::Ending;
+use crate::hall::{Parts, Unserved};
+use crate::report::{Cause, Counts, Report};
 use crate::scripts::{Scripts, read_scripts};
 use crate::seats::{make_ports, take_sinks};
 use crate::server::images_are_whole;
+use crate::serving::serve;
 use crate::volume::{Refused, new_volume, open_volume};
-use cfs_base::{Damage, Disk, Gate, Sink, Source};
-use cfs_core::{CollectFault, Core};
+use cfs_base::{Disk, Gate, Sink, Source};
+use cfs_core::Core;
 use cfs_ports::Port;
 use cfs_trail::Trail;
 use std::alloc::Global;
@@ -34,6 +37,7 @@ use ufs_model::Event;
 pub(crate) struct Played {
     pub report: Report,
     pub trail: Trail,
+    pub ending: Ending,
 }
 
 /// Whether this is a reply to a request line.
@@ -63,14 +67,6 @@ fn count_finished(trail: &Trail) -> u64
     count
 }
 
-/// Whether memory was wanting, in a reply or in a step of the collector. A step that was refused for another cause has it told: that is
-/// worse.
-fn is_short(starved: bool, refused: Option<CollectFault>) -> bool
-    ensures { result ≡ (starved || is_some refused) }
-{
-    starved || refused.is_some()
-}
-
 /// How many replies a trail has.
 fn count_replies(trail: &Trail) -> u64
     ensures { result ≡ length (filter spec.is_reply trail.now.events) }
@@ -88,6 +84,7 @@ fn count_replies(trail: &Trail) -> u64
 pub(crate) fn nothing(alloc: Global, cause: Cause) -> Played
     ensures report { result.report ≡ record { counts = None; cause = cause } }
     ensures trail { result.trail.events ≡ [] }
+    ensures ending { result.ending ≡ not_begun }
 {
     Played {
         report: Report {
@@ -95,34 +92,7 @@ pub(crate) fn nothing(alloc: Global, cause: Cause) -> Played
             cause,
         },
         trail: Trail::new(alloc),
-    }
-}
-
-/// What spoiled a service, the worst first.
-fn spoiled_by(
-    failed: bool,
-    stopped: Option<u64>,
-    damage: Option<Damage>,
-    broken: bool,
-    starved: bool,
-) -> Cause
-    ensures { result ≡ played.spoiled_by failed stopped damage broken starved }
-{
-    if failed {
-        return Cause::Disk(stopped);
-    }
-    if let Some(damage) = damage {
-        return Cause::Volume(VolumeFault::Damaged(damage));
-    }
-    if stopped.is_some() {
-        return Cause::Disk(stopped);
-    }
-    if broken {
-        Cause::Sink
-    } else if starved {
-        Cause::Memory
-    } else {
-        Cause::Nothing
+        ending: Ending::none(),
     }
 }
 
@@ -137,6 +107,7 @@ fn has_broken<K: Sink>(ports: &[Port<K>]) -> bool
 fn report_on<D: Disk>(
     core: &Core<D>,
     trail: &Trail,
+    ending: Ending,
     sessions: u64,
     failed: bool,
     broken: bool,
@@ -150,8 +121,7 @@ fn report_on<D: Disk>(
         objects = length core.now.names.named;
         free = sum core.now.space.free;
       });
-      cause = played.spoiled_by failed (option_map (λ stop. stop.moment) core.now.stop)
-          (option_and_then (λ stop. stop.damage) core.now.stop) broken starved;
+      cause = cause_by ending failed broken starved;
     } }
     ensures free { (s : State) → Serves D.Disk core.now s → is_sweeping s.collection ≡ false → s.grants ≡ []
         → sum core.now.space.free ≡ free_of (length core.now.space.free) s.graph }
@@ -166,7 +136,7 @@ fn report_on<D: Disk>(
             objects: u64::from(status.objects),
             free: u64::from(status.free),
         }),
-        cause: spoiled_by(failed, status.stopped, status.damage, broken, starved),
+        cause: ending.cause(failed, broken, starved),
     }
 }
 
@@ -189,25 +159,38 @@ fn serve_ports<D: Disk + Send, K: Sink + Send, G: Gate + Sync, R: Threads + Wait
     requires runs { core.stop ≡ None }
     requires words { core.words.drawn ≡ 0 }
     requires idle { core.collections ≡ record { collector = None; called = 0; finished = 0 } }
-    ensures { ServesSessions D.Disk core collections (map seat_of ports.items) result.1.items result.0.report result.0.trail.events result.0.trail.moments result.2 }
+    ensures { ServesSessions D.Disk core collections (map seat_of ports.items) result.1.items result.0.report
+        result.0.ending result.0.trail.events result.0.trail.moments result.2
+        ⊎ IsUnserved core ports.items result.1.items result.0.report result.0.ending result.0.trail.events result.2 }
 {
     let root = core.root();
     core.call_for(collections);
     core.has_room();
     runs_survive::<D>();
     images_are_whole::<D>();
+    let parts = match serve(rt, alloc, gate, core, trail, root, ports, collections) {
+        Ok(parts) => parts,
+        Err(Unserved { server, ports }) => {
+            return (nothing(alloc, Cause::Memory), ports, server.into_disk());
+        }
+    };
     let Parts {
         server,
         trail,
         ports,
         starved,
         failed,
-        refused,
-    } = serve(rt, alloc, gate, core, trail, root, ports, collections);
+        ending,
+    } = parts;
     let broken = has_broken(ports.as_slice());
-    let short = is_short(starved, refused);
-    let report = report_on(&server, &trail, ports.len() as u64, failed, broken, short);
-    (Played { report, trail }, ports, server.into_disk())
+    let sessions = ports.len() as u64;
+    let report = report_on(&server, &trail, ending, sessions, failed, broken, starved);
+    let played = Played {
+        report,
+        trail,
+        ending,
+    };
+    (played, ports, server.into_disk())
 }
 
 /// Serves these scripts, with a sink for each, and calls for so many collections. The disk comes back.
@@ -228,8 +211,9 @@ fn serve_scripts<D: Disk + Send, K: Sink + Send, G: Gate + Sync, R: Threads + Wa
     requires words { core.words.drawn ≡ 0 }
     requires idle { core.collections ≡ record { collector = None; called = 0; finished = 0 } }
     requires most { collections ≤ 1000 }
-    ensures served { ServesScripts D.Disk core collections scripts.scripts.items (map K.intake sinks.old.items) (map K.intake sinks.new.items)
-        result.0.report result.0.trail.events result.0.trail.moments result.1 }
+    ensures served { ServesScripts D.Disk core collections scripts.scripts.items (map K.intake sinks.old.items)
+        (map K.intake sinks.new.items)
+        result.0.report result.0.ending result.0.trail.events result.0.trail.moments result.1 }
     ensures count { length sinks.new.items ≡ length sinks.old.items }
 {
     let mut trail = Trail::new(alloc);
@@ -264,7 +248,7 @@ pub(crate) fn play<S: Source, K: Sink + Send, G: Gate + Sync, R: Threads + Wait 
     ensures { AsksSessions (new_ground cylinders seed) seed collections
         (record { disk = None; sources = map S.supply sources.old.items; sinks = map K.intake sinks.old.items })
         (record { disk = None; sources = map S.supply sources.new.items; sinks = map K.intake sinks.new.items })
-        result.report result.trail.events }
+        result.report result.ending result.trail.events }
 {
     let scripts = match read_scripts(alloc, sources) {
         Ok(scripts) => scripts,
@@ -277,7 +261,8 @@ pub(crate) fn play<S: Source, K: Sink + Send, G: Gate + Sync, R: Threads + Wait 
     played
 }
 
-/// Reads the sources, and serves their scripts on the volume of this disk, which comes back; so many collections are called for.
+/// Reads the sources, and serves their scripts on the volume of this disk, which comes back; so many collections are
+/// called for.
 pub(crate) fn serve_volume<
     D: Disk + Send,
     S: Source,
@@ -298,10 +283,20 @@ pub(crate) fn serve_volume<
     requires sessions { length sinks.old.items ≤ 64 }
     requires few { collections ≤ 1000 }
     ensures asks { AsksSessions (ground_on D.Disk disk) seed collections
-        (record { disk = Some (D.faults disk); sources = map S.supply sources.old.items; sinks = map K.intake sinks.old.items })
-        (record { disk = Some (D.faults result.1); sources = map S.supply sources.new.items; sinks = map K.intake sinks.new.items })
-        result.0.report result.0.trail.events }
-    ensures volume { ServesVolume D.Disk seed result.0.report result.0.trail.events result.0.trail.moments disk result.1 }
+        (record {
+          disk = Some (D.faults disk);
+          sources = map S.supply sources.old.items;
+          sinks = map K.intake sinks.old.items;
+        })
+        (record {
+          disk = Some (D.faults result.1);
+          sources = map S.supply sources.new.items;
+          sinks = map K.intake sinks.new.items;
+        })
+        result.0.report result.0.ending result.0.trail.events }
+    ensures volume { ServesVolume D.Disk seed result.0.report result.0.ending result.0.trail.events
+        result.0.trail.moments
+        disk result.1 }
 {
     let scripts = match read_scripts(alloc, sources) {
         Ok(scripts) => scripts,

@@ -100,7 +100,8 @@ impl Cause {
 
     /// Writes the line of the cause and that of the status.
     fn write_told<K: Sink>(self, sink: &mut K) -> Result<(), Failed>
-        ensures { WritesWhole (K.intake sink.old) (K.intake sink.new) (cause_text self ++ told (codes "status") (status_of self)) result }
+        ensures { WritesWhole (K.intake sink.old) (K.intake sink.new)
+            (cause_text self ++ told (codes "status") (status_of self)) result }
     {
         self.write_line(sink)?;
         write_number(sink, b"status", u64::from(self.status()))

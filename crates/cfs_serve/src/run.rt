@@ -2,12 +2,13 @@
 ghost use Rattle.std.specs.Prelude.{◌≡◌, ◌⊎◌, ◌%◌, ◌*◌, ◌≤◌, None, Some, string_bytes, map, length, option_map};
 ghost use Rattle.cfs_base.specs.Outside.{Rose};
 ghost use Rattle.cfs_serve.specs.Words.{Format, asked_by, format_in, page_in};
-ghost use Rattle.cfs_serve.specs.Whole.{Asks, HasDisk, HasPlaces, IsWhole, ended};
+ghost use Rattle.cfs_serve.specs.Whole.{Asks, HasDisk, HasPlaces, ended};
 ghost use Rattle.cfs_serve.specs.Disks.{MakesVolume, OnDisk};
 ghost use Rattle.cfs_serve.specs.Ground.{ground_of};
 ghost use Rattle.cfs_serve.specs.Top.{Said, before, after};
 
 use crate::cached::serve_cached;
+use crate::ending::Ending;
 use crate::play::{Played, nothing, play};
 use crate::report::{Cause, Report};
 use crate::words::{format_asked, page_asked, play_asked, serve_asked};
@@ -41,6 +42,8 @@ pub struct Ended<D, S, K> {
     pub trail: Trail,
     /// What the report says, as far as its sink took it.
     pub told: Report,
+    /// Why the core stopped, and what ended the collector.
+    pub ending: Ending,
 }
 
 /// The status of a run whose report was written, or was not.
@@ -60,7 +63,8 @@ fn make_volume<D: Disk>(disk: &mut D, seed: u64) -> Cause
     requires most { D.blocks disk.old ≤ 64 * 65536 }
     ensures made { (format : Format) → format.seed ≡ seed → D.blocks disk.old ≡ 64 * format.cylinders
         → MakesVolume D.Disk format result disk.old disk.new }
-    ensures told { (result ≡ Cause.Nothing) ⊎ ((result ≡ Cause.Disk None) × Rose (D.faults disk.old) (D.faults disk.new)) }
+    ensures told { (result ≡ Cause.Nothing) ⊎ ((result ≡ Cause.Disk None) × Rose (D.faults disk.old)
+        (D.faults disk.new)) }
 {
     match Core::format(disk, seed) {
         Ok(()) => Cause::Nothing,
@@ -75,7 +79,8 @@ struct Done<D> {
     disk: Option<D>,
 }
 
-/// Serves the sessions that are asked for on the volume of the disk, where there is one; nothing where the words are of no form.
+/// Serves the sessions that are asked for on the volume of the disk, where there is one; nothing where the words are of
+/// no form.
 fn serve_asked_on<
     D: Disk + Send,
     S: Source,
@@ -95,11 +100,21 @@ fn serve_asked_on<
     requires places { HasPlaces (asked_by words.now) (length sources.old.items) (length sinks.old.items) }
     requires page { page_in (map string_bytes words.now) ≡ None }
     requires format { format_in (map string_bytes words.now) ≡ None }
-    ensures disk { OnDisk D.Disk (asked_by words.now) result.played.report result.played.trail.events result.played.trail.moments disk result.disk }
+    ensures disk { OnDisk D.Disk (asked_by words.now) result.played.report result.played.ending
+        result.played.trail.events
+        result.played.trail.moments disk result.disk }
     ensures asks { Asks (asked_by words.now) (ground_of D.Disk (asked_by words.now) disk)
-        (record { disk = option_map D.faults disk; sources = map S.supply sources.old.items; sinks = map K.intake sinks.old.items })
-        (record { disk = option_map D.faults result.disk; sources = map S.supply sources.new.items; sinks = map K.intake sinks.new.items })
-        result.played.report result.played.trail.events }
+        (record {
+          disk = option_map D.faults disk;
+          sources = map S.supply sources.old.items;
+          sinks = map K.intake sinks.old.items;
+        })
+        (record {
+          disk = option_map D.faults result.disk;
+          sources = map S.supply sources.new.items;
+          sinks = map K.intake sinks.new.items;
+        })
+        result.played.report result.played.ending result.played.trail.events }
 {
     if let Some(asked) = play_asked(words) {
         let played = play(
@@ -150,11 +165,21 @@ fn do_asked<D: Disk + Send, S: Source, K: Sink + Send, G: Gate + Sync, R: Thread
 ) -> Done<D>
     requires disk { HasDisk (asked_by words.now) (option_map D.blocks disk) }
     requires places { HasPlaces (asked_by words.now) (length sources.old.items) (length sinks.old.items) }
-    ensures disk { OnDisk D.Disk (asked_by words.now) result.played.report result.played.trail.events result.played.trail.moments disk result.disk }
+    ensures disk { OnDisk D.Disk (asked_by words.now) result.played.report result.played.ending
+        result.played.trail.events
+        result.played.trail.moments disk result.disk }
     ensures asks { Asks (asked_by words.now) (ground_of D.Disk (asked_by words.now) disk)
-        (record { disk = option_map D.faults disk; sources = map S.supply sources.old.items; sinks = map K.intake sinks.old.items })
-        (record { disk = option_map D.faults result.disk; sources = map S.supply sources.new.items; sinks = map K.intake sinks.new.items })
-        result.played.report result.played.trail.events }
+        (record {
+          disk = option_map D.faults disk;
+          sources = map S.supply sources.old.items;
+          sinks = map K.intake sinks.old.items;
+        })
+        (record {
+          disk = option_map D.faults result.disk;
+          sources = map S.supply sources.new.items;
+          sinks = map K.intake sinks.new.items;
+        })
+        result.played.report result.played.ending result.played.trail.events }
 {
     if let Some(page) = page_asked(words) {
         return Done {
@@ -174,21 +199,21 @@ fn do_asked<D: Disk + Send, S: Source, K: Sink + Send, G: Gate + Sync, R: Thread
     }
 }
 
-/// Does what the words ask, and writes the report.
-fn run<D: Disk + Send, S: Source, K: Sink + Send, G: Gate + Sync, R: Threads + Wait + Sync>(
+/// Does what the words ask: shows a page, makes a volume, or serves the sessions; and writes the report.
+pub fn top<D: Disk + Send, S: Source, K: Sink + Send, G: Gate + Sync, R: Threads + Wait + Sync>(
     rt: &R,
     alloc: Global,
-    gate: &G,
     words: &[String],
     bay: Bay<D, S, K>,
+    gate: &G,
 ) -> Ended<D, S, K>
     requires disk { HasDisk (asked_by words.now) (option_map D.blocks bay.disk) }
     requires places { HasPlaces (asked_by words.now) (length bay.sources.items) (length bay.sinks.items) }
-    ensures disk { OnDisk D.Disk (asked_by words.now) result.told result.trail.events result.trail.moments bay.disk result.disk }
-    ensures whole { IsWhole (asked_by words.now) (ground_of D.Disk (asked_by words.now) bay.disk)
-        (record { disk = option_map D.faults bay.disk; sources = map S.supply bay.sources.items; sinks = map K.intake bay.sinks.items })
-        (record { disk = option_map D.faults result.disk; sources = map S.supply result.sources.items; sinks = map K.intake result.sinks.items })
-        (K.intake bay.report) (K.intake result.report) result.told result.status result.trail.events }
+    ensures disk { OnDisk D.Disk (asked_by words.now) result.told result.ending result.trail.events result.trail.moments
+        bay.disk result.disk }
+    ensures said { Said (asked_by words.now) (ground_of D.Disk (asked_by words.now) bay.disk)
+        (before D.faults S.supply K.intake bay) (after D.faults S.supply K.intake result) result.told result.status
+        result.ending result.trail.events }
 {
     let Bay {
         disk,
@@ -200,6 +225,7 @@ fn run<D: Disk + Send, S: Source, K: Sink + Send, G: Gate + Sync, R: Threads + W
     let Played {
         report: told,
         trail,
+        ending,
     } = played;
     let written = told.write(&mut report).is_ok();
     Ended {
@@ -210,22 +236,6 @@ fn run<D: Disk + Send, S: Source, K: Sink + Send, G: Gate + Sync, R: Threads + W
         report,
         trail,
         told,
+        ending,
     }
-}
-
-/// Does what the words ask: shows a page, makes a volume, or serves the sessions; and writes the report.
-pub fn top<D: Disk + Send, S: Source, K: Sink + Send, G: Gate + Sync, R: Threads + Wait + Sync>(
-    rt: &R,
-    alloc: Global,
-    words: &[String],
-    bay: Bay<D, S, K>,
-    gate: &G,
-) -> Ended<D, S, K>
-    requires disk { HasDisk (asked_by words.now) (option_map D.blocks bay.disk) }
-    requires places { HasPlaces (asked_by words.now) (length bay.sources.items) (length bay.sinks.items) }
-    ensures disk { OnDisk D.Disk (asked_by words.now) result.told result.trail.events result.trail.moments bay.disk result.disk }
-    ensures said { Said (asked_by words.now) (ground_of D.Disk (asked_by words.now) bay.disk)
-        (before D.faults S.supply K.intake bay) (after D.faults S.supply K.intake result) result.told result.status result.trail.events }
-{
-    run(rt, alloc, gate, words, bay)
 }

@@ -1,6 +1,5 @@
 //! The scripts of the sessions, read from their sources.
 ghost use Rattle.std.specs.Prelude.{◌≡◌, ◌≤◌, IfErr, IfOk, length, map};
-ghost use Rattle.cfs_serve.specs.Scripts as spec;
 ghost use Rattle.cfs_serve.specs.Scripts.{HasScript, HaveScripts, IsOneCause, IsSourceCause, lines_in};
 
 use crate::limits::{MOST_LINES, MOST_SCRIPT};
@@ -30,8 +29,8 @@ fn read_script<S: Source>(alloc: Global, source: &mut S, number: u64) -> Result<
     }
 }
 
-/// Reads each source whole, one after the other, and then counts the request lines. What is to be told where they aren't served:
-/// of the first source that failed or has too much, and else of all of them.
+/// Reads each source whole, one after the other, and then counts the request lines. What is to be told where they
+/// aren't served: of the first source that failed or has too much, and else of all of them.
 pub(crate) fn read_scripts<S: Source>(alloc: Global, sources: &mut Vec<S>) -> Result<Scripts, Cause>
     requires few { length sources.old.items ≤ 64 }
     ensures scripts { IfOk result (λ s. HaveScripts (map S.supply sources.old.items) s.scripts.items) }

@@ -11,7 +11,8 @@ use std::alloc::Global;
 /// Takes these ports apart, the last one first, and puts their sinks after those that are here.
 fn unstack<K: Sink>(mut ports: Vec<Port<K>>, sinks: &mut Vec<K>)
     requires room { length sinks.old.items + length ports.items ≤ vec_capacity sinks.old }
-    ensures sinks { map K.intake sinks.new.items ≡ map K.intake sinks.old.items ++ map (λ p. p.sink) (reverse ports.items) }
+    ensures sinks { map K.intake sinks.new.items ≡ map K.intake sinks.old.items ++ map (λ p. p.sink)
+        (reverse ports.items) }
     ensures room { vec_capacity sinks.new ≡ vec_capacity sinks.old }
 {
     'ports: while !ports.is_empty() {
@@ -21,8 +22,8 @@ fn unstack<K: Sink>(mut ports: Vec<Port<K>>, sinks: &mut Vec<K>)
     ports.destroy_empty();
 }
 
-/// The ports of sessions with these scripts and sinks, the last one first; no sink is left. None for want of memory, and then the
-/// sinks are as they were.
+/// The ports of sessions with these scripts and sinks, the last one first; no sink is left. None for want of memory,
+/// and then the sinks are as they were.
 fn stack_ports<K: Sink>(
     alloc: Global,
     root: Puid,
@@ -31,7 +32,8 @@ fn stack_ports<K: Sink>(
 ) -> Option<Vec<Port<K>>>
     requires { length scripts.items ≡ length sinks.old.items }
     ensures empty { IfSome result (λ ports. sinks.new.items ≡ []) }
-    ensures lines { IfSome result (λ ports. map (λ p. p.lines) (reverse ports.items) ≡ map request_lines scripts.items) }
+    ensures lines { IfSome result (λ ports. map (λ p. p.lines) (reverse ports.items) ≡ map request_lines
+        scripts.items) }
     ensures sinks { IfSome result (λ ports. map (λ p. p.sink) (reverse ports.items) ≡ map K.intake sinks.old.items) }
     ensures new { IfSome result (λ ports. AreNew root (reverse ports.items)) }
     ensures none { IfNone result (map K.intake sinks.new.items ≡ map K.intake sinks.old.items) }
@@ -54,8 +56,8 @@ fn stack_ports<K: Sink>(
     Some(ports)
 }
 
-/// The ports of sessions with these scripts and sinks; no sink is left. None for want of memory, and then the sinks are as they
-/// were.
+/// The ports of sessions with these scripts and sinks; no sink is left. None for want of memory, and then the sinks are
+/// as they were.
 pub(crate) fn make_ports<K: Sink>(
     alloc: Global,
     root: Puid,

@@ -1,18 +1,23 @@
 //! What a service stands on: a server that sessions ask and leave.
-ghost use Rattle.std.specs.Prelude.{◌≡◌, ◌+◌, ◌<◌, ◌≤◌, ℕ, Bool, List, Ok, true, false, IsSome, IsTrue, length};
+ghost use Rattle.std.specs.Prelude.{◌≡◌, ◌+◌, ◌<◌, ◌≤◌, ℕ, Bool, List, [], ◌∷◌, Ok, Option, true, false, IsSome};
+ghost use Rattle.std.specs.Prelude.{IsTrue, is_some, length};
 ghost use Rattle.cfs_base.specs.Disk.{Image};
 ghost use Rattle.cfs_base.specs.Outside.{Rose};
 ghost use Rattle.cfs_script.specs.Room.{FitsLine};
 ghost use Rattle.ufs_model.specs.declared.asked.Event.TheVariants as events;
 ghost use Rattle.ufs_model.specs.Asks.{IsAsked};
 ghost use Rattle.ufs_model.specs.State.{State};
-ghost use Rattle.cfs_serve.specs.Calls.{GoesOn, IsExact, Makes, MayGoOn, MayMake, MayTally, Tallies, Tally, Tells, TellsStep, event_by, tells_stop_at};
+ghost use Rattle.cfs_serve.specs.Calls.{GoesOn, IsExact, Makes, MayGoOn, MayMake, MayTally, Tallies, Tally, Tells};
+ghost use Rattle.cfs_serve.specs.Calls.{EndsCollecting, TellsStep, event_by, refusal_by, tells_stop_at};
+ghost use Rattle.cfs_serve.specs.Ending.{Stops, TellsStop, damage_in};
+ghost use Rattle.cfs_serve.specs.Journal.{recorded};
+ghost use Rattle.cfs_core.specs.declared.kernel.Stop.{Stop};
 ghost use Rattle.ufs_model.specs.Graph.{Graph};
 ghost use Rattle.ufs_model.specs.declared.asked.Event.{Event};
 ghost use Rattle.ufs_model.specs.declared.asked.Unread.{Unread};
 
 use cfs_base::{Disk, Session};
-use cfs_core::{CollectFault, Core, Step};
+use cfs_core::{CollectFault, Core, Step, Stop};
 use std::alloc::Global;
 use survival::runs_survive;
 use ufs_model::{Asker, Plain, Reply, Request};
@@ -25,10 +30,17 @@ pub trait Server: Asker {
     /// The cylinders of its disk; 0 where it has none.
     ghost cylinders: { Self → ℕ };
 
+    /// Why it stopped, if it did.
+    ghost stop: { Self → Option Stop };
+
     ghost has_stopped: { Self → Bool };
 
     /// It stopped, and at a block that is damaged.
     ghost is_damaged: { Self → Bool };
+
+    ghost stopped_so: { (a : Self) → has_stopped a ≡ is_some (stop a) };
+
+    ghost damaged_so: { (a : Self) → is_damaged a ≡ is_some (damage_in (stop a)) };
 
     /// The clock of its disk; 0 where it has none.
     ghost clock: { Self → ℕ };
@@ -50,9 +62,12 @@ pub trait Server: Asker {
         ensures tallies { (s : State) → Self.stands self.old s
             → Tallies has_stopped tally (Self.seed self.old) self.old self.new s (events.Ask who request.now result) }
         ensures called { (tally self.new).called ≡ (tally self.old).called }
-        ensures lasts { GoesOn Self.stands clock lasts (Self.seed self.old) self.old self.new (events.Ask who request.now result) }
+        ensures lasts { GoesOn Self.stands clock lasts (Self.seed self.old) self.old self.new
+            (events.Ask who request.now result) }
         ensures tells { Tells faults has_stopped is_damaged self.old self.new (events.Ask who request.now result) }
-        ensures undamaged { (s : State) → Self.stands self.old s → is_damaged self.old ≡ false → is_damaged self.new ≡ false }
+        ensures stops { Stops (stop self.old) (stop self.new) (events.Ask who request.now result ∷ []) }
+        ensures undamaged { (s : State) → Self.stands self.old s → is_damaged self.old ≡ false
+            → is_damaged self.new ≡ false }
         ensures fits { FitsLine result }
         ensures size { cylinders self.new ≡ cylinders self.old }
         ensures seed { Self.seed self.new ≡ Self.seed self.old }
@@ -64,11 +79,15 @@ pub trait Server: Asker {
             → Makes (Self.stands self.new) (Self.seed self.old) s (events.Leave who result) }
         ensures tallies { (s : State) → Self.stands self.old s
             → Tallies has_stopped tally (Self.seed self.old) self.old self.new s (events.Leave who result) }
-        ensures halts { (s : State) → Self.stands self.old s → IsSome result → Rose (faults self.old) (faults self.new) }
+        ensures halts { (s : State) → Self.stands self.old s → IsSome result
+            → Rose (faults self.old) (faults self.new) }
         ensures called { (tally self.new).called ≡ (tally self.old).called }
-        ensures lasts { GoesOn Self.stands clock lasts (Self.seed self.old) self.old self.new (events.Leave who result) }
+        ensures lasts { GoesOn Self.stands clock lasts (Self.seed self.old) self.old self.new
+            (events.Leave who result) }
         ensures tells { Tells faults has_stopped is_damaged self.old self.new (events.Leave who result) }
-        ensures undamaged { (s : State) → Self.stands self.old s → is_damaged self.old ≡ false → is_damaged self.new ≡ false }
+        ensures stops { Stops (stop self.old) (stop self.new) (events.Leave who result ∷ []) }
+        ensures undamaged { (s : State) → Self.stands self.old s → is_damaged self.old ≡ false
+            → is_damaged self.new ≡ false }
         ensures size { cylinders self.new ≡ cylinders self.old }
         ensures seed { Self.seed self.new ≡ Self.seed self.old }
         ensures drawn { Self.words self.new ≤ Self.words self.old };
@@ -79,33 +98,48 @@ pub trait Server: Asker {
             → MayMake (Self.stands self.new) (Self.seed self.old) s (event_by result) }
         ensures lasts { MayGoOn Self.stands clock lasts (Self.seed self.old) self.old self.new (event_by result) }
         ensures tells { TellsStep faults has_stopped is_damaged self.old self.new result }
-        ensures undamaged { (s : State) → Self.stands self.old s → is_damaged self.old ≡ false → is_damaged self.new ≡ false }
+        ensures stops { Stops (stop self.old) (stop self.new) (recorded (event_by result))
+            × TellsStop (refusal_by result) (stop self.new) }
+        ensures undamaged { (s : State) → Self.stands self.old s → is_damaged self.old ≡ false
+            → is_damaged self.new ≡ false }
         ensures tallies { (s : State) → Self.stands self.old s
             → MayTally has_stopped tally (Self.seed self.old) self.old self.new s (event_by result) }
-        ensures halts { (s : State) → Self.stands self.old s → tells_stop_at (event_by result) ≡ true → Rose (faults self.old) (faults self.new) }
+        ensures halts { (s : State) → Self.stands self.old s → tells_stop_at (event_by result) ≡ true
+            → Rose (faults self.old) (faults self.new) }
         ensures called { (tally self.new).called ≡ (tally self.old).called }
-        ensures idle { result ≡ Ok Step.Idle → (has_stopped self.new ≡ false) × ((tally self.new).finished ≡ (tally self.new).called) }
+        ensures ends { EndsCollecting has_stopped tally self.old self.new result }
         ensures size { cylinders self.new ≡ cylinders self.old }
         ensures seed { Self.seed self.new ≡ Self.seed self.old }
         ensures drawn { Self.words self.new ≤ Self.words self.old };
 
+    /// Why it stopped, if it did.
+    fn stopped(&self) -> Option<Stop>
+        ensures { result ≡ stop self.now };
+
     /// The disk's clock. A line that is no request makes no call of the disk.
     fn moment(&self) -> u64
         ensures clock { result ≡ clock self.now }
-        ensures lasts { (who : ℕ) (why : Unread) → GoesOn Self.stands clock lasts (Self.seed self.now) self.now self.now (events.Unread who why) };
+        ensures lasts { (who : ℕ) (why : Unread) → GoesOn Self.stands clock lasts (Self.seed self.now) self.now self.now
+            (events.Unread who why) };
 }
 
 /// The slow server has no disk, and no collection is called for.
 impl Server for Plain {
-    ghost use Rattle.std.specs.Prelude.{false};
+    ghost use Rattle.std.specs.Prelude.{None, false, refl};
 
     ghost faults = { λ p. 0 };
 
     ghost cylinders = { λ p. 0 };
 
+    ghost stop = { λ p. None };
+
     ghost has_stopped = { λ p. false };
 
     ghost is_damaged = { λ p. false };
+
+    ghost stopped_so = { λ p. refl };
+
+    ghost damaged_so = { λ p. refl };
 
     ghost clock = { λ p. 0 };
 
@@ -126,20 +160,25 @@ impl Server for Plain {
         Ok(Step::Idle)
     }
 
+    fn stopped(&self) -> Option<Stop> {
+        None
+    }
+
     fn moment(&self) -> u64 {
         0
     }
 }
 
-/// The content of an honest disk, and each image that a crash may leave, has as many blocks as the disk. This does nothing: it is a
-/// law.
+/// The content of an honest disk, and each image that a crash may leave, has as many blocks as the disk. This does
+/// nothing: it is a law.
 pub(crate) fn images_are_whole<D: Disk>()
     ensures sized { (d : D) → IsTrue (D.honest d) → length (D.content d) ≡ D.blocks d }
     ensures left_sized { (d : D) (t : ℕ) (c : Image) → D.left_since d t c → length c ≡ D.blocks d }
 {}
 
 impl<D: Disk> Server for Core<D> {
-    ghost use Rattle.std.specs.Prelude.{is_some, length, option_and_then};
+    ghost use Rattle.std.specs.Prelude.{is_some, length, refl};
+    ghost use Rattle.cfs_serve.specs.Ending.{damage_in};
     ghost use Rattle.cfs_serve.specs.Calls.{tally_of};
     ghost use Rattle.survival.specs.Trail.{RunSurvives};
 
@@ -147,9 +186,15 @@ impl<D: Disk> Server for Core<D> {
 
     ghost cylinders = { λ k. length k.space.free };
 
+    ghost stop = { λ k. k.stop };
+
     ghost has_stopped = { λ k. is_some k.stop };
 
-    ghost is_damaged = { λ k. is_some (option_and_then (λ stop. stop.damage) k.stop) };
+    ghost is_damaged = { λ k. is_some (damage_in k.stop) };
+
+    ghost stopped_so = { λ k. refl };
+
+    ghost damaged_so = { λ k. refl };
 
     ghost clock = { λ k. D.moment k.disk };
 
@@ -182,6 +227,17 @@ impl<D: Disk> Server for Core<D> {
         let step = Core::collect(self, alloc);
         self.has_room();
         step
+    }
+
+    fn stopped(&self) -> Option<Stop> {
+        let status = Core::status(self);
+        match status.stopped {
+            Some(moment) => Some(Stop {
+                moment,
+                damage: status.damage,
+            }),
+            None => None,
+        }
     }
 
     fn moment(&self) -> u64 {

@@ -1,18 +1,17 @@
 //! The words of a command.
-ghost use Rattle.std.specs.Prelude.{◌≡◌, ◌↔◌, ◌≤◌, List, ℕ, [], ◌∷◌, length, map, Some, None, IsNone, IfSome, IfErr, IfOk, Err, string_bytes, true};
+ghost use Rattle.std.specs.Prelude.{◌≡◌, ◌↔◌, ◌≤◌, [], ◌∷◌, length, map, Some, None, IsNone, IfSome};
+ghost use Rattle.std.specs.Prelude.{string_bytes, true};
 ghost use Rattle.std.specs.List.{list_all};
 ghost use Rattle.ufs_model.specs.Spoken.{number_in};
-ghost use Rattle.cfs_serve.specs.Whole.{HasCylinders, HasPlaces, NamesVolume};
 ghost use Rattle.cfs_serve.specs.Words as spec;
-ghost use Rattle.cfs_serve.specs.Words.{read_or_none, InFile, InMemory, Service, Serves, Nothing, asked_in, files_in, format_in, inputs_in, is_file_word, most_made, outputs_in, page_in, play_in, serve_in, streams_in};
+ghost use Rattle.cfs_serve.specs.Words.{read_or_none, InFile, InMemory, files_in, format_in, inputs_in, is_file_word};
+ghost use Rattle.cfs_serve.specs.Words.{most_made, outputs_in, page_in, play_in, serve_in, streams_in};
 
 use crate::limits::{
     MOST_COLLECTIONS, MOST_CYLINDERS, MOST_FILE_CYLINDERS, MOST_PAIR_CYLINDERS, MOST_SESSIONS,
 };
 use crate::page::Page;
-use crate::paths::{Names, Volume, WordsFault, no_paths, path_of, session_paths};
 use cfs_script::number_of;
-use std::alloc::Global;
 
 /// A service on a new volume in memory. The files of its sessions are named two and two.
 #[derive(Clone, Copy, Debug)]
@@ -108,9 +107,17 @@ fn play_words<'a>(
     collections: &str,
     files: &'a [String],
 ) -> Option<Played<'a>>
-    ensures none { IsNone result ↔ (play_in (verb.now ∷ cylinders.now ∷ seed.now ∷ collections.now ∷ map string_bytes files.now) ≡ None) }
-    ensures some { IfSome result (λ a. play_in (verb.now ∷ cylinders.now ∷ seed.now ∷ collections.now ∷ map string_bytes files.now)
-        ≡ Some (record { volume = InMemory a.cylinders; seed = a.seed; collections = a.collections; sessions = files_in (map string_bytes a.files.now) })) }
+    ensures none { IsNone result ↔ (play_in (verb.now ∷ cylinders.now ∷ seed.now ∷ collections.now ∷ map string_bytes
+        files.now) ≡ None) }
+    ensures some { IfSome result (λ a. play_in (verb.now ∷ cylinders.now ∷ seed.now ∷ collections.now ∷ map string_bytes
+        files.now)
+        ≡ Some (record {
+          volume = InMemory a.cylinders;
+          seed = a.seed;
+          collections = a.collections;
+          sessions = files_in
+              (map string_bytes a.files.now);
+        })) }
     ensures few { IfSome result (λ a. length (files_in (map string_bytes a.files.now)) ≤ 64) }
     ensures sized { IfSome result (λ a. (1 ≤ a.cylinders) × (a.cylinders ≤ 1024)) }
     ensures most { IfSome result (λ a. a.collections ≤ 1000) }
@@ -139,7 +146,13 @@ fn play_words<'a>(
 pub(crate) fn play_asked(words: &[String]) -> Option<Played<'_>>
     ensures none { IsNone result ↔ (play_in (map string_bytes words.now) ≡ None) }
     ensures some { IfSome result (λ a. play_in (map string_bytes words.now)
-        ≡ Some (record { volume = InMemory a.cylinders; seed = a.seed; collections = a.collections; sessions = files_in (map string_bytes a.files.now) })) }
+        ≡ Some (record {
+          volume = InMemory a.cylinders;
+          seed = a.seed;
+          collections = a.collections;
+          sessions = files_in
+              (map string_bytes a.files.now);
+        })) }
     ensures few { IfSome result (λ a. length (files_in (map string_bytes a.files.now)) ≤ 64) }
     ensures sized { IfSome result (λ a. (1 ≤ a.cylinders) × (a.cylinders ≤ 1024)) }
     ensures most { IfSome result (λ a. a.collections ≤ 1000) }
@@ -164,9 +177,16 @@ fn volume_words<'a>(
     collections: &str,
     files: &'a [String],
 ) -> Option<Served<'a>>
-    ensures none { IsNone result ↔ (serve_in (verb.now ∷ volume.now ∷ seed.now ∷ collections.now ∷ map string_bytes files.now) ≡ None) }
-    ensures some { IfSome result (λ a. serve_in (verb.now ∷ volume.now ∷ seed.now ∷ collections.now ∷ map string_bytes files.now)
-        ≡ Some (record { volume = InFile a.volume.now a.pair; seed = a.seed; collections = a.collections; sessions = files_in (map string_bytes a.files.now) })) }
+    ensures none { IsNone result ↔ (serve_in (verb.now ∷ volume.now ∷ seed.now ∷ collections.now ∷ map string_bytes
+        files.now) ≡ None) }
+    ensures some { IfSome result (λ a. serve_in (verb.now ∷ volume.now ∷ seed.now ∷ collections.now ∷ map
+        string_bytes files.now)
+        ≡ Some (record {
+          volume = InFile a.volume.now a.pair;
+          seed = a.seed;
+          collections = a.collections;
+          sessions = files_in (map string_bytes a.files.now);
+        })) }
     ensures few { IfSome result (λ a. length (files_in (map string_bytes a.files.now)) ≤ 64) }
     ensures most { IfSome result (λ a. a.collections ≤ 1000) }
 {
@@ -196,7 +216,12 @@ fn volume_words<'a>(
 pub(crate) fn serve_asked(words: &[String]) -> Option<Served<'_>>
     ensures none { IsNone result ↔ (serve_in (map string_bytes words.now) ≡ None) }
     ensures some { IfSome result (λ a. serve_in (map string_bytes words.now)
-        ≡ Some (record { volume = InFile a.volume.now a.pair; seed = a.seed; collections = a.collections; sessions = files_in (map string_bytes a.files.now) })) }
+        ≡ Some (record {
+          volume = InFile a.volume.now a.pair;
+          seed = a.seed;
+          collections = a.collections;
+          sessions = files_in (map string_bytes a.files.now);
+        })) }
     ensures few { IfSome result (λ a. length (files_in (map string_bytes a.files.now)) ≤ 64) }
     ensures most { IfSome result (λ a. a.collections ≤ 1000) }
 {
@@ -271,105 +296,5 @@ pub(crate) fn page_asked(words: &[String]) -> Option<Page>
         Some(Page::Version)
     } else {
         None
-    }
-}
-
-/// The volume that is to be made, and no other file.
-fn volume_names(
-    alloc: Global,
-    volume: &str,
-    cylinders: u64,
-    pair: bool,
-) -> Result<Names, WordsFault>
-    requires { cylinders ≤ most_made pair }
-    ensures fault { IfErr result (λ e. e ≡ WordsFault.Memory) }
-    ensures volume { IfOk result (λ n. n.volume ≡ Some (Volume.Fresh volume.now cylinders)) }
-    ensures places { IfOk result (λ n. (n.sources ≡ []) × (n.sinks ≡ [])) }
-    ensures pair { IfOk result (λ n. n.pair ≡ pair) }
-{
-    let Ok(path) = path_of(alloc, volume) else {
-        return Err(WordsFault::Memory);
-    };
-    Ok(Names {
-        volume: Some(Volume::Fresh {
-            path,
-            cylinders: cylinders as u32,
-        }),
-        sources: no_paths(alloc),
-        sinks: no_paths(alloc),
-        pair,
-    })
-}
-
-/// The request files and the reply files of sessions, beside a volume.
-fn session_names(
-    alloc: Global,
-    volume: Option<Volume>,
-    files: &[String],
-    pair: bool,
-) -> Result<Names, WordsFault>
-    ensures fault { IfErr result (λ e. e ≡ WordsFault.Memory) }
-    ensures volume { IfOk result (λ n. n.volume ≡ volume) }
-    ensures sources { IfOk result (λ n. n.sources ≡ inputs_in (map string_bytes files.now)) }
-    ensures sinks { IfOk result (λ n. n.sinks ≡ outputs_in (map string_bytes files.now)) }
-    ensures pair { IfOk result (λ n. n.pair ≡ pair) }
-{
-    let Ok((sources, sinks)) = session_paths(alloc, files) else {
-        return Err(WordsFault::Memory);
-    };
-    Ok(Names {
-        volume,
-        sources,
-        sinks,
-        pair,
-    })
-}
-
-/// The volume that is to be served, and the files of its sessions.
-fn served_names(
-    alloc: Global,
-    volume: &str,
-    files: &[String],
-    pair: bool,
-) -> Result<Names, WordsFault>
-    ensures fault { IfErr result (λ e. e ≡ WordsFault.Memory) }
-    ensures volume { IfOk result (λ n. n.volume ≡ Some (Volume.Existing volume.now)) }
-    ensures sources { IfOk result (λ n. n.sources ≡ inputs_in (map string_bytes files.now)) }
-    ensures sinks { IfOk result (λ n. n.sinks ≡ outputs_in (map string_bytes files.now)) }
-    ensures pair { IfOk result (λ n. n.pair ≡ pair) }
-{
-    let Ok(path) = path_of(alloc, volume) else {
-        return Err(WordsFault::Memory);
-    };
-    session_names(alloc, Some(Volume::Existing { path }), files, pair)
-}
-
-/// What the words of a command name: nothing for a page. `Words` comes exactly where they are of no form.
-pub fn names(alloc: Global, words: &[String]) -> Result<Names, WordsFault>
-    ensures words { result ≡ Err WordsFault.Words ↔ (asked_in (map string_bytes words.now) ≡ Nothing) }
-    ensures volume { IfOk result (λ n. NamesVolume (asked_in (map string_bytes words.now)) n.volume) }
-    ensures sized { IfOk result (λ n. IfSome n.volume (HasCylinders n.pair)) }
-    ensures pair { IfOk result (λ n. n.pair ≡ spec.is_pair (asked_in (map string_bytes words.now))) }
-    ensures places { IfOk result (λ n. HasPlaces (asked_in (map string_bytes words.now)) (length n.sources) (length n.sinks)) }
-    ensures sources { IfOk result (λ n. (s : Service) → asked_in (map string_bytes words.now) ≡ Serves s → n.sources ≡ map (λ f. f.input) s.sessions) }
-    ensures sinks { IfOk result (λ n. (s : Service) → asked_in (map string_bytes words.now) ≡ Serves s → n.sinks ≡ map (λ f. f.output) s.sessions) }
-{
-    if page_asked(words).is_some() {
-        return Ok(Names {
-            volume: None,
-            sources: no_paths(alloc),
-            sinks: no_paths(alloc),
-            pair: false,
-        });
-    }
-    if let Some(format) = format_asked(words) {
-        return volume_names(alloc, format.volume, format.cylinders, format.pair);
-    }
-    if let Some(play) = play_asked(words) {
-        return session_names(alloc, None, play.files, false);
-    }
-    match serve_asked(words) {
-        Some(served) => served_names(alloc, served.volume, served.files, served.pair),
-        None => Err(WordsFault::Words),
     }
 }

@@ -1,5 +1,6 @@
 //! A source read whole.
-ghost use Rattle.std.specs.Prelude.{◌≡◌, ◌≢◌, ◌+◌, ◌<◌, ◌≤◌, ◌++◌, ℕ, List, length, take, vec_len, Some, IfOk, OnErr, IsErr, IsErrOf};
+ghost use Rattle.std.specs.Prelude.{◌≡◌, ◌≢◌, ◌+◌, ◌<◌, ◌≤◌, ◌++◌, ℕ, List, length, take, vec_len, Some};
+ghost use Rattle.std.specs.Prelude.{IfOk, OnErr, IsErr, IsErrOf};
 ghost use Rattle.cfs_base.specs.Outside.{Rose};
 ghost use Rattle.cfs_streams.specs.Reading.{Gave, GaveUpTo, IsAtEnd};
 

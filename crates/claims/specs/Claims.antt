@@ -16,7 +16,8 @@ pub record IsClaimed (e : MapEntry) (a b : Image) : Type 0 where
   pub here : entry_in b block ≡ Some e
   pub others : (m : ℕ) → m ≢ block → entry_in b m ≡ entry_in a m
 
--- From image a to image c a block was claimed for each of these entries, in their order. An entry tells its block's owner and place.
+-- From image a to image c a block was claimed for each of these entries, in their order. An entry tells its block's
+-- owner and place.
 abbrev pub AreClaimed : List MapEntry → Image → Image → Type 0
 AreClaimed [] a c = SameEntries a c
 AreClaimed (e ∷ es) a c = (b : Image) × IsClaimed e a b × AreClaimed es b c

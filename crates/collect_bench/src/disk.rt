@@ -6,8 +6,9 @@ use cfs_base::{Block, BlockNo, Disk, Failed, Kind, Puid};
 /// How many objects an index refers to.
 const FAN: u64 = 64;
 
-/// A disk of a sound volume whose objects are a tree: object k refers to the objects from 64 k + 1 to 64 k + 64, as far as they
-/// are among the kept. The others are referred to by none. It tells nothing, and keeps nothing of what is written.
+/// A disk of a sound volume whose objects are a tree: object k refers to the objects from 64 k + 1 to 64 k + 64, as far
+/// as they are among the kept. The others are referred to by none. It tells nothing, and keeps nothing of what is
+/// written.
 #[derive(Drop)]
 pub struct Tree {
     cylinders: u32,

@@ -1,6 +1,6 @@
 //! Collections for a clock to be held to: `collect_bench CYLINDERS OBJECTS COUNT` makes COUNT collections of a tree of
-//! OBJECTS objects, of which a tenth can't be reached, and prints what they did. Where COUNT is 0 it opens the volume, as
-//! after a crash, and all its objects can be reached.
+//! OBJECTS objects, of which a tenth can't be reached, and prints what they did. Where COUNT is 0 it opens the volume,
+//! as after a crash, and all its objects can be reached.
 #![tactic(auto)]
 
 mod disk;

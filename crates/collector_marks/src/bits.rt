@@ -53,7 +53,15 @@ impl Bits {
     pub fn has(&self, at: u32) -> bool
         ensures { result ≡ get_or self.now at false }
     {
-        at < self.count && self.words[(at / WORD) as usize] >> (at % WORD) & 1 == 1
+        at < self.count && self.is_set(at)
+    }
+
+    /// Whether one of these bits is set.
+    pub fn is_set(&self, at: u32) -> bool
+        requires { at < length self.now }
+        ensures { result ≡ get_or self.now at false }
+    {
+        self.words[(at / WORD) as usize] >> (at % WORD) & 1 == 1
     }
 
     /// Sets a bit.

@@ -31,8 +31,8 @@ impl Model for Marks {
     ghost use Rattle.collector_marks.specs.Kept.{count_marked};
 
     // Each is an object of the volume, and there are no more of them than are marked.
-    ghost invariant = { λ a. All (λ e. e.id.block < length a.marked) a.grey.items × (vec_len a.grey ≤ count_marked a.marked)
-        × (length a.marked ≤ vec_capacity a.grey) };
+    ghost invariant = { λ a. All (λ e. e.id.block < length a.marked) a.grey.items
+        × (vec_len a.grey ≤ count_marked a.marked) × (length a.marked ≤ vec_capacity a.grey) };
 }
 
 fn is_index(kind: Kind) -> bool
@@ -64,13 +64,14 @@ impl Marks {
         self.grey.clear();
     }
 
-    /// Marks an object, and makes it the first grey index where it is an index; nothing where it is marked. Takes no memory.
+    /// Marks an object, and makes it the first grey index where it is an index; nothing where it is marked. Takes no
+    /// memory.
     pub fn shade(&mut self, id: Puid, kind: Kind)
         requires { id.block < blocks_of self.old }
         ensures shaded { colours_of self.new ≡ shaded id kind (colours_of self.old) }
         ensures blocks { blocks_of self.new ≡ blocks_of self.old }
     {
-        if self.is_marked(id.block) {
+        if self.marked.is_set(id.block) {
             return;
         }
         self.marked.put(id.block);

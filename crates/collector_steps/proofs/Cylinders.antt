@@ -1,37 +1,7 @@
 -- What the sweep of a cylinder does to a disk, from what its calls do.
 use Rattle.std.proofs.Common.{◌≡◌, ℕ, ◌+◌, ◌*◌, ◌/◌, ◌<◌, List, length, set, count_by, refl, sym, ap, ap₂, ◌∙◌, subst, arith, true, false, Ok, Err}
-use Rattle.std.specs.Prelude.{IsSome}
-use Rattle.cfs_base.specs.Calls.{HasStopped, MakesAtMost, OnlyReads}
-use Rattle.cfs_base.specs.Disk.{Image, Nothing}
-use Rattle.cfs_base.specs.Run.{Leaves, Tells}
-use Rattle.cfs_base.specs.declared.disk.Disk.{Ghosts}
-use Rattle.cfs_base.specs.declared.identifier.Puid.{Puid}
-use Rattle.cfs_base.specs.declared.kind.Kind.{Kind}
-use Rattle.cfs_base.specs.declared.refusal.Trouble.{Trouble}
+use Rattle.collector_steps.proofs.Words.{Accounts, AreCounts, Carries, Frames, Ghosts, Graph, HasStopped, Holds, Image, IsDamage, IsFreeElsewhere, IsMapOf, IsMapTrouble, IsSome, IsSweep, IsSweptOf, Kept, Kind, Leaves, MakesAtMost, MapEntry, Nothing, OnlyReads, Opened, Pass, Puid, Serves, State, Tells, Trouble, carries_on, free_in_cylinder, goes, has_block, has_root_in, kinds_of, makes_then, map_of, map_spelling, reads_make, stopped_after_reads, sweep_goes_on, swept_map, then, trouble_had_tried, wider}
 use Rattle.cfs_base.specs.declared.refusal.Trouble.TheVariants as trouble
-use Rattle.cfs_base.proofs.Calls.{makes_then, reads_make, stopped_after_reads}
-use Rattle.cfs_base.proofs.Runs.{then, wider}
-use Rattle.cyl_alloc.specs.Maps.{IsMapOf}
-use Rattle.cyl_alloc.specs.Refusals.{IsMapTrouble}
-use Rattle.cfs_base.specs.Refusals.{trouble_had_tried}
-use Rattle.cyl_alloc.specs.Space.{AreCounts, IsFreeElsewhere, Kept, free_in_cylinder}
-use Rattle.cyl_map.specs.declared.entry.MapEntry.{MapEntry}
-use Rattle.cyl_map.specs.Map.{map_spelling}
-use Rattle.cyl_map.specs.Volume.{map_of}
-use Rattle.puid_space.specs.Directory.{has_root_in}
-use Rattle.puid_space.specs.Kinds.{kinds_of}
-use Rattle.ufs_model.specs.Graph.{Graph, has_block}
-use Rattle.ufs_model.specs.State.{State}
-use Rattle.vol_image.specs.Frame.{Frames}
-use Rattle.vol_image.specs.Run.{Carries}
-use Rattle.vol_image.specs.Sound.{Holds}
-use Rattle.vol_image.proofs.Carries.{carries_on}
-use Rattle.vol_owners.specs.Account.{Accounts, Opened}
-use Rattle.vol_owners.proofs.Steps.{sweep_goes_on}
-use Rattle.collector_steps.specs.declared.sweep.Pass.{Pass}
-use Rattle.collector_steps.specs.Collecting.{Serves}
-use Rattle.collector_steps.specs.Sweep.{IsSweptOf, goes, swept_map}
-use Rattle.collector_steps.specs.Swept.{IsDamage, IsSweep}
 use Rattle.collector_steps.proofs.Sweeping.{frames, sweeps}
 use Rattle.collector_steps.proofs.Written.{after_of, counted, elsewhere, swept_so}
 

@@ -1,23 +1,8 @@
 -- Why a leaf of an index isn't read: what a device call or a pointer past the disk tells of the index.
 use Rattle.std.proofs.Common.{◌≡◌, ◌≢◌, ℕ, ◌/◌, ◌%◌, ◌≤◌, List, [], ◌∷◌, get_or, false, refl, sym, ap, ◌∙◌, subst}
-use Rattle.cfs_base.specs.Calls.{OnlyReads}
-use Rattle.cfs_base.specs.Disk.{Image, block_at}
-use Rattle.cfs_base.specs.Run.{Tells}
-use Rattle.cfs_base.specs.declared.disk.Disk.{Ghosts}
+use Rattle.collector_steps.proofs.Words.{Ghosts, HeldStep, Image, IsFault, IsLeafTrouble, IsPast, IsPastFrom, IsRootBlock, IsScanTrouble, LeadsPast, OnlyReads, PastDisk, Root, Tells, TreeFault, Trouble, block_at, leaf_block, node_block, node_pointers, past_is, path_is, pointers_of, root_spelling, stopped_after_reads, tells_on, tree_of, trouble_of}
 use Rattle.cfs_base.specs.declared.refusal.Trouble.TheVariants as trouble
-use Rattle.cfs_base.specs.declared.refusal.Trouble.{Trouble}
-use Rattle.cfs_base.proofs.Calls.{stopped_after_reads, tells_on}
-use Rattle.block_tree.specs.declared.fault.TreeFault.{TreeFault}
 use Rattle.block_tree.specs.declared.fault.TreeFault.TheVariants as faults
-use Rattle.block_tree.specs.declared.root.Root.{Root}
-use Rattle.block_tree.specs.declared.step.HeldStep.{HeldStep}
-use Rattle.block_tree.specs.Pointers.{node_pointers, pointers_of}
-use Rattle.block_tree.specs.Reads.{IsFault, IsPast}
-use Rattle.block_tree.specs.Root.{IsRootBlock, root_spelling}
-use Rattle.block_tree.specs.Step.{IsPastFrom}
-use Rattle.block_tree.specs.Tree.{leaf_block, tree_of}
-use Rattle.block_tree.proofs.Trees.{past_is, path_is, node_block}
-use Rattle.collector_steps.specs.Scan.{IsLeafTrouble, IsScanTrouble, LeadsPast, PastDisk, trouble_of}
 
 -- a pointer of the root
 past_node : (image : Image) (size r from b : ℕ) → IsPastFrom image size (block_at image r) from b → LeadsPast image size r r

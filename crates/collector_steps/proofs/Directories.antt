@@ -1,16 +1,6 @@
 -- A directory: how many it has, and what is taken out.
 use Rattle.std.proofs.Common.{◌≡◌, ℕ, ◌+◌, ◌<◌, ◌≤◌, List, [], ◌∷◌, length, refl, ap, arith, true, false, cond, not, nat_lt, nat_le, ◌&&◌}
-use Rattle.std.specs.Prelude.{filter}
-use Rattle.std.specs.List.{list_all}
-use Rattle.std.specs.Map.{keys_of}
-use Rattle.std.proofs.lemmas.Bool.{and_parts}
-use Rattle.std.proofs.lemmas.Bool.Decides.{nat_tests}
-use Rattle.cfs_base.specs.declared.identifier.Puid.{Puid}
-use Rattle.cfs_base.specs.declared.kind.Kind.{Kind}
-use Rattle.ufs_model.specs.Identifier.{rises}
-use Rattle.marking.specs.Colours.{Colours}
-use Rattle.marking.specs.Steps.{unmarked}
-use Rattle.puid_space.specs.Directory.{Listing, blocks_rise, is_listing, taken_by}
+use Rattle.collector_steps.proofs.Words.{Colours, Kind, Listing, Puid, and_parts, blocks_rise, filter, is_listing, keys_of, list_all, nat_tests, rises, taken_by, unmarked}
 
 -- ---- how many
 

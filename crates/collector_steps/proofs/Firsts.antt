@@ -1,7 +1,6 @@
 -- The first of a list.
-use Rattle.std.proofs.Common.{◌≡◌, List, [], ◌∷◌, ◌↔◌, drop, refl, sym, ap, ◌∙◌, Some, None}
-use Rattle.std.specs.Prelude.{slice_get, is_some, IsTrue}
-use Rattle.std.proofs.lemmas.Option.{same_Some}
+use Rattle.std.proofs.Common.{◌≡◌, List, [], ◌∷◌, ◌↔◌, drop, refl, sym, ap, ◌∙◌, Some, None, is_some}
+use Rattle.collector_steps.proofs.Words.{IsTrue, same_Some, slice_get}
 
 pub some_first : {X : Type 0} (xs : List X) → IsTrue (is_some (slice_get xs 0)) ↔ ¬ (xs ≡ [])
 some_first [] = ((λ h. cc), (λ none. elim (none refl) [ ]))

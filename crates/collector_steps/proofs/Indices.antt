@@ -1,42 +1,10 @@
 -- A leaf of an index as the disk has it, and as the model has it.
-use Rattle.std.proofs.Common.{◌≡◌, ◌≢◌, inl, inr, ℕ, zero, suc, ◌+◌, ◌*◌, ◌/◌, ◌<◌, ◌≤◌, List, [], ◌∷◌, ◌++◌, length, take, drop, get_or, replicate, refl, sym, ◌∙◌, ap, subst, arith, Bool, true, false, Option, Some, None, is_some}
-use Rattle.std.specs.Prelude.{map, IfSome}
-use Rattle.std.specs.List.{filter_map, range_with_len}
-use Rattle.std.proofs.lemmas.Bool.{cases_lt}
-use Rattle.std.proofs.lemmas.List.{take_at}
-use Rattle.cfs_base.specs.Disk.{Image, AreBlocks, block_at}
-use Rattle.cfs_base.specs.declared.identifier.Puid.{Puid}
-use Rattle.cfs_base.specs.declared.kind.Kind.{Kind}
+use Rattle.std.proofs.Common.{◌≡◌, ◌≢◌, inl, inr, ℕ, zero, suc, ◌+◌, ◌*◌, ◌/◌, ◌<◌, ◌≤◌, List, [], ◌∷◌, ◌++◌, length, take, drop, get_or, replicate, refl, sym, ◌∙◌, ap, subst, arith, Bool, true, false, Option, Some, None, is_some, map}
+use Rattle.collector_steps.proofs.Words.{AreBlocks, Colours, Ghosts, Graph, HasNoDeadEnd, Held, HeldStep, Holds, IfSome, Image, Index, IsDamaged, IsScanTrouble, IsStep, IsStepped, IsTree, Kind, LeadsPast, NoRoot, NoneHeld, Object, PastDisk, Puid, Tells, Trouble, all_shaded, block_at, cases_lt, count_is, cursor_after, file_bytes, filter-rises, filter_map, find_least, find_none, find_on, has_number, held, held_at, held_in, ids_from, in_filter, in_numbers, is_committed, leaf_block, leaf_content, leaf_ids, leaf_in, leaves_in, levels_of, moved, next_cursor, next_held, numbers-rise, numbers_rise, object_at, object_with, part_at, path_to, range_with_len, read, read_by_root, scanned, sight, slot_in, stepped, take_at, the_index, to_filter, to_numbers, tree_in, tree_of}
 use Rattle.cfs_base.specs.declared.kind.Kind.TheVariants as kinds
-use Rattle.cfs_base.specs.declared.disk.Disk.{Ghosts}
-use Rattle.cfs_base.specs.declared.refusal.Trouble.{Trouble}
 use Rattle.cfs_base.specs.declared.refusal.Trouble.TheVariants as trouble
-use Rattle.cfs_base.specs.Run.{Tells}
 use Rattle.block_tree.specs.declared.root.Root as roots
-use Rattle.block_tree.specs.declared.step.HeldStep.{HeldStep}
-use Rattle.block_tree.specs.Step.{IsStep, IsStepped, NoneHeld}
-use Rattle.block_tree.specs.Tree.{HasNoDeadEnd, leaf_block, levels_of, path_to, tree_of}
-use Rattle.block_tree.proofs.Walks.{count_is}
-use Rattle.ufs_model.specs.declared.object.Object.{Object}
 use Rattle.ufs_model.specs.declared.object.Object.TheVariants as objects
-use Rattle.ufs_model.specs.declared.object.Index.{Index}
-use Rattle.ufs_model.specs.Graph.{Graph, object_at}
-use Rattle.ufs_model.specs.Numbers.{numbers_rise, has_number}
-use Rattle.ufs_model.specs.Object.{leaves_in}
-use Rattle.ufs_model.specs.State.{the_index}
-use Rattle.ufs_model.proofs.Rising.{in_filter, to_filter, in_numbers, to_numbers, numbers-rise, filter-rises}
-use Rattle.marking.specs.Colours.{Colours, all_shaded, moved}
-use Rattle.marking.specs.Leaves.{leaf_ids}
-use Rattle.marking.specs.Steps.{next_held, cursor_after, read, scanned}
-use Rattle.marking.proofs.Steps.{find_on, find_least, find_none}
-use Rattle.vol_image.specs.Part.{part_at, is_committed}
-use Rattle.vol_image.specs.Reading.{IsTree, object_with, leaf_in, held_in, file_bytes, leaf_content, slot_in}
-use Rattle.vol_image.specs.Seen.{Held, held_at, tree_in}
-use Rattle.vol_image.specs.Sight.{sight}
-use Rattle.vol_image.specs.Sound.{Holds}
-use Rattle.vol_image.proofs.AtRoot.{read_by_root}
-use Rattle.vol_image.proofs.Views.{held}
-use Rattle.collector_steps.specs.Scan.{IsDamaged, IsScanTrouble, LeadsPast, NoRoot, PastDisk, ids_from, next_cursor, stepped}
 use Rattle.collector_steps.proofs.Slots.{ids_of_leaf}
 
 -- ---- what is held at a pointer

@@ -1,34 +1,10 @@
 -- What the steps of the marking keep.
 use Rattle.std.proofs.Common.{◌≡◌, inl, ℕ, List, ◌∷◌, refl, sym, ap, ◌∙◌, subst, Option, Some, None}
-use Rattle.std.specs.Prelude.{option_map}
-use Rattle.cfs_base.specs.Disk.{Image}
-use Rattle.cfs_base.specs.Outside.{count_after}
-use Rattle.cfs_base.specs.declared.identifier.Puid.{Puid}
-use Rattle.cfs_base.specs.declared.kind.Kind.{Kind}
-use Rattle.cfs_base.specs.declared.kind.FileKind.{FileKind}
+use Rattle.collector_steps.proofs.Words.{AreNames, Collecting, Collects, Colours, FileKind, Graph, Grey, Image, Index, IsCollecting, IsGrey, IsMarking, IsPaced, IsState, Kind, Object, Phase, Puid, Rescue, State, colours_in, count_after, first_grey, first_is, first_marked, index_there, kind_in, kind_of, kinds_of, object_at, option_map, pace_scan, pace_take, rescued, scan_keeps, scan_raises, scanned, take_keeps, waiting_in, well}
 use Rattle.cfs_base.specs.declared.kind.FileKind.TheVariants as file_kinds
-use Rattle.marking.specs.Colours.{Colours, first_grey}
 use Rattle.marking.specs.Leaves as leaves
-use Rattle.marking.specs.Marking.{IsGrey, IsMarking}
-use Rattle.marking.specs.Pace.{IsPaced}
-use Rattle.marking.specs.Steps.{AreNames, rescued, scanned}
-use Rattle.marking.specs.declared.memory.Grey.{Grey}
-use Rattle.marking.specs.declared.memory.Rescue.{Rescue}
-use Rattle.marking.proofs.Leaves.{index_there}
-use Rattle.marking.proofs.Paces.{pace_scan, pace_take, scan_raises}
-use Rattle.marking.proofs.Steps.{first_is, first_marked, scan_keeps, take_keeps}
-use Rattle.marking.proofs.Wells.{well}
-use Rattle.puid_space.specs.Directory.{kind_in}
-use Rattle.puid_space.specs.Kinds.{kind_of, kinds_of}
-use Rattle.ufs_model.specs.Graph.{Graph, object_at}
-use Rattle.ufs_model.specs.State.{State}
-use Rattle.ufs_model.specs.WellFormed.{IsState}
-use Rattle.ufs_model.specs.declared.object.Index.{Index}
-use Rattle.ufs_model.specs.declared.object.Object.{Object}
 use Rattle.ufs_model.specs.declared.object.Object.TheVariants as objects
-use Rattle.collector_steps.specs.declared.phase.Phase.{Phase}
 use Rattle.collector_steps.specs.declared.phase.Phase.TheVariants as phases
-use Rattle.collector_steps.specs.Collecting.{Collecting, Collects, IsCollecting, colours_in, waiting_in}
 
 -- ---- the directory
 

@@ -10,3 +10,4 @@ pub mod Sweeping
 pub mod Written
 pub mod Cylinders
 pub mod Phases
+mod Words

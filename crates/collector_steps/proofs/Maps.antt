@@ -1,10 +1,6 @@
 -- The entries of a map that is swept, the first so many of them first.
 use Rattle.std.proofs.Common.{◌≡◌, ℕ, ◌+◌, ◌<◌, List, ◌++◌, min, length, take, drop, get_or, set, map, count_by, sym, ap, ◌∙◌, arith, Bool, true, false}
-use Rattle.std.proofs.lemmas.List.{get_or_default, get_or_at, drop_more, length-append, length-drop, length-map, length-take}
-use Rattle.std.proofs.lemmas.List.Edits.{map_over_more}
-use Rattle.std.proofs.lemmas.List.Sums.{count_by_more_no, count_by_more_yes}
-use Rattle.cyl_alloc.specs.Space.{free_entry}
-use Rattle.cyl_map.specs.declared.entry.MapEntry.{MapEntry}
+use Rattle.collector_steps.proofs.Words.{MapEntry, count_by_more_no, count_by_more_yes, drop_more, free_entry, get_or_at, get_or_default, length-append, length-drop, length-map, length-take, map_over_more}
 
 module _ (f : MapEntry → MapEntry) (p : MapEntry → Bool) (xs ys : List MapEntry) (i : ℕ) (is : ys ≡ map f (take i xs) ++ drop i xs) (room : length ys ≡ 64) (below : i < 64) where
   long : length (map f (take i xs)) ≡ min i (length xs)

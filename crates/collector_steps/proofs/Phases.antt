@@ -1,24 +1,8 @@
 -- How a collector that sweeps goes on.
 use Rattle.std.proofs.Common.{◌≡◌, ℕ, ◌+◌, ◌*◌, ◌/◌, ◌<◌, ◌≤◌, List, length, refl, sym, subst, arith, true, false, cond, nat_lt}
-use Rattle.std.proofs.lemmas.Bool.{false_from_ne_true, both_ways, ltb-false}
-use Rattle.cfs_base.specs.Disk.{Image}
-use Rattle.cfs_base.specs.Outside.{count_after}
-use Rattle.cfs_base.specs.declared.identifier.Puid.{Puid}
-use Rattle.cfs_base.specs.declared.kind.Kind.{Kind}
-use Rattle.puid_space.specs.Directory.{has_root_in}
-use Rattle.ufs_model.specs.Graph.{has_block}
-use Rattle.ufs_model.specs.State.{State}
-use Rattle.cyl_map.specs.Volume.{entry_in}
-use Rattle.vol_image.specs.Sound.{Holds}
-use Rattle.vol_owners.specs.Account.{IsSwept}
-use Rattle.collector_steps.specs.declared.phase.Phase.{Phase}
+use Rattle.collector_steps.proofs.Words.{Collecting, Holds, Image, IsCollecting, IsPhaseOf, IsReady, IsSwept, IsSweptOf, IsWithin, Kind, MayBegin, NoInner, NoStray, Pass, Phase, Puid, State, both_ways, count_after, cylinder_of, entry_in, false_from_ne_true, has_block, has_root_in, ltb-false, next_phase, volume_of}
 use Rattle.collector_steps.specs.declared.phase.Phase.TheVariants as phases
-use Rattle.collector_steps.specs.declared.sweep.Pass.{Pass}
 use Rattle.collector_steps.specs.declared.sweep.Pass.TheVariants as passes
-use Rattle.collector_steps.specs.Collecting.{Collecting, IsCollecting, IsWithin, volume_of}
-use Rattle.collector_steps.specs.Steady.{IsReady}
-use Rattle.collector_steps.specs.Sweep.{IsSweptOf, MayBegin, NoInner, NoStray}
-use Rattle.collector_steps.specs.Swept.{IsPhaseOf, cylinder_of, next_phase}
 use Rattle.collector_steps.proofs.Sweeping.{inner_kept, inner_on, stray_on, within}
 
 -- the cylinder is one of the volume

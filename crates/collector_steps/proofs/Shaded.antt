@@ -1,18 +1,6 @@
 -- Objects shaded one after another, and what a directory's look-up tells.
-use Rattle.std.proofs.Common.{◌≡◌, ℕ, suc, ◌+◌, ◌-◌, ◌<◌, List, [], ◌∷◌, refl, sym, arith, true, false, cond, Option, Some, None, nat_lt, ◌&&◌}
-use Rattle.std.specs.Prelude.{map, option_to_list, IfSome}
-use Rattle.std.specs.List.{list_all, filter_map, cons_option, range_with_len}
-use Rattle.std.specs.Map.{keys_of}
-use Rattle.std.proofs.lemmas.Bool.{and_parts}
-use Rattle.std.proofs.lemmas.Bool.Decides.{nat_tests}
-use Rattle.cfs_base.specs.declared.identifier.Puid.{Puid}
-use Rattle.cfs_base.specs.declared.kind.Kind.{Kind}
-use Rattle.ufs_model.specs.Identifier.{same_puid, rises}
-use Rattle.ufs_model.proofs.Reached.{same_puid_is}
-use Rattle.marking.specs.Colours.{Colours, all_shaded}
-use Rattle.puid_space.specs.Directory.{Listing, is_listing, kind_in, blocks_rise}
-use Rattle.vol_image.specs.Reading.{slot_in}
-use Rattle.collector_steps.specs.Scan.{ids_from}
+use Rattle.std.proofs.Common.{◌≡◌, ℕ, suc, ◌+◌, ◌-◌, ◌<◌, List, [], ◌∷◌, refl, sym, arith, true, false, cond, Option, Some, None, nat_lt, ◌&&◌, map}
+use Rattle.collector_steps.proofs.Words.{Colours, IfSome, Kind, Listing, Puid, all_shaded, and_parts, blocks_rise, cons_option, filter_map, ids_from, is_listing, keys_of, kind_in, list_all, nat_tests, option_to_list, range_with_len, rises, same_puid, same_puid_is, slot_in}
 
 -- ---- a directory
 

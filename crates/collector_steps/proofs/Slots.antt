@@ -1,15 +1,6 @@
 -- What the slots of a leaf hold: told by its bytes, and by the object.
-use Rattle.std.proofs.Common.{◌≡◌, ℕ, zero, suc, ◌+◌, ◌*◌, ◌<◌, ◌≤◌, refl, sym, ap, ◌∙◌, arith, inl, inr, List, [], ◌∷◌, ◌++◌, length, get_or, take, drop, replicate, Option, Some, None}
-use Rattle.std.specs.Prelude.{map}
-use Rattle.std.specs.List.{filter_map, flat_map, cons_option, range_with_len}
-use Rattle.std.proofs.lemmas.Bool.{cases_lt}
-use Rattle.std.proofs.lemmas.List.{get_or-drop, get_or-take, get_or_past, get_or_append_left, get_or-append-add, length-take, length-replicate, length-append}
-use Rattle.std.proofs.lemmas.List.FromFn.{get_or-map-range_with_len, length-map-range_with_len}
-use Rattle.cfs_base.specs.declared.identifier.Puid.{Puid}
-use Rattle.block_tree.specs.Pointers.{number_at}
-use Rattle.vol_image.specs.Reading.{leaf_content, leaves_content, slot_in}
-use Rattle.vol_image.specs.Seen.{Held}
-use Rattle.collector_steps.specs.Scan.{ids_from}
+use Rattle.std.proofs.Common.{◌≡◌, ℕ, zero, suc, ◌+◌, ◌*◌, ◌<◌, ◌≤◌, refl, sym, ap, ◌∙◌, arith, inl, inr, List, [], ◌∷◌, ◌++◌, length, get_or, take, drop, replicate, Option, Some, None, map}
+use Rattle.collector_steps.proofs.Words.{Held, Puid, cases_lt, cons_option, filter_map, flat_map, get_or-append-add, get_or-drop, get_or-map-range_with_len, get_or-take, get_or_append_left, get_or_past, ids_from, leaf_content, leaves_content, length-append, length-map-range_with_len, length-replicate, length-take, number_at, range_with_len, slot_in}
 
 -- ---- a slot as it is read
 

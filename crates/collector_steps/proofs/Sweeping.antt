@@ -1,29 +1,7 @@
 -- An image of which one cylinder was swept.
 use Rattle.std.proofs.Common.{◌≡◌, inl, inr, ℕ, ◌+◌, ◌/◌, ◌%◌, ◌==◌, ◌<◌, List, length, refl, sym, ap, ◌∙◌, subst, arith, Bool, true, false, cond, not, Option, Some, None}
-use Rattle.std.specs.Prelude.{IsSome, option_map}
-use Rattle.std.proofs.lemmas.Bool.{and_parts, and_from, both_ways, cases_eq, eq-eqb, false_from_ne_true, not-true, or_left, true_from_ne_false}
-use Rattle.std.proofs.lemmas.Option.{same_Some}
-use Rattle.cfs_base.specs.Disk.{Image}
-use Rattle.cfs_base.specs.declared.identifier.Puid.{Puid}
-use Rattle.cfs_base.specs.declared.kind.Kind.{Kind}
-use Rattle.cyl_alloc.specs.Space.{free_entry}
-use Rattle.cyl_map.specs.declared.entry.MapEntry.{MapEntry}
-use Rattle.cyl_map.specs.Volume.{entry_in, is_free_entry}
-use Rattle.puid_space.specs.Directory.{has_root_in}
-use Rattle.ufs_model.specs.Graph.{Graph, has_block}
-use Rattle.vol_image.specs.Frame.{Frames}
-use Rattle.vol_image.specs.Part.{OwnsItself, is_fixed, reserved}
-use Rattle.vol_image.specs.Sound.{Holds}
-use Rattle.vol_image.proofs.Parts.{in_image}
-use Rattle.vol_owners.specs.Account.{Accounts, HasRoot, Opened}
-use Rattle.vol_owners.specs.Change.{ChangesOnly, IsOpenTo, Misses, Sweeps}
-use Rattle.vol_owners.specs.Owner.{is_had, is_made, is_meant, is_placed, is_root, is_stray, is_taken, owner_of}
-use Rattle.vol_owners.proofs.Entries.{owner_is, root_owner, root_placed, root_real}
-use Rattle.vol_owners.proofs.Keys.{block_there}
-use Rattle.vol_owners.proofs.Kept.{frames_others}
-use Rattle.collector_steps.specs.declared.sweep.Pass.{Pass}
+use Rattle.collector_steps.proofs.Words.{Accounts, ChangesOnly, Frames, Graph, HasRoot, Holds, Image, IsOpenTo, IsSome, IsSweptOf, Kind, MapEntry, MayBegin, Misses, NoInner, NoStray, Opened, OwnsItself, Pass, Puid, Sweeps, and_from, and_parts, block_there, both_ways, cases_eq, entry_in, eq-eqb, false_from_ne_true, frames_others, free_entry, goes, has_block, has_root_in, in_image, is_fixed, is_free_entry, is_had, is_made, is_meant, is_of_pass, is_placed, is_root, is_stray, is_taken, not-true, option_map, or_left, owner_is, owner_of, reserved, root_owner, root_placed, root_real, same_Some, swept, true_from_ne_false}
 use Rattle.collector_steps.specs.declared.sweep.Pass.TheVariants as passes
-use Rattle.collector_steps.specs.Sweep.{IsSweptOf, MayBegin, NoInner, NoStray, goes, is_of_pass, swept}
 
 -- whether a pass is over roots
 abbrev is_over : Pass → Bool

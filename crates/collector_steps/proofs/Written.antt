@@ -1,26 +1,7 @@
 -- A cylinder whose map is written with what went made Free.
 use Rattle.std.proofs.Common.{◌≡◌, ℕ, ◌+◌, ◌*◌, ◌/◌, ◌%◌, ◌<◌, List, [], ◌∷◌, length, set, get_or, count_by, refl, sym, ap, ◌∙◌, arith, Bool, true, false, cond, Some}
-use Rattle.std.specs.Prelude.{option_map}
-use Rattle.std.proofs.lemmas.Bool.{and_parts, both_ways}
-use Rattle.std.proofs.lemmas.List.{get_or-map, get_or-set_other, get_or-set_same, length-map, length-set}
-use Rattle.std.proofs.lemmas.List.Elements.{All-map}
-use Rattle.cfs_base.specs.Disk.{Image, block_at}
-use Rattle.cfs_base.specs.declared.identifier.Puid.{Puid}
-use Rattle.cfs_base.specs.declared.kind.Kind.{Kind}
-use Rattle.cyl_alloc.specs.Maps.{IsMapOf}
-use Rattle.cyl_alloc.specs.Space.{IsFreeElsewhere, free_entry, free_in_cylinder}
-use Rattle.cyl_alloc.proofs.Entries.{entry_is, free_count}
-use Rattle.cyl_alloc.proofs.Ranges.{one, count-cons}
-use Rattle.cyl_map.specs.declared.entry.MapEntry.{MapEntry}
-use Rattle.cyl_map.specs.declared.state.BlockState.{BlockState}
-use Rattle.cyl_map.specs.declared.state.BlockState.TheVariants.{Free, Allocated, IntendAllocate, IntendDeallocate}
-use Rattle.cyl_map.specs.Entry.{IsEntry}
-use Rattle.cyl_map.specs.Map.{IsMap, entry_at, free_entries, is_free, is_free_state, map_spelling}
-use Rattle.cyl_map.specs.Volume.{entry_in, is_free_entry, map_of}
-use Rattle.vol_owners.specs.Owner.{is_placed, is_root, is_root_place, is_taken}
-use Rattle.collector_steps.specs.declared.sweep.Pass.{Pass}
+use Rattle.collector_steps.proofs.Words.{All-map, Allocated, BlockState, Free, Image, IntendAllocate, IntendDeallocate, IsEntry, IsFreeElsewhere, IsMap, IsMapOf, IsSweptOf, Kind, MapEntry, Pass, Puid, and_parts, block_at, both_ways, count-cons, entry_at, entry_in, entry_is, free_count, free_entries, free_entry, free_in_cylinder, get_or-map, get_or-set_other, get_or-set_same, goes, is_free, is_free_entry, is_free_state, is_of_pass, is_placed, is_root, is_root_place, is_taken, length-map, length-set, map_of, map_spelling, one, option_map, swept, swept_map}
 use Rattle.collector_steps.specs.declared.sweep.Pass.TheVariants as passes
-use Rattle.collector_steps.specs.Sweep.{IsSweptOf, goes, is_of_pass, swept, swept_map}
 
 module _ (names : List (Puid × Kind)) (pass : Pass) where
   abbrev f : MapEntry → MapEntry

@@ -45,14 +45,11 @@ pub record IsAsBefore (old new : Collecting) : Type 0 where
   pub steps : new.steps ≡ old.steps
   pub added : new.added ≡ old.added
 
--- the same but for rescues, for the step and for where the collection is
-abbrev pub SameVolume : Collecting → Collecting → Type 0
-SameVolume old new = volume_of new ≡ volume_of old
-
 -- ---- the disk
 
 -- The disk carries the state's graph, each block has its one use, and the directory has the graph's identifiers.
-pub record Serves {D : Type 0} (g : Ghosts D) (disk : D) (names : List (Puid × Kind)) (s : State) (ds : List Opened) : Type 0 where
+pub record Serves {D : Type 0} (g : Ghosts D) (disk : D) (names : List (Puid × Kind)) (s : State)
+    (ds : List Opened) : Type 0 where
   pub state : IsState s
   pub named : names ≡ kinds_of s.graph
   pub carries : Carries g s.graph disk
@@ -67,10 +64,12 @@ IsWithin k more = k.added < 2 ^ 64 - 1 → k.steps ≤ volume_of k + k.added + m
 -- By phase: what holds of the marks, or how far the sweep is; and how many steps were made.
 abbrev pub IsCollecting : Phase → Image → State → Collecting → Type 0
 IsCollecting phases.Idle image s k = Unit {0}
-IsCollecting phases.Marking image s k = IsMarking s (colours_in k) (waiting_in k) × IsPaced s.graph (colours_in k) (waiting_in k) k.steps k.added
+IsCollecting phases.Marking image s k = IsMarking s (colours_in k) (waiting_in k)
+    × IsPaced s.graph (colours_in k) (waiting_in k) k.steps k.added
 IsCollecting (phases.Inner cylinder) image s k = NoInner image s.graph cylinder × IsWithin k (2 + cylinder)
 IsCollecting (phases.Roots cylinder) image s k =
-    NoInner image s.graph (volume_of k / 64) × (NoStray image s.graph cylinder × IsWithin k (2 + volume_of k / 64 + cylinder))
+    NoInner image s.graph (volume_of k / 64)
+    × (NoStray image s.graph cylinder × IsWithin k (2 + volume_of k / 64 + cylinder))
 IsCollecting phases.Swept image s k = IsSwept image s.graph × IsWithin k (2 + 2 * (volume_of k / 64))
 
 abbrev pub Collects : Image → State → Collecting → Type 0

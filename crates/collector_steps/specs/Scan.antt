@@ -1,5 +1,6 @@
 -- A leaf of an index as its bytes, a step of the scan, and why one is refused.
-use Rattle.std.specs.Prelude.{◌≡◌, ℕ, ◌+◌, ◌-◌, ◌≤◌, List, [], ◌∷◌, ◌++◌, ◌/◌, get_or, map, false, if◌then◌else◌, Option, Some, None}
+use Rattle.std.specs.Prelude.{◌≡◌, ℕ, ◌+◌, ◌-◌, ◌≤◌, List, [], ◌∷◌, ◌++◌, ◌/◌, get_or, map, false, if◌then◌else◌}
+use Rattle.std.specs.Prelude.{Option, Some, None}
 use Rattle.std.specs.List.{filter_map, range_with_len}
 use Rattle.cfs_base.specs.Calls.{HasStopped}
 use Rattle.cfs_base.specs.Codes.{no_root, past_disk}
@@ -52,8 +53,10 @@ pub record LeadsPast (image : Image) (size r block : ℕ) : Type 0 where
 
 -- the root block is none, or a pointer of its tree leads past the disk
 pub data IsIndexDamage {D : Type 0} (g : Ghosts D) (old : D) (r : ℕ) (damage : Damage) : Type 0 where
-  NoRoot : damage.code ≡ no_root → damage.block ≡ r → (Tells g old → (root : Root) → ¬ IsRootBlock (block_at (g.content old) r) root) → IsIndexDamage g old r damage
-  PastDisk : damage.code ≡ past_disk → (Tells g old → LeadsPast (g.content old) (g.blocks old) r damage.block) → IsIndexDamage g old r damage
+  NoRoot : damage.code ≡ no_root → damage.block ≡ r
+      → (Tells g old → (root : Root) → ¬ IsRootBlock (block_at (g.content old) r) root) → IsIndexDamage g old r damage
+  PastDisk : damage.code ≡ past_disk → (Tells g old → LeadsPast (g.content old) (g.blocks old) r damage.block)
+      → IsIndexDamage g old r damage
 
 -- a failed device call is told as it is, and a pointer past the disk by the block that has it
 abbrev pub trouble_of : ℕ → TreeFault → Trouble
@@ -64,7 +67,8 @@ trouble_of block (faults.BadPointer past) = trouble.Damaged (record { block = bl
 abbrev pub IsLeafTrouble : {D : Type 0} → Ghosts D → D → D → List ℕ → HeldStep → Trouble → Type 0
 IsLeafTrouble g old new nodes step (trouble.Disk tried) = HasStopped g tried old new
 IsLeafTrouble g old new nodes step (trouble.Damaged damage) =
-    (damage.code ≡ past_disk) × (damage.block ≡ get_or nodes (step.held.leaf / 128) 0) × (g.blocks old ≤ step.held.block)
+    (damage.code ≡ past_disk) × (damage.block ≡ get_or nodes (step.held.leaf / 128) 0)
+    × (g.blocks old ≤ step.held.block)
 
 -- a device call failed, or the index with this root block is damaged
 abbrev pub IsScanTrouble : {D : Type 0} → Ghosts D → D → D → ℕ → Trouble → Type 0

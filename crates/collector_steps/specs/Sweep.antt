@@ -1,5 +1,6 @@
 -- What a sweep makes Free.
-use Rattle.std.specs.Prelude.{◌≡◌, ◌≢◌, ℕ, ◌*◌, ◌/◌, ◌<◌, Bool, true, false, not, ◌&&◌, if◌then◌else◌, List, length, map, option_map, Some}
+use Rattle.std.specs.Prelude.{◌≡◌, ◌≢◌, ℕ, ◌*◌, ◌/◌, ◌<◌, Bool, true, false, not, ◌&&◌, if◌then◌else◌, List, length}
+use Rattle.std.specs.Prelude.{map, option_map, Some}
 use Rattle.cfs_base.specs.Disk.{Image, block_at}
 use Rattle.cfs_base.specs.declared.identifier.Puid.{Puid}
 use Rattle.cfs_base.specs.declared.kind.Kind.{Kind}
@@ -42,7 +43,8 @@ pub record IsSweptOf (names : List (Puid × Kind)) (pass : Pass) (cylinder : ℕ
 
 -- In the cylinders that the inner pass has left no node, leaf or shadow root is a block of an object that is gone.
 abbrev pub NoInner : Image → Graph → ℕ → Type 0
-NoInner image g cylinders = (n : ℕ) → n / 64 < cylinders → is_stray g (entry_in image n) ≡ true → is_root is_taken (entry_in image n) ≡ true
+NoInner image g cylinders = (n : ℕ) → n / 64 < cylinders → is_stray g (entry_in image n) ≡ true
+    → is_root is_taken (entry_in image n) ≡ true
 
 -- In those that the root pass has left no block is.
 abbrev pub NoStray : Image → Graph → ℕ → Type 0

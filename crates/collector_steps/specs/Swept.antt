@@ -1,5 +1,6 @@
 -- What the sweep of one cylinder does to a disk and to the counts of its Free blocks.
-use Rattle.std.specs.Prelude.{◌≡◌, ℕ, ◌+◌, ◌*◌, ◌/◌, nat_lt, if◌then◌else◌, false, List, length, Result, IfErr, OnErr, OnOk}
+use Rattle.std.specs.Prelude.{◌≡◌, ℕ, ◌+◌, ◌*◌, ◌/◌, nat_lt, if◌then◌else◌, false, List, length, Result, IfErr, OnErr}
+use Rattle.std.specs.Prelude.{OnOk}
 use Rattle.cfs_base.specs.Calls.{MakesAtMost, OnlyReads}
 use Rattle.cfs_base.specs.Outside.{count_after}
 use Rattle.cfs_base.specs.Run.{Leaves, Tells}
@@ -26,11 +27,13 @@ IsDamage (trouble.Disk tried) = ⊥
 IsDamage (trouble.Damaged damage) = Unit {0}
 
 -- One read, and one write where some entry goes.
-pub record IsSweep {D : Type 0} (g : Ghosts D) (names : List (Puid × Kind)) (pass : Pass) (cylinder : ℕ) (old new : D) (before after : Kept) (result : Result (Unit {0}) Trouble) : Type 0 where
+pub record IsSweep {D : Type 0} (g : Ghosts D) (names : List (Puid × Kind)) (pass : Pass) (cylinder : ℕ) (old new : D)
+    (before after : Kept) (result : Result (Unit {0}) Trouble) : Type 0 where
   -- each entry that goes is Free, and no other changed
   pub swept : Tells g old → OnOk result (IsSweptOf names pass cylinder (g.content old) (g.content new))
   -- what is served is served on
-  pub serves : (s : State) (ds : List Opened) → Serves g old names s ds → MayBegin pass (g.content old) s.graph → OnOk result (Serves g new names s ds)
+  pub serves : (s : State) (ds : List Opened) → Serves g old names s ds → MayBegin pass (g.content old) s.graph
+      → OnOk result (Serves g new names s ds)
   -- done or failed, each image that a crash leaves has the graph
   pub leaves : (s : State) (ds : List Opened) → Serves g old names s ds → Leaves g old new (λ c. Holds c s.graph)
   -- the counts are again those of the disk
@@ -66,15 +69,20 @@ cylinder_of phases.Swept = 0
 abbrev pub next_phase : ℕ → Phase → Phase
 next_phase cylinders phases.Idle = phases.Idle
 next_phase cylinders phases.Marking = phases.Marking
-next_phase cylinders (phases.Inner cylinder) = if nat_lt (cylinder + 1) cylinders then phases.Inner (cylinder + 1) else phases.Roots 0
-next_phase cylinders (phases.Roots cylinder) = if nat_lt (cylinder + 1) cylinders then phases.Roots (cylinder + 1) else phases.Swept
+next_phase cylinders (phases.Inner cylinder) =
+    if nat_lt (cylinder + 1) cylinders then phases.Inner (cylinder + 1) else phases.Roots 0
+next_phase cylinders (phases.Roots cylinder) =
+    if nat_lt (cylinder + 1) cylinders then phases.Roots (cylinder + 1) else phases.Swept
 next_phase cylinders phases.Swept = phases.Swept
 
 -- A collector swept its next cylinder.
-pub record HasSwept {D : Type 0} (g : Ghosts D) (names : List (Puid × Kind)) (pass : Pass) (old new : D) (before after : Kept) (k l : Collecting) (result : Result (Unit {0}) Trouble) : Type 0 where
+pub record HasSwept {D : Type 0} (g : Ghosts D) (names : List (Puid × Kind)) (pass : Pass) (old new : D)
+    (before after : Kept) (k l : Collecting) (result : Result (Unit {0}) Trouble) : Type 0 where
   pub sweep : IsSweep g names pass (cylinder_of k.phase) old new before after result
-  pub serves : (s : State) (ds : List Opened) → Serves g old names s ds → Collects (g.content old) s k → OnOk result (Serves g new names s ds)
-  pub keeps : (s : State) (ds : List Opened) → Serves g old names s ds → Collects (g.content old) s k → OnOk result (Collects (g.content new) s l)
+  pub serves : (s : State) (ds : List Opened) → Serves g old names s ds → Collects (g.content old) s k
+      → OnOk result (Serves g new names s ds)
+  pub keeps : (s : State) (ds : List Opened) → Serves g old names s ds → Collects (g.content old) s k
+      → OnOk result (Collects (g.content new) s l)
   pub phase : OnOk result (l.phase ≡ next_phase (volume_of k / 64) k.phase)
   pub steps : OnOk result (l.steps ≡ count_after k.steps)
   pub added : l.added ≡ k.added

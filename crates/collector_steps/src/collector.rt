@@ -1,5 +1,6 @@
 //! The collector: how a collection begins, takes rescues, condemns and ends.
-ghost use Rattle.std.specs.Prelude.{◌≡◌, ℕ, ◌+◌, ◌-◌, ◌*◌, ◌/◌, ◌^◌, ◌<◌, ◌≤◌, List, [], ◌∷◌, ◌++◌, length, OnOk, OnErr, IfOk, IsTrue, ◌↔◌, Some};
+ghost use Rattle.std.specs.Prelude.{◌≡◌, ℕ, ◌+◌, ◌-◌, ◌*◌, ◌/◌, ◌^◌, ◌<◌, ◌≤◌, List, [], ◌∷◌, ◌++◌, length, OnOk};
+ghost use Rattle.std.specs.Prelude.{OnErr, IfOk, IsTrue, ◌↔◌, Some};
 ghost use Rattle.cfs_base.specs.Disk.{Image};
 ghost use Rattle.cfs_base.specs.Outside.{count_after};
 ghost use Rattle.cfs_base.specs.declared.identifier.Puid.{Puid};
@@ -47,9 +48,16 @@ impl Model for Collector {
     ghost use Rattle.collector_marks.specs.Kept.{blocks_of};
     ghost use Rattle.collector_steps.specs.Steady.{IsSteady};
 
-    ghost view = { λ a. record { marks = a.marks; rescues = a.rescues; phase = a.phase; steps = a.steps; added = a.added } };
+    ghost view = { λ a. record {
+      marks = a.marks;
+      rescues = a.rescues;
+      phase = a.phase;
+      steps = a.steps;
+      added = a.added;
+    } };
 
-    ghost invariant = { λ a. (a.condemned.items ≡ []) × IsSteady a.phase (blocks_of a.marks) (vec_capacity a.condemned) };
+    ghost invariant = { λ a. (a.condemned.items ≡ [])
+        × IsSteady a.phase (blocks_of a.marks) (vec_capacity a.condemned) };
 }
 
 impl Collector {
@@ -71,8 +79,8 @@ impl Collector {
         })
     }
 
-    /// A collection begins: nothing is marked but these objects, the root and each that is open. Makes room for all that
-    /// may be condemned.
+    /// A collection begins: nothing is marked but these objects, the root and each that is open. Makes room for all
+    /// that may be condemned.
     pub fn begin(&mut self, roots: &[Puid], names: &Directory) -> Result<(), NoMemory>
         requires phase { self.old.phase ≡ Phase.Idle }
         requires blocks { names.now.room ≤ volume_of self.old }

@@ -1,5 +1,6 @@
 //! One leaf of a grey index, read and shaded.
-ghost use Rattle.std.specs.Prelude.{◌≡◌, ℕ, ◌+◌, ◌<◌, ◌≤◌, List, [], length, OnOk, OnErr, IfOk, IfErr, IfSome, Some, None, false};
+ghost use Rattle.std.specs.Prelude.{◌≡◌, ℕ, ◌+◌, ◌<◌, ◌≤◌, List, [], length, OnOk, OnErr, IfOk, IfErr, IfSome, Some};
+ghost use Rattle.std.specs.Prelude.{None, false};
 ghost use Rattle.block_tree.specs.Pointers.{node_pointers, pointers_of};
 ghost use Rattle.block_tree.specs.Root.{IsRootBlock};
 ghost use Rattle.block_tree.specs.Step.{IsStepped};
@@ -74,7 +75,8 @@ fn read_step<D: Disk>(
     into: &mut Block,
 ) -> Result<(), Trouble>
     requires { step.now.held.leaf < 15360 }
-    ensures content { Tells D.Disk disk.old → OnOk result (into.new ≡ block_at (D.content disk.old) step.now.held.block) }
+    ensures content { Tells D.Disk disk.old
+        → OnOk result (into.new ≡ block_at (D.content disk.old) step.now.held.block) }
     ensures refused { IfErr result (IsLeafTrouble D.Disk disk.old disk.new root.now.nodes step.now) }
     ensures untried { IfErr result (λ trouble. trouble_had_tried trouble ≡ false) }
     ensures reads { OnlyReads D.Disk 1 disk.old disk.new }
@@ -93,7 +95,8 @@ fn read_step<D: Disk>(
     }
 }
 
-/// The next held leaf, not below the cursor, of the index with this root block, and its content. At most 4 device calls.
+/// The next held leaf, not below the cursor, of the index with this root block, and its content. At most 4 device
+/// calls.
 fn next_leaf<D: Disk>(
     disk: &mut D,
     block: u32,

@@ -39,8 +39,8 @@ fn next_phase(phase: Phase, cylinders: u32) -> Phase
 }
 
 impl Collector {
-    /// Sweeps nodes, leaves and shadow roots of one cylinder: each whose owner is the root block of no object is Free. One
-    /// read, and one write where there is one. Takes no memory.
+    /// Sweeps nodes, leaves and shadow roots of one cylinder: each whose owner is the root block of no object is Free.
+    /// One read, and one write where there is one. Takes no memory.
     pub fn sweep_inner<D: Disk>(
         &mut self,
         disk: &mut D,
@@ -50,7 +50,8 @@ impl Collector {
         requires phase { IsPhaseOf passes.Inner self.old.phase }
         requires size { D.blocks disk.old ≡ volume_of self.old }
         requires counts { 64 * length space.old.free ≡ volume_of self.old }
-        ensures { HasSwept D.Disk names.now.named passes.Inner disk.old disk.new space.old space.new self.old self.new result }
+        ensures { HasSwept D.Disk names.now.named passes.Inner disk.old disk.new space.old space.new self.old self.new
+            result }
     {
         self.sweep(disk, space, names, Pass::Inner)
     }
@@ -65,7 +66,8 @@ impl Collector {
         requires phase { IsPhaseOf passes.Roots self.old.phase }
         requires size { D.blocks disk.old ≡ volume_of self.old }
         requires counts { 64 * length space.old.free ≡ volume_of self.old }
-        ensures { HasSwept D.Disk names.now.named passes.Roots disk.old disk.new space.old space.new self.old self.new result }
+        ensures { HasSwept D.Disk names.now.named passes.Roots disk.old disk.new space.old space.new self.old self.new
+            result }
     {
         self.sweep(disk, space, names, Pass::Roots)
     }

@@ -1,22 +1,6 @@
 -- Counts, and the Free blocks of the image that they count.
 use Rattle.std.proofs.Common.{◌≡◌, ◌≢◌, inl, inr, ℕ, ◌+◌, ◌-◌, ◌*◌, min, true, ◌/◌, ◌%◌, ◌<◌, ◌≤◌, false, List, length, get_or, set, Some, position, refl, sym, ◌∙◌, ap, subst, arith, length-set}
-use Rattle.std.specs.Prelude.{sum}
-use Rattle.std.proofs.Math.Seq.{take-length}
-use Rattle.std.proofs.lemmas.Bool.{cases_lt, cases_eq}
-use Rattle.std.proofs.lemmas.List.{same_lists, get_or_default, get_or-set_same, get_or-set_other}
-use Rattle.std.proofs.lemmas.List.Quantifiers.{position-Some}
-use Rattle.std.proofs.lemmas.List.Sums.{count_by-le-length, sum_by-set}
-use Rattle.std.proofs.lemmas.List.FromFn.{length-range_with_len}
-use Rattle.std.specs.List.{range_with_len}
-use Rattle.cfs_base.specs.Disk.{Image}
-use Rattle.cyl_map.specs.declared.entry.MapEntry.{MapEntry}
-use Rattle.cyl_map.specs.Map.{is_free, free_entries}
-use Rattle.cyl_map.specs.Entry.{IsEntry}
-use Rattle.cyl_map.specs.Volume.{entry_in, with_entry, is_free_entry, is_free_in, free_from}
-use Rattle.cyl_map.proofs.Volumes.{map_in_image, length-with_entry}
-use Rattle.cyl_alloc.specs.Counts.{IsFirstAbove}
-use Rattle.cyl_alloc.specs.Maps.{IsMapOf}
-use Rattle.cyl_alloc.specs.Space.{Kept, AreCounts, IsLeastFree, IsFreeElsewhere, free_in_cylinder, count_at, with_count, after_taking, after_giving, free_entry}
+use Rattle.cyl_alloc.proofs.Words.{AreCounts, Image, IsEntry, IsFirstAbove, IsFreeElsewhere, IsLeastFree, IsMapOf, Kept, MapEntry, after_giving, after_taking, cases_eq, cases_lt, count_at, count_by-le-length, entry_in, free_entries, free_entry, free_from, free_in_cylinder, get_or-set_other, get_or-set_same, get_or_default, is_free, is_free_entry, is_free_in, length-range_with_len, length-with_entry, map_in_image, position-Some, range_with_len, same_lists, sum, sum_by-set, take-length, with_count, with_entry}
 use Rattle.cyl_alloc.proofs.Ranges.{sum_of, none_in, same_count}
 use Rattle.cyl_alloc.proofs.Entries.{free_is, free_count, elsewhere, alike, one_free_less, one_free_more}
 

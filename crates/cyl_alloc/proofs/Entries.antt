@@ -1,18 +1,6 @@
 -- The entries of a volume whose maps a disk holds.
 use Rattle.std.proofs.Common.{◌≡◌, ◌≢◌, inl, inr, ℕ, ◌+◌, ◌*◌, ◌/◌, ◌%◌, true, false, List, replicate, get_or, Option, Some, None, refl, sym, ◌∙◌, ap, subst, arith}
-use Rattle.std.specs.Prelude.{IsSome}
-use Rattle.std.proofs.lemmas.Bool.{cases_eq}
-use Rattle.std.proofs.lemmas.List.Elements.{All-replicate}
-use Rattle.cfs_base.specs.Disk.{Image, block_at}
-use Rattle.cyl_map.specs.declared.entry.MapEntry.{MapEntry}
-use Rattle.cyl_map.specs.Entry.{IsEntry, spelling}
-use Rattle.cyl_map.specs.Map.{IsFirstBadEntry, SpellsMap, map_spelling, entry_at, is_free, free_entries}
-use Rattle.cyl_map.specs.Volume.{map_of, with_entry, entry_in, is_free_in, is_free_entry}
-use Rattle.cyl_map.proofs.Entries.{entry_of_bad}
-use Rattle.cyl_map.proofs.Maps.{entry_at-map_spelling, spells_these}
-use Rattle.cyl_map.proofs.Volumes.{entry_in-with_entry_same, entry_in-with_entry_other, length-with_entry}
-use Rattle.cyl_alloc.specs.Maps.{IsMapOf}
-use Rattle.cyl_alloc.specs.Space.{IsBadMap, IsGoodMap, IsFreeElsewhere, free_in_cylinder, free_entry}
+use Rattle.cyl_alloc.proofs.Words.{All-replicate, Image, IsBadMap, IsEntry, IsFirstBadEntry, IsFreeElsewhere, IsGoodMap, IsMapOf, IsSome, MapEntry, SpellsMap, block_at, cases_eq, entry_at, entry_at-map_spelling, entry_in, entry_in-with_entry_other, entry_in-with_entry_same, entry_of_bad, free_entries, free_entry, free_in_cylinder, is_free, is_free_entry, is_free_in, length-with_entry, map_of, map_spelling, spelling, spells_these, with_entry}
 use Rattle.cyl_alloc.proofs.Ranges.{listed, one_less, count_in}
 
 -- ---- a map that was read

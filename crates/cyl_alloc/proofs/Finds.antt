@@ -1,13 +1,7 @@
 -- Why no Free block was found where one was counted.
-use Rattle.std.proofs.Common.{◌≡◌, ℕ, ◌*◌, ◌/◌, List, length, sym, subst, inl, arith}
-use Rattle.std.specs.Prelude.{Some}
-use Rattle.cfs_base.specs.declared.disk.Disk.{Ghosts}
-use Rattle.cfs_base.specs.declared.refusal.Trouble.{Trouble}
+use Rattle.std.proofs.Common.{◌≡◌, ℕ, ◌*◌, ◌/◌, List, length, sym, subst, inl, arith, Some}
+use Rattle.cyl_alloc.proofs.Words.{Ghosts, IsBadMap, IsFindRefusal, IsFirstAbove, IsMapTrouble, Kept, Trouble, refused_by}
 use Rattle.cfs_base.specs.declared.refusal.Trouble.TheVariants as trouble
-use Rattle.cyl_alloc.specs.Counts.{IsFirstAbove}
-use Rattle.cyl_alloc.specs.Refusals.{IsMapTrouble, IsFindRefusal}
-use Rattle.cfs_base.specs.Refusals.{refused_by}
-use Rattle.cyl_alloc.specs.Space.{Kept, IsBadMap}
 
 -- cylinder j is the first that counts a Free block, by the number of its map block
 pub first_at : (free : List ℕ) (j block : ℕ) → IsFirstAbove free (Some j) → block ≡ 64 * j → IsFirstAbove free (Some (block / 64))

@@ -3,3 +3,4 @@ pub mod Ranges
 pub mod Entries
 pub mod Counted
 pub mod Finds
+mod Words

@@ -1,12 +1,6 @@
 -- The sums of counts: one of them changed, and the first that isn't 0.
-use Rattle.std.proofs.Common.{◌≡◌, ◌≢◌, ℕ, suc, ◌+◌, ◌-◌, ◌*◌, ◌/◌, ◌%◌, ◌<◌, ◌≤◌, List, [], ◌∷◌, length, take, drop, set, get_or, replicate, refl, sym, ◌∙◌, ap, arith, inl, inr, length-drop, length-set}
-use Rattle.std.specs.Prelude.{Some, None, sum}
-use Rattle.std.proofs.Math.Seq.{take-set-lt}
-use Rattle.std.proofs.lemmas.Bool.{cases_lt, cases_eq}
-use Rattle.std.proofs.lemmas.List.{length-take, get_or-take, get_or-drop, get_or_past, take-set-le, drop-set-lt, drop-set-add, get_or-set_same, get_or-set_other, length-replicate, get_or-replicate}
-use Rattle.std.proofs.lemmas.List.Elements.{All-set, All-replicate}
-use Rattle.std.proofs.lemmas.List.Sums.{sum_by-set, sum_by-cons, sum_by-take-drop, sum_by-take-le, get_or-le-sum_by, sum_by-le}
-use Rattle.cyl_alloc.specs.Counts.{IsKept, AreSums, IsFirstAbove, group_sum}
+use Rattle.std.proofs.Common.{◌≡◌, ◌≢◌, ℕ, suc, ◌+◌, ◌-◌, ◌*◌, ◌/◌, ◌%◌, ◌<◌, ◌≤◌, List, [], ◌∷◌, length, take, drop, set, get_or, replicate, refl, sym, ◌∙◌, ap, arith, inl, inr, length-drop, length-set, Some, None}
+use Rattle.cyl_alloc.proofs.Words.{All-replicate, All-set, AreSums, IsFirstAbove, IsKept, cases_eq, cases_lt, drop-set-add, drop-set-lt, get_or-drop, get_or-le-sum_by, get_or-replicate, get_or-set_other, get_or-set_same, get_or-take, get_or_past, group_sum, length-replicate, length-take, sum, sum_by-cons, sum_by-le, sum_by-set, sum_by-take-drop, sum_by-take-le, take-set-le, take-set-lt}
 
 abbrev itself : ℕ → ℕ
 itself n = n

@@ -18,10 +18,12 @@ abbrev pub EntryWritten : (Image → Type 0) → Image → MapEntry → Image �
 EntryWritten images image entry c = (n : ℕ) × IsLeastFree image n × Written images (map_of n) (map_with image n entry) c
 
 -- what a call did that enters a block so: to the disk, old and new, and to the counts, before and after
-pub record Enters {D : Type 0} (g : Ghosts D) (entry : MapEntry) (old new : D) (before after : Kept) (result : Result BlockNo Refused) : Type 0 where
+pub record Enters {D : Type 0} (g : Ghosts D) (entry : MapEntry) (old new : D) (before after : Kept)
+    (result : Result BlockNo Refused) : Type 0 where
   -- the least-numbered Free block has the entry, and no other entry changed
   pub entered : Tells g old → AreCounts (g.content old) before
-      → IfOk result (λ block. IsLeastFree (g.content old) block.0 × (g.content new ≡ with_entry (g.content old) block.0 entry))
+      → IfOk result (λ block. IsLeastFree (g.content old) block.0
+      × (g.content new ≡ with_entry (g.content old) block.0 entry))
   pub on_disk : IfOk result (λ block. block.0 < g.blocks old)
   pub whole : Tells g old → IfOk result (λ block. IsGoodMap (g.content old) block.0)
   pub told : OnOk result ((n : ℕ) → IsTrue (g.told old n) → IsTrue (g.told new n))

@@ -1,5 +1,6 @@
 -- How many blocks of each cylinder are Free, and what the maps of a volume say of it.
-use Rattle.std.specs.Prelude.{◌≡◌, ◌≢◌, ℕ, ◌+◌, ◌-◌, ◌*◌, ◌/◌, ◌<◌, min, true, false, List, length, get_or, set, Some, None, IsSome}
+use Rattle.std.specs.Prelude.{◌≡◌, ◌≢◌, ℕ, ◌+◌, ◌-◌, ◌*◌, ◌/◌, ◌<◌, min, true, false, List, length, get_or, set, Some}
+use Rattle.std.specs.Prelude.{None, IsSome}
 use Rattle.cfs_base.specs.Disk.{Image}
 use Rattle.cfs_base.specs.declared.kind.Place.{Place}
 use Rattle.cyl_map.specs.declared.state.BlockState.{BlockState}

@@ -91,8 +91,8 @@ impl KnownMaps {
         }
     }
 
-    /// Puts an entry in place of a block's into the map that was loaded, and writes that map, which is known then. After
-    /// a write that fails the map block has either content.
+    /// Puts an entry in place of a block's into the map that was loaded, and writes that map, which is known then.
+    /// After a write that fails the map block has either content.
     pub fn store_entry<D: Disk>(
         &mut self,
         disk: &mut D,

@@ -10,16 +10,22 @@ ghost use Rattle.cyl_alloc.specs.Space.{AreCounts, Kept, after_giving, after_tak
 /// The counts of an image follow each change of one entry, and an image has no others.
 pub fn counts_follow()
     // A Free block is taken: its cylinder has one less, and so has the volume.
-    ensures taken { (image : Image) (kept : Kept) (n : ℕ) (old e : MapEntry) → AreCounts image kept → entry_in image n ≡ Some old
+    ensures taken { (image : Image) (kept : Kept) (n : ℕ) (old e : MapEntry) → AreCounts image kept
+        → entry_in image n ≡ Some old
         → IsEntry e → is_free old ≡ true → is_free e ≡ false
-        → AreCounts (with_entry image n e) (after_taking kept n) × (sum (after_taking kept n).free + 1 ≡ sum kept.free) }
+        → AreCounts (with_entry image n e) (after_taking kept n)
+        × (sum (after_taking kept n).free + 1 ≡ sum kept.free) }
     // A block that was taken is Free again.
-    ensures given { (image : Image) (kept : Kept) (n : ℕ) (old e : MapEntry) → AreCounts image kept → entry_in image n ≡ Some old
+    ensures given { (image : Image) (kept : Kept) (n : ℕ) (old e : MapEntry) → AreCounts image kept
+        → entry_in image n ≡ Some old
         → IsEntry e → is_free old ≡ false → is_free e ≡ true
-        → AreCounts (with_entry image n e) (after_giving kept n 1) × (sum (after_giving kept n 1).free ≡ sum kept.free + 1) }
+        → AreCounts (with_entry image n e) (after_giving kept n 1)
+        × (sum (after_giving kept n 1).free ≡ sum kept.free + 1) }
     // A block that was taken stays so, or a Free block stays Free.
-    ensures same { (image : Image) (kept : Kept) (n : ℕ) (old e : MapEntry) → AreCounts image kept → entry_in image n ≡ Some old
+    ensures same { (image : Image) (kept : Kept) (n : ℕ) (old e : MapEntry) → AreCounts image kept
+        → entry_in image n ≡ Some old
         → IsEntry e → is_free e ≡ is_free old → AreCounts (with_entry image n e) kept }
     ensures one { (image : Image) (kept other : Kept) → AreCounts image kept → AreCounts image other → kept ≡ other }
-    ensures sum { (image : Image) (kept : Kept) → AreCounts image kept → sum kept.free ≡ free_from image 0 (length image) }
+    ensures sum { (image : Image) (kept : Kept) → AreCounts image kept
+        → sum kept.free ≡ free_from image 0 (length image) }
 {}

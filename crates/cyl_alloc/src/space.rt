@@ -1,5 +1,6 @@
 //! The Free blocks of a volume.
-ghost use Rattle.std.specs.Prelude.{◌≡◌, ℕ, ◌+◌, ◌*◌, ◌/◌, ◌<◌, ◌≤◌, ◌↔◌, true, false, length, replicate, sum, IsTrue, IsErr, Err, IfOk, IfErr, OnOk};
+ghost use Rattle.std.specs.Prelude.{◌≡◌, ℕ, ◌+◌, ◌*◌, ◌/◌, ◌<◌, ◌≤◌, ◌↔◌, true, false, length, replicate, sum, IsTrue};
+ghost use Rattle.std.specs.Prelude.{IsErr, Err, IfOk, IfErr, OnOk};
 ghost use Rattle.cfs_base.specs.Calls.{OnlyReads, MakesAtMost};
 ghost use Rattle.cfs_base.specs.Disk.{Image, Written};
 ghost use Rattle.cfs_base.specs.Refusals.{had_tried, trouble_had_tried};
@@ -86,8 +87,8 @@ impl Space {
         })
     }
 
-    /// How many blocks of a cylinder are Free, in 0 to 64, with one read. `Damaged` names its map block, with code 2, which
-    /// is no map.
+    /// How many blocks of a cylinder are Free, in 0 to 64, with one read. `Damaged` names its map block, with code 2,
+    /// which is no map.
     pub fn count_free<D: Disk>(disk: &mut D, cylinder: u32) -> Result<u32, Trouble>
         requires on_disk { 64 * cylinder + 64 ≤ D.blocks disk.old }
         ensures counted { Tells D.Disk disk.old → IfOk result (λ n.
@@ -151,8 +152,8 @@ impl Space {
         self.enter(disk, BlockState::Allocated, place, owner)
     }
 
-    /// Makes the least-numbered Free block IntendAllocate, for the place that it will have in an owner's draft. Refused as
-    /// `claim`.
+    /// Makes the least-numbered Free block IntendAllocate, for the place that it will have in an owner's draft. Refused
+    /// as `claim`.
     pub fn intend<D: Disk>(
         &mut self,
         disk: &mut D,
@@ -199,9 +200,9 @@ impl Space {
         }
     }
 
-    /// Makes a block Free that wasn't, and counts it; one that was Free is counted all the same. `Damaged` names its map
-    /// block, with code 2, which is no map. Where it is refused the counts are as they were, and so is the disk, where no
-    /// write was tried.
+    /// Makes a block Free that wasn't, and counts it; one that was Free is counted all the same. `Damaged` names its
+    /// map block, with code 2, which is no map. Where it is refused the counts are as they were, and so is the disk,
+    /// where no write was tried.
     pub fn release<D: Disk>(&mut self, disk: &mut D, block: BlockNo) -> Result<(), Trouble>
         requires size { D.blocks disk.old ≡ 64 * length self.old.free }
         requires on_disk { block.0 < D.blocks disk.old }
@@ -211,7 +212,8 @@ impl Space {
             (spec.IsGoodMap (D.content disk.old) block.0) }
         ensures told { OnOk result ((n : ℕ) → IsTrue (D.told disk.old n) → IsTrue (D.told disk.new n)) }
         ensures counts { Tells D.Disk disk.old → spec.AreCounts (D.content disk.old) self.old →
-            is_free_in (D.content disk.old) block.0 ≡ false → OnOk result (spec.AreCounts (D.content disk.new) self.new) }
+            is_free_in (D.content disk.old) block.0 ≡ false
+            → OnOk result (spec.AreCounts (D.content disk.new) self.new) }
         ensures given { OnOk result (self.new ≡ spec.after_giving self.old block.0 1) }
         ensures kept { IsErr result → self.new ≡ self.old }
         ensures cylinders { length self.new.free ≡ length self.old.free }

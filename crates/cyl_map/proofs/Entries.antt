@@ -1,24 +1,6 @@
 -- The entries of the whole table, from those of its rows.
 use Rattle.std.proofs.Common.{◌≡◌, ◌⊎◌, ⊎_elim, inl, inr, ℕ, ◌+◌, ◌%◌, ◌^◌, ◌<◌, ◌≤◌, Bool, true, false, cond, not, ◌&&◌, ◌||◌, ◌==◌, List, [], ◌∷◌, ◌++◌, length, take, drop, get_or, Option, Some, None, Result, Err, ◌↔◌, refl, sym, ◌∙◌, ap, subst, append_assoc, arith}
-use Rattle.std.specs.List.{list_any, list_all}
-use Rattle.std.specs.Prelude.{nat_lt, IsSome}
-use Rattle.std.specs.Str.{bytes_eq}
-use Rattle.std.proofs.lemmas.Bool.Decides.{nat_tests}
-use Rattle.std.proofs.lemmas.List.{take_more, take-take, take-append-drop}
-use Rattle.std.proofs.lemmas.List.Folds.{list_any-append}
-use Rattle.std.proofs.lemmas.List.Recursion.{or_at}
-use Rattle.std.proofs.lemmas.Nat.{from_be_bytes-to_be_bytes_2, from_be_bytes-to_be_bytes_4}
-use Rattle.std.proofs.lemmas.Slice.Eq.{bytes_eq-Decides}
-use Rattle.cfs_base.specs.declared.kind.Place.{Place}
-use Rattle.cfs_base.specs.declared.kind.Place.TheVariants.{Root, ShadowRoot, Node, Leaf}
-use Rattle.cyl_map.specs.declared.state.BlockState.{BlockState}
-use Rattle.cyl_map.specs.declared.state.BlockState.TheVariants.{Free, Allocated, IntendAllocate, IntendDeallocate}
-use Rattle.cyl_map.specs.declared.entry.BadEntry.{BadEntry}
-use Rattle.cyl_map.specs.declared.entry.MapEntry.{MapEntry}
-use Rattle.cyl_map.specs.declared.row.Row.{Row}
-use Rattle.cyl_map.specs.Entry.{IsEntry, is_entry, is_of, spelling, table, first_byte, place_code, place_number}
-use Rattle.cyl_map.specs.Reading.{BeginsEntry, IsFirstBad, entry_of, said_by, state_of, place_of}
-use Rattle.cyl_map.specs.Row.{IsSpelledBy, BeginsEntryOf, IsFirstBadOf}
+use Rattle.cyl_map.proofs.Words.{Allocated, BadEntry, BeginsEntry, BeginsEntryOf, BlockState, Free, IntendAllocate, IntendDeallocate, IsEntry, IsFirstBad, IsFirstBadOf, IsSome, IsSpelledBy, Leaf, MapEntry, Node, Place, Root, Row, ShadowRoot, bytes_eq, bytes_eq-Decides, entry_of, first_byte, from_be_bytes-to_be_bytes_2, from_be_bytes-to_be_bytes_4, is_entry, is_of, list_all, list_any, list_any-append, nat_lt, nat_tests, or_at, place_code, place_number, place_of, said_by, spelling, state_of, table, take-append-drop, take-take, take_more}
 use Rattle.cyl_map.proofs.Rows.{and_true, and_left, and_right, made, of_row, owned_within, unowned_zero}
 
 or_cases : (x y : Bool) → (x || y) ≡ true → (x ≡ true) ⊎ (y ≡ true)

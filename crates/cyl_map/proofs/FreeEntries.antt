@@ -1,10 +1,6 @@
 -- Counting and finding what passes a test.
 use Rattle.std.proofs.Common.{◌≡◌, ℕ, suc, ◌+◌, ◌≤◌, Bool, true, false, cond, not, List, [], ◌∷◌, ◌↔◌, length, map, Some, None, position, count_by, refl, ◌∙◌, ap, arith}
-use Rattle.std.specs.List.{prefix_len}
-use Rattle.std.specs.Prelude.{nat_lt, IsNone}
-use Rattle.std.proofs.lemmas.Bool.Decides.{nat_tests}
-use Rattle.std.proofs.lemmas.List.{length-map}
-use Rattle.std.proofs.lemmas.List.Sums.{sum_by-cons, prefix_len-le-length}
+use Rattle.cyl_map.proofs.Words.{IsNone, length-map, nat_lt, nat_tests, prefix_len, prefix_len-le-length, sum_by-cons}
 
 module _ {X Y : Type 0} (p : Y → Bool) (f : X → Y) where
   prefix_len-map : (xs : List X) → prefix_len (λ y. not (p y)) (map f xs) ≡ prefix_len (λ x. not (p (f x))) xs

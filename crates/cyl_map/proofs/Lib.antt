@@ -4,3 +4,4 @@ pub mod Maps
 pub mod RowReads
 pub mod Rows
 pub mod Volumes
+mod Words

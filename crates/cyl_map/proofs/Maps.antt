@@ -1,15 +1,6 @@
 -- 64 entries, one after the other.
 use Rattle.std.proofs.Common.{◌≡◌, ℕ, zero, suc, ◌+◌, ◌*◌, ◌<◌, ◌≤◌, List, [], ◌∷◌, ◌++◌, length, take, drop, map, get_or, Option, Some, None, Result, Err, ◌↔◌, slice_get, set, refl, sym, ◌∙◌, ap, subst, arith, length-drop, length-set}
-use Rattle.std.specs.Prelude.{All, IsSome}
-use Rattle.std.specs.Simd.{first_chunks}
-use Rattle.std.proofs.lemmas.List.Elements.{All-set}
-use Rattle.std.proofs.lemmas.List.{take_at, drop_at, drop-drop, take-append-drop, length-map, get_or-map}
-use Rattle.std.proofs.lemmas.Option.{slice_get-get_or}
-use Rattle.cyl_map.specs.declared.entry.MapEntry.{MapEntry}
-use Rattle.cyl_map.specs.declared.map.BadMap.{BadMap}
-use Rattle.cyl_map.specs.Entry.{IsEntry, spelling}
-use Rattle.cyl_map.specs.Reading.{IsFirstBad, entry_of, said_by}
-use Rattle.cyl_map.specs.Map.{IsMap, IsFirstBadEntry, AreEntries, SpellsMap, map_spelling, bytes_at, entry_at, eights, entries_of}
+use Rattle.cyl_map.proofs.Words.{All, All-set, AreEntries, BadMap, IsEntry, IsFirstBad, IsFirstBadEntry, IsMap, IsSome, MapEntry, SpellsMap, bytes_at, drop-drop, drop_at, eights, entries_of, entry_at, entry_of, first_chunks, get_or-map, length-map, map_spelling, said_by, slice_get-get_or, spelling, take-append-drop, take_at}
 use Rattle.cyl_map.proofs.Entries.{entry_of-spelling, entry_of_said, said_by-spelling, entry_of_bad, first_bad_one}
 
 pub length-spelling : (e : MapEntry) → length (spelling e) ≡ 8

@@ -1,15 +1,6 @@
 -- How far a row of the table reads eight bytes.
 use Rattle.std.proofs.Common.{◌≡◌, ◌≢◌, ℕ, zero, suc, ◌+◌, ◌*◌, ◌/◌, ◌%◌, ◌^◌, ◌<◌, ◌≤◌, Bool, true, false, not, cond, ◌&&◌, ◌||◌, ◌==◌, List, [], ◌∷◌, length, drop, get_or, Option, refl, sym, ◌∙◌, ap, subst, arith}
-use Rattle.std.specs.Prelude.{nat_lt, nat_le}
-use Rattle.std.proofs.lemmas.Bool.Decides.{nat_tests}
-use Rattle.cfs_base.specs.declared.kind.Place.{Place}
-use Rattle.cyl_map.specs.declared.state.BlockState.{BlockState}
-use Rattle.cyl_map.specs.declared.state.BlockState.TheVariants.{Free, Allocated, IntendAllocate, IntendDeallocate}
-use Rattle.cyl_map.specs.declared.entry.MapEntry.{MapEntry}
-use Rattle.cyl_map.specs.declared.row.Row.{Row}
-use Rattle.cyl_map.specs.Entry.{state_code, place_code, place_number, first_byte, lets_state, lets_owner, is_of, spelling}
-use Rattle.cyl_map.specs.Reading.{state_of}
-use Rattle.cyl_map.specs.Row.{IsSpelledBy, IsFirstBadOf, IsFirstOfOwner}
+use Rattle.cyl_map.proofs.Words.{Allocated, BlockState, Free, IntendAllocate, IntendDeallocate, IsFirstBadOf, IsFirstOfOwner, IsSpelledBy, MapEntry, Place, Row, first_byte, is_of, lets_owner, lets_state, nat_le, nat_lt, nat_tests, place_code, place_number, spelling, state_code, state_of}
 use Rattle.cyl_map.proofs.Rows.{and_true, and_left, and_right, either, reads_place, of_row, made, least_owner, lets_least, lets_least_state, lets_owned, lets_none, owned_within, unowned_zero, is_of_made, with_number, place_code-with_number, place_number-with_number, number_in, Reads, ReadsPlace}
 
 -- a list of eight is eight cells

@@ -1,5 +1,6 @@
 -- The 512 bytes of a map: 64 entries, one after the other.
-use Rattle.std.specs.Prelude.{◌≡◌, ℕ, ◌*◌, ◌<◌, Bool, true, false, List, take, drop, length, map, All, count_by, Option, IsSome}
+use Rattle.std.specs.Prelude.{◌≡◌, ℕ, ◌*◌, ◌<◌, Bool, true, false, List, take, drop, length, map, All, count_by, Option}
+use Rattle.std.specs.Prelude.{IsSome}
 use Rattle.std.specs.List.{flat_map}
 use Rattle.std.specs.Simd.{first_chunks}
 use Rattle.cyl_map.specs.declared.state.BlockState.{BlockState}

@@ -1,5 +1,6 @@
 //! The map of a cylinder.
-ghost use Rattle.std.specs.Prelude.{◌≡◌, ◌↔◌, ◌<◌, ℕ, List, Some, IfOk, IfErr, OnOk, IfSome, IsTrue, IsNone, length, position, slice_get, slice_set};
+ghost use Rattle.std.specs.Prelude.{◌≡◌, ◌↔◌, ◌<◌, ℕ, List, Some, IfOk, IfErr, OnOk, IfSome, IsTrue, IsNone, length};
+ghost use Rattle.std.specs.Prelude.{position, slice_get, slice_set};
 ghost use Rattle.std.specs.Int.{to_be_bytes, w64};
 ghost use Rattle.cyl_map.specs.Entry.{IsEntry, spelling};
 ghost use Rattle.cyl_map.specs.Map as spec;

@@ -1,5 +1,6 @@
 //! The table of entries: a row for each kind of place.
-ghost use Rattle.std.specs.Prelude.{◌≡◌, ◌≢◌, ◌↔◌, ◌+◌, ◌*◌, ◌^◌, ◌<◌, ◌≤◌, ℕ, Bool, true, slice_index, IsTrue, IfOk, IfErr, IfSome, IfNone};
+ghost use Rattle.std.specs.Prelude.{◌≡◌, ◌≢◌, ◌↔◌, ◌+◌, ◌*◌, ◌^◌, ◌<◌, ◌≤◌, ℕ, Bool, true, slice_index, IsTrue, IfOk};
+ghost use Rattle.std.specs.Prelude.{IfErr, IfSome, IfNone};
 ghost use Rattle.cyl_map.specs.Entry as spec;
 ghost use Rattle.cyl_map.specs.Reading.{place_of as said_place};
 ghost use Rattle.cyl_map.specs.Row.{IsFirstBadOf, IsFirstOfOwner, IsSpelledBy};
@@ -122,8 +123,8 @@ fn first_of_owner(bytes: &[u8; 8]) -> Option<u8>
     None
 }
 
-/// The number in the first four bytes, little-endian. It and the next have functions of their own, so that four bytes are
-/// read at once.
+/// The number in the first four bytes, little-endian. It and the next have functions of their own, so that four bytes
+/// are read at once.
 fn little_endian(bytes: &[u8; 8]) -> u32
     ensures { result ≡ slice_index bytes.now 0 + slice_index bytes.now 1 * 2 ^ 8 + slice_index bytes.now 2 * 2 ^ 16
         + slice_index bytes.now 3 * 2 ^ 24 }
@@ -133,7 +134,8 @@ fn little_endian(bytes: &[u8; 8]) -> u32
 
 /// The number in the first four bytes, big-endian.
 fn big_endian(bytes: &[u8; 8]) -> u32
-    ensures { result ≡ slice_index bytes.now 0 * 2 ^ 24 + slice_index bytes.now 1 * 2 ^ 16 + slice_index bytes.now 2 * 2 ^ 8
+    ensures { result ≡ slice_index bytes.now 0 * 2 ^ 24 + slice_index bytes.now 1 * 2 ^ 16
+        + slice_index bytes.now 2 * 2 ^ 8
         + slice_index bytes.now 3 }
 {
     u32::from_be_bytes([bytes[0], bytes[1], bytes[2], bytes[3]])

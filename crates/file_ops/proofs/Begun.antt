@@ -1,35 +1,5 @@
 -- A draft that was just begun, changed: what it is among the drafts that stand, and that a block is left for its shadow root.
-use Rattle.std.proofs.Common.{◌≡◌, ℕ, ◌+◌, ◌/◌, ◌≤◌, Bool, true, false, cond, not, List, [], ◌∷◌, length, Option, Some, refl, sym, ◌∙◌, ap, subst, arith}
-use Rattle.std.specs.Prelude.{filter, nat_lt, sum, ◌==◌}
-use Rattle.std.specs.List.{sum_by}
-use Rattle.std.proofs.lemmas.Bool.{and_from, and_parts}
-use Rattle.std.proofs.lemmas.List.Sums.{count_by-le-length, length-filter, sum_by-cons}
-use Rattle.std.proofs.lemmas.Bool.Decides.{nat_tests}
-use Rattle.cfs_base.specs.Disk.{Image}
-use Rattle.cfs_base.specs.declared.disk.Disk.{Ghosts}
-use Rattle.cfs_base.specs.declared.identifier.Puid.{Puid}
-use Rattle.cyl_alloc.specs.Space.{Kept}
-use Rattle.cyl_alloc.proofs.Counted.{sum_is}
-use Rattle.cyl_map.specs.declared.entry.MapEntry.{MapEntry}
-use Rattle.intentions.specs.Store.{StoreHas}
-use Rattle.special_files.specs.Store.{replaced, without_draft}
-use Rattle.special_files.proofs.CommitDraft.{without_none}
-use Rattle.ufs_model.specs.Graph.{Graph, has_block, object_at}
-use Rattle.ufs_model.specs.Identifier.{same_puid}
-use Rattle.ufs_model.specs.Numbers.{has_number, lacking, merged, missing, with_number, with_numbers, within}
-use Rattle.ufs_model.specs.Object.{changed_object, fresh_after, held_levels, written_anew}
-use Rattle.ufs_model.specs.declared.change.Change.{Change}
-use Rattle.ufs_model.specs.declared.object.Object.{Object}
-use Rattle.vol_image.proofs.Reached.{same_puid_itself}
-use Rattle.vol_owners.specs.Account.{Accounts, Opened, drafts_of}
-use Rattle.vol_owners.specs.Change.{ChangesOnly, IsOfThese, of_draft, of_owner}
-use Rattle.vol_owners.specs.Owner.{is_meant, is_placed, is_taken, owner_of}
-use Rattle.vol_owners.specs.Room.{draft_blocks}
-use Rattle.vol_owners.proofs.Changes.{changes_wider}
-use Rattle.vol_owners.proofs.Entries.{placed_taken}
-use Rattle.vol_owners.proofs.Keys.{block_there}
-use Rattle.vol_owners.proofs.Rooms.{room}
-use Rattle.vol_owners.proofs.Strays.{strays_stay}
+use Rattle.file_ops.proofs.Words.{◌≡◌, ℕ, ◌+◌, ◌/◌, ◌≤◌, Bool, true, false, cond, not, List, [], ◌∷◌, length, Option, Some, refl, sym, ◌∙◌, ap, subst, arith, filter, nat_lt, sum, ◌==◌, sum_by, and_from, and_parts, count_by-le-length, length-filter, sum_by-cons, nat_tests, Image, Ghosts, Puid, Kept, sum_is, MapEntry, StoreHas, replaced, without_draft, without_none, Graph, has_block, object_at, same_puid, has_number, lacking, merged, missing, with_number, with_numbers, within, changed_object, fresh_after, held_levels, written_anew, Change, Object, same_puid_itself, Accounts, Opened, drafts_of, ChangesOnly, IsOfThese, of_draft, of_owner, is_meant, is_placed, is_taken, owner_of, draft_blocks, changes_wider, placed_taken, block_there, room, strays_stay}
 
 -- ---- among the drafts
 

@@ -1,53 +1,11 @@
 -- A special file changed by a draft that is begun, changed and committed.
-use Rattle.std.proofs.Common.{◌≡◌, inl, inr, ℕ, ◌+◌, ◌<◌, ◌≤◌, Bool, true, false, List, [], ◌∷◌, length, get_or, Option, Some, None, Ok, Err, refl, sym, ◌∙◌, ap, subst, arith}
-use Rattle.std.specs.Prelude.{IfErr, OnOk, Result, option_to_list, sum}
-use Rattle.cfs_base.specs.Calls.{HasStopped, HasTried, MakesAtMost, OnlyReads}
-use Rattle.cfs_base.specs.Disk.{Image, Nothing, block_at}
-use Rattle.cfs_base.specs.Run.{Leaves, Tells}
-use Rattle.cfs_base.specs.declared.disk.Disk.{Ghosts}
-use Rattle.cfs_base.specs.declared.identifier.Puid.{Puid}
-use Rattle.cfs_base.specs.declared.kind.FileKind.TheVariants as kinds
-use Rattle.cfs_base.specs.declared.refusal.Refused.{Refused}
-use Rattle.cfs_base.specs.declared.refusal.Refused.TheVariants as refused
-use Rattle.cfs_base.proofs.Calls.{makes_then, reads_make, reads_then, reads_within, stopped_after_reads, stopped_after_try, tells_on, then_tried}
-use Rattle.cfs_base.proofs.Runs.{still_tells, then, wider}
-use Rattle.block_tree.specs.Root.{IsRootBlock}
-use Rattle.block_tree.specs.declared.root.Root.{Root}
-use Rattle.cyl_alloc.specs.Space.{Kept}
+use Rattle.file_ops.proofs.Words.{◌≡◌, inl, inr, ℕ, ◌+◌, ◌<◌, ◌≤◌, Bool, true, false, List, [], ◌∷◌, length, get_or, Option, Some, None, Ok, Err, refl, sym, ◌∙◌, ap, subst, arith, IfErr, OnOk, Result, option_to_list, sum, HasStopped, HasTried, MakesAtMost, OnlyReads, Image, Nothing, block_at, Leaves, Tells, Ghosts, Puid, Refused, makes_then, reads_make, reads_then, reads_within, stopped_after_reads, stopped_after_try, tells_on, then_tried, still_tells, then, wider, IsRootBlock, Root, Kept, StoreHas, is_untried, file_to_leaves, makes_within, reads_none, file_of, Overwrite, Becomes, Committed, IsOldOrNew, Drafting, HasNoneFresh, IsOpen, begun_at, fresh_of, need_beside, opened_as, shadow_need, Ends, ClaimsAndDrops, is_damaged, is_full, replaced, begun_fresh, length-none, none_is, first_here, damage_since, refusal_after_reads, Graph, object_at, with_object, missing, changed_object, new_file, written_anew, changed_draft, Change, Draft, File, Object, Holds, one_root_block, Opened, drafts_of, ChangesOnly, of_draft, draft_blocks, changes_then}
 use Rattle.file_ops.specs.Changes.{Changed, ChangesFile, ClaimsBeside, IsCommitRefusal, IsFileRefusal, MayChange, NoneLeft, OfBlock, Short, claims_beside, end_of, need_for}
-use Rattle.intentions.specs.Store.{StoreHas}
-use Rattle.normal_files.specs.WriteRefusal.{is_untried}
-use Rattle.leaf_changes.proofs.Given.{file_to_leaves}
-use Rattle.normal_files.proofs.Come.{makes_within, reads_none}
-use Rattle.normal_files.proofs.FileCalls.{file_of}
-use Rattle.ufs_model.specs.declared.change.Change.TheVariants.{Overwrite}
-use Rattle.special_files.specs.Becomes.{Becomes}
-use Rattle.special_files.specs.Committing.{Committed, IsOldOrNew}
-use Rattle.special_files.specs.Drafting.{Drafting, HasNoneFresh, IsOpen, begun_at, fresh_of, need_beside, opened_as, shadow_need}
-use Rattle.special_files.specs.Ends.{Ends}
-use Rattle.special_files.specs.Order.{ClaimsAndDrops}
-use Rattle.special_files.specs.Refusal.{IsRefusal, IsRefusalOrMemory, is_damaged, is_full}
-use Rattle.special_files.specs.Store.{replaced}
-use Rattle.special_files.proofs.Begun.{begun_fresh}
-use Rattle.special_files.proofs.Levels.{length-none, none_is}
-use Rattle.special_files.proofs.Lists.{first_here}
-use Rattle.special_files.proofs.Refusals.{damage_since, refusal_after_reads}
-use Rattle.ufs_model.specs.Graph.{Graph, object_at, with_object}
-use Rattle.ufs_model.specs.Numbers.{missing}
-use Rattle.ufs_model.specs.Object.{changed_object, new_file, written_anew}
-use Rattle.ufs_model.specs.State.{changed_draft}
-use Rattle.ufs_model.specs.declared.change.Change.{Change}
-use Rattle.ufs_model.specs.declared.object.Draft.{Draft}
-use Rattle.ufs_model.specs.declared.object.File.{File}
-use Rattle.ufs_model.specs.declared.object.Object.{Object}
-use Rattle.ufs_model.specs.declared.object.Object.TheVariants as objects
-use Rattle.vol_image.specs.Sound.{Holds}
-use Rattle.vol_image.proofs.Unique.{one_root_block}
-use Rattle.vol_owners.specs.Account.{Opened, drafts_of}
-use Rattle.vol_owners.specs.Change.{ChangesOnly, of_draft}
-use Rattle.vol_owners.specs.Room.{draft_blocks}
-use Rattle.vol_owners.proofs.Changes.{changes_then}
+use Rattle.special_files.specs.Refusal.{IsRefusal}
 use Rattle.file_ops.proofs.Begun.{draft_changes, few_fresh, one_left, without_begun}
+use Rattle.cfs_base.specs.declared.kind.FileKind.TheVariants as kinds
+use Rattle.cfs_base.specs.declared.refusal.Refused.TheVariants as refused
+use Rattle.ufs_model.specs.declared.object.Object.TheVariants as objects
 
 -- a file's draft that was just begun, as the model has it
 abbrev pub begun : File → Draft
@@ -96,12 +54,6 @@ none_fresh at was is = record {
 -- ---- refusals
 
 module _ {D : Type 0} (g : Ghosts D) (at floor : ℕ) (change : Change) (d0 : D) (k0 : Kept) where
-  pub from_begin : (d1 : D) (kept : Kept) (e : Refused) → IsRefusalOrMemory g at 0 d0 d1 kept e → is_full e ≡ false → IsFileRefusal g at kinds.Special floor change d0 d1 kept e
-  from_begin d1 kept (refused.Full need) is spare = cc
-  from_begin d1 kept (refused.Disk tried) is spare = is
-  from_begin d1 kept (refused.Damaged damage) is spare = OfBlock is
-  from_begin d1 kept refused.Memory is spare = refl
-
   from_refusal : (d1 : D) (kept : Kept) (e : Refused) → IsRefusal g at floor d0 d1 kept e → IsFileRefusal g at kinds.Special floor change d0 d1 kept e
   from_refusal d1 kept (refused.Full need) is = is
   from_refusal d1 kept (refused.Disk tried) is = is

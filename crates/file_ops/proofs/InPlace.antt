@@ -1,21 +1,11 @@
 -- A normal file changed in place, and refusals of its calls.
-use Rattle.std.proofs.Common.{◌≡◌, ℕ, ◌+◌, ◌<◌, true, false, refl, ◌∙◌, ap, arith}
-use Rattle.std.specs.Prelude.{sum}
-use Rattle.cfs_base.specs.Refusals.{refused_by}
-use Rattle.cfs_base.specs.declared.disk.Disk.{Ghosts}
-use Rattle.cfs_base.specs.declared.kind.FileKind.TheVariants as kinds
-use Rattle.cfs_base.specs.declared.refusal.Damage.{Damage}
-use Rattle.cfs_base.specs.declared.refusal.Refused.{Refused}
-use Rattle.cfs_base.specs.declared.refusal.Refused.TheVariants as refused
-use Rattle.cfs_base.specs.declared.refusal.Trouble.{Trouble}
-use Rattle.cfs_base.specs.declared.refusal.Trouble.TheVariants as trouble
-use Rattle.cyl_alloc.specs.Space.{Kept}
+use Rattle.file_ops.proofs.Words.{◌≡◌, ℕ, ◌+◌, ◌<◌, true, false, refl, ◌∙◌, ap, arith, sum, refused_by, Ghosts, Damage, Refused, Trouble, Kept, TellsNeed, is_damaged, is_full, Change}
 use Rattle.file_ops.specs.Changes.{IsFileRefusal, IsPlaceDamage}
-use Rattle.normal_files.specs.Ends as ends
 use Rattle.normal_files.specs.Refusal.{IsRefusal, is_damage}
-use Rattle.normal_files.specs.WriteRefusal.{TellsNeed}
-use Rattle.special_files.specs.Refusal.{is_damaged, is_full}
-use Rattle.ufs_model.specs.declared.change.Change.{Change}
+use Rattle.cfs_base.specs.declared.kind.FileKind.TheVariants as kinds
+use Rattle.cfs_base.specs.declared.refusal.Refused.TheVariants as refused
+use Rattle.cfs_base.specs.declared.refusal.Trouble.TheVariants as trouble
+use Rattle.normal_files.specs.Ends as ends
 
 pub sound_by : (t : Trouble) → is_damage t ≡ false → is_damaged (refused_by t) ≡ false
 sound_by (trouble.Disk tried) is = refl

@@ -1,3 +1,4 @@
+pub mod Words
 mod Begun
 mod Beside
 mod InPlace

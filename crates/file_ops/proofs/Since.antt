@@ -1,14 +1,9 @@
 -- The trouble of a commit, told as one of the whole change: something was tried before it, or not.
-use Rattle.std.proofs.Common.{◌≡◌, inl, ℕ, Bool, true, false, refl}
-use Rattle.std.specs.Prelude.{if◌then◌else◌}
-use Rattle.cfs_base.specs.Refusals.{refused_by, trouble_after_try}
-use Rattle.cfs_base.specs.declared.disk.Disk.{Ghosts}
-use Rattle.cfs_base.specs.declared.refusal.Refused.TheVariants as refused
-use Rattle.cfs_base.specs.declared.refusal.Trouble.{Trouble}
-use Rattle.cfs_base.specs.declared.refusal.Trouble.TheVariants as trouble
-use Rattle.cyl_alloc.specs.Space.{Kept}
+use Rattle.file_ops.proofs.Words.{◌≡◌, inl, ℕ, Bool, true, false, refl, if◌then◌else◌, refused_by, trouble_after_try, Ghosts, Trouble, Kept, IsTrouble, is_damaged}
 use Rattle.file_ops.specs.Changes.{IsCommitRefusal}
-use Rattle.special_files.specs.Refusal.{IsTrouble, is_damage, is_damaged}
+use Rattle.special_files.specs.Refusal.{is_damage}
+use Rattle.cfs_base.specs.declared.refusal.Refused.TheVariants as refused
+use Rattle.cfs_base.specs.declared.refusal.Trouble.TheVariants as trouble
 
 abbrev pub since : Bool → Trouble → Trouble
 since wrote t = if wrote then trouble_after_try t else t

@@ -1,5 +1,6 @@
 -- A file changed: a normal one in place, a special one beside itself as one commit.
-use Rattle.std.specs.Prelude.{◌≡◌, ◌⊎◌, ℕ, ◌+◌, ◌-◌, ◌/◌, ◌<◌, ◌≤◌, ◌||◌, Bool, true, false, List, [], length, sum, Result, IfErr, OnOk}
+use Rattle.std.specs.Prelude.{◌≡◌, ◌⊎◌, ℕ, ◌+◌, ◌-◌, ◌/◌, ◌<◌, ◌≤◌, ◌||◌, Bool, true, false, List, [], length, sum}
+use Rattle.std.specs.Prelude.{Result, IfErr, OnOk}
 use Rattle.cfs_base.specs.Calls.{HasStopped, MakesAtMost, OnlyReads}
 use Rattle.cfs_base.specs.Codes.{no_root, too_full}
 use Rattle.cfs_base.specs.Disk.{Image, block_at}
@@ -41,13 +42,14 @@ use Rattle.vol_owners.specs.Account.{Opened}
 use Rattle.vol_owners.specs.Change.{ChangesOnly, of_owner}
 
 -- the store has this file, it is of the kind, and the place of the change lies within it
-pub record MayChange {D : Type 0} (g : Ghosts D) (at : ℕ) (kind : FileKind) (change : Change) (graph : Graph) (ds : List Opened) (id : Puid) (f : File) (d : D) (space : Kept) : Type 0 where
+pub record MayChange {D : Type 0} (g : Ghosts D) (at : ℕ) (kind : FileKind) (change : Change) (graph : Graph)
+    (ds : List Opened) (id : Puid) (f : File) (d : D) (space : Kept) : Type 0 where
   pub has : HasFile g graph ds d space at id f
   pub kind_is : f.kind ≡ kind
   pub inside : IsInside change (objects.File f)
 
--- How many blocks it takes. A normal file takes the leaves and nodes that it doesn't hold yet, where bytes are written. A
--- special file takes all that is written anew, and a shadow root.
+-- How many blocks it takes. A normal file takes the leaves and nodes that it doesn't hold yet, where bytes are written.
+-- A special file takes all that is written anew, and a shadow root.
 abbrev pub need_for : FileKind → Change → File → ℕ
 need_for kinds.Normal (Overwrite offset bytes) f = needs f offset (length bytes)
 need_for kinds.Normal (SetSize size) f = 0
@@ -64,7 +66,8 @@ IsDurable kinds.Normal (Fill slot what) f = Unit {0}
 IsDurable kinds.Special change f = Unit {0}
 
 -- The object is the changed file now, and nothing changed but blocks of the object or such as were Free.
-pub record Changed {D : Type 0} (g : Ghosts D) (kind : FileKind) (change : Change) (graph : Graph) (ds : List Opened) (id : Puid) (f : File) (old new : D) (space : Kept) : Type 0 where
+pub record Changed {D : Type 0} (g : Ghosts D) (kind : FileKind) (change : Change) (graph : Graph) (ds : List Opened)
+    (id : Puid) (f : File) (old new : D) (space : Kept) : Type 0 where
   pub store : StoreHas g (with_object graph id (changed_object change (objects.File f))) ds new space
   pub only : ChangesOnly (λ entry. of_owner id.block entry) (g.content old) (g.content new)
   pub settled : IsDurable kind change f → IsSettled g new
@@ -80,12 +83,13 @@ MayLeave kinds.Special change graph id f c = IsOldOrNew graph graph id (changed_
 
 -- what is written anew of the special file with this root block
 abbrev pub claims_beside : ℕ → Change → File → List MapEntry
-claims_beside at (Overwrite offset bytes) f = claims_from at (none_of 15360) (none_of 120) (offset / 512) (leaves_in (offset + length bytes) - offset / 512)
+claims_beside at (Overwrite offset bytes) f =
+    claims_from at (none_of 15360) (none_of 120) (offset / 512) (leaves_in (offset + length bytes) - offset / 512)
 claims_beside at (SetSize size) f = claims_anew at (written_anew (SetSize size) (objects.File f) []) []
 claims_beside at (Fill slot what) f = []
 
--- Blocks were claimed for these entries from image a on, and then one for a shadow root. After that nothing changed but blocks
--- of this owner or such as were Free.
+-- Blocks were claimed for these entries from image a on, and then one for a shadow root. After that nothing changed but
+-- blocks of this owner or such as were Free.
 pub record ClaimsBeside (owner : ℕ) (claims : List MapEntry) (a b : Image) : Type 0 where
   pub mid : Image
   pub in_order : ClaimsAndDrops owner claims a mid
@@ -112,14 +116,19 @@ pub record IsNoneLeft (after : Kept) (damage : Damage) : Type 0 where
   pub block : damage.block ≡ 0
   pub none : sum after.free ≡ 0
 
--- what is wrong where a special file is changed: with a block that was read; its root is one of fewer bytes; or none is left
-pub data IsBesideDamage {D : Type 0} (g : Ghosts D) (at : ℕ) (change : Change) (old new : D) (after : Kept) (damage : Damage) : Type 0 where
+-- what is wrong where a special file is changed: with a block that was read; its root is one of fewer bytes; or none is
+-- left
+pub data IsBesideDamage {D : Type 0} (g : Ghosts D) (at : ℕ) (change : Change) (old new : D) (after : Kept)
+    (damage : Damage) : Type 0 where
   OfBlock : special.IsDamage g at old new after damage → IsBesideDamage g at change old new after damage
-  Short : damage.code ≡ no_root → damage.block ≡ at → (Tells g old → (root : Root) → IsRootBlock (block_at (g.content old) at) root → root.size < end_of change) → IsBesideDamage g at change old new after damage
+  Short : damage.code ≡ no_root → damage.block ≡ at
+      → (Tells g old → (root : Root) → IsRootBlock (block_at (g.content old) at) root → root.size < end_of change)
+      → IsBesideDamage g at change old new after damage
   NoneLeft : IsNoneLeft after damage → IsBesideDamage g at change old new after damage
 
 -- what is wrong where a normal file is: with a block of it, with a map, or with the counts
-pub data IsPlaceDamage {D : Type 0} (g : Ghosts D) (at : ℕ) (old new : D) (after : Kept) (damage : Damage) : Type 0 where
+pub data IsPlaceDamage {D : Type 0} (g : Ghosts D) (at : ℕ) (old new : D) (after : Kept)
+    (damage : Damage) : Type 0 where
   OfFile : normal.IsDamage g at old damage → IsPlaceDamage g at old new after damage
   OfClaims : IsNoSpace g old new after damage → IsPlaceDamage g at old new after damage
   OfDrops : IsDropDamage g at old new damage → IsPlaceDamage g at old new after damage
@@ -128,36 +137,53 @@ abbrev pub IsFileDamage : {D : Type 0} → Ghosts D → (at : ℕ) → FileKind 
 IsFileDamage g at kinds.Normal change old new after damage = IsPlaceDamage g at old new after damage
 IsFileDamage g at kinds.Special change old new after damage = IsBesideDamage g at change old new after damage
 
--- too few blocks are Free, a device call failed, a block that was read is damaged, or memory is wanted, for a special file alone
-abbrev pub IsFileRefusal : {D : Type 0} → Ghosts D → (at : ℕ) → FileKind → (floor : ℕ) → Change → D → D → Kept → Refused → Type 0
+-- too few blocks are Free, a device call failed, a block that was read is damaged, or memory is wanted, for a special
+-- file alone
+abbrev pub IsFileRefusal : {D : Type 0} → Ghosts D → (at : ℕ) → FileKind → (floor : ℕ) → Change → D → D → Kept → Refused
+    → Type 0
 IsFileRefusal g at kind floor change old new after (refusals.Full need) = need.free < need.need + floor
 IsFileRefusal g at kind floor change old new after (refusals.Disk tried) = HasStopped g tried old new
-IsFileRefusal g at kind floor change old new after (refusals.Damaged damage) = IsFileDamage g at kind change old new after damage
+IsFileRefusal g at kind floor change old new after (refusals.Damaged damage) =
+    IsFileDamage g at kind change old new after damage
 IsFileRefusal g at kind floor change old new after refusals.Memory = kind ≡ kinds.Special
 
 -- the same of a draft that is committed, before which a write was tried or not
 abbrev pub IsCommitRefusal : {D : Type 0} → Ghosts D → (at : ℕ) → (wrote : Bool) → D → D → Kept → Refused → Type 0
 IsCommitRefusal g at wrote old new after (refusals.Full need) = ⊥
-IsCommitRefusal g at wrote old new after (refusals.Disk tried) = (t : Bool) × (tried ≡ wrote || t) × HasStopped g t old new
-IsCommitRefusal g at wrote old new after (refusals.Damaged damage) = special.IsDamage g at old new after damage ⊎ IsNoneLeft after damage
+IsCommitRefusal g at wrote old new after (refusals.Disk tried) =
+    (t : Bool) × (tried ≡ wrote || t) × HasStopped g t old new
+IsCommitRefusal g at wrote old new after (refusals.Damaged damage) =
+    special.IsDamage g at old new after damage ⊎ IsNoneLeft after damage
 IsCommitRefusal g at wrote old new after refusals.Memory = ⊥
 
 -- ---- the call
 
 -- The file of this kind with its root at a block is changed.
-pub record ChangesFile {D : Type 0} (g : Ghosts D) (at : ℕ) (kind : FileKind) (floor : ℕ) (change : Change) (old new : D) (before after : Kept) (result : Result (Unit {0}) Refused) : Type 0 where
-  pub done : (graph : Graph) (ds : List Opened) (id : Puid) (f : File) → MayChange g at kind change graph ds id f old before → OnOk result (Changed g kind change graph ds id f old new after)
-  pub order : (graph : Graph) (ds : List Opened) (id : Puid) (f : File) → MayChange g at kind change graph ds id f old before → OnOk result (ClaimsFor kind change at f (g.content old) (g.content new))
-  pub leaves : (graph : Graph) (ds : List Opened) (id : Puid) (f : File) → MayChange g at kind change graph ds id f old before → Leaves g old new (MayLeave kind change graph id f)
+pub record ChangesFile {D : Type 0} (g : Ghosts D) (at : ℕ) (kind : FileKind) (floor : ℕ) (change : Change)
+    (old new : D) (before after : Kept) (result : Result (Unit {0}) Refused) : Type 0 where
+  pub done : (graph : Graph) (ds : List Opened) (id : Puid) (f : File)
+      → MayChange g at kind change graph ds id f old before
+      → OnOk result (Changed g kind change graph ds id f old new after)
+  pub order : (graph : Graph) (ds : List Opened) (id : Puid) (f : File)
+      → MayChange g at kind change graph ds id f old before
+      → OnOk result (ClaimsFor kind change at f (g.content old) (g.content new))
+  pub leaves : (graph : Graph) (ds : List Opened) (id : Puid) (f : File)
+      → MayChange g at kind change graph ds id f old before → Leaves g old new (MayLeave kind change graph id f)
   -- Full exactly where the need and the floor aren't Free
-  pub room : (graph : Graph) (ds : List Opened) (id : Puid) (f : File) → MayChange g at kind change graph ds id f old before → OnOk result (need_for kind change f + floor ≤ sum before.free)
-  pub full : (graph : Graph) (ds : List Opened) (id : Puid) (f : File) → MayChange g at kind change graph ds id f old before → IfErr result (λ e. is_full e ≡ true →
-      (e ≡ refusals.Full (record { free = sum before.free; need = need_for kind change f })) × (sum before.free < need_for kind change f + floor))
+  pub room : (graph : Graph) (ds : List Opened) (id : Puid) (f : File)
+      → MayChange g at kind change graph ds id f old before
+      → OnOk result (need_for kind change f + floor ≤ sum before.free)
+  pub full : (graph : Graph) (ds : List Opened) (id : Puid) (f : File)
+      → MayChange g at kind change graph ds id f old before → IfErr result (λ e. is_full e ≡ true →
+      (e ≡ refusals.Full (record { free = sum before.free; need = need_for kind change f }))
+      × (sum before.free < need_for kind change f + floor))
   -- where a write was tried they were, or the file stayed as it was
-  pub begun : (graph : Graph) (ds : List Opened) (id : Puid) (f : File) → MayChange g at kind change graph ds id f old before → IfErr result (λ e. e ≡ refusals.Disk true →
+  pub begun : (graph : Graph) (ds : List Opened) (id : Puid) (f : File)
+      → MayChange g at kind change graph ds id f old before → IfErr result (λ e. e ≡ refusals.Disk true →
       (need_for kind change f + floor ≤ sum before.free) ⊎ Leaves g old new (λ c. Holds c graph))
   -- no damage where the disk holds the file
-  pub sound : (graph : Graph) (ds : List Opened) (id : Puid) (f : File) → MayChange g at kind change graph ds id f old before → IfErr result (λ e. is_damaged e ≡ false)
+  pub sound : (graph : Graph) (ds : List Opened) (id : Puid) (f : File)
+      → MayChange g at kind change graph ds id f old before → IfErr result (λ e. is_damaged e ≡ false)
   pub refused : IfErr result (IsFileRefusal g at kind floor change old new after)
   -- where nothing was tried all is as it was, after Full and want of memory too
   pub untried : IfErr result (λ e. is_untried e ≡ true → (after ≡ before) × OnlyReads g 31093 old new)

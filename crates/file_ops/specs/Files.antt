@@ -14,7 +14,8 @@ use Rattle.ufs_model.specs.declared.object.Object.TheVariants as objects
 use Rattle.vol_owners.specs.Account.{Opened, drafts_of}
 
 -- the store has this file, its root is at the block, and it has no draft
-pub record HasFile {D : Type 0} (g : Ghosts D) (graph : Graph) (ds : List Opened) (d : D) (space : Kept) (at : ℕ) (id : Puid) (f : File) : Type 0 where
+pub record HasFile {D : Type 0} (g : Ghosts D) (graph : Graph) (ds : List Opened) (d : D) (space : Kept) (at : ℕ)
+    (id : Puid) (f : File) : Type 0 where
   pub store : StoreHas g graph ds d space
   pub root : id.block ≡ at
   pub there : object_at graph id ≡ Some (objects.File f)

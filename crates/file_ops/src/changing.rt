@@ -8,14 +8,14 @@ use cfs_base::{BlockNo, Disk, FileKind, Refused};
 use cyl_alloc::Space;
 use std::alloc::Global;
 
-/// Writes bytes into a file of this kind, from an offset on; the range lies within the size. A normal file is written in
-/// place, and takes blocks for those leaves and nodes that it doesn't hold yet; a special file is changed as one commit, for
-/// which all memory is taken first, and takes blocks for all that it writes anew.
-/// `Full` where fewer blocks are Free than it takes, with the floor. `Damaged` names the root block, with code 3, which is
-/// none, or is a special file's of fewer bytes; a block with a pointer past the disk, with code 4; a map, with code 2, that
-/// is none, or with code 12, that has no Free block where some were counted; block 0, with code 11, where none is left for a
-/// shadow root. After `Full`, `Memory` and a `Disk` that wasn't tried all is as it was. After others a special file is old or
-/// new, and of a normal one each leaf is.
+/// Writes bytes into a file of this kind, from an offset on; the range lies within the size. A normal file is written
+/// in place, and takes blocks for those leaves and nodes that it doesn't hold yet; a special file is changed as one
+/// commit, for which all memory is taken first, and takes blocks for all that it writes anew.
+/// `Full` where fewer blocks are Free than it takes, with the floor. `Damaged` names the root block, with code 3, which
+/// is none, or is a special file's of fewer bytes; a block with a pointer past the disk, with code 4; a map, with code
+/// 2, that is none, or with code 12, that has no Free block where some were counted; block 0, with code 11, where none
+/// is left for a shadow root. After `Full`, `Memory` and a `Disk` that wasn't tried all is as it was. After others a
+/// special file is old or new, and of a normal one each leaf is.
 pub fn write<D: Disk>(
     alloc: Global,
     disk: &mut D,
@@ -32,7 +32,8 @@ pub fn write<D: Disk>(
     requires least { 1 ≤ length bytes.now }
     requires most { length bytes.now ≤ 4096 }
     requires inside { offset + length bytes.now ≤ 7864320 }
-    ensures { spec.ChangesFile D.Disk at.0 kind floor (Overwrite offset bytes.now) disk.old disk.new space.old space.new result }
+    ensures { spec.ChangesFile D.Disk at.0 kind floor (Overwrite offset bytes.now) disk.old disk.new space.old space.new
+        result }
 {
     match kind {
         FileKind::Normal => match normal_files::write(disk, space, at, offset, bytes, floor) {
@@ -43,8 +44,8 @@ pub fn write<D: Disk>(
     }
 }
 
-/// Sets the size of a file of this kind, in bytes. Refused as in `write`. A normal file set to less ends in writes that free
-/// what it had, and that no barrier follows; all else outlasts a crash once it is done.
+/// Sets the size of a file of this kind, in bytes. Refused as in `write`. A normal file set to less ends in writes that
+/// free what it had, and that no barrier follows; all else outlasts a crash once it is done.
 pub fn resize<D: Disk>(
     alloc: Global,
     disk: &mut D,

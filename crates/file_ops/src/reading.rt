@@ -22,8 +22,9 @@ fn zeros(alloc: Global, count: usize) -> Result<Vec<u8>, NoMemory>
     Ok(vec![in alloc; 0u8; count]?)
 }
 
-/// Reads so many bytes of a file from an offset on. The range lies within the size. All memory is taken first. `Damaged`
-/// names the root block, with code 3, which is none, or a block with a pointer past the disk, with code 4. Never `Full`.
+/// Reads so many bytes of a file from an offset on. The range lies within the size. All memory is taken first.
+/// `Damaged` names the root block, with code 3, which is none, or a block with a pointer past the disk, with code 4.
+/// Never `Full`.
 pub fn read<D: Disk>(
     alloc: Global,
     disk: &mut D,

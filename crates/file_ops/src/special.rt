@@ -1,5 +1,6 @@
 //! A special file, changed beside itself as one commit.
-ghost use Rattle.std.specs.Prelude.{◌≡◌, ◌≢◌, ◌+◌, ◌*◌, ◌<◌, ◌≤◌, if◌then◌else◌, false, List, length, sum, None, Some, IfErr, OnOk};
+ghost use Rattle.std.specs.Prelude.{◌≡◌, ◌≢◌, ◌+◌, ◌*◌, ◌<◌, ◌≤◌, if◌then◌else◌, false, List, length, sum, None, Some};
+ghost use Rattle.std.specs.Prelude.{IfErr, OnOk};
 ghost use Rattle.cfs_base.specs.Calls.{MakesAtMost, OnlyReads};
 ghost use Rattle.cfs_base.specs.Refusals.{refused_by, trouble_after_try};
 ghost use Rattle.cfs_base.specs.Run.{Leaves};
@@ -84,7 +85,8 @@ pub(crate) fn write_beside<D: Disk>(
     requires least { 1 ≤ length bytes.now }
     requires most { length bytes.now ≤ 4096 }
     requires inside { offset + length bytes.now ≤ 7864320 }
-    ensures { spec.ChangesFile D.Disk at.0 kinds.Special floor (Overwrite offset bytes.now) disk.old disk.new space.old space.new result }
+    ensures { spec.ChangesFile D.Disk at.0 kinds.Special floor (Overwrite offset bytes.now) disk.old disk.new space.old
+        space.new result }
 {
     let mut draft = match Draft::begin_direct(alloc, disk, space, at) {
         Ok(draft) => draft,
@@ -115,7 +117,8 @@ pub(crate) fn resize_beside<D: Disk>(
     requires on_disk { at.0 < D.blocks disk.old }
     requires size { D.blocks disk.old ≡ 64 * length space.old.free }
     requires limit { size ≤ 7864320 }
-    ensures { spec.ChangesFile D.Disk at.0 kinds.Special floor (SetSize size) disk.old disk.new space.old space.new result }
+    ensures { spec.ChangesFile D.Disk at.0 kinds.Special floor (SetSize size) disk.old disk.new space.old space.new
+        result }
 {
     let mut draft = match Draft::begin_direct(alloc, disk, space, at) {
         Ok(draft) => draft,

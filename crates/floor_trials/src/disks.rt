@@ -1,9 +1,8 @@
 //! Volumes on disks of which a call fails, and what a crash leaves of one.
-use crate::counting::CountingDisk;
 use crate::service::{Came, Seat, ask_for, gate_of, hold, play, serve, session};
 use crate::sink::{ALL, Taking, failing};
 use cfs_base::Disk;
-use cfs_fakes::{MemoryDisk, Pick};
+use cfs_fakes::{MemoryDisk, Pick, Watched};
 use std::alloc::Global;
 use std::process::Abort;
 use std::sync::Wait;
@@ -131,10 +130,7 @@ fn a_disk_that_failed_is_told_before_a_sink(rt: HostRuntime) -> Result<(), Fail>
 fn the_map_of_a_volume_that_is_served_is_read_once(rt: HostRuntime) -> Result<(), Fail> {
     let alloc = rt.alloc();
     let mut disk = match volume(&rt, alloc, u64::MAX)? {
-        Some(lower) => Some(CountingDisk {
-            lower,
-            first_reads: 0,
-        }),
+        Some(disk) => Some(Watched::new(disk)),
         None => None,
     };
     let lines =
@@ -142,7 +138,7 @@ fn the_map_of_a_volume_that_is_served_is_read_once(rt: HostRuntime) -> Result<()
     let came = play(&rt, alloc, &mut disk, &ask_for(&SERVE, &[session(lines)]))?;
     let replies = b"ok 00000003903df1a0\nok 00000003903df1a0\nok 4\nno empty\nno slot\n";
     assert!(rt; came.status == 0 && came.first() == replies.as_slice());
-    assert!(rt; matches!(disk, Some(CountingDisk { first_reads: 1, .. })));
+    assert!(rt; matches!(&disk, Some(disk) if disk.seen.reads[0] == 1));
     Ok(())
 }
 
@@ -292,21 +288,12 @@ fn lines_held(
     Err("neither line by line")?
 }
 
-/// How many lines had been answered by this moment.
-fn answered_by(came: &Came, at: u64) -> usize {
-    came.moments
-        .iter()
-        .take(2)
-        .filter(|moment| **moment <= at)
-        .count()
-}
-
 #[test]
 fn what_was_answered_outlasts_a_crash_at_any_moment(rt: HostRuntime) -> Result<(), Fail> {
     let alloc = rt.alloc();
     let (disk, came) = record(&rt, alloc)?;
     for at in FORMAT_CALLS..=calls_of(&disk) {
-        let answered = answered_by(&came, at);
+        let answered = came.answered_by(2, at);
         // the content at the last barrier, and the last write since then
         for choice in [0, u32::MAX] {
             let held = lines_held(&rt, alloc, left(alloc, &disk, at, choice)?)?;

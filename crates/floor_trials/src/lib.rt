@@ -4,11 +4,11 @@
 #![tactic(auto)]
 
 #[cfg(test)]
-mod counting;
-#[cfg(test)]
 mod disks;
 #[cfg(test)]
 mod ends;
+#[cfg(test)]
+mod front;
 #[cfg(test)]
 mod orders;
 mod rounds;

@@ -69,6 +69,15 @@ impl Came {
             None => b"no session",
         }
     }
+
+    /// How many of the first so many lines had been answered by this moment.
+    pub fn answered_by(&self, lines: usize, at: u64) -> usize {
+        self.moments
+            .iter()
+            .take(lines)
+            .filter(|moment| **moment <= at)
+            .count()
+    }
 }
 
 /// Before this turn the worker waits until the other worker has finished that turn.
@@ -149,7 +158,7 @@ fn is_for(volume: &Option<Volume>, blocks: Option<u32>) -> bool
 
 /// The words are of a form: they name so many sources and sinks, and a volume that such a disk is for; or none, where
 /// there is no disk.
-fn expect_form(
+pub fn expect_form(
     rt: &impl Abort,
     alloc: Global,
     words: &[String],

@@ -1,15 +1,17 @@
 //! Two workers on a floor.
 use crate::Rounds;
 use cfs_base::NoMemory;
-use cfs_fakes::{Hold, HoldGate, OpenGate};
+use cfs_fakes::{Hold, HoldGate, OpenGate, Turns};
 use cfs_floor::{Floor, make_all_turns, make_turns_left, run_workers, shares_of};
 use std::alloc::Global;
 use std::process::Abort;
 
 fn rounds() -> Rounds {
     Rounds {
-        first: 3,
-        second: 3,
+        turns: Turns {
+            first: 3,
+            second: 3,
+        },
         made: 0,
     }
 }
@@ -70,7 +72,7 @@ fn a_hold_for_a_turn_that_never_comes_gives_up(rt: HostRuntime) -> Result<(), No
     let floor = Floor::new(machine);
     run_workers(&rt, &floor, &gate, shares.as_mut_slice());
     assert!(rt; gate.gave_up());
-    assert_eq!(rt; floor.close().first, 0);
+    assert_eq!(rt; floor.close().turns.first, 0);
     Ok(())
 }
 
@@ -92,9 +94,8 @@ fn turns_that_are_left_are_made_worker_after_worker(rt: HostRuntime) -> Result<(
 #[test]
 fn a_floor_makes_the_turn_of_who_enters(rt: HostRuntime) {
     let floor = Floor::new(rounds());
-    assert!(rt; !floor.enter(&rt, 1));
-    assert!(rt; !floor.enter(&rt, 1));
-    assert!(rt; floor.enter(&rt, 1));
-    assert!(rt; floor.enter(&rt, 2));
+    for (worker, done) in [(1, false), (1, false), (1, true), (2, true)] {
+        assert_eq!(rt; floor.enter(&rt, worker), done);
+    }
     assert_eq!(rt; floor.close().made, 222);
 }

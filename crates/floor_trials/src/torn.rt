@@ -126,15 +126,6 @@ fn holds(came: &Came, answered: usize) -> bool {
     false
 }
 
-/// How many lines had been answered by this moment.
-fn answered_by(came: &Came, at: u64) -> usize {
-    came.moments
-        .iter()
-        .take(12)
-        .filter(|moment| **moment <= at)
-        .count()
-}
-
 /// Opens what a crash at this moment leaves, with these torn blocks.
 fn expect_opened(
     rt: &(impl Abort + Threads + Wait + Sync),
@@ -146,7 +137,7 @@ fn expect_opened(
     let mut disk = left(alloc, &recorded.disk, at, picks);
     let came = play(rt, alloc, &mut disk, &ask_for(&SERVE, &[session(LOOKING)]))?;
     assert!(rt;
-        holds(&came, answered_by(&recorded.came, at)),
+        holds(&came, recorded.came.answered_by(12, at)),
         "moment {at}"
     );
     Ok(())

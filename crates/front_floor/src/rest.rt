@@ -1,5 +1,5 @@
 //! All turns of a machine.
-ghost use Rattle.std.specs.Prelude.{◌≡◌, ℕ, ◌-◌, ◌<◌, ◌^◌, true, length, sum};
+ghost use Rattle.std.specs.Prelude.{◌≡◌, ℕ, ◌-◌, ◌<◌, ◌^◌, true, length, sum, IfErr, IfOk};
 
 use crate::desk::run_desk;
 use crate::front::{Desk, Front, FrontFault};
@@ -34,41 +34,48 @@ fn can_deal(budgets: &[u64]) -> bool
     0 < budgets.len() && budgets.len() < 1 << 32
 }
 
-/// Makes turns of a machine, each worker's in a thread. None are made where memory is wanting for a front, or where
-/// there is no worker, or all together have 2^64 - 1 turns or more.
+/// Makes turns of a machine, each worker's in a thread. None are made where there is no worker, or all together have
+/// 2^64 - 1 turns or more.
 fn make_turns_beside<M: Logged + Send, G: Gate + Sync, R: Threads + Wait + Sync>(
     rt: &R,
     alloc: Global,
     gate: &G,
     machine: M,
-) -> M {
+) -> Result<M, FrontFault<M>>
+    ensures machine { IfErr result (λ fault. fault.machine ≡ machine) }
+{
     let Ok(budgets) = budgets_of(alloc, &machine) else {
-        return machine;
+        return Err(FrontFault { machine });
     };
     if !can_deal(budgets.as_slice()) {
-        return machine;
+        return Ok(machine);
     }
     match Front::new(alloc, machine, budgets.as_slice()) {
         Ok(Desk { front, mut passes }) => {
             run_desk(rt, &front, gate, &mut passes);
-            front.close(passes)
+            Ok(front.close(passes))
         }
-        Err(FrontFault { machine }) => machine,
+        Err(fault) => Err(fault),
     }
 }
 
-/// Makes all turns of a machine, each worker's in a thread, behind the gate; what is left then, worker after worker.
-/// Where a front can't be had there are no threads. No more is known of the machine than its type, and that each
-/// worker is done.
+/// Makes all turns of a machine, each worker's in a thread, behind the gate; what is left then, worker after worker. No
+/// more is known of the machine than its type, and that each worker is done. The fault comes for want of memory alone:
+/// no turn was made.
 pub fn make_all_turns<M: Logged + Send, G: Gate + Sync, R: Threads + Wait + Sync>(
     rt: &R,
     alloc: Global,
     gate: &G,
     machine: M,
-) -> M
-    ensures { (w : ℕ) → M.done result w ≡ true }
+) -> Result<M, FrontFault<M>>
+    ensures done { IfOk result (λ made. (w : ℕ) → M.done made w ≡ true) }
+    ensures machine { IfErr result (λ fault. fault.machine ≡ machine) }
 {
-    let mut machine = make_turns_beside(rt, alloc, gate, machine);
-    make_turns_left(&mut machine);
-    machine
+    match make_turns_beside(rt, alloc, gate, machine) {
+        Ok(mut machine) => {
+            make_turns_left(&mut machine);
+            Ok(machine)
+        }
+        Err(fault) => Err(fault),
+    }
 }

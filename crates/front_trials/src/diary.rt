@@ -1,16 +1,15 @@
 //! Two workers who write down whose turn it was.
 ghost use Rattle.std.specs.Prelude.{◌≡◌, length};
 ghost use Rattle.cfs_base.specs.Log.{AddsAtMostOne};
-ghost use Rattle.front_trials.specs.Diary.{left_of};
 
 use crate::watch::Watch;
 use cfs_base::{Logged, Machine};
+use cfs_fakes::Turns;
 
 /// The turns that each of two workers has left, and whose turns were made.
 #[derive(Drop)]
 pub struct Diary {
-    pub first: u64,
-    pub second: u64,
+    pub turns: Turns,
     pub entries: Vec<u32>,
     /// What worker 0 waits for in its turns.
     pub watch: Option<Watch>,
@@ -19,80 +18,61 @@ pub struct Diary {
 }
 
 impl Diary {
-    fn left(&self, worker: u32) -> u64
-        ensures { result ≡ left_of self.now.first self.now.second worker }
-    {
-        match worker {
-            0 => self.first,
-            1 => self.second,
-            _ => 0,
-        }
-    }
-
-    /// Writes a worker down, where there is memory.
-    fn note(&mut self, worker: u32)
-        ensures first { self.new.first ≡ self.old.first }
-        ensures second { self.new.second ≡ self.old.second }
-        ensures log { AddsAtMostOne self.old.entries.items self.new.entries.items }
-    {
-        let _noted = self.entries.push(worker).is_ok();
-    }
-
     fn wait(&mut self)
-        ensures first { self.new.first ≡ self.old.first }
-        ensures second { self.new.second ≡ self.old.second }
+        ensures turns { self.new.turns ≡ self.old.turns }
         ensures log { self.new.entries ≡ self.old.entries }
     {
         if let Some(watch) = &self.watch {
             self.seen = watch.wait();
         }
     }
+
+    /// Makes a turn of a worker, who is written down where there is memory.
+    fn make(&mut self, worker: u32)
+        ensures turns { self.new.turns ≡ self.old.turns }
+        ensures log { AddsAtMostOne self.old.entries.items self.new.entries.items }
+    {
+        if worker == 0 {
+            self.wait();
+        }
+        let _noted = self.entries.push(worker).is_ok();
+    }
 }
 
 impl Machine for Diary {
     ghost use Rattle.std.specs.Prelude.{◌==◌};
     ghost use Rattle.cfs_base.specs.Log.{AddsAtMostOne};
-    ghost use Rattle.front_trials.specs.Diary as spec;
+    ghost use Rattle.cfs_fakes.specs.Turns.{left_of, none_is_done, none_is_left};
 
     ghost worker_count = { λ m. 2 };
 
-    ghost left = { λ m w. spec.left_of m.first m.second w };
+    ghost left = { λ m w. left_of m.turns w };
 
-    ghost done = { λ m w. spec.left_of m.first m.second w == 0 };
+    ghost done = { λ m w. left_of m.turns w == 0 };
 
     ghost turned = { λ old worker new. AddsAtMostOne old.entries.items new.entries.items };
 
-    ghost outside = { λ m w beyond. spec.none_is_done m.first m.second w beyond };
+    ghost outside = { λ m w beyond. none_is_done m.turns w beyond };
 
-    ghost at_rest = { λ m w beyond. spec.none_is_left m.first m.second w beyond };
+    ghost at_rest = { λ m w beyond. none_is_left m.turns w beyond };
 
     fn workers(&self) -> u32 {
         2
     }
 
     fn is_done(&self, worker: u32) -> bool {
-        self.left(worker) == 0
+        self.turns.left(worker) == 0
     }
 
     fn turns_left(&self, worker: u32) -> u64 {
-        self.left(worker)
+        self.turns.left(worker)
     }
 
     fn turn(&mut self, worker: u32) -> bool {
-        match worker {
-            0 if self.first > 0 => {
-                self.first -= 1;
-                self.wait();
-                self.note(0);
-                self.first == 0
-            }
-            1 if self.second > 0 => {
-                self.second -= 1;
-                self.note(1);
-                self.second == 0
-            }
-            _ => true,
+        if self.turns.take(worker) {
+            self.make(worker);
         }
+        self.turns.left(worker) == 0
     }
 }
 

@@ -3,7 +3,7 @@ ghost use Rattle.std.specs.Prelude.{◌≡◌, ◌≤◌};
 
 use crate::{Diary, Watch};
 use cfs_base::NoMemory;
-use cfs_fakes::OpenGate;
+use cfs_fakes::{OpenGate, Turns};
 use front_floor::{Desk, Front, FrontFault, Pass, make_all_turns, run_desk};
 use std::alloc::Global;
 use std::process::Abort;
@@ -12,8 +12,10 @@ use std::sync::Wait;
 /// Workers 0 and 1 have three turns and two.
 fn diary(alloc: Global, watch: Option<Watch>) -> Diary {
     Diary {
-        first: 3,
-        second: 2,
+        turns: Turns {
+            first: 3,
+            second: 2,
+        },
         entries: Vec::new(alloc),
         watch,
         seen: false,
@@ -73,8 +75,12 @@ fn turns_of_another_pass_are_counted(rt: HostRuntime) -> Result<(), NoMemory> {
 fn a_status_is_answered_while_another_makes_its_turn(rt: HostRuntime) -> Result<(), NoMemory> {
     let gate = Watch::new(rt.alloc())?;
     let watch = gate.copy()?;
-    let made = make_all_turns(&rt, rt.alloc(), &gate, diary(rt.alloc(), Some(watch)));
-    assert!(rt; made.seen);
-    expect_counts(&rt, &made, 3, 2);
-    Ok(())
+    match make_all_turns(&rt, rt.alloc(), &gate, diary(rt.alloc(), Some(watch))) {
+        Ok(made) => {
+            assert!(rt; made.seen);
+            expect_counts(&rt, &made, 3, 2);
+            Ok(())
+        }
+        Err(FrontFault { machine: _ }) => Err(NoMemory),
+    }
 }

@@ -1,37 +1,10 @@
 -- An index that the store has, as it is read.
-use Rattle.std.proofs.Common.{◌≡◌, ◌≢◌, ℕ, zero, suc, ◌/◌, ◌%◌, ◌<◌, false, List, length, Some, refl, sym, ◌∙◌, ap, subst, arith}
-use Rattle.cfs_base.specs.Calls.{OnlyReads}
-use Rattle.cfs_base.specs.Disk.{AreBlocks, Image, block_at}
-use Rattle.cfs_base.specs.Run.{Tells}
-use Rattle.cfs_base.specs.declared.disk.Disk.{Ghosts}
-use Rattle.cfs_base.specs.declared.identifier.Puid.{Puid}
-use Rattle.cfs_base.specs.declared.refusal.Damage.{Damage}
-use Rattle.cfs_base.specs.declared.refusal.Trouble.{Trouble}
-use Rattle.cfs_base.specs.declared.refusal.Trouble.TheVariants as trouble
-use Rattle.cfs_base.proofs.Calls.{failed_after, tells_on}
-use Rattle.block_tree.specs.Reads.{IsFault, IsPast}
-use Rattle.block_tree.specs.declared.fault.TreeFault.{TreeFault}
-use Rattle.block_tree.specs.declared.fault.TreeFault.TheVariants as faults
-use Rattle.block_tree.specs.Root.{IsRootBlock, root_spelling}
-use Rattle.block_tree.specs.Tree.{PastAbove, bytes_in, leaf_block, levels_of, path_to, tree_of}
+use Rattle.index_ops.proofs.Words.{◌≡◌, ◌≢◌, ℕ, zero, suc, ◌/◌, ◌%◌, ◌<◌, false, List, length, Some, refl, sym, ◌∙◌, ap, subst, arith, OnlyReads, AreBlocks, Image, block_at, Tells, Ghosts, Puid, Damage, Trouble, failed_after, tells_on, IsFault, IsPast, TreeFault, IsRootBlock, root_spelling, PastAbove, bytes_in, leaf_block, levels_of, path_to, tree_of, Kept, StoreHas, GivesIndex, content_is, index_to_leaves, is_damage, own_root, own_tree, Index, Graph, object_at, slot_of, IsTree, leaf_content, leaf_in, slot_in, held_at, tree_in, held, Opened}
 use Rattle.block_tree.specs.declared.root.Root.{Root}
-use Rattle.cyl_alloc.specs.Space.{Kept}
-use Rattle.index_ops.specs.Causes.{Far, FarLeaf, FarNode, IsBadSlot, IsFarLeaf, IsFollowTrouble, IsLeafTrouble, IsRootTrouble, IsSlotTrouble, NoRoot, far_from}
-use Rattle.intentions.specs.Store.{StoreHas}
-use Rattle.leaf_changes.specs.Gives.{GivesIndex}
-use Rattle.leaf_changes.proofs.Contents.{content_is}
-use Rattle.leaf_changes.proofs.Given.{index_to_leaves}
-use Rattle.special_files.specs.Drafting.{node_of}
-use Rattle.special_files.specs.Refusal.{is_damage}
-use Rattle.special_files.proofs.Begun.{own_root, own_tree}
-use Rattle.ufs_model.specs.declared.object.Index.{Index}
+use Rattle.index_ops.specs.Causes.{Far, FarLeaf, FarNode, IsBadSlot, IsFarLeaf, IsLeafTrouble, IsRootTrouble, IsSlotTrouble, NoRoot, far_from}
+use Rattle.cfs_base.specs.declared.refusal.Trouble.TheVariants as trouble
+use Rattle.block_tree.specs.declared.fault.TreeFault.TheVariants as faults
 use Rattle.ufs_model.specs.declared.object.Object.TheVariants as objects
-use Rattle.ufs_model.specs.Graph.{Graph, object_at}
-use Rattle.ufs_model.specs.Object.{slot_of}
-use Rattle.vol_image.specs.Reading.{IsTree, leaf_content, leaf_in, slot_in}
-use Rattle.vol_image.specs.Seen.{held_at, tree_in}
-use Rattle.vol_image.proofs.Views.{held}
-use Rattle.vol_owners.specs.Account.{Opened}
 
 -- what a pointer leads to, read
 block_content : (image : Image) (fill v : ℕ) → AreBlocks image → (v ≢ 0 → v < length image) → leaf_content fill (held_at image v) ≡ bytes_in image fill v
@@ -91,12 +64,6 @@ module _ {D : Type 0} (g : Ghosts D) (graph : Graph) (ds : List Opened) (d : D) 
 -- ---- a trouble of a later call is one of the whole
 
 module _ {D : Type 0} (g : Ghosts D) (n at : ℕ) (old mid new : D) (reads : OnlyReads g n old mid) where
-  -- a leaf that was followed after its pointer was found
-  pub leaf_after : (root : Root) (leaf block : ℕ) (t : Trouble) → (Tells g old → block ≡ leaf_block (g.content old) (root_spelling root) leaf) → IsFollowTrouble g (node_of root (leaf / 128)) block mid new t → IsLeafTrouble g at root leaf old new t
-  leaf_after root leaf block (trouble.Disk tried) is bad = (bad.0, failed_after g old mid new n reads bad.1)
-  leaf_after root leaf block (trouble.Damaged damage) is bad = λ tells. FarLeaf (ap (λ (x : Damage). x.code) bad.0) (ap (λ (x : Damage). x.block) bad.0)
-      (subst (λ (b : ℕ). IsPast (g.blocks old) b) (is tells) (subst (λ (size : ℕ). IsPast size block) reads.same.size bad.1))
-
   -- a slot of an index whose root was read
   pub slot_after_root : (slot : ℕ) (root : Root) (t : Trouble) → (Tells g old → IsRootBlock (block_at (g.content old) at) root) → IsLeafTrouble g at root (slot / 64) mid new t → IsSlotTrouble g at slot old new t
   slot_after_root slot root (trouble.Disk tried) is bad = (bad.0, failed_after g old mid new n reads bad.1)

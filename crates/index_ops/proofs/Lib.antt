@@ -1,3 +1,5 @@
+pub mod Words
 mod Indices
 mod Putting
 mod NewObjects
+pub mod NewEnds

@@ -1,95 +1,13 @@
 -- An object made, with the index that its identifier is put into.
-use Rattle.std.proofs.Common.{◌≡◌, ◌≢◌, ◌⊎◌, inl, inr, ⊎_elim, ℕ, zero, suc, ◌+◌, ◌-◌, ◌/◌, ◌%◌, ◌<◌, ◌≤◌, ◌^◌, Bool, true, false, List, [], ◌∷◌, ◌++◌, length, get_or, set, Option, Some, None, Ok, Err, refl, sym, ◌∙◌, ap, subst, eq-eqb, lt-ltb, arith}
-use Rattle.std.specs.Prelude.{◌==◌, not, sum, OnOk, IfErr, Result, option_to_list, replicate}
-use Rattle.std.proofs.lemmas.Bool.{and_from, and_parts, both_ways, false_from_ne_true, ne_eqb}
-use Rattle.std.proofs.lemmas.List.{get_or-set_other, get_or-set_same}
-use Rattle.std.proofs.lemmas.List.Sums.{sum_by-cons}
-use Rattle.cfs_base.specs.Calls.{HasTried, MakesAtMost, OnlyReads}
-use Rattle.cfs_base.specs.Disk.{Image, Nothing, block_at}
-use Rattle.cfs_base.specs.Refusals.{after_try, refused_by, trouble_after_try, trouble_had_tried}
-use Rattle.cfs_base.specs.Run.{Leaves}
-use Rattle.cfs_base.specs.declared.disk.Disk.{Ghosts}
-use Rattle.cfs_base.specs.declared.identifier.Puid.{Puid}
-use Rattle.cfs_base.specs.declared.kind.Kind.{Kind}
-use Rattle.cfs_base.specs.declared.kind.Kind.TheVariants as kinds
+use Rattle.index_ops.proofs.Words.{◌≡◌, ◌≢◌, inl, ⊎_elim, ℕ, zero, suc, ◌+◌, ◌-◌, ◌/◌, ◌%◌, ◌<◌, ◌≤◌, ◌^◌, Bool, true, false, List, [], ◌∷◌, ◌++◌, length, get_or, set, Option, Some, None, Ok, Err, refl, sym, ◌∙◌, ap, subst, eq-eqb, lt-ltb, arith, ◌==◌, not, sum, OnOk, IfErr, Result, option_to_list, and_from, and_parts, both_ways, false_from_ne_true, ne_eqb, get_or-set_other, get_or-set_same, sum_by-cons, HasTried, OnlyReads, Image, block_at, after_try, refused_by, trouble_after_try, trouble_had_tried, Leaves, Ghosts, Puid, Refused, Trouble, reads_within, then, wider, node_pointers, pointers_of, IsRootBlock, root_spelling, IsFindRefusal, IsMapTrouble, AreCounts, IsBadMap, IsLeastFree, Kept, after_taking, intended, counts_taken, IsEntry, entry_in, is_free_entry, is_free_in, map_of, with_entry, MapEntry, Free, block_at-with_entry, entry_in-set, entry_in-with_entry_other, entry_in-with_entry_same, length-with_entry, same_or_not, AreClaimed, ChangesEntry, Frame, MayPut, StoreHas, Claim, keeps_frame, on_entry, may_claim, Becomes, WritesBlock, Committed, Makes, named, Drafting, IsOpen, begun_at, fresh_of, opened_as, Ends, filled_draft, SameBeside, leaf_claims, IsRefusal, NoMap, OtherCount, is_damage, is_damaged, is_full, replaced, framed_carries, framed_holds, written_framed, begun_fresh, first_number, more_numbers, no_damage, owners_change, length-none, first_here, first_others, bare_kept, content_kept, made_kept, counts_content, free_is, meant_open, the_draft, taken_not_free, makes_more, ends_then_err, ends_then_ok, write_ends, Graph, has_block, object_at, has_number, Index, Object, Frames, IsLoose, StandsForNone, is_fixed, part_of, reserved, bare_object, tree_in, Holds, IsBareRoot, loose_stays, free_is_loose, in_image, taken_apart, tree_placed, frames_begin, frames_content, not_map, same_tree, HasDraft, HasDrafts, HasItsBlocks, IsMade, Opened, created_of, drafts_of, numbers_differ, ChangesOnly, IsOpenTo, SameBut, SameOthers, of_draft, of_drafts, is_had, is_made, is_meant, is_of, is_placed, is_taken, owner_of, changes_content, changes_entry, changes_then, changes_wider, made_not_free, of_taken, block_there, object_of_block, draft_kept, drafts_miss, list_misses, owns_nothing, making_goes_on}
 use Rattle.cfs_base.specs.declared.kind.Place.TheVariants.{Root}
-use Rattle.cfs_base.specs.declared.refusal.Refused.{Refused}
+use Rattle.index_ops.specs.Changes.{index_with, leaf_and_node}
+use Rattle.index_ops.specs.Creates.{Creates, HasImage, IsBare, RootEnds, Spells, begun_of, with_made, with_root}
+use Rattle.index_ops.proofs.Putting.{begun_claims, leaf_alone, without_begun}
 use Rattle.cfs_base.specs.declared.refusal.Refused.TheVariants as refused
-use Rattle.cfs_base.specs.declared.refusal.Trouble.{Trouble}
 use Rattle.cfs_base.specs.declared.refusal.Trouble.TheVariants as trouble
-use Rattle.cfs_base.proofs.Calls.{makes_then, reads_make, reads_then, reads_within, tried_then}
-use Rattle.cfs_base.proofs.Runs.{then, wider}
-use Rattle.block_tree.specs.Pointers.{node_pointers, pointers_of}
-use Rattle.block_tree.specs.Root.{IsRootBlock, root_spelling}
 use Rattle.block_tree.specs.declared.root.Root as roots
-use Rattle.cyl_alloc.specs.Refusals.{IsFindRefusal, IsMapTrouble}
-use Rattle.cyl_alloc.specs.Space.{AreCounts, IsBadMap, IsLeastFree, Kept, after_taking, intended}
-use Rattle.cyl_alloc.proofs.Counted.{counts_taken}
-use Rattle.cyl_map.specs.Entry.{IsEntry}
-use Rattle.cyl_map.specs.Volume.{entry_in, is_free_entry, is_free_in, map_of, with_entry}
-use Rattle.cyl_map.specs.declared.entry.MapEntry.{MapEntry}
-use Rattle.cyl_map.specs.declared.state.BlockState.TheVariants.{Free}
-use Rattle.cyl_map.proofs.Volumes.{block_at-with_entry, entry_in-set, entry_in-with_entry_other, entry_in-with_entry_same, length-with_entry, same_or_not}
-use Rattle.index_ops.specs.Changes.{HasSlot, IsIndexRefusal, IsOneLeaf, Takes, index_with, leaf_and_node}
-use Rattle.index_ops.specs.Creates.{Creates, HasImage, IsBare, IsOpenMap, MakeEnds, MayBeMade, PutsObject, RootEnds, Spells, begun_of, made_of, with_made, with_root}
-use Rattle.claims.specs.Claims.{AreClaimed}
-use Rattle.index_ops.proofs.Putting.{begun_claims, from_refusal, leaf_alone, without_begun}
-use Rattle.intentions.specs.Calls.{ChangesEntry}
-use Rattle.intentions.specs.Course.{Frame, MayPut}
-use Rattle.intentions.specs.Store.{StoreHas}
-use Rattle.intentions.specs.declared.change.Change.TheVariants.{Claim}
-use Rattle.intentions.proofs.Courses.{keeps_frame, on_entry}
-use Rattle.intentions.proofs.Settling.{may_claim}
-use Rattle.special_files.specs.Becomes.{Becomes}
-use Rattle.special_files.specs.Calls.{WritesBlock}
-use Rattle.special_files.specs.Committing.{Committed, Makes, Making, named}
-use Rattle.special_files.specs.Drafting.{Drafting, IsOpen, begun_at, fresh_of, opened_as}
-use Rattle.special_files.specs.Ends.{Ends}
-use Rattle.special_files.specs.Fills.{filled_draft}
-use Rattle.special_files.specs.Leaves.{SameBeside}
-use Rattle.special_files.specs.Order.{leaf_claims}
-use Rattle.special_files.specs.Refusal.{IsRefusal, IsTrouble, NoMap, OtherCount, is_damage, is_damaged, is_full}
-use Rattle.special_files.specs.Store.{replaced}
-use Rattle.special_files.specs.declared.fill.Swap.{Swap}
-use Rattle.special_files.proofs.Amid.{framed_carries, framed_holds, written_framed}
-use Rattle.special_files.proofs.Begun.{begun_fresh}
-use Rattle.special_files.proofs.CommitFlips.{first_number, more_numbers}
-use Rattle.special_files.proofs.CommitRuns.{no_damage}
-use Rattle.special_files.proofs.CommitStore.{owners_change}
-use Rattle.special_files.proofs.Levels.{length-none}
-use Rattle.special_files.proofs.Lists.{first_here, first_others}
-use Rattle.special_files.proofs.Made.{bare_kept, content_kept, made_kept}
-use Rattle.special_files.proofs.Meant.{counts_content, free_is, meant_open}
-use Rattle.special_files.proofs.PutStore.{the_draft}
-use Rattle.special_files.proofs.Puts.{taken_not_free}
-use Rattle.special_files.proofs.CommitDone.{makes_more}
-use Rattle.special_files.proofs.Endings.{ends_then_err, ends_then_ok, trouble_after_tried, write_ends}
-use Rattle.special_files.proofs.Refusals.{refusal_after_reads, refusal_of}
-use Rattle.ufs_model.specs.Graph.{Graph, has_block, object_at}
-use Rattle.ufs_model.specs.Numbers.{has_number}
-use Rattle.ufs_model.specs.declared.object.Index.{Index}
-use Rattle.ufs_model.specs.declared.object.Object.{Object}
 use Rattle.ufs_model.specs.declared.object.Object.TheVariants as objects
-use Rattle.vol_image.specs.Frame.{Frames, IsLoose, StandsForNone}
-use Rattle.vol_image.specs.Part.{is_fixed, part_of, reserved}
-use Rattle.vol_image.specs.Reading.{bare_object}
-use Rattle.vol_image.specs.Seen.{tree_in}
-use Rattle.vol_image.specs.Sound.{Holds, IsBareRoot}
-use Rattle.vol_image.proofs.AtRest.{loose_stays}
-use Rattle.vol_image.proofs.AtRoot.{bare_index, bare_normal, bare_special}
-use Rattle.vol_image.proofs.Parts.{free_is_loose, in_image, taken_apart, tree_placed}
-use Rattle.vol_image.proofs.Steps.{frames_begin, frames_content, not_map}
-use Rattle.vol_image.proofs.Views.{same_tree}
-use Rattle.vol_owners.specs.Account.{HasDraft, HasDrafts, HasItsBlocks, IsMade, Opened, created_of, drafts_of, numbers_differ}
-use Rattle.vol_owners.specs.Change.{ChangesOnly, IsOpenTo, SameBut, SameOthers, of_draft, of_drafts, of_owners}
-use Rattle.vol_owners.specs.Owner.{is_had, is_made, is_meant, is_of, is_placed, is_taken, owner_of}
-use Rattle.vol_owners.proofs.Changes.{changes_content, changes_entry, changes_then, changes_wider}
-use Rattle.vol_owners.proofs.Entries.{made_not_free, of_taken}
-use Rattle.vol_owners.proofs.Keys.{block_there, object_of_block}
-use Rattle.vol_owners.proofs.Kept.{draft_kept}
-use Rattle.vol_owners.proofs.Owners.{drafts_miss, list_misses}
-use Rattle.vol_owners.proofs.Rooms.{owns_nothing}
-use Rattle.vol_owners.proofs.Steps.{making_goes_on}
 
 -- ---- why no block is found
 
@@ -418,9 +336,6 @@ module _ {D : Type 0} (g : Ghosts D) (graph : Graph) (ds : List Opened) (id : Pu
     no_node = ap (pointers_of node_pointers) block_here ∙ sym spelled.nodes ∙ bare.no_node;
   }
 
-  abbrev making : Making
-  making = record { id = named c root.word; object = bare_object root }
-
   -- ---- the slot is filled, and both are committed
 
   module _ (slot : ℕ) (d3 d4 : D) (k3 k4 : Kept) (then3 : Drafting) (becomes : Becomes g graph fs id (filled_draft i slot (Some (named c root.word)) (begun_of i)) d2 d3 k3 then3) (stays : then3.created ≡ Some c) where
@@ -475,108 +390,3 @@ module _ {D : Type 0} (g : Ghosts D) (graph : Graph) (ds : List Opened) (id : Pu
             only = ch.only;
           };
         }
-
--- ---- how the call ends
-
-module _ {D : Type 0} (g : Ghosts D) (at slot : ℕ) (d0 : D) (k0 : Kept) where
-  -- refused when only reads were made
-  pub err_reads : (made : Object) (word : ℕ) (d1 : D) (k1 : Kept) (n : ℕ) (e : Refused) → n ≤ 9 → OnlyReads g n d0 d1 → k1 ≡ k0 → IsIndexRefusal g at slot d0 d1 k1 e ⊎ IsOpenMap g d0 k0 e
-      → ((graph : Graph) (ds : List Opened) (id : Puid) (i : Index) → HasSlot g graph ds d0 k0 at id i slot → is_damaged e ≡ false) → PutsObject g at slot made word d0 d1 k0 k1 (Err e)
-  err_reads made word d1 k1 n e few reads kept why sound = record {
-    done = λ graph ds id i has. tt;
-    leaves = λ graph ds id i has. wider g d0 d1 Nothing _ reads.images (λ c none. absurd none);
-    sound = sound;
-    refused = why;
-    memory = λ same. (kept, reads_within g d0 d1 n 9 few reads);
-    untried = λ same. (kept, reads_within g d0 d1 n 9 few reads);
-    cylinders = ap (λ (k : Kept). length k.free) kept;
-    calls = makes_more g d0 d1 n 0 43 24 (omega (arith, few)) (omega arith) (reads_make g d0 d1 n reads);
-  }
-
-  -- made after reads, or not
-  module _ (d2 d3 : D) (k1 k3 : Kept) (c : ℕ) (root : roots.Root) (reads : OnlyReads g 2 d0 d2) (kept : k1 ≡ k0) (cylinders : length k3.free ≡ length k1.free) (made : MakesAtMost g 41 24 d2 d3)
-      (least : (graph : Graph) (ds : List Opened) (id : Puid) (i : Index) → HasSlot g graph ds d0 k0 at id i slot → IsLeastFree (g.content d0) c) where
-    abbrev Ends3 : Result Puid Refused → Type 0
-    Ends3 r = (graph : Graph) (ds : List Opened) (id : Puid) (i : Index) → HasSlot g graph ds d0 k0 at id i slot → MakeEnds g graph ds id i slot (named c root.word) (bare_object root) d2 d3 k3 r
-
-    images : (r : Result Puid Refused) → Ends3 r → (graph : Graph) (ds : List Opened) (id : Puid) (i : Index) → HasSlot g graph ds d0 k0 at id i slot
-        → Leaves g d0 d3 (λ x. Holds x graph ⊎ ((b : ℕ) × IsLeastFree (g.content d0) b × Holds x (with_made graph id i slot (named b root.word) (bare_object root))))
-    images r ends graph ds id i has = then g d0 d2 d3 _ (λ x. Holds x graph ⊎ Holds x (with_made graph id i slot (named c root.word) (bare_object root))) (wider g d0 d2 Nothing _ reads.images (λ x none. absurd none)) (ends graph ds id i has).leaves
-        (λ x h. ⊎_elim (λ old. inl old) (λ both. inr (c, least graph ds id i has, both)) h)
-
-    all : MakesAtMost g 43 24 d0 d3
-    all = makes_then g d0 d2 d3 2 41 43 0 24 24 (reads_make g d0 d2 2 reads) made (omega arith) (omega arith)
-
-    pub made_done : (p : Puid) → p ≡ named c root.word → Ends3 (Ok p) → PutsObject g at slot (bare_object root) root.word d0 d3 k0 k3 (Ok p)
-    made_done p is ends = record {
-      done = λ graph ds id i has.
-          let done = (ends graph ds id i has).done in (
-            ap (λ (x : Puid). x.word) is,
-            subst (λ (x : Puid). Creates g graph ds id i slot x (bare_object root) d0 d3 k3) (sym is) (record {
-              least = least graph ds id i has;
-              store = done.store;
-              settled = done.settled;
-              only = subst (λ (x : Image). ChangesOnly (λ entry. of_owners (id.block ∷ c ∷ []) entry) x (g.content d3)) reads.content done.only;
-              beside = subst (λ (x : Image). IsOneLeaf (slot / 64) id.block x (g.content d3)) reads.content done.beside;
-              takes = subst (λ (x : Image). Takes (intended Root c ∷ leaf_and_node (slot / 64) id.block) (id.block ∷ c ∷ []) x (g.content d3)) reads.content done.takes;
-            }),
-          );
-      leaves = images (Ok p) ends;
-      sound = λ graph ds id i has. tt;
-      refused = tt;
-      memory = tt;
-      untried = tt;
-      cylinders = cylinders ∙ ap (λ (k : Kept). length k.free) kept;
-      calls = all;
-    }
-
-    pub made_err : (e : Refused) → IsRefusal g at 0 d2 d3 k3 e × (is_full e ≡ false) → (e ≡ refused.Disk false → (k3 ≡ k1) × OnlyReads g 3 d2 d3) → Ends3 (Err e) → PutsObject g at slot (bare_object root) root.word d0 d3 k0 k3 (Err e)
-    made_err e why untried ends = record {
-      done = λ graph ds id i has. tt;
-      leaves = images (Err e) ends;
-      sound = λ graph ds id i has. (ends graph ds id i has).sound;
-      refused = inl (from_refusal g at slot d0 d3 k3 e (refusal_after_reads g at d0 d2 d3 k3 0 2 e reads why.0) why.1);
-      memory = λ same. absurd (subst (IsRefusal g at 0 d2 d3 k3) same why.0);
-      untried = λ same. let two = untried same in (two.0 ∙ kept, reads_then g d0 d2 d3 2 3 9 reads two.1 (omega arith));
-      cylinders = cylinders ∙ ap (λ (k : Kept). length k.free) kept;
-      calls = all;
-    }
-
--- ---- the root made, the slot filled, and both committed, on any disk
-
-full_stays : (e : Refused) → is_full e ≡ false → is_full (after_try e) ≡ false
-full_stays (refused.Full need) is = is
-full_stays (refused.Disk tried) is = refl
-full_stays (refused.Damaged damage) is = refl
-full_stays refused.Memory is = refl
-
-module _ {D : Type 0} (g : Ghosts D) (at : ℕ) (d0 d1 d2 : D) (k0 k1 k2 : Kept) (j : ℕ) (first : Ends {A = Unit {0}} g at 0 3 2 1 d0 d1 k0 k1 (Ok tt)) (tried : HasTried g d0 d1) where
-  pub fill_refused : (e : Refused) → Ends {A = Option Swap} g at 0 8 4 j d1 d2 k1 k2 (Err e) → is_full e ≡ false → IsRefusal g at 0 d0 d2 k2 (after_try e) × (is_full (after_try e) ≡ false)
-  fill_refused e ended spare =
-      let both : Ends {A = Option Swap} g at 0 11 6 (1 + j) d0 d2 k0 k2 (Err (after_try e)) = ends_then_err {A = Unit {0}} {B = Option Swap} g at 0 d0 d1 d2 k0 k1 k2 tt e 3 2 1 8 4 j first tried ended 11 6 (1 + j) (omega arith) (omega arith) (omega arith) in
-      (both.refused, full_stays e spare)
-
-  module _ (put : Option Swap) (second : Ends {A = Option Swap} g at 0 8 4 j d1 d2 k1 k2 (Ok put)) (d3 : D) (k3 : Kept) where
-    both : Ends {A = Option Swap} g at 0 11 6 (1 + j) d0 d2 k0 k2 (Ok put)
-    both = ends_then_ok {A = Unit {0}} {B = Option Swap} g at 0 d0 d1 d2 k0 k1 k2 tt put 3 2 1 8 4 j first second 11 6 (1 + j) (omega arith) (omega arith) (omega arith)
-
-    pub commit_refused : (t : Trouble) → IsTrouble g at d2 d3 k3 t → IsRefusal g at 0 d0 d3 k3 (refused_by (trouble_after_try t)) × (is_full (refused_by (trouble_after_try t)) ≡ false)
-    commit_refused t why = (
-      refusal_of g at 0 d0 d3 k3 (trouble_after_try t) (trouble_after_tried g at 0 d0 d2 d3 k3 11 6 both.calls (tried_then g d0 d1 d2 8 4 tried second.calls) both.told t why),
-      not_full (trouble_after_try t),
-    )
-
--- ---- the root of a new object
-
-abbrev root_with : Kind → (fill size word : ℕ) → roots.Root
-root_with kind fill size word = record { kind = kind; fill = fill; word = word; size = size; nodes = replicate 120 0 }
-
-pub bare_is : (kind : Kind) (fill size word : ℕ) → MayBeMade kind fill size → IsBare (root_with kind fill size word)
-bare_is kinds.Normal fill size word may = record { good = record { fill = λ no. cc; size = record { limit = omega (arith, may); slots = λ no. cc } }; no_node = refl }
-bare_is kinds.Special fill size word may = record { good = record { fill = λ no. cc; size = record { limit = omega (arith, may); slots = λ no. cc } }; no_node = refl }
-bare_is kinds.Index fill size word may = record { good = record { fill = λ is. may.0; size = record { limit = may.2; slots = λ is. (may.1, may.3) } }; no_node = refl }
-
-pub bare_made : (kind : Kind) (fill size word : ℕ) → MayBeMade kind fill size → bare_object (root_with kind fill size word) ≡ made_of kind fill size
-bare_made kinds.Normal fill size word may = bare_normal (root_with kinds.Normal fill size word) refl may
-bare_made kinds.Special fill size word may = bare_special (root_with kinds.Special fill size word) refl may
-bare_made kinds.Index fill size word may = bare_index (root_with kinds.Index fill size word) (size / 8) refl may.0 (omega (arith, may.3))

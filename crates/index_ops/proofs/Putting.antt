@@ -1,63 +1,11 @@
 -- An index changed by a draft that is begun, filled and committed.
-use Rattle.std.proofs.Common.{◌≡◌, ◌≢◌, inl, inr, ℕ, ◌+◌, ◌*◌, ◌/◌, ◌<◌, ◌≤◌, Bool, true, false, cond, not, List, [], ◌∷◌, length, get_or, Option, Some, None, Ok, Err, refl, sym, ◌∙◌, ap, subst, arith}
-use Rattle.std.specs.Prelude.{Result}
-use Rattle.std.proofs.lemmas.Bool.{and_from, and_parts}
-use Rattle.cfs_base.specs.Calls.{HasTried, MakesAtMost, OnlyReads}
-use Rattle.cfs_base.specs.Disk.{Image, Nothing, block_at}
-use Rattle.cfs_base.specs.Refusals.{refused_by, trouble_after_try}
-use Rattle.cfs_base.specs.Run.{IsSettled, Leaves, Tells}
-use Rattle.cfs_base.specs.declared.disk.Disk.{Ghosts}
-use Rattle.cfs_base.specs.declared.identifier.Puid.{Puid}
-use Rattle.cfs_base.specs.declared.refusal.Refused.{Refused}
-use Rattle.cfs_base.specs.declared.refusal.Refused.TheVariants as refused
-use Rattle.cfs_base.specs.declared.refusal.Trouble.{Trouble}
-use Rattle.cfs_base.specs.declared.refusal.Trouble.TheVariants as trouble
-use Rattle.cfs_base.proofs.Calls.{makes_then, reads_make, reads_then, reads_within, stopped_after_reads, then_tried}
-use Rattle.cfs_base.proofs.Runs.{then, wider}
-use Rattle.block_tree.specs.Root.{IsRootBlock, root_spelling}
+use Rattle.index_ops.proofs.Words.{◌≡◌, ◌≢◌, inl, inr, ℕ, ◌+◌, ◌*◌, ◌/◌, ◌<◌, ◌≤◌, Bool, true, false, cond, not, List, [], ◌∷◌, length, get_or, Option, Some, None, Ok, Err, refl, sym, ◌∙◌, ap, subst, arith, Result, and_from, and_parts, HasTried, MakesAtMost, OnlyReads, Image, Nothing, block_at, refused_by, trouble_after_try, IsSettled, Leaves, Tells, Ghosts, Puid, Refused, Trouble, makes_then, reads_make, reads_then, reads_within, stopped_after_reads, then_tried, then, wider, IsRootBlock, root_spelling, MapEntry, AreClaimed, Leaf, Node, AreCounts, Kept, intended, StoreHas, Becomes, Committed, IsOldOrNew, Drafting, IsOpen, begun_at, fresh_of, is_fresh_leaf, is_fresh_node, leaf_takes, one_unless, opened_as, Ends, filled_draft, SameBeside, leaves_of, leaf_claims, IsRefusal, IsRefusalOrMemory, IsTrouble, is_damage, is_damaged, is_full, replaced, without_draft, begun_fresh, store_reads, Swap, makes_more, trouble_after_tried, length-none, none_is, first_here, the_draft, refusal_after_reads, Graph, ids_of, object_at, with_object, rises, same_puid, Draft, Index, Object, object_at-with_object, rises-with_object, same_entries, object_with, Tree, tree_in, Holds, one_root_block, carries_on, same_puid_is, same_puid_itself, Accounts, Opened, drafts_of, ChangesOnly, of_draft, of_owner, of_owners, is_meant, is_placed, is_taken, changes_begin, changes_then, changes_wider, placed_taken}
 use Rattle.block_tree.specs.declared.root.Root.{Root}
-use Rattle.cyl_map.specs.declared.entry.MapEntry.{MapEntry}
-use Rattle.claims.specs.Claims.{AreClaimed}
-use Rattle.cfs_base.specs.declared.kind.Place.TheVariants.{Leaf, Node}
-use Rattle.cyl_alloc.specs.Space.{AreCounts, Kept, intended}
 use Rattle.index_ops.specs.Changes.{Changes, ChangesLeaf, HasSlot, IsIndexRefusal, IsOneLeaf, PutsSlot, Settles, index_with, leaf_and_node, short_at}
 use Rattle.index_ops.proofs.Indices.{slots_are}
-use Rattle.intentions.specs.Store.{StoreHas}
-use Rattle.special_files.specs.Becomes.{Becomes}
-use Rattle.special_files.specs.Committing.{Committed, IsOldOrNew}
-use Rattle.special_files.specs.Drafting.{Drafting, IsOpen, begun_at, fresh_of, is_fresh_leaf, is_fresh_node, leaf_takes, one_unless, opened_as}
-use Rattle.special_files.specs.Ends.{Ends}
-use Rattle.special_files.specs.Fills.{filled_draft}
-use Rattle.special_files.specs.Leaves.{SameBeside, leaves_of}
-use Rattle.special_files.specs.Order.{leaf_claims}
-use Rattle.special_files.specs.Refusal.{IsRefusal, IsRefusalOrMemory, IsTrouble, is_damage, is_damaged, is_full}
-use Rattle.special_files.specs.Store.{replaced, without_draft}
-use Rattle.special_files.proofs.Begun.{begun_fresh, store_reads}
-use Rattle.special_files.specs.declared.fill.Swap.{Swap}
-use Rattle.special_files.proofs.CommitDone.{makes_more}
-use Rattle.special_files.proofs.Endings.{trouble_after_tried}
-use Rattle.special_files.proofs.Levels.{length-none, none_is}
-use Rattle.special_files.proofs.Lists.{first_here}
-use Rattle.special_files.proofs.PutStore.{the_draft}
-use Rattle.special_files.proofs.Refusals.{refusal_after_reads}
-use Rattle.ufs_model.specs.Graph.{Graph, ids_of, object_at, with_object}
-use Rattle.ufs_model.specs.Identifier.{rises, same_puid}
-use Rattle.ufs_model.specs.declared.object.Draft.{Draft}
-use Rattle.ufs_model.specs.declared.object.Index.{Index}
-use Rattle.ufs_model.specs.declared.object.Object.{Object}
+use Rattle.cfs_base.specs.declared.refusal.Refused.TheVariants as refused
+use Rattle.cfs_base.specs.declared.refusal.Trouble.TheVariants as trouble
 use Rattle.ufs_model.specs.declared.object.Object.TheVariants as objects
-use Rattle.ufs_model.proofs.Graphs.{object_at-with_object, rises-with_object, same_entries}
-use Rattle.vol_image.specs.Reading.{object_with}
-use Rattle.vol_image.specs.Seen.{Tree, tree_in}
-use Rattle.vol_image.specs.Sound.{Holds}
-use Rattle.vol_image.proofs.Unique.{one_root_block}
-use Rattle.vol_image.proofs.Carries.{carries_on}
-use Rattle.vol_image.proofs.Reached.{same_puid_is, same_puid_itself}
-use Rattle.vol_owners.specs.Account.{Accounts, Opened, drafts_of}
-use Rattle.vol_owners.specs.Change.{ChangesOnly, of_draft, of_owner, of_owners}
-use Rattle.vol_owners.specs.Owner.{is_meant, is_placed, is_taken}
-use Rattle.vol_owners.proofs.Changes.{changes_begin, changes_then, changes_wider}
-use Rattle.vol_owners.proofs.Entries.{placed_taken}
 
 -- ---- lists of drafts
 

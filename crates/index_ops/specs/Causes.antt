@@ -28,13 +28,16 @@ pub record IsNoRoot (image : Image) (at : ℕ) (damage : Damage) : Type 0 where
 
 -- on a disk of this size a pointer on the way to a leaf of this root leads past the end: the root's, or its node's
 pub data IsFarLeaf (image : Image) (size at : ℕ) (root : Root) (leaf : ℕ) (damage : Damage) : Type 0 where
-  FarNode : damage.code ≡ past_disk → damage.block ≡ at → (block : ℕ) → PastAbove image size (root_spelling root) leaf block → IsFarLeaf image size at root leaf damage
-  FarLeaf : damage.code ≡ past_disk → damage.block ≡ node_of root (leaf / 128) → IsPast size (leaf_block image (root_spelling root) leaf) → IsFarLeaf image size at root leaf damage
+  FarNode : damage.code ≡ past_disk → damage.block ≡ at → (block : ℕ)
+      → PastAbove image size (root_spelling root) leaf block → IsFarLeaf image size at root leaf damage
+  FarLeaf : damage.code ≡ past_disk → damage.block ≡ node_of root (leaf / 128)
+      → IsPast size (leaf_block image (root_spelling root) leaf) → IsFarLeaf image size at root leaf damage
 
 -- the one or the other, for a slot of the index at this block
 pub data IsBadSlot (image : Image) (size at slot : ℕ) (damage : Damage) : Type 0 where
   NoRoot : IsNoRoot image at damage → IsBadSlot image size at slot damage
-  Far : (root : Root) → IsRootBlock (block_at image at) root → IsFarLeaf image size at root (slot / 64) damage → IsBadSlot image size at slot damage
+  Far : (root : Root) → IsRootBlock (block_at image at) root → IsFarLeaf image size at root (slot / 64) damage
+      → IsBadSlot image size at slot damage
 
 -- ---- why a call ends: a device call failed, or the disk tells what is wrong
 
@@ -44,12 +47,15 @@ IsRootTrouble g at old new (trouble.Damaged damage) = Tells g old → IsNoRoot (
 
 abbrev pub IsFollowTrouble : {D : Type 0} → Ghosts D → (holder block : ℕ) → D → D → Trouble → Type 0
 IsFollowTrouble g holder block old new (trouble.Disk tried) = (tried ≡ false) × HasFailed g old new
-IsFollowTrouble g holder block old new (trouble.Damaged damage) = (damage ≡ record { block = holder; code = past_disk }) × IsPast (g.blocks old) block
+IsFollowTrouble g holder block old new (trouble.Damaged damage) =
+    (damage ≡ record { block = holder; code = past_disk }) × IsPast (g.blocks old) block
 
 abbrev pub IsLeafTrouble : {D : Type 0} → Ghosts D → ℕ → Root → ℕ → D → D → Trouble → Type 0
 IsLeafTrouble g at root leaf old new (trouble.Disk tried) = (tried ≡ false) × HasFailed g old new
-IsLeafTrouble g at root leaf old new (trouble.Damaged damage) = Tells g old → IsFarLeaf (g.content old) (g.blocks old) at root leaf damage
+IsLeafTrouble g at root leaf old new (trouble.Damaged damage) =
+    Tells g old → IsFarLeaf (g.content old) (g.blocks old) at root leaf damage
 
 abbrev pub IsSlotTrouble : {D : Type 0} → Ghosts D → (at slot : ℕ) → D → D → Trouble → Type 0
 IsSlotTrouble g at slot old new (trouble.Disk tried) = (tried ≡ false) × HasFailed g old new
-IsSlotTrouble g at slot old new (trouble.Damaged damage) = Tells g old → IsBadSlot (g.content old) (g.blocks old) at slot damage
+IsSlotTrouble g at slot old new (trouble.Damaged damage) =
+    Tells g old → IsBadSlot (g.content old) (g.blocks old) at slot damage

@@ -1,5 +1,6 @@
 -- An index changed as one commit.
-use Rattle.std.specs.Prelude.{◌≡◌, ◌⊎◌, ℕ, ◌+◌, ◌*◌, ◌/◌, ◌<◌, false, List, [], ◌∷◌, length, Option, IfErr, OnErr, OnOk, IsTrue, Result, None, Some, true}
+use Rattle.std.specs.Prelude.{◌≡◌, ◌⊎◌, ℕ, ◌+◌, ◌*◌, ◌/◌, ◌<◌, false, List, [], ◌∷◌, length, Option, IfErr, OnErr, OnOk}
+use Rattle.std.specs.Prelude.{IsTrue, Result, None, Some, true}
 use Rattle.cfs_base.specs.Calls.{HasStopped, MakesAtMost, OnlyReads}
 use Rattle.cfs_base.specs.Codes.{no_root}
 use Rattle.cfs_base.specs.Disk.{Image, Nothing, block_at}
@@ -29,7 +30,8 @@ use Rattle.vol_owners.specs.Account.{Opened, drafts_of}
 use Rattle.vol_owners.specs.Change.{ChangesOnly, of_owner, of_owners}
 
 -- the store has this index at the block, no draft of it, and the slot is one of it
-pub record HasSlot {D : Type 0} (g : Ghosts D) (graph : Graph) (ds : List Opened) (d : D) (space : Kept) (at : ℕ) (id : Puid) (i : Index) (slot : ℕ) : Type 0 where
+pub record HasSlot {D : Type 0} (g : Ghosts D) (graph : Graph) (ds : List Opened) (d : D) (space : Kept) (at : ℕ)
+    (id : Puid) (i : Index) (slot : ℕ) : Type 0 where
   pub store : StoreHas g graph ds d space
   pub root : id.block ≡ at
   pub there : object_at graph id ≡ Some (objects.Index i)
@@ -41,7 +43,8 @@ abbrev pub index_with : Index → ℕ → Option Puid → Object
 index_with i slot what = objects.Index (filled i slot what)
 
 -- The object is this one now. No write waits, and nothing changed but blocks of the object or such as were Free.
-pub record Changes {D : Type 0} (g : Ghosts D) (graph : Graph) (ds : List Opened) (id : Puid) (o : Object) (old new : D) (space : Kept) : Type 0 where
+pub record Changes {D : Type 0} (g : Ghosts D) (graph : Graph) (ds : List Opened) (id : Puid) (o : Object) (old new : D)
+    (space : Kept) : Type 0 where
   pub store : StoreHas g (with_object graph id o) ds new space
   pub settled : IsSettled g new
   pub only : ChangesOnly (λ entry. of_owner id.block entry) (g.content old) (g.content new)
@@ -50,8 +53,8 @@ pub record Changes {D : Type 0} (g : Ghosts D) (graph : Graph) (ds : List Opened
 abbrev pub IsOneLeaf : (leaf at : ℕ) → Image → Image → Type 0
 IsOneLeaf leaf at a b = SameBeside leaf (tree_in a (block_at a at)) (tree_in b (block_at b at))
 
--- Blocks were claimed for these entries, one after another, each the least-numbered Free one. After that nothing changed but
--- blocks of these owners or such as were Free.
+-- Blocks were claimed for these entries, one after another, each the least-numbered Free one. After that nothing
+-- changed but blocks of these owners or such as were Free.
 pub record Takes (claims : List MapEntry) (owners : List ℕ) (a b : Image) : Type 0 where
   pub mid : Image
   pub in_order : AreClaimed claims a mid
@@ -61,10 +64,12 @@ pub record Takes (claims : List MapEntry) (owners : List ℕ) (a b : Image) : Ty
 abbrev pub leaf_and_node : (leaf at : ℕ) → List MapEntry
 leaf_and_node leaf at = intended (Leaf leaf) at ∷ intended (Node (leaf / 128)) at ∷ []
 
--- Of an index one leaf alone changed, and the node above it: both take blocks. Or a slot that is empty was to be, and nothing did.
+-- Of an index one leaf alone changed, and the node above it: both take blocks. Or a slot that is empty was to be, and
+-- nothing did.
 pub record ChangesLeaf {D : Type 0} (g : Ghosts D) (leaf at : ℕ) (what : Option Puid) (old new : D) : Type 0 where
   pub beside : IsOneLeaf leaf at (g.content old) (g.content new)
-  pub takes : ((what ≡ None) × (g.content new ≡ g.content old)) ⊎ Takes (leaf_and_node leaf at) (at ∷ []) (g.content old) (g.content new)
+  pub takes : ((what ≡ None) × (g.content new ≡ g.content old))
+      ⊎ Takes (leaf_and_node leaf at) (at ∷ []) (g.content old) (g.content new)
 
 -- what waited is durable now, and the content is as it was
 pub record Settles {D : Type 0} (g : Ghosts D) (old new : D) (result : Result (Unit {0}) Refused) : Type 0 where
@@ -92,11 +97,13 @@ pub record IsShort {D : Type 0} (g : Ghosts D) (at slot : ℕ) (old : D) (damage
 abbrev pub IsIndexRefusal : {D : Type 0} → Ghosts D → (at slot : ℕ) → D → D → Kept → Refused → Type 0
 IsIndexRefusal g at slot old new kept (refusals.Full need) = ⊥
 IsIndexRefusal g at slot old new kept (refusals.Disk tried) = HasStopped g tried old new
-IsIndexRefusal g at slot old new kept (refusals.Damaged damage) = IsDamage g at old new kept damage ⊎ IsShort g at slot old damage
+IsIndexRefusal g at slot old new kept (refusals.Damaged damage) =
+    IsDamage g at old new kept damage ⊎ IsShort g at slot old damage
 IsIndexRefusal g at slot old new kept refusals.Memory = Unit {0}
 
 -- A slot of the index at a block gets this, as one commit.
-pub record PutsSlot {D : Type 0} (g : Ghosts D) (at slot : ℕ) (what : Option Puid) (old new : D) (before after : Kept) (result : Result (Unit {0}) Refused) : Type 0 where
+pub record PutsSlot {D : Type 0} (g : Ghosts D) (at slot : ℕ) (what : Option Puid) (old new : D) (before after : Kept)
+    (result : Result (Unit {0}) Refused) : Type 0 where
   pub done : (graph : Graph) (ds : List Opened) (id : Puid) (i : Index) → HasSlot g graph ds old before at id i slot
       → OnOk result (Changes g graph ds id (index_with i slot what) old new after)
   -- its leaf alone changed

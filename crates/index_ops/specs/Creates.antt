@@ -1,5 +1,6 @@
 -- An object made, and its identifier put into a slot of an index, as one commit.
-use Rattle.std.specs.Prelude.{◌≡◌, ◌⊎◌, ℕ, ◌/◌, ◌%◌, ◌≤◌, List, [], ◌∷◌, length, replicate, set, true, false, IfErr, IfOk, OnOk, Result, Some}
+use Rattle.std.specs.Prelude.{◌≡◌, ◌⊎◌, ℕ, ◌/◌, ◌%◌, ◌≤◌, List, [], ◌∷◌, length, replicate, set, true, false, IfErr}
+use Rattle.std.specs.Prelude.{IfOk, OnOk, Result, Some}
 use Rattle.cfs_base.specs.Calls.{MakesAtMost, OnlyReads}
 use Rattle.cfs_base.specs.Codes.{no_entry}
 use Rattle.cfs_base.specs.Disk.{Image}
@@ -48,16 +49,18 @@ MayBeMade kinds.Index fill size = (fill ≡ 0) × (8 ≤ size) × (size ≤ 7864
 abbrev pub with_made : Graph → Puid → Index → ℕ → Puid → Object → Graph
 with_made graph id i slot new made = with_object (with_object graph new made) id (index_with i slot (Some new))
 
--- The new object is there, and in the slot. Its root is the block that was the least-numbered Free one. No write waits, and
--- nothing changed but blocks of the two objects or such as were Free.
-pub record Creates {D : Type 0} (g : Ghosts D) (graph : Graph) (ds : List Opened) (id : Puid) (i : Index) (slot : ℕ) (new : Puid) (made : Object) (old now : D) (space : Kept) : Type 0 where
+-- The new object is there, and in the slot. Its root is the block that was the least-numbered Free one. No write waits,
+-- and nothing changed but blocks of the two objects or such as were Free.
+pub record Creates {D : Type 0} (g : Ghosts D) (graph : Graph) (ds : List Opened) (id : Puid) (i : Index) (slot : ℕ)
+    (new : Puid) (made : Object) (old now : D) (space : Kept) : Type 0 where
   pub least : IsLeastFree (g.content old) new.block
   pub store : StoreHas g (with_made graph id i slot new made) ds now space
   pub settled : IsSettled g now
   pub only : ChangesOnly (λ entry. of_owners (id.block ∷ new.block ∷ []) entry) (g.content old) (g.content now)
   -- of the index the slot's leaf alone changed, and its node; both take blocks after the root
   pub beside : IsOneLeaf (slot / 64) id.block (g.content old) (g.content now)
-  pub takes : Takes (intended places.Root new.block ∷ leaf_and_node (slot / 64) id.block) (id.block ∷ new.block ∷ []) (g.content old) (g.content now)
+  pub takes : Takes (intended places.Root new.block ∷ leaf_and_node (slot / 64) id.block) (id.block ∷ new.block ∷ [])
+      (g.content old) (g.content now)
 
 -- ---- its steps
 
@@ -87,13 +90,15 @@ pub record HasImage {D : Type 0} (g : Ghosts D) (graph : Graph) (now : D) (space
   pub content : g.content now ≡ image
 
 -- so it ends, and each image on the way holds all objects as they were
-pub record RootEnds {D : Type 0} (g : Ghosts D) (graph : Graph) (old now : D) (space : Kept) (image : Image) (result : Result (Unit {0}) Refused) : Type 0 where
+pub record RootEnds {D : Type 0} (g : Ghosts D) (graph : Graph) (old now : D) (space : Kept) (image : Image)
+    (result : Result (Unit {0}) Refused) : Type 0 where
   pub done : OnOk result (HasImage g graph now space image)
   pub leaves : Leaves g old now (λ c. Holds c graph)
   pub sound : IfErr result (λ e. is_damaged e ≡ false)
 
 -- how a new object and its index are committed together, where the store has the draft of the index
-pub record MakeEnds {D : Type 0} (g : Ghosts D) (graph : Graph) (ds : List Opened) (id : Puid) (i : Index) (slot : ℕ) (new : Puid) (made : Object) (old now : D) (space : Kept) (result : Result Puid Refused) : Type 0 where
+pub record MakeEnds {D : Type 0} (g : Ghosts D) (graph : Graph) (ds : List Opened) (id : Puid) (i : Index) (slot : ℕ)
+    (new : Puid) (made : Object) (old now : D) (space : Kept) (result : Result Puid Refused) : Type 0 where
   pub done : OnOk result (Creates g graph ds id i slot new made old now space)
   pub leaves : Leaves g old now (λ c. Holds c graph ⊎ Holds c (with_made graph id i slot new made))
   pub sound : IfErr result (λ e. is_damaged e ≡ false)
@@ -105,12 +110,14 @@ begun_of i = record { object = objects.Index i; fresh = [] }
 -- ---- the call
 
 -- A slot of the index at a block gets an object that is made, with this word.
-pub record PutsObject {D : Type 0} (g : Ghosts D) (at slot : ℕ) (made : Object) (word : ℕ) (old new : D) (before after : Kept) (result : Result Puid Refused) : Type 0 where
+pub record PutsObject {D : Type 0} (g : Ghosts D) (at slot : ℕ) (made : Object) (word : ℕ) (old new : D)
+    (before after : Kept) (result : Result Puid Refused) : Type 0 where
   pub done : (graph : Graph) (ds : List Opened) (id : Puid) (i : Index) → HasSlot g graph ds old before at id i slot
       → IfOk result (λ p. (p.word ≡ word) × Creates g graph ds id i slot p made old new after)
   -- each image has all as it was, or the new object and the index with it
   pub leaves : (graph : Graph) (ds : List Opened) (id : Puid) (i : Index) → HasSlot g graph ds old before at id i slot
-      → Leaves g old new (λ c. Holds c graph ⊎ ((b : ℕ) × IsLeastFree (g.content old) b × Holds c (with_made graph id i slot (named b word) made)))
+      → Leaves g old new (λ c. Holds c graph ⊎ ((b : ℕ) × IsLeastFree (g.content old) b
+      × Holds c (with_made graph id i slot (named b word) made)))
   -- no damage where the disk holds the index
   pub sound : (graph : Graph) (ds : List Opened) (id : Puid) (i : Index) → HasSlot g graph ds old before at id i slot
       → IfErr result (λ e. is_damaged e ≡ false)

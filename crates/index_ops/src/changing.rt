@@ -1,5 +1,6 @@
 //! Slots of an index, filled and emptied.
-ghost use Rattle.std.specs.Prelude.{◌≡◌, ◌≢◌, ℕ, ◌+◌, ◌*◌, ◌<◌, ◌≤◌, true, length, sum, Option, None, Some, Err, IfErr, OnOk};
+ghost use Rattle.std.specs.Prelude.{◌≡◌, ◌≢◌, ℕ, ◌+◌, ◌*◌, ◌<◌, ◌≤◌, true, length, sum, Option, None, Some, Err, IfErr};
+ghost use Rattle.std.specs.Prelude.{OnOk};
 ghost use Rattle.cfs_base.specs.declared.refusal.Refused.TheVariants as refused;
 ghost use Rattle.index_ops.specs.Changes as spec;
 ghost use Rattle.leaf_changes.specs.Bytes.{IsSlot};
@@ -80,10 +81,10 @@ fn settle<D: Disk>(disk: &mut D) -> Result<(), Refused>
     }
 }
 
-/// Puts an identifier of an object that the disk holds into a slot of the index at a block, whatever stood there, as one
-/// commit. `Full` where fewer than 3 blocks are Free beside the 4 that are left for deletes; no device call was made then.
-/// `Damaged` names the block of the index, with code 3, which is no root block with such a slot, the block, a node or a map
-/// that was read and is none.
+/// Puts an identifier of an object that the disk holds into a slot of the index at a block, whatever stood there, as
+/// one commit. `Full` where fewer than 3 blocks are Free beside the 4 that are left for deletes; no device call was
+/// made then. `Damaged` names the block of the index, with code 3, which is no root block with such a slot, the block,
+/// a node or a map that was read and is none.
 pub fn retain<D: Disk>(
     alloc: Global,
     disk: &mut D,
@@ -98,7 +99,8 @@ pub fn retain<D: Disk>(
     requires few { slot < 983040 }
     requires id { id.block ≢ 0 }
     // Full exactly where 3 and 4 blocks aren't Free; nothing was done then.
-    ensures full { sum space.old.free < 3 + 4 → (result ≡ Err (refused.Full (record { free = sum space.old.free; need = 3 })))
+    ensures full { sum space.old.free < 3 + 4
+        → (result ≡ Err (refused.Full (record { free = sum space.old.free; need = 3 })))
         × (disk.new ≡ disk.old) × (space.new ≡ space.old) }
     ensures fills { 3 + 4 ≤ sum space.old.free
         → spec.PutsSlot D.Disk index.0 slot (Some id) disk.old disk.new space.old space.new result }
@@ -109,8 +111,8 @@ pub fn retain<D: Disk>(
     }
 }
 
-/// Empties a slot of the index at a block, as one commit. It takes 3 blocks, of those that are left for it, and is never
-/// `Full`. `Damaged` as in `retain`.
+/// Empties a slot of the index at a block, as one commit. It takes 3 blocks, of those that are left for it, and is
+/// never `Full`. `Damaged` as in `retain`.
 pub fn delete<D: Disk>(
     alloc: Global,
     disk: &mut D,

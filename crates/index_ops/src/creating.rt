@@ -1,5 +1,6 @@
 //! An object made, and its identifier put into a slot of an index.
-ghost use Rattle.std.specs.Prelude.{◌≡◌, ◌≢◌, ◌⊎◌, ℕ, ◌+◌, ◌*◌, ◌<◌, ◌≤◌, List, [], ◌∷◌, false, length, sum, None, Some, Err, IfErr, IfOk, OnOk};
+ghost use Rattle.std.specs.Prelude.{◌≡◌, ◌≢◌, ◌⊎◌, ℕ, ◌+◌, ◌*◌, ◌<◌, ◌≤◌, List, [], ◌∷◌, false, length, sum, None};
+ghost use Rattle.std.specs.Prelude.{Some, Err, IfErr, IfOk, OnOk};
 ghost use Rattle.block_tree.specs.Root.{root_spelling};
 ghost use Rattle.cfs_base.specs.Calls.{HasTried, MakesAtMost, OnlyReads};
 ghost use Rattle.cfs_base.specs.Run.{Tells};
@@ -36,7 +37,8 @@ fn least<D: Disk>(disk: &mut D, space: &Space) -> Result<BlockNo, Refused>
     ensures found { Tells D.Disk disk.old → AreCounts (D.content disk.old) space.now
         → IfOk result (λ block. IsLeastFree (D.content disk.old) block.0) }
     ensures some { IfOk result (λ block. (block.0 ≢ 0) × (block.0 < D.blocks disk.old)) }
-    ensures refused { (at : ℕ) → IfErr result (λ e. (IsRefusal D.Disk at 0 disk.old disk.new space.now e × (is_full e ≡ false))
+    ensures refused { (at : ℕ)
+        → IfErr result (λ e. (IsRefusal D.Disk at 0 disk.old disk.new space.now e × (is_full e ≡ false))
         ⊎ spec.IsOpenMap D.Disk disk.old space.now e) }
     ensures sound { (graph : Graph) (ds : List Opened) → StoreHas D.Disk graph ds disk.old space.now
         → IfErr result (λ e. is_damaged e ≡ false) }
@@ -137,10 +139,13 @@ fn make_at<D: Disk>(
         → StoreHas D.Disk graph (opened_as id draft (spec.begun_of i) ∷ ds) disk.old space.old
         → object_at graph id ≡ Some (objects.Index i) → id.block ≡ draft.at → drafts_of ds id ≡ []
         → IsLeastFree (D.content disk.old) block.0 → spec.IsBare root.now
-        → spec.MakeEnds D.Disk graph ds id i slot (named block.0 root.now.word) (bare_object root.now) disk.old disk.new space.new result }
+        → spec.MakeEnds D.Disk graph ds id i slot (named block.0 root.now.word)
+        (bare_object root.now) disk.old disk.new space.new result }
     ensures value { IfOk result (λ p. p ≡ named block.0 root.now.word) }
-    ensures refused { IfErr result (λ e. IsRefusal D.Disk draft.at 0 disk.old disk.new space.new e × (is_full e ≡ false)) }
-    ensures untried { IfErr result (λ e. e ≡ refusals.Disk false → (space.new ≡ space.old) × OnlyReads D.Disk 3 disk.old disk.new) }
+    ensures refused { IfErr result (λ e. IsRefusal D.Disk draft.at 0 disk.old disk.new space.new e
+        × (is_full e ≡ false)) }
+    ensures untried { IfErr result (λ e. e ≡ refusals.Disk false → (space.new ≡ space.old)
+        × OnlyReads D.Disk 3 disk.old disk.new) }
     ensures cylinders { length space.new.free ≡ length space.old.free }
     ensures calls { MakesAtMost D.Disk 41 24 disk.old disk.new }
 {
@@ -165,7 +170,8 @@ fn make_at<D: Disk>(
     }
 }
 
-/// Makes an object with this root, and puts its identifier into a slot of the index at a block. All memory is taken first.
+/// Makes an object with this root, and puts its identifier into a slot of the index at a block. All memory is taken
+/// first.
 fn make<D: Disk>(
     alloc: Global,
     disk: &mut D,
@@ -180,7 +186,8 @@ fn make<D: Disk>(
     requires few { slot < 983040 }
     requires room { 4 ≤ sum space.old.free }
     requires root { spec.IsBare root.now }
-    ensures { spec.PutsObject D.Disk index.0 slot (bare_object root.now) root.now.word disk.old disk.new space.old space.new result }
+    ensures { spec.PutsObject D.Disk index.0 slot (bare_object root.now) root.now.word disk.old disk.new space.old
+        space.new result }
 {
     let draft = match Draft::begin_direct(alloc, disk, space, index) {
         Ok(draft) => draft,
@@ -211,10 +218,11 @@ fn bare_root(kind: Kind, fill: u8, size: u64, word: u32) -> Root
     }
 }
 
-/// Makes an object, and puts its identifier into a slot of the index at a block, whatever stood there, as one commit. The
-/// object's root is the least-numbered Free block. A file is of size 0; an index has 8 bytes a slot, one slot or more, and
-/// the fill byte 0. `Full` where fewer than 4 blocks are Free beside the 4 that are left for deletes; no device call was made
-/// then. `Damaged` as in `retain`, and it names block 0, with code 2, where that map is Free by what it says itself.
+/// Makes an object, and puts its identifier into a slot of the index at a block, whatever stood there, as one commit.
+/// The object's root is the least-numbered Free block. A file is of size 0; an index has 8 bytes a slot, one slot or
+/// more, and the fill byte 0. `Full` where fewer than 4 blocks are Free beside the 4 that are left for deletes; no
+/// device call was made then. `Damaged` as in `retain`, and it names block 0, with code 2, where that map is Free by
+/// what it says itself.
 pub fn create<D: Disk>(
     alloc: Global,
     disk: &mut D,
@@ -232,10 +240,12 @@ pub fn create<D: Disk>(
     requires few { slot < 983040 }
     requires made { spec.MayBeMade kind fill size }
     // Full exactly where 4 and 4 blocks aren't Free; nothing was done then.
-    ensures full { sum space.old.free < 4 + 4 → (result ≡ Err (refusals.Full (record { free = sum space.old.free; need = 4 })))
+    ensures full { sum space.old.free < 4 + 4
+        → (result ≡ Err (refusals.Full (record { free = sum space.old.free; need = 4 })))
         × (disk.new ≡ disk.old) × (space.new ≡ space.old) }
     ensures makes { 4 + 4 ≤ sum space.old.free
-        → spec.PutsObject D.Disk index.0 slot (spec.made_of kind fill size) word disk.old disk.new space.old space.new result }
+        → spec.PutsObject D.Disk index.0 slot (spec.made_of kind fill size) word disk.old disk.new space.old space.new
+        result }
 {
     match has_room(space, 4) {
         Ok(()) => make(

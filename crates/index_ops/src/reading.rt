@@ -56,7 +56,8 @@ pub(crate) fn read_root<D: Disk>(disk: &mut D, index: BlockNo) -> Result<Root, T
 
 /// Reads the block to which a pointer of this holder leads: fill bytes where it leads nowhere.
 fn follow<D: Disk>(disk: &mut D, holder: u32, block: u32, fill: u8) -> Result<Block, Trouble>
-    ensures content { Tells D.Disk disk.old → IfOk result (λ content. content ≡ bytes_in (D.content disk.old) fill block) }
+    ensures content { Tells D.Disk disk.old
+        → IfOk result (λ content. content ≡ bytes_in (D.content disk.old) fill block) }
     ensures refused { IfErr result (causes.IsFollowTrouble D.Disk holder block disk.old disk.new) }
     ensures reads { OnlyReads D.Disk 1 disk.old disk.new }
 {
@@ -82,7 +83,8 @@ fn read_leaf<D: Disk>(
 ) -> Result<Block, Trouble>
     requires { leaf < LEAF_LIMIT }
     ensures bytes { Tells D.Disk disk.old → IfOk result (λ content.
-        content ≡ bytes_in (D.content disk.old) root.now.fill (leaf_block (D.content disk.old) (root_spelling root.now) leaf)) }
+        content ≡ bytes_in (D.content disk.old) root.now.fill (leaf_block (D.content disk.old)
+        (root_spelling root.now) leaf)) }
     ensures refused { IfErr result (causes.IsLeafTrouble D.Disk index.0 root.now leaf disk.old disk.new) }
     ensures reads { OnlyReads D.Disk 2 disk.old disk.new }
 {
@@ -116,8 +118,8 @@ pub fn slots<D: Disk>(disk: &mut D, index: BlockNo) -> Result<u64, Trouble>
 }
 
 /// What a slot of the index at a block holds: None where it is empty. The slot is one of the index. `Damaged` names the
-/// block, with code 3, which is no root block, or the root block or a node, with code 4, where the pointer to the slot's
-/// leaf leads past the disk.
+/// block, with code 3, which is no root block, or the root block or a node, with code 4, where the pointer to the
+/// slot's leaf leads past the disk.
 pub fn retrieve<D: Disk>(disk: &mut D, index: BlockNo, slot: u64) -> Result<Option<Puid>, Trouble>
     requires on_disk { index.0 < D.blocks disk.old }
     requires few { slot < 983040 }

@@ -1,28 +1,7 @@
 -- An entry is read with its map, and the map is written with the entry changed.
-use Rattle.std.proofs.Common.{◌≡◌, ⊎_elim, ℕ, Ok, Err, IsTrue, List, set, Some, sym, ◌∙◌, ap, subst, arith}
-use Rattle.std.proofs.lemmas.Bool.{false≢true}
-use Rattle.std.proofs.lemmas.Option.{same_Some}
-use Rattle.std.specs.Prelude.{IfErr, OnErr, OnOk, Result, true, false}
-use Rattle.cfs_base.specs.Calls.{HasStopped, HasTried, OnlyReads, MakesAtMost}
-use Rattle.cfs_base.specs.Disk.{Image, Nothing, Written}
-use Rattle.cfs_base.specs.Refusals.{trouble_had_tried}
-use Rattle.cfs_base.specs.Run.{IsSettled, Leaves, Tells, left_now}
-use Rattle.cfs_base.specs.declared.disk.Disk.{Ghosts}
-use Rattle.cfs_base.specs.declared.refusal.Trouble.{Trouble}
+use Rattle.std.proofs.Common.{◌≡◌, ⊎_elim, ℕ, Ok, Err, IsTrue, List, set, Some, sym, ◌∙◌, ap, subst, arith, Result, true, false}
+use Rattle.intentions.proofs.Words.{ChangesBit, ChangesEntry, Course, Frame, Frames, Ghosts, HasStopped, HasTried, Holds, IfErr, Image, IsBadMap, IsCourse, IsGoodMap, IsMapOf, IsMapTrouble, IsOn, IsSettled, Keeps, Leaves, MakesAtMost, MapEntry, MayPut, Nothing, OnErr, OnOk, OnlyReads, Tells, Trouble, Written, both_ok, entry_in, false≢true, frames_hold, left_now, makes_then, map_of, map_with, reads_make, same_Some, stopped_after_reads, tells_on, then, trouble_had_tried, wider, with_entry}
 use Rattle.cfs_base.specs.declared.refusal.Trouble.TheVariants as trouble
-use Rattle.cfs_base.proofs.Calls.{makes_then, reads_make, stopped_after_reads, tells_on}
-use Rattle.cfs_base.proofs.Runs.{then, wider}
-use Rattle.cyl_map.specs.declared.entry.MapEntry.{MapEntry}
-use Rattle.cyl_map.specs.Volume.{entry_in, map_of, map_with, with_entry}
-use Rattle.cyl_alloc.specs.Maps.{IsMapOf}
-use Rattle.cyl_alloc.specs.Refusals.{IsMapTrouble}
-use Rattle.cyl_alloc.specs.Space.{IsBadMap, IsGoodMap}
-use Rattle.vol_image.specs.Frame.{Frames}
-use Rattle.vol_image.specs.Sound.{Holds}
-use Rattle.vol_image.proofs.Law.{frames_hold}
-use Rattle.vol_image.proofs.Runs.{both_ok}
-use Rattle.intentions.specs.Calls.{ChangesBit, ChangesEntry}
-use Rattle.intentions.specs.Course.{Course, Frame, IsCourse, IsOn, Keeps, MayPut}
 use Rattle.intentions.proofs.Courses.{carries_framed, entry_tried, entry_wrote, keeps_frame, keeps_settled, on_entry}
 
 -- a stretch that leaves nothing new, with more room

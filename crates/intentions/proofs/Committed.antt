@@ -1,39 +1,6 @@
 -- The images of a commit: with the bit, and with the root copied.
 use Rattle.std.proofs.Common.{◌≡◌, ◌≢◌, inl, inr, ℕ, List, [], length, length-set, set, Bool, cond, Result, Some, refl, sym, ◌∙◌, ap, subst}
-use Rattle.std.specs.Prelude.{OnOk}
-use Rattle.std.proofs.lemmas.List.{get_or-set_same, get_or-set_other}
-use Rattle.std.proofs.lemmas.Option.{same_Some}
-use Rattle.cfs_base.specs.Disk.{Image, Written, block_at}
-use Rattle.cfs_base.specs.Run.{IsSettled, Leaves, left_now}
-use Rattle.cfs_base.specs.declared.disk.Disk.{Ghosts}
-use Rattle.cfs_base.specs.declared.refusal.Trouble.{Trouble}
-use Rattle.cfs_base.proofs.Runs.{wider}
-use Rattle.cfs_base.specs.declared.identifier.Puid.{Puid}
-use Rattle.cfs_base.specs.declared.kind.Place.TheVariants.{Root}
-use Rattle.cyl_map.specs.declared.entry.MapEntry.{MapEntry}
-use Rattle.cyl_map.specs.Volume.{entry_in, with_entry}
-use Rattle.cyl_map.proofs.Volumes.{entry_in-set, entry_in-with_entry_other, entry_in_table, same_or_not}
-use Rattle.ufs_model.specs.declared.object.Object.{Object}
-use Rattle.ufs_model.specs.Graph.{Graph, object_at, with_object}
-use Rattle.vol_image.specs.Commit.{IsDraft, Settles, committed}
-use Rattle.vol_image.specs.Part.{SameAt, part_of, stands_for}
-use Rattle.vol_image.specs.Run.{Carries}
-use Rattle.vol_image.specs.Seen.{Held, Tree, tree_in}
-use Rattle.vol_image.specs.Reading.{IsTree}
-use Rattle.vol_image.specs.Sight.{first_or, sight, source}
-use Rattle.vol_image.specs.Sound.{Holds, ReadsAs}
-use Rattle.vol_image.proofs.Changes.{hold_fewer}
-use Rattle.vol_image.proofs.Commits.{committed_holds, copied_holds, read_by}
-use Rattle.vol_image.proofs.Graphs.{object_at-with_object}
-use Rattle.vol_image.proofs.Law.{same_shadows}
-use Rattle.vol_image.proofs.Parts.{IsPlaced, below_apart, in_image, root_placed, shadow_taken, taken_apart}
-use Rattle.vol_image.proofs.Reached.{same_puid_itself}
-use Rattle.vol_image.proofs.Settles.{settles_begins}
-use Rattle.vol_image.proofs.Steps.{not_map}
-use Rattle.vol_image.proofs.Views.{same_tree}
-use Rattle.intentions.specs.Commit.{Commits, Copies, IsCommitted, IsToFinish}
-use Rattle.intentions.specs.Calls.{ChangesBit}
-use Rattle.intentions.specs.Entries.{with_bit, with_bit_at}
+use Rattle.intentions.proofs.Words.{Carries, ChangesBit, Commits, Copies, Ghosts, Graph, Held, Holds, Image, IsCommitted, IsDraft, IsPlaced, IsSettled, IsToFinish, IsTree, Leaves, MapEntry, Object, OnOk, Puid, ReadsAs, Root, SameAt, Settles, Tree, Trouble, Written, below_apart, block_at, committed, committed_holds, copied_holds, entry_in, entry_in-set, entry_in-with_entry_other, entry_in_table, first_or, get_or-set_other, get_or-set_same, hold_fewer, in_image, left_now, not_map, object_at, object_at-with_object, part_of, read_by, root_placed, same_Some, same_or_not, same_puid_itself, same_shadows, same_tree, settles_begins, shadow_taken, sight, source, stands_for, taken_apart, tree_in, wider, with_bit, with_bit_at, with_entry, with_object}
 use Rattle.intentions.proofs.Changes.{on_ok}
 use Rattle.intentions.proofs.Courses.{put_again}
 use Rattle.intentions.proofs.Valid.{bit_valid}

@@ -1,27 +1,6 @@
 -- Runs that keep to a course: one lemma for each sort of call.
 use Rattle.std.proofs.Common.{◌≡◌, ⊎_elim, ℕ, ◌<◌, IsTrue, List, length, set, Bool, true, false, cond, Some, refl, sym, ◌∙◌, ap, subst}
-use Rattle.cfs_base.specs.Calls.{OnlyReads}
-use Rattle.cfs_base.specs.Disk.{Image, IsSameDisk, Nothing, Written}
-use Rattle.cfs_base.specs.Run.{IsSettled, Leaves, left_now}
-use Rattle.cfs_base.specs.declared.disk.Disk.{Ghosts}
-use Rattle.cfs_base.proofs.Runs.{still_tells, wider}
-use Rattle.cyl_map.specs.declared.entry.MapEntry.{MapEntry}
-use Rattle.cyl_map.specs.Volume.{map_of, map_with, entry_in, with_entry}
-use Rattle.cyl_map.proofs.Volumes.{map_in_image}
-use Rattle.cfs_base.specs.declared.identifier.Puid.{Puid}
-use Rattle.ufs_model.specs.Graph.{Graph, object_at, with_object}
-use Rattle.ufs_model.specs.Identifier.{same_puid}
-use Rattle.ufs_model.specs.declared.object.Object.{Object}
-use Rattle.vol_image.specs.Run.{Carries}
-use Rattle.vol_image.specs.Sound.{Holds}
-use Rattle.vol_image.proofs.Carries.{carries_settled}
-use Rattle.vol_image.proofs.Changes.{hold_fewer}
-use Rattle.vol_image.proofs.Graphs.{object_at-with_object}
-use Rattle.vol_image.proofs.Law.{frames_hold}
-use Rattle.vol_image.proofs.Reached.{same_puid_is}
-use Rattle.vol_image.proofs.Steps.{frames_back, frames_begin, frames_entry, frames_then, frames_write}
-use Rattle.vol_image.proofs.Settles.{settled_holds, settles_on, settles_write}
-use Rattle.intentions.specs.Course.{Course, Frame, Settling, IsCourse, IsOn, Keeps, MayPut, graph_of}
+use Rattle.intentions.proofs.Words.{Carries, Course, Frame, Ghosts, Graph, Holds, Image, IsCourse, IsOn, IsSameDisk, IsSettled, Keeps, Leaves, MapEntry, MayPut, Nothing, Object, OnlyReads, Puid, Settling, Written, carries_settled, entry_in, frames_back, frames_begin, frames_entry, frames_hold, frames_then, frames_write, graph_of, hold_fewer, left_now, map_in_image, map_of, map_with, object_at, object_at-with_object, same_puid, same_puid_is, settled_holds, settles_on, settles_write, still_tells, wider, with_entry, with_object}
 
 -- an object that is there, put in again
 pub put_again : (g : Graph) (id : Puid) (o : Object) → object_at g id ≡ Some o → (x : Puid) (p : Object) → object_at g x ≡ Some p → object_at (with_object g id o) x ≡ Some p

@@ -3,3 +3,4 @@ pub mod Courses
 pub mod Changes
 pub mod Committed
 pub mod Settling
+mod Words

@@ -1,34 +1,6 @@
 -- Which intentions may be carried out or taken back on a course.
 use Rattle.std.proofs.Common.{◌≡◌, ◌≢◌, inl, inr, ℕ, List, [], ◌∷◌, length, Bool, true, false, Some, refl, sym, ◌∙◌, ap, subst}
-use Rattle.std.proofs.lemmas.Bool.{false≢true}
-use Rattle.std.proofs.lemmas.Option.{same_Some}
-use Rattle.cfs_base.specs.Disk.{Image, block_at}
-use Rattle.cfs_base.specs.declared.identifier.Puid.{Puid}
-use Rattle.cfs_base.specs.declared.kind.Place.{Place}
-use Rattle.cfs_base.specs.declared.kind.Place.TheVariants.{Root, ShadowRoot}
-use Rattle.block_tree.specs.Tree.{levels_of}
-use Rattle.cyl_map.specs.declared.state.BlockState.TheVariants.{Free, IntendDeallocate}
-use Rattle.cyl_map.specs.declared.entry.MapEntry.{MapEntry}
-use Rattle.cyl_map.specs.Entry.{IsEntry}
-use Rattle.cyl_map.specs.Volume.{entry_in}
-use Rattle.cyl_map.proofs.Volumes.{entry_in_table}
-use Rattle.cyl_alloc.specs.Space.{intended}
-use Rattle.ufs_model.specs.declared.object.Object.{Object}
-use Rattle.ufs_model.specs.Graph.{Graph, object_at, without}
-use Rattle.ufs_model.specs.Identifier.{same_puid}
-use Rattle.vol_image.specs.Commit.{MaySettle, Settles}
-use Rattle.vol_image.specs.Frame.{IsLoose, StandsForNone}
-use Rattle.vol_image.specs.Part.{IsTaken, OwnsItself, is_fixed, part_of, stands_for}
-use Rattle.vol_image.specs.Reading.{IsTree}
-use Rattle.vol_image.specs.Seen.{Held, place_at, tree_in}
-use Rattle.vol_image.specs.Sight.{sight}
-use Rattle.vol_image.specs.Sound.{ReadsAs}
-use Rattle.vol_image.proofs.Changes.{other_is, owned_is_loose, same_block}
-use Rattle.vol_image.proofs.Parts.{IsPlaced, below_apart, is_inner, place_inner, placed, root_placed, shadow_taken, taken_apart, taken_part, tree_placed}
-use Rattle.vol_image.proofs.Reached.{same_puid_itself}
-use Rattle.intentions.specs.Commit.{IsToFinish, OrFinished}
-use Rattle.intentions.specs.Course.{Frame, IsCopied, MayPut}
-use Rattle.intentions.specs.Entries.{finished, released, undone, without_bit}
+use Rattle.intentions.proofs.Words.{Frame, Free, Graph, Held, Image, IntendDeallocate, IsCopied, IsEntry, IsLoose, IsPlaced, IsTaken, IsToFinish, IsTree, MapEntry, MayPut, MaySettle, Object, OrFinished, OwnsItself, Place, Puid, ReadsAs, Root, Settles, ShadowRoot, StandsForNone, below_apart, block_at, entry_in, entry_in_table, false≢true, finished, intended, is_fixed, is_inner, levels_of, object_at, other_is, owned_is_loose, part_of, place_at, place_inner, placed, released, root_placed, same_Some, same_block, same_puid, same_puid_itself, shadow_taken, sight, stands_for, taken_apart, taken_part, tree_in, tree_placed, undone, without, without_bit}
 use Rattle.intentions.proofs.Valid.{finished_owner, finished_part, finished_place, finished_state, finished_valid, no_bit_valid, no_shadow_stands, other_stands, released_keeps, undone_place, undone_stands, undone_valid}
 
 -- ---- within a frame

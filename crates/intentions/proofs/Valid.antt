@@ -1,16 +1,6 @@
 -- What intentions write are entries, and what stays of an entry.
 use Rattle.std.proofs.Common.{◌≡◌, ◌≢◌, ◌⊎◌, inl, inr, ℕ, Bool, true, false, Some, None, Option, IsTrue, refl, sym, ◌∙◌, subst}
-use Rattle.std.proofs.lemmas.Bool.{false≢true}
-use Rattle.cfs_base.specs.declared.kind.Place.{Place}
-use Rattle.cfs_base.specs.declared.kind.Place.TheVariants.{Root, ShadowRoot, Node, Leaf}
-use Rattle.cyl_map.specs.declared.state.BlockState.{BlockState}
-use Rattle.cyl_map.specs.declared.state.BlockState.TheVariants.{Free, Allocated, IntendAllocate, IntendDeallocate}
-use Rattle.cyl_map.specs.declared.entry.MapEntry.{MapEntry}
-use Rattle.cyl_map.specs.Entry.{IsEntry, is_entry}
-use Rattle.vol_image.specs.Part.{part_in, part_of, stands_for}
-use Rattle.vol_image.specs.Commit.{committed}
-use Rattle.vol_image.proofs.Parts.{shadow_entry}
-use Rattle.intentions.specs.Entries.{finished, finished_in, released, released_at, undone, undone_in, without_bit}
+use Rattle.intentions.proofs.Words.{Allocated, BlockState, Free, IntendAllocate, IntendDeallocate, IsEntry, Leaf, MapEntry, Node, Place, Root, ShadowRoot, committed, false≢true, finished, finished_in, is_entry, part_in, part_of, released, released_at, shadow_entry, stands_for, undone, undone_in, without_bit}
 
 abbrev Is : BlockState → Bool → Option Place → ℕ → Type 0
 Is t bit p n = IsTrue (is_entry (record { state = t; committed = bit; place = p; owner = n }))

@@ -15,7 +15,8 @@ use Rattle.vol_image.specs.Sound.{Holds}
 use Rattle.intentions.specs.Course.{IsCopied}
 use Rattle.intentions.specs.Entries.{finished}
 
--- Image c holds these objects. For this one the shadow root s stands alone, and it is read by it, since its commit bit is set.
+-- Image c holds these objects. For this one the shadow root s stands alone, and it is read by it, since its commit bit
+-- is set.
 pub record IsCommitted (c : Image) (graph : Graph) (id : Puid) (o : Object) (s : ℕ) : Type 0 where
   pub holds : Holds c graph
   pub at : object_at graph id ≡ Some o
@@ -41,7 +42,8 @@ pub record IsToFinish (c : Image) (r : ℕ) (root : List ℕ) (n : ℕ) : Type 0
   pub taken : IsTaken c n r
   pub no_root : taken.is.place ≢ Some Root
   pub no_shadow : taken.is.place ≢ Some ShadowRoot
-  pub gone : taken.is.state ≡ IntendDeallocate → (path : List ℕ) (h : Held) → (tree_in c root).below path ≡ Some h → h.block ≢ n
+  pub gone : taken.is.state ≡ IntendDeallocate → (path : List ℕ) (h : Held) → (tree_in c root).below path ≡ Some h
+      → h.block ≢ n
 
 -- this one, or what it is once finished
 abbrev pub OrFinished : MapEntry → MapEntry → Type 0

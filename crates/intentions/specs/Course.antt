@@ -14,7 +14,8 @@ use Rattle.vol_image.specs.Part.{OwnsItself, is_fixed}
 use Rattle.vol_image.specs.Sight.{source}
 use Rattle.vol_image.specs.Sound.{Holds}
 
--- the frame of an image with these objects; or what may differ while one object settles, whose root has in image c what its shadow root s has
+-- the frame of an image with these objects; or what may differ while one object settles, whose root has in image c what
+-- its shadow root s has
 pub data Course : Type 0 where
   Frame : (a : Image) (graph : Graph) → Course
   Settling : (c : Image) (graph : Graph) (id : Puid) (o : Object) (s : ℕ) → Course

@@ -7,9 +7,10 @@ use Rattle.ufs_model.specs.Identifier.{rises}
 use Rattle.vol_image.specs.Run.{Carries}
 use Rattle.vol_owners.specs.Account.{Accounts, Opened}
 
--- The disk carries these objects, whatever writes wait for a barrier. Each block of it has its use by them and these drafts, and
--- the Free blocks are counted.
-pub record StoreHas {D : Type 0} (g : Ghosts D) (graph : Graph) (drafts : List Opened) (disk : D) (space : Kept) : Type 0 where
+-- The disk carries these objects, whatever writes wait for a barrier. Each block of it has its use by them and these
+-- drafts, and the Free blocks are counted.
+pub record StoreHas {D : Type 0} (g : Ghosts D) (graph : Graph) (drafts : List Opened) (disk : D)
+    (space : Kept) : Type 0 where
   pub carries : Carries g graph disk
   pub account : Accounts (g.content disk) graph drafts
   pub counts : AreCounts (g.content disk) space

@@ -84,16 +84,18 @@ fn change_bit<D: Disk>(
     put_between(disk, known, root, &mut map, now)
 }
 
-/// Sets the commit bit of a root. The barrier before it makes all durable to which it leads; from the one after it on the
-/// change outlasts a crash. `Damaged` names the map block of the root, with code 2, which is no map.
+/// Sets the commit bit of a root. The barrier before it makes all durable to which it leads; from the one after it on
+/// the change outlasts a crash. `Damaged` names the map block of the root, with code 2, which is no map.
 pub fn commit<D: Disk>(disk: &mut D, known: &mut KnownMaps, root: BlockNo) -> Result<(), Trouble>
     requires { root.0 < D.blocks disk.old }
     ensures changes { spec.ChangesBit D.Disk root.0 (λ e. entries.with_bit e) disk.old disk.new result }
     // The draft becomes the object. All that a crash leaves besides what it might have left before has it.
-    ensures commits { (graph : Graph) (id : Puid) (was o : Object) (s : ℕ) → id.block ≡ root.0 → Carries D.Disk graph disk.old
+    ensures commits { (graph : Graph) (id : Puid) (was o : Object) (s : ℕ) → id.block ≡ root.0
+        → Carries D.Disk graph disk.old
         → object_at graph id ≡ Some was → IsDraft (D.content disk.old) id.block s o
         → OnOk result (Commits (D.content disk.old) (D.content disk.new) graph id o s) }
-    ensures holds { (graph : Graph) (id : Puid) (was o : Object) (s : ℕ) → id.block ≡ root.0 → Carries D.Disk graph disk.old
+    ensures holds { (graph : Graph) (id : Puid) (was o : Object) (s : ℕ) → id.block ≡ root.0
+        → Carries D.Disk graph disk.old
         → object_at graph id ≡ Some was → IsDraft (D.content disk.old) id.block s o
         → Leaves D.Disk disk.old disk.new (λ c. Holds c (with_object graph id o)) }
 {

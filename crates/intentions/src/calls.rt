@@ -10,8 +10,8 @@ use crate::entry::change_entry;
 use cfs_base::{BlockNo, Disk, Place, Trouble};
 use cyl_alloc::KnownMaps;
 
-/// Claims a Free block for an owner's place: its entry is IntendAllocate. `Damaged` names its map block, with code 2, which
-/// is no map.
+/// Claims a Free block for an owner's place: its entry is IntendAllocate. `Damaged` names its map block, with code 2,
+/// which is no map.
 pub fn intend_claim<D: Disk>(
     disk: &mut D,
     block: BlockNo,

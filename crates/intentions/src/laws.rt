@@ -26,7 +26,8 @@ use cfs_base::Disk;
 /// A disk that carries objects keeps to their frame, and the other way round. One on which nothing waits keeps to each
 /// course that its content is on, and carries the objects of each that it has kept to.
 pub fn a_disk_keeps_to_courses<D: Disk>(disk: &D)
-    ensures frame { (graph : Graph) → Carries D.Disk graph disk.now → Keeps D.Disk (Frame (D.content disk.now) graph) disk.now }
+    ensures frame { (graph : Graph) → Carries D.Disk graph disk.now
+        → Keeps D.Disk (Frame (D.content disk.now) graph) disk.now }
     ensures carries { (a : Image) (graph : Graph) → Holds a graph → Keeps D.Disk (Frame a graph) disk.now
         → Carries D.Disk graph disk.now }
     ensures settled { (course : Course) → IsSettled D.Disk disk.now → IsOn course (D.content disk.now)
@@ -43,7 +44,8 @@ pub fn courses_hold()
 /// A block that the objects hold may be given up within their frame, and one that they don't hold may be claimed, and
 /// taken back.
 pub fn intentions_keep_the_frame()
-    ensures release { (a : Image) (graph : Graph) (n : ℕ) (e : MapEntry) → is_fixed n ≡ false → IsEntry e → OwnsItself n e
+    ensures release { (a : Image) (graph : Graph) (n : ℕ) (e : MapEntry) → is_fixed n ≡ false → IsEntry e
+        → OwnsItself n e
         → MayPut (Frame a graph) n e (released e) }
     ensures claim { (a : Image) (graph : Graph) (n : ℕ) (e : MapEntry) (place : Place) (owner : ℕ) → IsLoose a graph n
         → StandsForNone a graph e → IsEntry (intended place owner) → OwnsItself n (intended place owner)
@@ -52,8 +54,8 @@ pub fn intentions_keep_the_frame()
         → IsEntry e → e.place ≢ Some Root → MayPut (Frame a graph) n e (undone e) }
 {}
 
-/// Once the root is copied the object settles: its nodes and leaves are finished, the shadow root is given back, and the bit
-/// is cleared.
+/// Once the root is copied the object settles: its nodes and leaves are finished, the shadow root is given back, and
+/// the bit is cleared.
 pub fn objects_settle()
     ensures begin { (a c : Image) (graph : Graph) (id : Puid) (o : Object) (s : ℕ) → Copies a c graph id o s
         → Settles c graph id s c }
@@ -61,17 +63,20 @@ pub fn objects_settle()
     ensures stays { (a c k : Image) (graph : Graph) (id : Puid) (was o : Object) (s n : ℕ) → Holds a graph
         → object_at graph id ≡ Some was → Commits a c graph id o s → Copies c k (with_object graph id o) id o s
         → IsToFinish a id.block (block_at a s) n → IsToFinish k id.block (block_at k id.block) n }
-    ensures finish { (c : Image) (graph : Graph) (id : Puid) (o : Object) (s n : ℕ) (old : MapEntry) → IsCopied c graph id o s
+    ensures finish { (c : Image) (graph : Graph) (id : Puid) (o : Object) (s n : ℕ) (old : MapEntry)
+        → IsCopied c graph id o s
         → (to : IsToFinish c id.block (block_at c id.block) n) → OrFinished to.taken.is old
         → MayPut (Settling c graph id o s) n old (finished old) }
     // The same of the root of an object that is made with this commit.
     ensures finish_made { (c : Image) (graph : Graph) (id : Puid) (o : Object) (s n : ℕ) (old : MapEntry)
         → IsCopied c graph id o s → IsEntry old → old.place ≡ Some Root → old.owner ≡ n → old.state ≢ IntendDeallocate
         → is_fixed n ≡ false → n ≢ id.block → MayPut (Settling c graph id o s) n old (finished old) }
-    ensures undo { (c : Image) (graph : Graph) (id : Puid) (o : Object) (s : ℕ) (old : MapEntry) → IsCopied c graph id o s
+    ensures undo { (c : Image) (graph : Graph) (id : Puid) (o : Object) (s : ℕ) (old : MapEntry)
+        → IsCopied c graph id o s
         → stands_for id.block (entry_in c s) ≡ true → entry_in c s ≡ Some old
         → MayPut (Settling c graph id o s) s old (undone old) }
-    ensures clear { (c b : Image) (graph : Graph) (id : Puid) (o : Object) (s : ℕ) (old : MapEntry) → IsCopied c graph id o s
+    ensures clear { (c b : Image) (graph : Graph) (id : Puid) (o : Object) (s : ℕ) (old : MapEntry)
+        → IsCopied c graph id o s
         → Settles c graph id s b → entry_in b id.block ≡ Some old
         → MayPut (Settling c graph id o s) id.block old (without_bit old) }
 {}

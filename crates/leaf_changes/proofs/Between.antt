@@ -1,15 +1,6 @@
 -- A file whose change is cut short: each of its leaves is that of the old file or of the new.
 use Rattle.std.proofs.Common.{◌≡◌, ◌⊎◌, inl, inr, ℕ, ◌+◌, ◌-◌, ◌*◌, ◌/◌, ◌%◌, ◌<◌, ◌≤◌, List, ◌++◌, length, get_or, drop, replicate, Option, refl, sym, ◌∙◌, subst, arith}
-use Rattle.std.proofs.lemmas.Bool.{cases_lt}
-use Rattle.std.proofs.lemmas.List.{length-append, length-take, length-drop, length-replicate, get_or-take, get_or-drop, get_or-replicate, get_or_append_left, get_or-append_right, ext_get_or}
-use Rattle.block_tree.specs.declared.root.Root.{Root}
-use Rattle.ufs_model.specs.declared.object.File.{File}
-use Rattle.vol_image.specs.Seen.{Held}
-use Rattle.vol_image.specs.Reading.{leaf_content}
-use Rattle.vol_image.specs.Survives.{leaf_of_file, IsBetween}
-use Rattle.leaf_changes.specs.Leaves.{bytes_held, LeavesFit}
-use Rattle.leaf_changes.specs.Changes.{SetsSize}
-use Rattle.leaf_changes.specs.Gives.{GivesFile}
+use Rattle.leaf_changes.proofs.Words.{File, GivesFile, Held, IsBetween, LeavesFit, Root, SetsSize, bytes_held, cases_lt, ext_get_or, get_or-append_right, get_or-drop, get_or-replicate, get_or-take, get_or_append_left, leaf_content, leaf_of_file, length-append, length-drop, length-replicate, length-take}
 use Rattle.leaf_changes.proofs.Contents.{length-leaf_content, past_size}
 use Rattle.leaf_changes.proofs.Fits.{FitsAt, fit_at, fit_each, same_fit}
 

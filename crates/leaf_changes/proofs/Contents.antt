@@ -1,13 +1,6 @@
 -- The 512 bytes of a leaf, by the bytes that it holds.
 use Rattle.std.proofs.Common.{◌≡◌, inl, inr, ℕ, ◌+◌, ◌-◌, ◌*◌, ◌/◌, ◌%◌, ◌<◌, ◌≤◌, List, ◌++◌, length, get_or, take, replicate, Option, Some, None, true, refl, ◌∙◌, ap, arith}
-use Rattle.std.specs.Prelude.{is_some}
-use Rattle.std.proofs.lemmas.Bool.{cases_lt}
-use Rattle.std.proofs.lemmas.List.{length-append, length-take, length-replicate, take_at, get_or-take, get_or-replicate, get_or_append_left, get_or-append_right}
-use Rattle.block_tree.specs.declared.root.Root.{Root}
-use Rattle.ufs_model.specs.Object.{leaves_in}
-use Rattle.vol_image.specs.Seen.{Held}
-use Rattle.vol_image.specs.Reading.{leaf_content}
-use Rattle.leaf_changes.specs.Leaves.{bytes_held, leaf_byte, LeavesFit}
+use Rattle.leaf_changes.proofs.Words.{Held, LeavesFit, Root, bytes_held, cases_lt, get_or-append_right, get_or-replicate, get_or-take, get_or_append_left, is_some, leaf_byte, leaf_content, leaves_in, length-append, length-replicate, length-take, take_at}
 
 pub length-leaf_content : (fill : ℕ) (o : Option Held) → length (leaf_content fill o) ≡ 512
 length-leaf_content fill None = length-replicate 512 fill

@@ -1,11 +1,6 @@
 -- Leaves that fit a size, one at a time, and roots of one kind, fill byte and size.
 use Rattle.std.proofs.Common.{◌≡◌, ℕ, ◌+◌, ◌*◌, ◌<◌, ◌≤◌, List, get_or, Option, Some, None, refl, sym, ◌∙◌, ap, subst}
-use Rattle.block_tree.specs.declared.root.Root.{Root}
-use Rattle.ufs_model.specs.Object.{leaves_in}
-use Rattle.vol_image.specs.Seen.{Held}
-use Rattle.vol_image.specs.Reading.{held_in, object_with}
-use Rattle.leaf_changes.specs.Leaves.{bytes_held, LeavesFit}
-use Rattle.leaf_changes.specs.Changes.{SetsSize}
+use Rattle.leaf_changes.proofs.Words.{Held, LeavesFit, Root, SetsSize, bytes_held, held_in, leaves_in, object_with}
 
 -- what is held at leaf n fits
 pub record FitsAt (size fill n : ℕ) (held : Option (List ℕ)) : Type 0 where

@@ -1,23 +1,9 @@
 -- The object of a root and leaves, byte by byte or slot by slot.
-use Rattle.std.proofs.Common.{◌≡◌, ◌≢◌, ℕ, zero, suc, ◌+◌, ◌*◌, ◌/◌, ◌%◌, ◌<◌, List, [], ◌∷◌, length, get_or, slice_get, take, Option, None, refl, sym, ◌∙◌, ap, subst, arith}
-use Rattle.std.specs.Prelude.{map, unwrap_or}
-use Rattle.std.specs.List.{range_with_len}
-use Rattle.std.proofs.lemmas.List.{length-take, get_or-take, ext_get_or}
-use Rattle.cfs_base.specs.declared.identifier.Puid.{Puid}
-use Rattle.cfs_base.specs.declared.kind.Kind.{Kind}
+use Rattle.std.proofs.Common.{◌≡◌, ◌≢◌, ℕ, zero, suc, ◌+◌, ◌*◌, ◌/◌, ◌%◌, ◌<◌, List, [], ◌∷◌, length, get_or, slice_get, take, Option, None, refl, sym, ◌∙◌, ap, subst, arith, map}
+use Rattle.leaf_changes.proofs.Words.{File, FileKind, GivesFile, GivesIndex, Held, Index, Kind, Object, Puid, Root, ext_get_or, file_bytes, get_or-take, held_in, kind_of, leaf_byte, leaf_content, leaves_in, length-take, object_with, range_with_len, size_of, slot_in, unwrap_or}
 use Rattle.cfs_base.specs.declared.kind.Kind.TheVariants as kinds
-use Rattle.cfs_base.specs.declared.kind.FileKind.{FileKind}
 use Rattle.cfs_base.specs.declared.kind.FileKind.TheVariants as file_kinds
-use Rattle.block_tree.specs.declared.root.Root.{Root}
-use Rattle.ufs_model.specs.declared.object.Object.{Object}
 use Rattle.ufs_model.specs.declared.object.Object.TheVariants as objects
-use Rattle.ufs_model.specs.declared.object.File.{File}
-use Rattle.ufs_model.specs.declared.object.Index.{Index}
-use Rattle.ufs_model.specs.Object.{leaves_in, size_of}
-use Rattle.vol_image.specs.Seen.{Held}
-use Rattle.vol_image.specs.Reading.{leaf_content, file_bytes, held_in, slot_in, object_with}
-use Rattle.leaf_changes.specs.Leaves.{leaf_byte}
-use Rattle.leaf_changes.specs.Gives.{kind_of, GivesFile, GivesIndex}
 use Rattle.leaf_changes.proofs.Rows.{length-pieces, byte-pieces, length-made, get_or-made}
 use Rattle.leaf_changes.proofs.SlotBytes.{same_slot}
 use Rattle.leaf_changes.proofs.Contents.{length-leaf_content}

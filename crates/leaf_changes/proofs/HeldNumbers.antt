@@ -1,15 +1,7 @@
 -- The leaves that an object holds, as a list of numbers that rise.
 use Rattle.std.proofs.Common.{◌≡◌, ◌⊎◌, inl, inr, ℕ, ◌+◌, ◌-◌, ◌/◌, ◌<◌, ◌≤◌, List, [], ◌∷◌, Bool, true, false, Option, Some, None, refl, sym, ◌∙◌, ap, subst, arith}
-use Rattle.std.specs.Prelude.{is_some}
-use Rattle.std.specs.List.{range_with_len}
-use Rattle.cfs_base.specs.declared.kind.Kind.{Kind}
+use Rattle.leaf_changes.proofs.Words.{Held, Kind, Root, filter-rises, has_number, held_in, held_leaves, here, in_cons, in_filter, in_numbers, in_with, is_some, later, leaves_in, numbers-rise, numbers_rise, object_with, range_with_len, same_numbers, to_filter, to_numbers, touched, with_itself, with_number, with_number-rises, with_numbers, with_others}
 use Rattle.cfs_base.specs.declared.kind.Kind.TheVariants as kinds
-use Rattle.block_tree.specs.declared.root.Root.{Root}
-use Rattle.ufs_model.specs.Numbers.{has_number, numbers_rise, with_number, with_numbers}
-use Rattle.ufs_model.specs.Object.{leaves_in, touched, held_leaves}
-use Rattle.vol_image.specs.Seen.{Held}
-use Rattle.vol_image.specs.Reading.{held_in, object_with}
-use Rattle.vol_image.proofs.Rising.{here, later, in_cons, in_numbers, to_numbers, in_filter, to_filter, in_with, with_itself, with_others, numbers-rise, filter-rises, with_number-rises, same_numbers}
 
 -- ---- the second numbers with the first
 

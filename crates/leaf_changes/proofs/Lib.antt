@@ -10,4 +10,4 @@ pub mod Resized
 pub mod Slotted
 pub mod ReadParts
 pub mod Between
-pub mod Made
+mod Words

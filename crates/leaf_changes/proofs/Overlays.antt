@@ -1,10 +1,6 @@
 -- Bytes laid over others, byte by byte.
-use Rattle.std.proofs.Common.{◌≡◌, inl, inr, ℕ, ◌+◌, ◌-◌, ◌<◌, ◌≤◌, List, ◌++◌, length, get_or, take, drop, slice_range, sym, ◌∙◌, ap, arith, if◌then◌else◌}
-use Rattle.std.specs.Prelude.{nat_lt, nat_le, ◌&&◌}
-use Rattle.std.proofs.lemmas.Bool.{cases_lt}
-use Rattle.std.proofs.lemmas.Bool.Decides.{nat_tests}
-use Rattle.std.proofs.lemmas.List.{places, get_or_append_left, get_or-take, length-take, length-append, take_all, ext_get_or}
-use Rattle.leaf_changes.specs.Bytes.{overlaid}
+use Rattle.std.proofs.Common.{◌≡◌, inl, inr, ℕ, ◌+◌, ◌-◌, ◌<◌, ◌≤◌, List, ◌++◌, length, get_or, take, drop, slice_range, sym, ◌∙◌, ap, arith, if◌then◌else◌, ◌&&◌}
+use Rattle.leaf_changes.proofs.Words.{cases_lt, ext_get_or, get_or-take, get_or_append_left, length-append, length-take, nat_le, nat_lt, nat_tests, overlaid, places, take_all}
 
 -- the byte at a place, once bytes that stand from `from` on are laid over it
 module _ (from : ℕ) (above : List ℕ) (place old : ℕ) where

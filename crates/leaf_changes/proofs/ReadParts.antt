@@ -1,22 +1,10 @@
 -- A part of a file, read leaf by leaf.
 use Rattle.std.proofs.Common.{◌≡◌, inl, inr, ℕ, ◌+◌, ◌-◌, ◌*◌, ◌/◌, ◌%◌, ◌<◌, ◌≤◌, List, length, get_or, take, drop, slice_range, Option, sym, ◌∙◌, arith}
-use Rattle.std.proofs.lemmas.Bool.{cases_lt}
-use Rattle.std.proofs.lemmas.List.{length-take, length-drop, get_or-take, get_or-drop, ext_get_or}
-use Rattle.block_tree.specs.declared.root.Root.{Root}
-use Rattle.ufs_model.specs.declared.object.File.{File}
-use Rattle.ufs_model.specs.Object.{leaves_in}
-use Rattle.vol_image.specs.Seen.{Held}
-use Rattle.vol_image.specs.Reading.{leaf_content}
-use Rattle.leaf_changes.specs.Bytes.{with_leaf}
-use Rattle.leaf_changes.specs.Leaves.{IsReadTo}
-use Rattle.leaf_changes.specs.Gives.{GivesFile}
+use Rattle.leaf_changes.proofs.Words.{File, GivesFile, Held, IsReadTo, Root, cases_lt, ext_get_or, get_or-drop, get_or-take, leaf_content, leaves_in, length-drop, length-take, with_leaf}
 use Rattle.leaf_changes.proofs.Overlays.{length-overlaid, laid, before}
 use Rattle.leaf_changes.proofs.Contents.{length-leaf_content}
 
 module _ (fill : ℕ) (leaf : ℕ → Option Held) (offset : ℕ) (part : List ℕ) where
-  pub read_begin : IsReadTo (offset / 512) fill leaf offset part
-  read_begin k inside early = absurd (omega arith)
-
   -- the bytes of one leaf more
   pub read_more : (n : ℕ) → IsReadTo n fill leaf offset part → IsReadTo (n + 1) fill leaf offset (with_leaf n (leaf_content fill (leaf n)) offset part)
   read_more n read k inside early = elim (cases_lt (offset + k) (512 * n)) [

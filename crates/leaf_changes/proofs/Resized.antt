@@ -1,19 +1,7 @@
 -- A resize: leaf by leaf, and of the file.
 use Rattle.std.proofs.Common.{◌≡◌, ◌≢◌, inl, inr, ℕ, ◌-◌, ◌/◌, ◌%◌, ◌<◌, ◌≤◌, List, length, get_or, take, replicate, Option, Some, None, Bool, sym, ◌∙◌, ap, subst, arith}
-use Rattle.std.specs.Prelude.{is_some, filter, nat_lt}
-use Rattle.std.proofs.lemmas.Bool.{cases_lt, lt-ltb, ltb-true}
-use Rattle.std.proofs.lemmas.List.{length-append, length-take, length-replicate, get_or-take, get_or-replicate, get_or_append_left, get_or-append_right}
+use Rattle.leaf_changes.proofs.Words.{File, GivesFile, Held, LeavesFit, Root, SetSize, Shrinks, bytes_held, cases_lt, changed_object, cut, cut_held, filter, filter-rises, get_or-append_right, get_or-replicate, get_or-take, get_or_append_left, held_in, in_filter, is_some, leaf_byte, leaf_content, leaves_in, length-append, length-replicate, length-take, lt-ltb, ltb-true, nat_lt, object_with, resized, to_filter}
 use Rattle.cfs_base.specs.declared.kind.Kind.TheVariants as kinds
-use Rattle.block_tree.specs.declared.root.Root.{Root}
-use Rattle.ufs_model.specs.declared.object.File.{File}
-use Rattle.ufs_model.specs.Object.{leaves_in, resized, changed_object}
-use Rattle.ufs_model.specs.declared.change.Change.TheVariants.{SetSize}
-use Rattle.vol_image.specs.Seen.{Held}
-use Rattle.vol_image.specs.Reading.{leaf_content, held_in, object_with}
-use Rattle.vol_image.proofs.Rising.{in_filter, to_filter, filter-rises}
-use Rattle.leaf_changes.specs.Bytes.{cut}
-use Rattle.leaf_changes.specs.Leaves.{bytes_held, leaf_byte, LeavesFit, cut_held, Shrinks}
-use Rattle.leaf_changes.specs.Gives.{GivesFile}
 use Rattle.leaf_changes.proofs.Contents.{length-leaf_content, same_content, same_held, held_is, content_is, byte_past_size, held_within}
 use Rattle.leaf_changes.proofs.Fits.{FitsAt, fit_at, fit_each}
 use Rattle.leaf_changes.proofs.Given.{file_to_leaves, file_from_leaves, some_file}
@@ -77,9 +65,6 @@ module _ (root : Root) (old new : ℕ → Option Held) (size : ℕ) (fit : Leave
     within = λ bytes is. let less = was.within bytes is in omega arith;
     filled = λ bytes i is small past. was.filled bytes i is small (omega arith);
   }))
-
-  pub grown_held : filter (λ n. nat_lt n (leaves_in size)) (held_in root old) ≡ held_in (of_size root size) new
-  grown_held = resized_held root old new size fit (λ k below inside. same_byte k) (λ k below past. same_byte k ∙ byte_past_size root old fit k past) (λ n less. same_held (new n) (old n) (same n))
 
   pub grown_object : root.kind ≢ kinds.Index → object_with (of_size root size) new ≡ changed_object (SetSize size) (object_with root old)
   grown_object = object_resized root old new size fit (λ k below inside. same_byte k) (λ k below past. same_byte k ∙ byte_past_size root old fit k past) (λ n less. same_held (new n) (old n) (same n))
@@ -149,9 +134,6 @@ module _ (root : Root) (old new : ℕ → Option Held) (size : ℕ) (fit : Leave
     }
     | inr gone ↦ subst (λ (o : Option Held). FitsAt size root.fill n (bytes_held o)) (sym (shorter.gone n gone)) (record { within = λ bytes no. cc; filled = λ bytes i no small past. cc })
   ])
-
-  pub cut_leaves : filter (λ n. nat_lt n (leaves_in size)) (held_in root old) ≡ held_in (of_size root size) new
-  cut_leaves = resized_held root old new size fit (λ k below inside. new_byte k below) (λ k below past. absurd (omega arith)) new_held
 
   pub cut_object : root.kind ≢ kinds.Index → object_with (of_size root size) new ≡ changed_object (SetSize size) (object_with root old)
   cut_object = object_resized root old new size fit (λ k below inside. new_byte k below) (λ k below past. absurd (omega arith)) new_held

@@ -1,9 +1,6 @@
 -- Lists made of numbers in a row, and lists of pieces of one length.
-use Rattle.std.proofs.Common.{◌≡◌, ℕ, zero, suc, ◌+◌, ◌-◌, ◌*◌, ◌/◌, ◌%◌, ◌<◌, List, ◌∷◌, length, get_or, map, refl, sym, ◌∙◌, ap, arith, inl, inr}
-use Rattle.std.specs.List.{flat_map, range_with_len}
-use Rattle.std.proofs.lemmas.Bool.{cases_lt}
-use Rattle.std.proofs.lemmas.List.{length-append, get_or_append_left, get_or-append_right}
-use Rattle.std.proofs.lemmas.List.FromFn.{length-map-range_with_len, get_or-map-range_with_len}
+use Rattle.std.proofs.Common.{◌≡◌, ℕ, zero, suc, ◌+◌, ◌-◌, ◌*◌, ◌/◌, ◌%◌, ◌<◌, List, length, get_or, map, refl, sym, ◌∙◌, ap, arith, inl, inr}
+use Rattle.leaf_changes.proofs.Words.{cases_lt, flat_map, get_or-append_right, get_or-map-range_with_len, get_or_append_left, length-append, length-map-range_with_len, range_with_len}
 
 pub length-made : {A : Type 0} (f : ℕ → A) (n : ℕ) → length (map f (range_with_len 0 n)) ≡ n
 length-made f n = length-map-range_with_len f 0 n

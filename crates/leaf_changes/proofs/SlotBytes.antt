@@ -1,9 +1,6 @@
 -- The bytes of a slot.
 use Rattle.std.proofs.Common.{◌≡◌, ℕ, ◌+◌, ◌*◌, ◌/◌, ◌%◌, ◌<◌, ◌^◌, List, ◌++◌, get_or, take, drop, refl, sym, ◌∙◌, ap, arith}
-use Rattle.std.specs.Int.{to_be_bytes, w32, w64}
-use Rattle.std.proofs.lemmas.List.{get_or-take, get_or-drop}
-use Rattle.block_tree.specs.Pointers.{number_at}
-use Rattle.vol_image.specs.Reading.{slot_in}
+use Rattle.leaf_changes.proofs.Words.{get_or-drop, get_or-take, number_at, slot_in, to_be_bytes, w32, w64}
 
 -- a number of 8 bytes is spelled by its halves
 pub halves : (high low : ℕ) → high < 2 ^ 32 → low < 2 ^ 32 → to_be_bytes w64 (high * 2 ^ 32 + low) ≡ to_be_bytes w32 high ++ to_be_bytes w32 low

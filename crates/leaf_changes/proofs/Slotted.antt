@@ -1,26 +1,8 @@
 -- A slot filled or emptied: its 8 bytes are written into its leaf, and give the index with this in the slot.
-use Rattle.std.proofs.Common.{◌≡◌, ◌≢◌, ◌⊎◌, inl, inr, ℕ, ◌+◌, ◌-◌, ◌*◌, ◌/◌, ◌%◌, ◌<◌, ◌≤◌, List, [], ◌∷◌, length, get_or, set, Option, Some, None, Bool, true, false, refl, sym, ◌∙◌, ap, subst, arith, length-set}
-use Rattle.std.specs.Prelude.{is_some, if◌then◌else◌}
-use Rattle.std.specs.List.{range_with_len}
-use Rattle.std.proofs.lemmas.Bool.{cases_lt, cases_eq}
-use Rattle.std.proofs.lemmas.Bool.Decides.{nat_tests}
-use Rattle.std.proofs.lemmas.Nat.{from_be_bytes-to_be_bytes_4}
-use Rattle.std.proofs.lemmas.List.{get_or-set_same, get_or-set_other, set-get_or}
-use Rattle.cfs_base.specs.declared.identifier.Puid.{Puid}
+use Rattle.std.proofs.Common.{◌≡◌, ◌≢◌, ◌⊎◌, inl, inr, ℕ, ◌+◌, ◌-◌, ◌*◌, ◌/◌, ◌%◌, ◌<◌, ◌≤◌, List, [], ◌∷◌, length, get_or, set, Option, Some, None, Bool, true, false, refl, sym, ◌∙◌, ap, subst, arith, length-set, if◌then◌else◌}
+use Rattle.leaf_changes.proofs.Words.{Fill, FillsSlot, GivesIndex, Held, Index, IsSlot, LeavesFit, Puid, Root, Writes, bytes_held, cases_eq, cases_lt, changed_object, filled, from_be_bytes-to_be_bytes_4, get_or-set_other, get_or-set_same, held_in, in_with, is_some, leaf_content, leaves_in, nat_tests, number_at, object_with, patched, range_with_len, same_numbers, set-get_or, slot_in, slot_spelling, touched, with_number, with_number-rises, with_numbers, with_others, with_slot}
 use Rattle.cfs_base.specs.declared.kind.Kind.TheVariants as kinds
-use Rattle.block_tree.specs.declared.root.Root.{Root}
-use Rattle.block_tree.specs.Pointers.{number_at}
 use Rattle.ufs_model.specs.declared.object.Object.TheVariants as objects
-use Rattle.ufs_model.specs.declared.object.Index.{Index}
-use Rattle.ufs_model.specs.Numbers.{with_number, with_numbers}
-use Rattle.ufs_model.specs.Object.{leaves_in, touched, filled, changed_object}
-use Rattle.ufs_model.specs.declared.change.Change.TheVariants.{Fill}
-use Rattle.vol_image.specs.Seen.{Held}
-use Rattle.vol_image.specs.Reading.{leaf_content, slot_in, held_in, object_with}
-use Rattle.vol_image.proofs.Rising.{in_with, with_others, with_number-rises, same_numbers}
-use Rattle.leaf_changes.specs.Bytes.{IsSlot, patched, slot_spelling, with_slot}
-use Rattle.leaf_changes.specs.Leaves.{bytes_held, LeavesFit, Writes, FillsSlot}
-use Rattle.leaf_changes.specs.Gives.{GivesIndex}
 use Rattle.leaf_changes.proofs.SlotBytes.{same_slot}
 use Rattle.leaf_changes.proofs.Contents.{length-leaf_content, held_within}
 use Rattle.leaf_changes.proofs.Overlays.{over, over_early, over_past, over_within, laid_within}

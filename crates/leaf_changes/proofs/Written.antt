@@ -1,18 +1,7 @@
 -- Bytes written at an offset: leaf by leaf, and in the file.
 use Rattle.std.proofs.Common.{◌≡◌, ◌≢◌, ◌⊎◌, inl, inr, ℕ, ◌+◌, ◌*◌, ◌/◌, ◌%◌, ◌<◌, ◌≤◌, List, length, get_or, Option, Some, true, refl, sym, ◌∙◌, ap, subst, arith}
-use Rattle.std.specs.Prelude.{is_some}
-use Rattle.std.proofs.lemmas.Bool.{cases_lt, cases_eq}
+use Rattle.leaf_changes.proofs.Words.{File, GivesFile, Held, LeavesFit, Overwrite, Root, Writes, WritesTo, bytes_held, cases_eq, cases_lt, changed_object, held_in, is_some, leaf_byte, leaf_content, leaves_in, object_with, patched, touched, with_numbers, written}
 use Rattle.cfs_base.specs.declared.kind.Kind.TheVariants as kinds
-use Rattle.block_tree.specs.declared.root.Root.{Root}
-use Rattle.ufs_model.specs.declared.object.File.{File}
-use Rattle.ufs_model.specs.Numbers.{with_numbers}
-use Rattle.ufs_model.specs.Object.{leaves_in, touched, written, changed_object}
-use Rattle.ufs_model.specs.declared.change.Change.TheVariants.{Overwrite}
-use Rattle.vol_image.specs.Seen.{Held}
-use Rattle.vol_image.specs.Reading.{leaf_content, held_in, object_with}
-use Rattle.leaf_changes.specs.Bytes.{patched}
-use Rattle.leaf_changes.specs.Leaves.{bytes_held, leaf_byte, LeavesFit, WritesTo, Writes}
-use Rattle.leaf_changes.specs.Gives.{GivesFile}
 use Rattle.leaf_changes.proofs.Overlays.{length-overlaid, over, over_early, over_past, over_byte, laid_within, laid_outside}
 use Rattle.leaf_changes.proofs.Contents.{length-leaf_content, same_content, same_held, held_is, content_is, past_size}
 use Rattle.leaf_changes.proofs.Fits.{FitsAt, fit_at, fit_each}

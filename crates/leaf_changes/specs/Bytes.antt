@@ -1,5 +1,6 @@
 -- Bytes that stand at places and are laid over one another, and the bytes of a leaf that a change leaves.
-use Rattle.std.specs.Prelude.{ℕ, ◌+◌, ◌-◌, ◌*◌, ◌%◌, ◌^◌, ◌<◌, List, ◌++◌, length, take, drop, replicate, slice_range, Option, Some, None}
+use Rattle.std.specs.Prelude.{ℕ, ◌+◌, ◌-◌, ◌*◌, ◌%◌, ◌^◌, ◌<◌, List, ◌++◌, length, take, drop, replicate, slice_range}
+use Rattle.std.specs.Prelude.{Option, Some, None}
 use Rattle.std.specs.Int.{to_be_bytes, w32}
 use Rattle.cfs_base.specs.declared.identifier.Puid.{Puid}
 

@@ -1,5 +1,6 @@
 -- The map blocks that a cache holds, and what each call makes of them.
-use Rattle.std.specs.Prelude.{◌≡◌, ◌≢◌, ◌⊎◌, ◌%◌, ◌≤◌, ℕ, Bool, false, IsTrue, List, [], Option, Some, is_some, length, nat_eq}
+use Rattle.std.specs.Prelude.{◌≡◌, ◌≢◌, ◌⊎◌, ◌%◌, ◌≤◌, ℕ, Bool, false, IsTrue}
+use Rattle.std.specs.Prelude.{List, [], Option, Some, is_some, length, nat_eq}
 use Rattle.std.specs.Map.{lookup}
 use Rattle.lru.specs.LruCache.{lru_cache, promoted, put_entries}
 use Rattle.map_cache.specs.declared.held.Stage.{Stage}

@@ -1,8 +1,12 @@
 //! A disk over a disk.
-ghost use Rattle.std.specs.Prelude.{◌≡◌, ◌≢◌, ◌⊎◌, ◌<◌, ◌≤◌, ℕ, IsTrue, false, set, IfOk, IfErr, OnOk, OnErr, IsErr, IsOk};
-ghost use Rattle.cfs_base.specs.Disk.{block_at, Nothing, Written, Only, IsSameDisk, LeavesOnly, KeepsLeft, CountsRead, CountsTry};
+ghost use Rattle.std.specs.Prelude.{◌≡◌, ◌≢◌, ◌⊎◌, ◌<◌, ◌≤◌, ℕ, IsTrue, false, set};
+ghost use Rattle.std.specs.Prelude.{IfErr, IfOk, IsErr, IsOk, OnErr, OnOk};
+ghost use Rattle.cfs_base.specs.Disk.{IsSameDisk, CountsRead, CountsTry, block_at};
+ghost use Rattle.cfs_base.specs.Disk.{Nothing, Written, Only, LeavesOnly, KeepsLeft};
 ghost use Rattle.cfs_base.specs.Outside.{count_after};
-ghost use Rattle.map_cache.specs.Cache.{new_cache, blocks_of, is_honest, content_of, is_told, is_telling, left_of, moment_of, tries_of, faults_of, own_calls, lower_calls, IsHit, IsMirror};
+ghost use Rattle.map_cache.specs.Cache.{blocks_of, is_honest, content_of, is_told, is_telling, left_of};
+ghost use Rattle.map_cache.specs.Cache.{moment_of, tries_of, faults_of, own_calls, lower_calls};
+ghost use Rattle.map_cache.specs.Cache.{new_cache, IsHit, IsMirror};
 ghost use Rattle.map_cache.specs.Holding.{IsHolding, TakesIn, after_barrier, after_failure, has_map};
 
 use crate::held::Held;
@@ -176,8 +180,8 @@ impl<D: Disk> Disk for MapCache<D> {
 }
 
 impl<D: Disk> MapCache<D> {
-    /// A cache over this disk that may hold so many blocks. It holds none, and the disk isn't called. Refused for want of
-    /// memory alone.
+    /// A cache over this disk that may hold so many blocks. It holds none, and the disk isn't called. Refused for want
+    /// of memory alone.
     pub fn new(alloc: Global, lower: D, capacity: u32) -> Result<MapCache<D>, CacheFault<D>>
         requires { 1 ≤ capacity }
         ensures fresh { IfOk result (λ c. c ≡ new_cache lower capacity) }

@@ -1,6 +1,7 @@
 //! The map blocks that a cache holds.
 ghost use Rattle.std.specs.Prelude.{◌≡◌, ◌≤◌, [], false, IsTrue, Some, IfOk};
-ghost use Rattle.map_cache.specs.Holding.{IsHolding, TakesIn, after_barrier, after_failure, found, held_block, holding, has_map};
+ghost use Rattle.map_cache.specs.Holding.{IsHolding, TakesIn, after_barrier, after_failure, found};
+ghost use Rattle.map_cache.specs.Holding.{has_map, held_block, holding};
 
 use cfs_base::Block;
 use lru::LruCache;

@@ -1,48 +1,12 @@
 -- Whatever is asked and answered is such a change.
-use Rattle.std.proofs.Common.{◌≡◌, ◌⊎◌, inl, inr, ℕ, zero, suc, ◌+◌, ◌≤◌, ◌==◌, List, [], ◌∷◌, refl, sym, ◌∙◌, ap, subst, arith, Bool, true, false, cond, ◌||◌, ◌&&◌, not, Option, Some, None}
-use Rattle.std.specs.Prelude.{is_some, is_none, drop, replicate, find, filter, map, if◌then◌else◌}
-use Rattle.std.specs.List.{filter_map}
-use Rattle.std.proofs.lemmas.Bool.{or_cases, or_left, or_right, and_parts, and_from, eqb-true}
-use Rattle.std.proofs.lemmas.List.{map-append}
-use Rattle.std.proofs.lemmas.List.Folds.{list_any-append}
-use Rattle.std.proofs.lemmas.Option.{same_Some}
-use Rattle.cfs_base.specs.declared.identifier.Puid.{Puid}
-use Rattle.cfs_base.specs.declared.identifier.Tuid.{Tuid}
-use Rattle.cfs_base.specs.declared.kind.Mode.{Mode}
-use Rattle.ufs_model.specs.declared.asked.Ref.{Ref}
-use Rattle.ufs_model.specs.declared.asked.Ref.TheVariants.{Direct, Through}
-use Rattle.ufs_model.specs.declared.asked.Request.{Request}
+use Rattle.std.proofs.Common.{◌≡◌, ◌⊎◌, inl, inr, ℕ, zero, suc, ◌+◌, ◌≤◌, ◌==◌, List, [], ◌∷◌, refl, sym, ◌∙◌, ap, subst, arith, Bool, true, false, cond, ◌||◌, ◌&&◌, not, Option, Some, None, drop}
+use Rattle.marking.proofs.Words.{Change, Changes, Collection, Colours, Direct, Draft, Fill, Grant, Graph, Mode, Object, Overwrite, Puid, Ref, Reply, Request, Rescue, SetSize, State, Through, Tuid, Waits, after_leave, allowed_if, and_from, and_parts, block_named, by_outcome, changed, changed_draft, changed_object, conditions, creates, draft_of, eqb-true, filter, filter_map, find, first_of, grant_of, has_block, has_block-there, has_no_grant, has_no_object, has_pair, if◌then◌else◌, in_leaf, is_among, is_done, is_free_root, is_grant, is_index_there, is_marking, is_none, is_outcome, is_remembered, is_some, is_there, joined_has_new, kind_of, list_any-append, map, map-append, named, new_file, new_index, next, object_at, object_at-with_object, object_there, open_ids, or_cases, or_left, or_right, outcome_of, put, read_in, refusal_of, replicate, rescues_of, same_Some, same_puid, same_puid_is, same_puid_itself, same_reply, seen, stopped_at, with_edge, with_object, with_start, word}
 use Rattle.ufs_model.specs.declared.asked.Request.TheVariants as asks
-use Rattle.ufs_model.specs.declared.asked.Reply.{Reply}
 use Rattle.ufs_model.specs.declared.asked.Reply.TheVariants as replies
 use Rattle.ufs_model.specs.declared.asked.Event.TheVariants as events
-use Rattle.ufs_model.specs.declared.collection.Collection.{Collection}
 use Rattle.ufs_model.specs.declared.collection.Collection.TheVariants as collections
-use Rattle.ufs_model.specs.declared.object.Object.{Object}
 use Rattle.ufs_model.specs.declared.object.Object.TheVariants as objects
-use Rattle.ufs_model.specs.declared.object.Draft.{Draft}
-use Rattle.ufs_model.specs.declared.object.Grant.{Grant}
-use Rattle.ufs_model.specs.Identifier.{same_puid, is_among}
-use Rattle.ufs_model.specs.Object.{changed_object, new_index, new_file}
-use Rattle.ufs_model.specs.declared.change.Change.{Change}
-use Rattle.ufs_model.specs.declared.change.Change.TheVariants.{Fill, Overwrite, SetSize}
-use Rattle.ufs_model.specs.Graph.{Graph, object_at, is_there, with_object, has_block, is_free_root, has_pair}
-use Rattle.ufs_model.specs.State.{State, is_grant, grant_of, named, draft_of, seen, open_ids, put, stopped_at, after_leave, changed_draft}
-use Rattle.ufs_model.specs.Refusal.{has_no_grant, has_no_object, conditions, first_of, refusal_of}
-use Rattle.ufs_model.specs.Vanish.{is_marking}
-use Rattle.ufs_model.specs.Word.{word}
-use Rattle.ufs_model.specs.Outcome.{with_edge, with_start, outcome_of, block_named, changed, creates}
-use Rattle.ufs_model.specs.Next.{same_reply, allowed_if, is_outcome, by_outcome, next}
-use Rattle.ufs_model.proofs.RootBlocks.{has_block-there}
-use Rattle.marking.specs.declared.memory.Rescue.{Rescue}
-use Rattle.marking.specs.Leaves.{in_leaf, kind_of}
 use Rattle.marking.proofs.Wells.{IsWell}
-use Rattle.marking.specs.Colours.{Colours}
-use Rattle.marking.specs.Marking.{Waits, is_remembered, is_index_there}
-use Rattle.marking.specs.Pace.{read_in}
-use Rattle.marking.specs.Meanwhile.{Changes, is_done, rescues_of}
-use Rattle.ufs_model.proofs.Reached.{same_puid_is, same_puid_itself, joined_has_new}
-use Rattle.ufs_model.proofs.Graphs.{object_at-with_object, object_there}
 use Rattle.marking.proofs.Leaves.{leaf_refers, file_there}
 use Rattle.marking.proofs.Changed.{changes_then}
 use Rattle.marking.proofs.Replaced.{fill_adds, fill_reads, same_graph, with_one}
@@ -115,9 +79,6 @@ is_put s who (Through t) d id is = at (grant_of s who t) refl
     at None found = let none : named s who (Through t) ≡ None = rw found refl in cc
     at (Some g) found = which g.draft refl
       where
-        its_id : g.id ≡ id
-        its_id = same_Some g.id id (rw found at is)
-
         which : (o : Option Draft) → g.draft ≡ o → IsPut s who (Through t) d id
         which (Some old) draft = let some : draft_of s who (Through t) ≡ Some old = rw (found, draft) refl in InDraft (rw (some, put) refl) (rw (some, put) (same_ids who t d s.grants)) (rw (some, put) refl)
         which None draft = let none : draft_of s who (Through t) ≡ None = rw (found, draft) refl in InGraph (rw (none, put) (rw is refl)) (rw (none, put) (rw is refl)) (rw (none, put) (rw is refl)) none

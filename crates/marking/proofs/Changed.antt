@@ -1,13 +1,7 @@
 -- What may happen between two steps keeps what holds of a collection that marks.
 use Rattle.std.proofs.Common.{◌≡◌, ◌⊎◌, inl, inr, arith, List, [], ◌∷◌, ◌++◌, refl, sym, ◌∙◌, subst, true, Option, Some, None}
-use Rattle.cfs_base.specs.declared.identifier.Puid.{Puid}
+use Rattle.marking.proofs.Words.{Changes, Colours, IsColoured, IsLeft, IsMarked, IsMarking, IsWaiting, Nothing, Puid, Rescue, State, Waits, is_index_there, is_remembered, is_there, object_at}
 use Rattle.cfs_base.specs.declared.kind.Kind.TheVariants as kinds
-use Rattle.ufs_model.specs.Graph.{object_at, is_there}
-use Rattle.ufs_model.specs.State.{State}
-use Rattle.marking.specs.declared.memory.Rescue.{Rescue}
-use Rattle.marking.specs.Colours.{Colours}
-use Rattle.marking.specs.Marking.{Waits, IsMarked, IsWaiting, IsLeft, is_remembered, is_index_there, Nothing, IsColoured, IsMarking}
-use Rattle.marking.specs.Meanwhile.{Changes}
 use Rattle.marking.proofs.Leaves.{kind_there, there_kind}
 use Rattle.marking.proofs.Reaches.{reach_more}
 

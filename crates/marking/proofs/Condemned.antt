@@ -1,23 +1,7 @@
 -- Where nothing is grey and no rescue waits, exactly the objects that aren't marked may vanish.
 use Rattle.std.proofs.Common.{◌≡◌, ◌⊎◌, inl, inr, ℕ, List, [], ◌∷◌, refl, sym, ◌∙◌, ap, subst, Bool, true, false, cond, not, Option, Some, None}
-use Rattle.std.specs.Prelude.{filter}
-use Rattle.std.proofs.lemmas.Bool.{or_cases, or_left, or_right}
-use Rattle.cfs_base.specs.declared.identifier.Puid.{Puid}
-use Rattle.ufs_model.specs.declared.collection.Collection.{Collection}
+use Rattle.marking.proofs.Words.{Along, Collection, Colours, Grey, IsKept, IsLeft, IsMarked, IsMarking, IsToRead, IsWaiting, MayVanish, Puid, Rescue, Start, State, filter, has_pair, ids_of, is_among, is_found, is_live, is_marking, is_there, is_there-ids, or_cases, or_left, or_right, pair_from_index, pairs_of, rises-filter, same_puid, same_puid_is, there_from, unmarked}
 use Rattle.ufs_model.specs.declared.collection.Collection.TheVariants as collections
-use Rattle.ufs_model.specs.Identifier.{same_puid, is_among}
-use Rattle.ufs_model.specs.Graph.{ids_of, is_there, has_pair}
-use Rattle.ufs_model.specs.State.{State, pairs_of}
-use Rattle.ufs_model.specs.Reach.{Start, Along, IsKept}
-use Rattle.ufs_model.specs.Vanish.{is_marking, MayVanish}
-use Rattle.ufs_model.proofs.Reached.{same_puid_is}
-use Rattle.ufs_model.proofs.Graphs.{is_there-ids, rises-filter, pair_from_index, there_from}
-use Rattle.marking.specs.declared.memory.Grey.{Grey}
-use Rattle.marking.specs.declared.memory.Rescue.{Rescue}
-use Rattle.marking.specs.Leaves.{is_found}
-use Rattle.marking.specs.Colours.{Colours}
-use Rattle.marking.specs.Steps.{unmarked, is_live}
-use Rattle.marking.specs.Marking.{IsToRead, IsMarked, IsWaiting, IsLeft, IsMarking}
 use Rattle.marking.proofs.Wells.{IsWell}
 use Rattle.marking.proofs.Reaches.{WasReached}
 use Rattle.marking.proofs.Leaves.{pair_leaf}

@@ -1,24 +1,9 @@
 -- What an index refers to stands in its leaves, and what stands in them it refers to.
 use Rattle.std.proofs.Common.{◌≡◌, ◌⊎◌, inl, inr, ℕ, zero, suc, ◌+◌, ◌*◌, ◌≤◌, List, [], ◌∷◌, ◌++◌, length, take, drop, refl, sym, ◌∙◌, ap, subst, arith, true, Option, Some, None}
-use Rattle.std.specs.Prelude.{is_some}
-use Rattle.std.specs.List.{filter_map}
-use Rattle.std.proofs.lemmas.Bool.{or_cases, or_left, or_right}
-use Rattle.std.proofs.lemmas.List.{take-append-drop, drop-drop, length-drop}
-use Rattle.std.proofs.lemmas.List.Elements.{filter_map-append}
-use Rattle.std.proofs.lemmas.List.Folds.{list_any-append}
-use Rattle.cfs_base.specs.declared.identifier.Puid.{Puid}
-use Rattle.cfs_base.specs.declared.kind.Kind.{Kind}
+use Rattle.marking.proofs.Words.{File, FileKind, Graph, Index, Kind, Object, Puid, drop-drop, file_kind, filter_map, filter_map-append, graph_pairs, has_pair, has_pair-refers, ids_of, in_leaf, is_among, is_some, kind_of, length-drop, list_any-append, object_at, or_cases, or_left, or_right, refers, rises, same_puid, take-append-drop}
 use Rattle.cfs_base.specs.declared.kind.Kind.TheVariants as kinds
-use Rattle.cfs_base.specs.declared.kind.FileKind.{FileKind}
 use Rattle.cfs_base.specs.declared.kind.FileKind.TheVariants as file_kinds
-use Rattle.ufs_model.specs.declared.object.Object.{Object}
 use Rattle.ufs_model.specs.declared.object.Object.TheVariants as objects
-use Rattle.ufs_model.specs.declared.object.File.{File}
-use Rattle.ufs_model.specs.declared.object.Index.{Index}
-use Rattle.ufs_model.specs.Identifier.{same_puid, is_among, rises}
-use Rattle.ufs_model.specs.Graph.{Graph, object_at, ids_of, graph_pairs, has_pair}
-use Rattle.marking.specs.Leaves.{in_leaf, file_kind, kind_of}
-use Rattle.ufs_model.proofs.Graphs.{refers, has_pair-refers}
 
 -- ---- what stands at an identifier
 

@@ -8,3 +8,4 @@ pub mod Changed
 pub mod Paces
 pub mod Replaced
 pub mod Asked
+mod Words

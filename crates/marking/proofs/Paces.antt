@@ -1,31 +1,7 @@
 -- Each scan raises the number of leaves read, no other step lowers it, and it is at most the number of blocks.
 use Rattle.std.proofs.Common.{◌≡◌, ◌⊎◌, inl, inr, ℕ, ◌+◌, ◌<◌, ◌≤◌, ◌==◌, List, [], ◌∷◌, ◌++◌, ◌-◌, ◌^◌, length, length-append, count_by, refl, sym, ◌∙◌, ap, subst, arith, Bool, true, false, cond, Option, Some, None}
-use Rattle.std.specs.Prelude.{nat_lt, is_some}
-use Rattle.std.specs.List.{sum_by}
-use Rattle.std.specs.BTreeMap.{is_at}
-use Rattle.std.specs.Map.{lookup}
-use Rattle.std.proofs.lemmas.Bool.{or_cases, eqb-true}
-use Rattle.std.proofs.lemmas.Bool.Decides.{nat_tests}
-use Rattle.std.proofs.lemmas.List.Sums.{sum_by-cons}
-use Rattle.std.proofs.lemmas.Option.{same_Some}
-use Rattle.cfs_base.specs.declared.identifier.Puid.{Puid}
-use Rattle.cfs_base.specs.declared.kind.Kind.{Kind}
-use Rattle.cfs_base.specs.Outside.{count_after}
-use Rattle.ufs_model.specs.declared.object.Object.{Object}
+use Rattle.marking.proofs.Words.{AreOnce, Colours, Graph, Grey, Index, IsGrey, IsPaced, Kind, Object, Puid, Rescue, all_shaded, blocks_of, count_after, cursor_after, cursor_of, eqb-true, first_grey, has_number, is_at, is_index, is_live, is_some, kind_in, leaf_ids, lookup, moved, moved_first, nat_lt, nat_tests, next_held, object_at, or_cases, parents, puid_cmp, read, read_in, read_of, read_so_far, rescued, same_Some, same_puid, same_puid_is, same_puid_itself, scanned, shaded_as, shaded_in, sum_by, sum_by-cons}
 use Rattle.ufs_model.specs.declared.object.Object.TheVariants as objects
-use Rattle.ufs_model.specs.declared.object.Index.{Index}
-use Rattle.ufs_model.specs.Identifier.{puid_cmp, same_puid}
-use Rattle.ufs_model.specs.Numbers.{has_number, parents}
-use Rattle.ufs_model.specs.Object.{blocks_of}
-use Rattle.ufs_model.specs.Graph.{Graph, object_at}
-use Rattle.marking.specs.declared.memory.Grey.{Grey}
-use Rattle.marking.specs.declared.memory.Rescue.{Rescue}
-use Rattle.marking.specs.Leaves.{leaf_ids}
-use Rattle.marking.specs.Colours.{Colours, is_index, kind_in, shaded_as, shaded_in, all_shaded, first_grey, moved_first, moved}
-use Rattle.marking.specs.Steps.{is_live, rescued, next_held, cursor_after, read, scanned}
-use Rattle.marking.specs.Marking.{IsGrey, AreOnce}
-use Rattle.marking.specs.Pace.{cursor_of, read_of, read_in, read_so_far, IsPaced}
-use Rattle.ufs_model.proofs.Reached.{same_puid_is, same_puid_itself}
 use Rattle.marking.proofs.Shades.{coloured, colour_more}
 use Rattle.marking.proofs.Steps.{find_on, first_is}
 

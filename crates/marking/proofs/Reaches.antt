@@ -1,14 +1,6 @@
 -- What was reached at any time since a collection began.
 use Rattle.std.proofs.Common.{◌≡◌, true, subst, Option, Some, None, List}
-use Rattle.cfs_base.specs.declared.identifier.Puid.{Puid}
-use Rattle.ufs_model.specs.declared.collection.Collection.{Collection}
-use Rattle.ufs_model.specs.State.{State}
-use Rattle.ufs_model.specs.Reach.{IsReached, Start, Along}
-use Rattle.ufs_model.specs.Vanish.{edges, starts}
-use Rattle.marking.specs.declared.memory.Rescue.{Rescue}
-use Rattle.marking.specs.Colours.{Colours}
-use Rattle.marking.specs.Steps.{is_live}
-use Rattle.marking.specs.Marking.{is_remembered, is_index_there, Owed, IsColoured}
+use Rattle.marking.proofs.Words.{Along, Collection, Colours, IsColoured, IsReached, Owed, Puid, Rescue, Start, State, edges, is_index_there, is_live, is_remembered, starts}
 use Rattle.marking.proofs.Wells.{IsWell}
 
 abbrev pub WasReached : Collection → Puid → Type 0

@@ -1,32 +1,7 @@
 -- One object of the graph is replaced by one of its kind, or an object is made, or what is open changes.
 use Rattle.std.proofs.Common.{◌≡◌, ◌⊎◌, inl, inr, ℕ, zero, suc, ◌*◌, ◌≤◌, ◌==◌, List, [], ◌∷◌, take, drop, set, length, refl, sym, ◌∙◌, ap, subst, arith, true, false, cond, ◌||◌, Option, Some, None}
-use Rattle.std.specs.Prelude.{nat_lt}
-use Rattle.std.specs.List.{filter_map, sum_by}
-use Rattle.std.specs.Ordering.{match_ordering, is_eq}
-use Rattle.std.specs.declared.cmp.Ordering.TheVariants.{Less, Equal, Greater}
-use Rattle.std.specs.BTreeMap.{insert_entry, is_at}
-use Rattle.std.specs.Map.{lookup}
-use Rattle.std.proofs.lemmas.Bool.{or_cases, or_left, or_right}
-use Rattle.std.proofs.lemmas.List.Sums.{sum_by-cons}
-use Rattle.cfs_base.specs.declared.identifier.Puid.{Puid}
-use Rattle.cfs_base.specs.declared.kind.Kind.{Kind}
-use Rattle.ufs_model.specs.declared.object.Object.{Object}
+use Rattle.marking.proofs.Words.{Changes, Colours, Equal, Graph, Greater, Index, Kind, Less, Object, Puid, Rescue, State, Waits, cursor_of, filled, filter_map, in_leaf, insert_entry, is_among, is_at, is_eq, is_found, is_index_there, is_remembered, joined_has, joined_has_new, joined_within, kind_at, kind_of, leaf_of_slot, lookup, match_ordering, nat_lt, object_at, object_at-with_object, open_ids, or_cases, or_left, or_right, puid_cmp, read_in, read_of, read_so_far, same_puid, same_puid_is, same_puid_itself, starts_now, sum_by, sum_by-cons, with_number, with_object}
 use Rattle.ufs_model.specs.declared.object.Object.TheVariants as objects
-use Rattle.ufs_model.specs.declared.object.Index.{Index}
-use Rattle.ufs_model.specs.Identifier.{puid_cmp, same_puid, is_among}
-use Rattle.ufs_model.specs.Numbers.{with_number}
-use Rattle.ufs_model.specs.Object.{filled, leaf_of_slot}
-use Rattle.ufs_model.specs.Graph.{Graph, object_at, with_object}
-use Rattle.ufs_model.specs.State.{State, open_ids}
-use Rattle.ufs_model.specs.Reach.{starts_now}
-use Rattle.marking.specs.declared.memory.Rescue.{Rescue}
-use Rattle.marking.specs.Leaves.{in_leaf, is_found, kind_of, kind_at}
-use Rattle.marking.specs.Colours.{Colours}
-use Rattle.marking.specs.Marking.{Waits, is_remembered, is_index_there}
-use Rattle.marking.specs.Pace.{cursor_of, read_of, read_in, read_so_far}
-use Rattle.marking.specs.Meanwhile.{Changes}
-use Rattle.ufs_model.proofs.Reached.{same_puid_is, same_puid_itself, joined_has, joined_has_new, joined_within}
-use Rattle.ufs_model.proofs.Graphs.{object_at-with_object}
 
 -- ---- a slot that is filled
 

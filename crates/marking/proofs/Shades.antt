@@ -1,20 +1,8 @@
 -- Shading keeps what holds of a collection that marks, where what is shaded was reached.
 use Rattle.std.proofs.Common.{◌≡◌, ◌⊎◌, inl, inr, ℕ, ◌==◌, List, [], ◌∷◌, refl, sym, ◌∙◌, ap, subst, arith, true, false, cond, ◌||◌, Option, Some, None}
-use Rattle.std.proofs.lemmas.Bool.{or_cases, or_left, or_right, eqb-true, eq-eqb}
-use Rattle.std.proofs.lemmas.Option.{same_Some}
-use Rattle.cfs_base.specs.declared.identifier.Puid.{Puid}
-use Rattle.cfs_base.specs.declared.kind.Kind.{Kind}
+use Rattle.marking.proofs.Words.{AreNames, AreOnce, Colours, IsColoured, IsCovered, IsGrey, IsLeft, IsMarked, IsToRead, IsWaiting, Kind, Owed, Puid, Rescue, State, all_shaded, eq-eqb, eqb-true, is_among, is_found, is_index, is_live, is_there, kind_at, kind_in, object_at, or_cases, or_left, or_right, same_Some, same_puid, same_puid_is, same_puid_itself, shaded, shaded_as, shaded_in}
 use Rattle.cfs_base.specs.declared.kind.Kind.TheVariants as kinds
-use Rattle.ufs_model.specs.Identifier.{same_puid, is_among}
-use Rattle.ufs_model.specs.Graph.{object_at, is_there}
-use Rattle.ufs_model.specs.State.{State}
-use Rattle.marking.specs.declared.memory.Rescue.{Rescue}
-use Rattle.marking.specs.Leaves.{is_found, kind_at}
 use Rattle.marking.proofs.Wells.{IsWell}
-use Rattle.marking.specs.Colours.{Colours, is_index, shaded, kind_in, shaded_as, shaded_in, all_shaded}
-use Rattle.marking.specs.Steps.{AreNames, is_live}
-use Rattle.marking.specs.Marking.{IsToRead, IsGrey, AreOnce, IsCovered, IsMarked, IsWaiting, IsLeft, Owed, IsColoured}
-use Rattle.ufs_model.proofs.Reached.{same_puid_is, same_puid_itself}
 use Rattle.marking.proofs.Reaches.{WasReached}
 use Rattle.marking.proofs.Leaves.{leaf_kind, kind_there, there_kind}
 

@@ -1,33 +1,12 @@
 -- Each step of a collection keeps what holds of one that marks.
 use Rattle.std.proofs.Common.{◌≡◌, ◌⊎◌, inl, inr, ℕ, ◌+◌, ◌<◌, ◌≤◌, ◌==◌, List, [], ◌∷◌, refl, sym, ◌∙◌, ap, subst, arith, Bool, true, false, cond, Option, Some, None}
-use Rattle.std.specs.Prelude.{is_some, nat_le, nat_lt, find}
-use Rattle.std.specs.List.{list_all}
-use Rattle.std.proofs.lemmas.Bool.{or_cases, or_left, or_right, and_parts, eqb-true, eq-eqb, leb-true, le-leb, cases_eq}
-use borrow.Author.Tests.{ltb-true}
-use Rattle.std.proofs.lemmas.Option.{same_Some}
-use Rattle.cfs_base.specs.declared.identifier.Puid.{Puid}
-use Rattle.cfs_base.specs.declared.kind.Kind.{Kind}
+use Rattle.marking.proofs.Words.{AreNames, AreOnce, Colours, Grey, Index, IsColoured, IsCovered, IsGrey, IsLeft, IsMarked, IsMarking, IsToRead, IsWaiting, Kind, Nothing, Object, Owed, Puid, Rescue, Start, State, all_shaded, among_itself, and_parts, cases_eq, cursor_after, eq-eqb, eqb-true, find, first_grey, has_number, in_leaf, is_among, is_found, is_live, is_remembered, is_some, is_there, joined_has, le-leb, leaf_ids, leb-true, list_all, ltb-true, moved, moved_first, nat_le, nat_lt, next_held, none_marked, numbers_rise, object_at, open_ids, or_cases, or_left, or_right, pairs_of, read, rescued, same_Some, scanned, shaded_in, starts_now}
 use Rattle.ufs_model.specs.declared.collection.Collection.TheVariants as collections
-use Rattle.ufs_model.specs.declared.object.Object.{Object}
 use Rattle.ufs_model.specs.declared.object.Object.TheVariants as objects
-use Rattle.ufs_model.specs.declared.object.Index.{Index}
-use Rattle.ufs_model.specs.Identifier.{is_among}
-use Rattle.ufs_model.specs.Numbers.{has_number, numbers_rise}
-use Rattle.ufs_model.specs.Graph.{object_at, is_there}
-use Rattle.ufs_model.specs.State.{State, pairs_of, open_ids}
-use Rattle.ufs_model.specs.Reach.{starts_now}
-use Rattle.marking.specs.declared.memory.Grey.{Grey}
-use Rattle.marking.specs.declared.memory.Rescue.{Rescue}
-use Rattle.marking.specs.Leaves.{leaf_ids, in_leaf, is_found}
 use Rattle.marking.proofs.Wells.{IsWell}
-use Rattle.marking.specs.Colours.{Colours, none_marked, shaded_in, all_shaded, first_grey, moved_first, moved}
-use Rattle.marking.specs.Steps.{AreNames, is_live, rescued, next_held, cursor_after, read, scanned}
-use Rattle.marking.specs.Marking.{IsToRead, IsGrey, AreOnce, IsCovered, IsMarked, IsWaiting, IsLeft, Owed, Nothing, is_remembered, IsColoured, IsMarking}
-use Rattle.ufs_model.proofs.Reached.{joined_has, among_itself}
 use Rattle.marking.proofs.Leaves.{leaf_pair}
 use Rattle.marking.proofs.Shades.{IsMore, more_itself, shade_more, all_more, one_marked, all_marked, one_keeps, all_keep}
 use Rattle.marking.proofs.Reaches.{WasReached, live_reached}
-use Rattle.ufs_model.specs.Reach.{Start}
 
 -- what was owed is covered
 pay : (s : State) (owed : Owed) (c : Colours) (waiting : List Rescue) → IsColoured s owed c waiting

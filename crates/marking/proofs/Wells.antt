@@ -1,29 +1,8 @@
 -- What the laws of marking use of a well-formed state.
 use Rattle.std.proofs.Common.{◌≡◌, inl, inr, ℕ, ◌+◌, ◌*◌, ◌/◌, ◌≤◌, List, [], ◌∷◌, length, take, drop, refl, sym, ◌∙◌, ap, subst, arith, true, Option, Some, None}
-use Rattle.std.specs.Prelude.{map, is_some}
-use Rattle.std.specs.List.{list_all, filter_map}
-use Rattle.std.proofs.lemmas.Bool.{or_cases, and_parts}
-use Rattle.std.proofs.lemmas.List.{length-take}
-use Rattle.cfs_base.specs.declared.identifier.Puid.{Puid}
-use Rattle.cfs_base.specs.declared.identifier.Tuid.{Tuid}
-use Rattle.cfs_base.specs.declared.kind.FileKind.{FileKind}
+use Rattle.marking.proofs.Words.{Draft, File, FileKind, Grant, Graph, Index, IsState, Object, Puid, State, Tuid, all_found, and_parts, closed_graph, each_drop, each_from, each_take, file_kind, filter_map, grant_of, graph_refers, has_number, ids_of, is_among, is_found, is_grant, is_grant_in, is_object, is_open_so, is_some, is_there, joined_within, kind_at, kind_of, leaf_ids, length-take, list_all, map, numbers_rise, object_at, object_whole, one_block, open_ids, or_cases, rises, same_kind, same_puid, same_puid_is, slot_may_stand, within_one}
 use Rattle.cfs_base.specs.declared.kind.FileKind.TheVariants as file_kinds
-use Rattle.ufs_model.specs.declared.object.Object.{Object}
 use Rattle.ufs_model.specs.declared.object.Object.TheVariants as objects
-use Rattle.ufs_model.specs.declared.object.File.{File}
-use Rattle.ufs_model.specs.declared.object.Index.{Index}
-use Rattle.ufs_model.specs.declared.object.Draft.{Draft}
-use Rattle.ufs_model.specs.declared.object.Grant.{Grant}
-use Rattle.ufs_model.specs.Identifier.{same_puid, is_among, rises}
-use Rattle.ufs_model.specs.Numbers.{has_number, numbers_rise}
-use Rattle.ufs_model.specs.Object.{is_object, each_from, slot_may_stand}
-use Rattle.ufs_model.specs.Graph.{Graph, ids_of, object_at, is_there}
-use Rattle.ufs_model.specs.State.{State, is_grant, grant_of, open_ids}
-use Rattle.ufs_model.specs.WellFormed.{IsState, same_kind, is_open_so, is_grant_in}
-use Rattle.ufs_model.proofs.Tests.{each_take, each_drop, all_found}
-use Rattle.ufs_model.proofs.Reached.{joined_within, within_one, same_puid_is}
-use Rattle.ufs_model.proofs.WellGraphs.{graph_refers, object_whole, closed_graph, one_block}
-use Rattle.marking.specs.Leaves.{leaf_ids, is_found, file_kind, kind_of, kind_at}
 use Rattle.marking.proofs.Leaves.{leaf_refers}
 
 pub record IsWell (s : State) : Type 0 where

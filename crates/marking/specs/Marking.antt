@@ -64,15 +64,20 @@ Nothing from leaf x = ⊥
 -- All but what is owed is covered, and what is marked was reached at some time since the collection began.
 pub record IsColoured (s : State) (owed : Owed) (c : Colours) (waiting : List Rescue) : Type 0 where
   -- what is found in a marked index, or with no index, is marked or will be looked at
-  pub covered : (from : Option Puid) (leaf : ℕ) (x : Puid) → is_found s from leaf x ≡ true → is_live from c ≡ true → IsCovered c waiting from leaf x ⊎ owed from leaf x
+  pub covered : (from : Option Puid) (leaf : ℕ) (x : Puid) → is_found s from leaf x ≡ true → is_live from c ≡ true
+      → IsCovered c waiting from leaf x ⊎ owed from leaf x
   -- what is marked is in the graph, and was reached
-  pub known : (block : ℕ) → c.marked block ≡ true → (x : Puid) × (x.block ≡ block) × (is_there s.graph x ≡ true) × IsReached (edges s.collection) (starts s.collection) x
+  pub known : (block : ℕ) → c.marked block ≡ true
+      → (x : Puid) × (x.block ≡ block) × (is_there s.graph x ≡ true)
+      × IsReached (edges s.collection) (starts s.collection) x
   -- what is grey is a marked index
   pub grey : (i : Puid) → IsGrey c.grey i → (c.marked i.block ≡ true) × (kind_at s.graph i ≡ Some kinds.Index)
   pub once : AreOnce c.grey
   -- what waits is remembered, and so is all that stands now
-  pub rescues : (index : Option Puid) (x : Puid) → Waits waiting index x → (is_remembered s.collection index x ≡ true) × (is_index_there s.graph index ≡ true)
-  pub stands : (from : Option Puid) (leaf : ℕ) (x : Puid) → is_found s from leaf x ≡ true → is_remembered s.collection from x ≡ true
+  pub rescues : (index : Option Puid) (x : Puid) → Waits waiting index x
+      → (is_remembered s.collection index x ≡ true) × (is_index_there s.graph index ≡ true)
+  pub stands : (from : Option Puid) (leaf : ℕ) (x : Puid) → is_found s from leaf x ≡ true
+      → is_remembered s.collection from x ≡ true
 
 -- Between two calls nothing is owed, and the root is marked.
 pub record IsMarking (s : State) (c : Colours) (waiting : List Rescue) : Type 0 where

@@ -20,9 +20,12 @@ use Rattle.marking.specs.Pace.{read_so_far}
 pub record Changes (s t : State) (more : List Rescue) : Type 0 where
   pub root : t.graph.root ≡ s.graph.root
   pub kinds : (x : Puid) (kind : Kind) → kind_at s.graph x ≡ Some kind → kind_at t.graph x ≡ Some kind
-  pub found : (from : Option Puid) (leaf : ℕ) (x : Puid) → is_found t from leaf x ≡ true → (is_found s from leaf x ≡ true) ⊎ Waits more from x
-  pub rescues : (index : Option Puid) (x : Puid) → Waits more index x → (is_remembered t.collection index x ≡ true) × (is_index_there t.graph index ≡ true)
-  pub memory : (index : Option Puid) (x : Puid) → is_remembered s.collection index x ≡ true → is_remembered t.collection index x ≡ true
+  pub found : (from : Option Puid) (leaf : ℕ) (x : Puid) → is_found t from leaf x ≡ true
+      → (is_found s from leaf x ≡ true) ⊎ Waits more from x
+  pub rescues : (index : Option Puid) (x : Puid) → Waits more index x
+      → (is_remembered t.collection index x ≡ true) × (is_index_there t.graph index ≡ true)
+  pub memory : (index : Option Puid) (x : Puid) → is_remembered s.collection index x ≡ true
+      → is_remembered t.collection index x ≡ true
   pub leaves : (c : Colours) → read_so_far s.graph c ≤ read_so_far t.graph c
 
 -- ---- what is asked

@@ -1,5 +1,6 @@
 -- How many leaves a collection has read: what each scan raises, and the blocks of the graph bound.
-use Rattle.std.specs.Prelude.{ℕ, ◌+◌, ◌≤◌, ◌<◌, ◌^◌, ◌-◌, nat_lt, List, [], ◌∷◌, length, count_by, if◌then◌else◌, Option, Some, None}
+use Rattle.std.specs.Prelude.{ℕ, ◌+◌, ◌≤◌, ◌<◌, ◌^◌, ◌-◌, nat_lt, List, [], ◌∷◌, length, count_by, if◌then◌else◌}
+use Rattle.std.specs.Prelude.{Option, Some, None}
 use Rattle.std.specs.List.{sum_by}
 use Rattle.cfs_base.specs.declared.identifier.Puid.{Puid}
 use Rattle.ufs_model.specs.declared.object.Object.{Object}
@@ -28,7 +29,7 @@ read_in c (id, objects.Index i) = if c.marked id.block then read_of (cursor_of c
 abbrev pub read_so_far : Graph → Colours → ℕ
 read_so_far g c = sum_by (read_in c) g.objects
 
--- The steps made, Began counted, are at most one, and one for each rescue that was taken, and one for each leaf or index
--- that was read; as long as the count of rescues stands below its type's end.
+-- The steps made, Began counted, are at most one, and one for each rescue that was taken, and one for each leaf or
+-- index that was read; as long as the count of rescues stands below its type's end.
 abbrev pub IsPaced : Graph → Colours → List Rescue → (steps added : ℕ) → Type 0
 IsPaced g c waiting steps added = added < 2 ^ 64 - 1 → steps + length waiting ≤ 1 + added + read_so_far g c

@@ -1,5 +1,6 @@
 -- The steps of a collection that marks, on its colours.
-use Rattle.std.specs.Prelude.{◌≡◌, ℕ, ◌+◌, Bool, true, nat_le, is_some, if◌then◌else◌, List, filter, find, not, Option, Some, None}
+use Rattle.std.specs.Prelude.{◌≡◌, ℕ, ◌+◌, Bool, true, nat_le, is_some, if◌then◌else◌, List, filter, find, not, Option}
+use Rattle.std.specs.Prelude.{Some, None}
 use Rattle.cfs_base.specs.declared.identifier.Puid.{Puid}
 use Rattle.cfs_base.specs.declared.kind.Kind.{Kind}
 use Rattle.ufs_model.specs.declared.object.Index.{Index}

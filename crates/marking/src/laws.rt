@@ -27,11 +27,15 @@ ghost use Rattle.marking.specs.Steps.{AreNames, rescued, scanned, unmarked};
 
 /// A collection begins, and each of its steps keeps what holds of one that marks.
 pub fn steps_keep_marking()
-    ensures begin { (seed : ℕ) (s t : State) (names : List (Puid × Kind)) (roots : List Puid) → next seed s events.Began ≡ Some t → IsState s
-        → AreNames names s.graph → ((x : Puid) → is_among x roots ≡ is_among x (starts_now s)) → IsMarking t (all_shaded names roots none_marked) [] }
-    ensures take { (s : State) (names : List (Puid × Kind)) (r : rescue.Rescue) (rest : List rescue.Rescue) (c : Colours) → IsState s
+    ensures begin { (seed : ℕ) (s t : State) (names : List (Puid × Kind)) (roots : List Puid)
+        → next seed s events.Began ≡ Some t → IsState s
+        → AreNames names s.graph → ((x : Puid) → is_among x roots ≡ is_among x (starts_now s))
+        → IsMarking t (all_shaded names roots none_marked) [] }
+    ensures take { (s : State) (names : List (Puid × Kind)) (r : rescue.Rescue) (rest : List rescue.Rescue)
+        (c : Colours) → IsState s
         → AreNames names s.graph → IsMarking s c (r ∷ rest) → IsMarking s (rescued names r c) rest }
-    ensures scan { (s : State) (names : List (Puid × Kind)) (waiting : List rescue.Rescue) (c : Colours) (e : grey.Grey) (i : index.Index)
+    ensures scan { (s : State) (names : List (Puid × Kind)) (waiting : List rescue.Rescue) (c : Colours)
+        (e : grey.Grey) (i : index.Index)
         → IsState s → AreNames names s.graph → first_grey c ≡ Some e → object_at s.graph e.id ≡ Some (objects.Index i)
         → IsMarking s c waiting → IsMarking s (scanned names i e.cursor c) waiting }
 {}
@@ -39,35 +43,43 @@ pub fn steps_keep_marking()
 /// Whatever is asked and answered meanwhile keeps it, where each object that is put into an index or opened is a rescue
 /// from then on; so does a session's end, and any change of which this is true.
 pub fn requests_keep_marking()
-    ensures ask { (seed : ℕ) (s t : State) (who : ℕ) (request : asking.Request) (reply : asked.Reply) (c : Colours) (waiting : List rescue.Rescue)
+    ensures ask { (seed : ℕ) (s t : State) (who : ℕ) (request : asking.Request) (reply : asked.Reply) (c : Colours)
+        (waiting : List rescue.Rescue)
         → next seed s (events.Ask who request reply) ≡ Some t → IsState s → IsMarking s c waiting
         → IsMarking t c (waiting ++ rescues_of s who request reply) }
     ensures leave { (seed : ℕ) (s t : State) (who : ℕ) (stop : Option ℕ) (c : Colours) (waiting : List rescue.Rescue)
         → next seed s (events.Leave who stop) ≡ Some t → IsMarking s c waiting → IsMarking t c waiting }
-    ensures any { (s t : State) (more waiting : List rescue.Rescue) (c : Colours) → Changes s t more → IsMarking s c waiting
+    ensures any { (s t : State) (more waiting : List rescue.Rescue) (c : Colours) → Changes s t more
+        → IsMarking s c waiting
         → IsMarking t c (waiting ++ more) }
 {}
 
 /// Where nothing is grey and no rescue waits, exactly the objects that aren't marked may vanish.
 pub fn unmarked_may_vanish()
-    ensures { (s : State) (c : Colours) → IsState s → c.grey ≡ [] → IsMarking s c [] → MayVanish s (unmarked c (ids_of s.graph)) }
+    ensures { (s : State) (c : Colours) → IsState s → c.grey ≡ [] → IsMarking s c []
+        → MayVanish s (unmarked c (ids_of s.graph)) }
 {}
 
-/// How many steps a collection makes until nothing is left to read: at most one, and one for each rescue, and one for each
-/// block of the graph.
+/// How many steps a collection makes until nothing is left to read: at most one, and one for each rescue, and one for
+/// each block of the graph.
 pub fn steps_are_bounded()
     ensures begin { (g : Graph) (c : Colours) → IsPaced g c [] 1 0 }
-    ensures take { (g : Graph) (names : List (Puid × Kind)) (r : rescue.Rescue) (rest : List rescue.Rescue) (c : Colours) (steps added : ℕ)
+    ensures take { (g : Graph) (names : List (Puid × Kind)) (r : rescue.Rescue) (rest : List rescue.Rescue)
+        (c : Colours) (steps added : ℕ)
         → IsPaced g c (r ∷ rest) steps added → IsPaced g (rescued names r c) rest (count_after steps) added }
-    ensures scan { (s : State) (names : List (Puid × Kind)) (waiting : List rescue.Rescue) (c : Colours) (e : grey.Grey) (i : index.Index)
-        (steps added : ℕ) → first_grey c ≡ Some e → object_at s.graph e.id ≡ Some (objects.Index i) → IsMarking s c waiting
-        → IsPaced s.graph c waiting steps added → IsPaced s.graph (scanned names i e.cursor c) waiting (count_after steps) added }
+    ensures scan { (s : State) (names : List (Puid × Kind)) (waiting : List rescue.Rescue) (c : Colours)
+        (e : grey.Grey) (i : index.Index)
+        (steps added : ℕ) → first_grey c ≡ Some e → object_at s.graph e.id ≡ Some (objects.Index i)
+        → IsMarking s c waiting
+        → IsPaced s.graph c waiting steps added
+        → IsPaced s.graph (scanned names i e.cursor c) waiting (count_after steps) added }
     ensures rescue { (g : Graph) (r : rescue.Rescue) (waiting : List rescue.Rescue) (c : Colours) (steps added : ℕ)
         → IsPaced g c waiting steps added → IsPaced g c (waiting ++ r ∷ []) steps (count_after added) }
     // A request adds no step, and neither does any change that keeps what was read.
     ensures any { (s t : State) (more waiting : List rescue.Rescue) (c : Colours) (steps added : ℕ) → Changes s t more
         → IsPaced s.graph c waiting steps added → IsPaced t.graph c waiting steps added }
-    ensures ask { (seed : ℕ) (s t : State) (who : ℕ) (request : asking.Request) (reply : asked.Reply) (c : Colours) (waiting : List rescue.Rescue)
+    ensures ask { (seed : ℕ) (s t : State) (who : ℕ) (request : asking.Request) (reply : asked.Reply) (c : Colours)
+        (waiting : List rescue.Rescue)
         (steps added : ℕ) → next seed s (events.Ask who request reply) ≡ Some t → IsState s → IsMarking s c waiting
         → IsPaced s.graph c waiting steps added → IsPaced t.graph c waiting steps added }
     ensures end { (g : Graph) (c : Colours) (steps added blocks : ℕ) → IsPaced g c [] steps added → added < 2 ^ 64 - 1

@@ -1,44 +1,11 @@
 -- A disk on the way through a write in place.
-use Rattle.std.proofs.Common.{◌≡◌, ◌≢◌, ◌⊎◌, inl, inr, ⊎_elim, ℕ, ◌+◌, ◌*◌, ◌/◌, ◌%◌, ◌<◌, ◌≤◌, Bool, true, IsTrue, List, [], ◌∷◌, length, set, Some, refl, sym, ◌∙◌, ap, subst, arith}
-use Rattle.std.specs.Prelude.{◌==◌, count_by}
-use Rattle.std.specs.List.{range_with_len}
-use Rattle.std.proofs.Math.ListN.{length-set}
-use Rattle.std.proofs.Math.Path.{fun_ext}
-use Rattle.std.proofs.lemmas.Bool.{and_from, and_parts, eqb-true}
-use Rattle.cfs_base.specs.Disk.{AreBlocks, Image, IsSameDisk, Written, block_at}
-use Rattle.cfs_base.specs.Run.{Leaves, left_now}
-use Rattle.cfs_base.specs.declared.disk.Disk.{Ghosts}
-use Rattle.cfs_base.specs.declared.identifier.Puid.{Puid}
-use Rattle.cfs_base.specs.declared.kind.Place.TheVariants.{Leaf}
-use Rattle.cfs_base.proofs.Runs.{still_tells, then}
-use Rattle.block_tree.specs.declared.root.Root as roots
-use Rattle.cyl_alloc.specs.Space.{AreCounts, Kept, free_in_cylinder}
-use Rattle.cyl_map.specs.Volume.{entry_in, is_free_entry, is_free_in}
-use Rattle.cyl_map.proofs.Volumes.{entry_in-set}
-use Rattle.leaf_changes.specs.Bytes.{patched}
-use Rattle.leaf_changes.specs.Leaves.{bytes_held}
-use Rattle.leaf_changes.proofs.Contents.{content_is, length-leaf_content}
-use Rattle.ufs_model.specs.declared.object.File.{File}
-use Rattle.ufs_model.specs.declared.object.Object.TheVariants as objects
-use Rattle.ufs_model.specs.Graph.{Graph, object_at}
-use Rattle.ufs_model.specs.Object.{leaves_in}
-use Rattle.ufs_model.specs.Numbers.{has_number}
-use Rattle.ufs_model.proofs.Rising.{here}
-use Rattle.vol_image.specs.Part.{BelongsTo, IsTaken, part_at}
-use Rattle.vol_image.specs.Run.{Carries}
-use Rattle.vol_image.specs.Sound.{Holds}
-use Rattle.vol_image.proofs.Parts.{placed}
-use Rattle.vol_image.proofs.Steps.{frames_begin, not_map}
-use Rattle.vol_image.proofs.Views.{held}
-use Rattle.vol_owners.specs.Change.{ChangesOnly, IsOpenTo, of_owner}
-use Rattle.vol_owners.specs.Owner.{is_placed, is_taken, owner_of}
-use Rattle.vol_owners.proofs.Changes.{changes_begin, changes_content, changes_then}
-use Rattle.vol_owners.proofs.Entries.{taken_of}
+use Rattle.normal_files.proofs.Words.{◌≡◌, ◌≢◌, ◌⊎◌, inl, inr, ⊎_elim, ℕ, ◌+◌, ◌*◌, ◌/◌, ◌%◌, ◌<◌, ◌≤◌, Bool, true, IsTrue, List, [], ◌∷◌, length, set, refl, sym, ◌∙◌, ap, subst, arith, ◌==◌, count_by, range_with_len, length-set, fun_ext, and_from, and_parts, eqb-true, Image, IsSameDisk, Written, block_at, Leaves, left_now, Ghosts, Leaf, still_tells, then, AreCounts, Kept, free_in_cylinder, entry_in, is_free_entry, is_free_in, entry_in-set, patched, bytes_held, content_is, length-leaf_content, leaves_in, has_number, here, BelongsTo, IsTaken, part_at, Carries, placed, frames_begin, not_map, held, ChangesOnly, IsOpenTo, of_owner, is_placed, is_taken, owner_of, changes_begin, changes_content, changes_then, taken_of}
 use Rattle.normal_files.specs.Among.{IsAmong, IsEither, leaf_after, leaf_before}
-use Rattle.normal_files.specs.Laid.{IsRooted, leaf_of, leaves_of, object_of}
-use Rattle.normal_files.specs.Steps.{IsAmid, IsWrittenTo}
+use Rattle.normal_files.specs.Laid.{leaf_of, leaves_of}
+use Rattle.normal_files.specs.Steps.{IsAmid, IsWrittenTo, MayLeave}
 use Rattle.normal_files.proofs.Among.{among_begin, among_leaf, among_weaker, leaf_held, own_loose}
 use Rattle.normal_files.proofs.Patched.{untouched, whole}
+use Rattle.normal_files.specs.View.{Way, id_at}
 
 -- a taken block is open to a change of its owner
 pub taken_open : (image : Image) (n r : ℕ) → IsTaken image n r → IsOpenTo (λ e. of_owner r e) (entry_in image n)
@@ -54,41 +21,40 @@ counts_content image kept n block no_map counts =
     let same : is_free_in (set image n block) ≡ is_free_in image = fun_ext (λ m. ap is_free_entry (entry_in-set image n block m no_map)) in
     record { size = length-set image n block ∙ counts.size; each = λ j below. counts.each j below ∙ ap (λ (P : ℕ → Bool). count_by P (range_with_len (64 * j) 64)) (sym same) }
 
-module _ {D : Type 0} (g : Ghosts D) (graph : Graph) (id : Puid) (f : File) (root : roots.Root) (offset : ℕ) (bytes : List ℕ) (start : D) (holds : Holds (g.content start) graph) (at : object_at graph id ≡ Some (objects.File f))
-    (rooted : IsRooted (g.content start) id root) where
+module _ {D : Type 0} {g : Ghosts D} {r : ℕ} (w : Way g r) (offset : ℕ) (bytes : List ℕ) where
   abbrev a : Image
-  a = g.content start
+  a = g.content w.start
 
   abbrev Amid : ℕ → D → Kept → Type 0
-  Amid upto now kept = IsAmid g graph id root offset bytes upto start now kept
+  Amid upto now kept = IsAmid w offset bytes upto now kept
 
   -- nothing is written yet
-  pub amid_begins : (kept : Kept) → object_of a root ≡ objects.File f → AreBlocks a → Carries g graph start → AreCounts a kept → Amid (offset / 512) start kept
-  amid_begins kept same blocks carries counts = record {
+  pub amid_begins : (kept : Kept) → Carries g w.graph w.start → AreCounts a kept → Amid (offset / 512) w.start kept
+  amid_begins kept carries counts = record {
     tells = carries.tells;
-    content = among_begin a graph id (objects.File f) holds at root rooted (IsWrittenTo a root offset bytes (offset / 512)) a (frames_begin a graph holds)
+    content = among_begin w.has (IsWrittenTo a w.root offset bytes (offset / 512)) a (frames_begin a w.graph w.has.holds)
         (λ n k small real. (λ early. is n k small real ∙ sym (first (128 * n + k) (inl early)), λ late. is n k small real));
-    here = λ c left. among_begin a graph id (objects.File f) holds at root rooted (IsEither a root offset bytes) c (carries.here c left) (λ n k small real. inl (is n k small real));
+    here = λ c left. among_begin w.has (IsEither a w.root offset bytes) c (carries.here c left) (λ n k small real. inl (is n k small real));
     leaves = record { later = omega arith; since = λ t c le h. inl h; now = λ c h. inl h };
-    only = changes_begin _ a graph holds;
+    only = changes_begin _ a w.graph w.has.holds;
     counts = counts;
   }
     where
-      first : (l : ℕ) → (l < offset / 512) ⊎ (leaves_in (offset + length bytes) ≤ l) → leaf_after a root offset bytes l ≡ leaf_before a root l
-      first = untouched root.fill offset bytes (leaves_of a root) (whole a graph id f holds at root rooted same blocks)
+      first : (l : ℕ) → (l < offset / 512) ⊎ (leaves_in (offset + length bytes) ≤ l) → leaf_after a w.root offset bytes l ≡ leaf_before a w.root l
+      first = untouched w.root.fill offset bytes (leaves_of a w.root) (whole w.has)
 
-      is : (n k : ℕ) → k < 128 → leaf_of a root n k ≢ 0 → block_at a (leaf_of a root n k) ≡ leaf_before a root (128 * n + k)
+      is : (n k : ℕ) → k < 128 → leaf_of a w.root n k ≢ 0 → block_at a (leaf_of a w.root n k) ≡ leaf_before a w.root (128 * n + k)
       is n k small real =
-          let there = leaf_held a graph id (objects.File f) holds at root rooted n k small real in
-          sym (content_is root.fill (leaves_of a root (128 * n + k)) (block_at a (leaf_of a root n k)) (ap bytes_held there) (whole a graph id f holds at root rooted same blocks (128 * n + k) (held a (leaf_of a root n k)) there))
+          let there = leaf_held w.has n k small real in
+          sym (content_is w.root.fill (leaves_of a w.root (128 * n + k)) (block_at a (leaf_of a w.root n k)) (ap bytes_held there) (whole w.has (128 * n + k) (held a (leaf_of a w.root n k)) there))
 
   -- a leaf that isn't held has nothing to be written
-  pub amid_skips : (n k : ℕ) (mid : D) (kept : Kept) → k < 128 → leaf_of a root n k ≡ 0 → Amid (128 * n + k) mid kept → Amid (128 * n + k + 1) mid kept
+  pub amid_skips : (n k : ℕ) (mid : D) (kept : Kept) → k < 128 → leaf_of a w.root n k ≡ 0 → Amid (128 * n + k) mid kept → Amid (128 * n + k + 1) mid kept
   amid_skips n k mid kept small none amid = record {
     tells = amid.tells;
-    content = among_weaker a graph id (objects.File f) holds at root rooted (IsWrittenTo a root offset bytes (128 * n + k)) (IsWrittenTo a root offset bytes (128 * n + k + 1)) (g.content mid) amid.content (λ m j low real content was.
+    content = among_weaker w.has (IsWrittenTo a w.root offset bytes (128 * n + k)) (IsWrittenTo a w.root offset bytes (128 * n + k + 1)) (g.content mid) amid.content (λ m j low real content was.
         let other : 128 * m + j ≢ 128 * n + k = λ same.
-        (let high : m ≡ n = omega (arith, same, low, small) in let place : j ≡ k = omega (arith, same, low, small) in real (ap (λ (p : ℕ). leaf_of a root p j) high ∙ ap (leaf_of a root n) place ∙ none)) in
+        (let high : m ≡ n = omega (arith, same, low, small) in let place : j ≡ k = omega (arith, same, low, small) in real (ap (λ (p : ℕ). leaf_of a w.root p j) high ∙ ap (leaf_of a w.root n) place ∙ none)) in
         (λ early. was.0 (omega (arith, early, other)), λ late. was.1 (omega (arith, late))));
     here = amid.here;
     leaves = amid.leaves;
@@ -97,40 +63,40 @@ module _ {D : Type 0} (g : Ghosts D) (graph : Graph) (id : Puid) (f : File) (roo
   }
 
   -- a held leaf gets its new bytes
-  module _ (n k : ℕ) (mid new : D) (kept : Kept) (v : List ℕ) (small : k < 128) (real : leaf_of a root n k ≢ 0) (amid : Amid (128 * n + k) mid kept) where
+  module _ (n k : ℕ) (mid new : D) (kept : Kept) (v : List ℕ) (small : k < 128) (real : leaf_of a w.root n k ≢ 0) (amid : Amid (128 * n + k) mid kept) where
     abbrev x : ℕ
-    x = leaf_of a root n k
+    x = leaf_of a w.root n k
 
-    pub content_before : block_at (g.content mid) x ≡ leaf_before a root (128 * n + k)
+    pub content_before : block_at (g.content mid) x ≡ leaf_before a w.root (128 * n + k)
     content_before = (amid.content.bytes n k small real).1 (omega arith)
 
     pub long_before : length (block_at (g.content mid) x) ≡ 512
-    long_before = ap (length {A = ℕ}) content_before ∙ length-leaf_content root.fill (leaves_of a root (128 * n + k))
+    long_before = ap (length {A = ℕ}) content_before ∙ length-leaf_content w.root.fill (leaves_of a w.root (128 * n + k))
 
     module _ (is : v ≡ patched (128 * n + k) offset bytes (block_at (g.content mid) x)) (images : Leaves g mid new (Written (left_now g mid) x v)) where
-      is_after : v ≡ leaf_after a root offset bytes (128 * n + k)
+      is_after : v ≡ leaf_after a w.root offset bytes (128 * n + k)
       is_after = is ∙ ap (patched (128 * n + k) offset bytes) content_before
 
-      framed : (c : Image) → Written (left_now g mid) x v c → IsAmong a graph id root (IsEither a root offset bytes) c
-      framed c w = subst (IsAmong a graph id root (IsEither a root offset bytes)) (sym w.2)
-          (among_leaf a graph id (objects.File f) holds at root rooted (IsEither a root offset bytes) (IsEither a root offset bytes) w.0 n k v (amid.here w.0 w.1) small real (inr is_after) (λ l content other was. was))
+      framed : (c : Image) → Written (left_now g mid) x v c → MayLeave w offset bytes c
+      framed c new_is = subst (MayLeave w offset bytes) (sym new_is.2)
+          (among_leaf w.has (IsEither a w.root offset bytes) (IsEither a w.root offset bytes) new_is.0 n k v (amid.here new_is.0 new_is.1) small real (inr is_after) (λ l content other was. was))
 
-      pub put_leaves : Leaves g start new (IsAmong a graph id root (IsEither a root offset bytes))
-      put_leaves = then g start mid new _ _ amid.leaves images framed
+      pub put_leaves : Leaves g w.start new (MayLeave w offset bytes)
+      put_leaves = then g w.start mid new _ _ amid.leaves images framed
 
       pub amid_puts : g.content new ≡ set (g.content mid) x v → ((b : ℕ) → IsTrue (g.told mid b) → IsTrue (g.told new b)) → IsSameDisk g.blocks g.honest g.tells_images mid new → Amid (128 * n + k + 1) new kept
       amid_puts written told same =
-          let mine = (rooted.laid.leaves n k small real).part in
-          let loose = own_loose a graph id (objects.File f) holds at root rooted x (Leaf (128 * n + k)) mine in
-          let there = (placed (g.content mid) x id.block (Leaf (128 * n + k)) (part_at (g.content mid) x) refl (subst (BelongsTo id.block (Leaf (128 * n + k))) (sym (amid.content.parts n k small real)) mine)).taken in
+          let mine = (w.has.rooted.laid.leaves n k small real).part in
+          let loose = own_loose w.has x (Leaf (128 * n + k)) mine in
+          let there = (placed (g.content mid) x r (Leaf (128 * n + k)) (part_at (g.content mid) x) refl (subst (BelongsTo r (Leaf (128 * n + k))) (sym (amid.content.parts n k small real)) mine)).taken in
           record {
             tells = still_tells g amid.tells told same;
-            content = subst (IsAmong a graph id root (IsWrittenTo a root offset bytes (128 * n + k + 1))) (sym written)
-                (among_leaf a graph id (objects.File f) holds at root rooted (IsWrittenTo a root offset bytes (128 * n + k)) (IsWrittenTo a root offset bytes (128 * n + k + 1)) (g.content mid) n k v amid.content small real
+            content = subst (IsAmong a w.graph (id_at r w.word) w.root (IsWrittenTo a w.root offset bytes (128 * n + k + 1))) (sym written)
+                (among_leaf w.has (IsWrittenTo a w.root offset bytes (128 * n + k)) (IsWrittenTo a w.root offset bytes (128 * n + k + 1)) (g.content mid) n k v amid.content small real
                 (λ early. is_after, λ late. absurd (omega (arith, late))) (λ l content other was. (λ early. was.0 (omega (arith, early, other)), λ late. was.1 (omega (arith, late)))));
-            here = λ c left. ⊎_elim (λ was. amid.here c was) (λ w. framed c w) (images.now c left);
+            here = λ c left. ⊎_elim (λ was. amid.here c was) (λ new_is. framed c new_is) (images.now c left);
             leaves = put_leaves;
-            only = changes_then _ a (g.content mid) (g.content new) amid.only (subst (ChangesOnly (λ e. of_owner id.block e) (g.content mid)) (sym written)
-                (changes_content _ (g.content mid) x v amid.only.maps amid.only.own loose.apart (taken_open (g.content mid) x id.block there)));
+            only = changes_then _ a (g.content mid) (g.content new) amid.only (subst (ChangesOnly (λ e. of_owner r e) (g.content mid)) (sym written)
+                (changes_content _ (g.content mid) x v amid.only.maps amid.only.own loose.apart (taken_open (g.content mid) x r there)));
             counts = subst (λ (c : Image). AreCounts c kept) (sym written) (counts_content (g.content mid) kept x v (not_map x loose.apart) amid.counts);
           }

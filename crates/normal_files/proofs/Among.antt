@@ -1,27 +1,5 @@
 -- Images that a change of a file in place may leave.
-use Rattle.std.proofs.Common.{◌≡◌, ◌≢◌, ◌⊎◌, inl, inr, ℕ, ◌+◌, ◌*◌, ◌%◌, ◌<◌, List, [], get_or, set, Some, None, refl, sym, ◌∙◌, ap, subst, get_or-set_other, get_or-set_same, arith}
-use Rattle.std.proofs.lemmas.Bool.{cases_eq}
-use Rattle.std.proofs.lemmas.Option.{same_Some}
-use Rattle.cfs_base.specs.Disk.{Image, block_at}
-use Rattle.cfs_base.specs.declared.identifier.Puid.{Puid}
-use Rattle.cfs_base.specs.declared.kind.Place.{Place}
-use Rattle.cfs_base.specs.declared.kind.Place.TheVariants.{Leaf, Node, Root}
-use Rattle.block_tree.specs.declared.root.Root as roots
-use Rattle.block_tree.specs.Root.{IsRootBlock, root_spelling}
-use Rattle.cyl_map.proofs.Volumes.{entry_in-set}
-use Rattle.leaf_changes.specs.Leaves.{LeavesFit}
-use Rattle.ufs_model.specs.declared.object.Object.{Object}
-use Rattle.ufs_model.specs.Graph.{Graph, object_at, with_object}
-use Rattle.vol_image.specs.Frame.{Frames, IsBlockOf, IsLoose}
-use Rattle.vol_image.specs.Part.{BelongsTo, is_committed, part_at, part_of}
-use Rattle.vol_image.specs.Seen.{held_at}
-use Rattle.vol_image.specs.Sight.{sight}
-use Rattle.vol_image.specs.Sound.{Holds, ReadsAs}
-use Rattle.vol_image.proofs.Changes.{object_put, other_is, others, owned_is_loose}
-use Rattle.vol_image.proofs.Parts.{placed, taken_apart}
-use Rattle.vol_image.proofs.Paths.{held_there}
-use Rattle.vol_image.proofs.Steps.{entry_mixed, frames_content, frames_fewer, frames_mix, not_map}
-use Rattle.vol_image.proofs.Views.{held}
+use Rattle.normal_files.proofs.Words.{◌≡◌, ◌≢◌, ◌⊎◌, inl, inr, ℕ, ◌+◌, ◌*◌, ◌%◌, ◌<◌, List, [], get_or, set, Some, None, refl, sym, ◌∙◌, ap, subst, get_or-set_other, get_or-set_same, arith, cases_eq, same_Some, Image, block_at, Puid, Place, Leaf, Node, Root, IsRootBlock, root_spelling, entry_in-set, LeavesFit, Graph, with_object, Frames, IsBlockOf, IsLoose, BelongsTo, is_committed, part_at, part_of, held_at, sight, Holds, ReadsAs, object_put, other_is, others, owned_is_loose, placed, taken_apart, held_there, entry_mixed, frames_content, frames_fewer, frames_mix, not_map, held, File}
 use Rattle.normal_files.specs.Among.{IsAmong}
 use Rattle.normal_files.specs.Laid.{IsAt, IsRooted, leaf_of, leaves_of, node_of, object_of}
 use Rattle.normal_files.specs.Nodes.{leaves_at}
@@ -29,35 +7,38 @@ use Rattle.normal_files.proofs.Laid.{rooted_reads}
 use Rattle.normal_files.proofs.Owned.{node_block as owned_node, leaf_block as owned_leaf}
 use Rattle.normal_files.proofs.Trees.{each_leaf, leaf_stands, same_leaves, stands_at}
 use Rattle.normal_files.proofs.Places.{leaf_no_node, leaf_no_root, one_leaf}
+use Rattle.normal_files.specs.View.{HasFile}
+use Rattle.block_tree.specs.declared.root.Root as roots
+use Rattle.ufs_model.specs.declared.object.Object.TheVariants as objects
 
 -- blocks at different places are different
 pub places_differ : (a : Image) (m n r : ℕ) (p q : Place) → BelongsTo r p (part_at a m) → BelongsTo r q (part_at a n) → m ≡ n → p ≡ q
 places_differ a m n r p q one two same =
     same_Some _ _ (sym one.place_is ∙ ap (λ part. part.place) (same_Some _ _ (sym one.here ∙ ap (part_at a) same ∙ two.here)) ∙ two.place_is)
 
-module _ (a : Image) (graph : Graph) (id : Puid) (o : Object) (holds : Holds a graph) (at : object_at graph id ≡ Some o) (root : roots.Root) (rooted : IsRooted a id root) where
+module _ {a : Image} {graph : Graph} {id : Puid} {f : File} {root : roots.Root} (s : HasFile a graph id f root) where
   is_root : IsRootBlock (root_spelling root) root
-  is_root = record { good = rooted.laid.good; spelled = refl }
+  is_root = record { good = s.rooted.laid.good; spelled = refl }
 
   -- ---- the file's own blocks
 
   leaf_is : (n k : ℕ) → k < 128 → leaf_of a root n k ≢ 0 → BelongsTo id.block (Leaf (128 * n + k)) (part_at a (leaf_of a root n k))
-  leaf_is n k small real = (rooted.laid.leaves n k small real).part
+  leaf_is n k small real = (s.rooted.laid.leaves n k small real).part
 
   node_is : (n : ℕ) → node_of root n ≢ 0 → BelongsTo id.block (Node n) (part_at a (node_of root n))
-  node_is n real = (rooted.laid.nodes n real).part
+  node_is n real = (s.rooted.laid.nodes n real).part
 
   pub own_apart : (m : ℕ) (p : Place) → BelongsTo id.block p (part_at a m) → m % 64 ≢ 0
-  own_apart m p part = not_map m (taken_apart a graph holds m id.block (placed a m id.block p (part_at a m) refl part).taken)
+  own_apart m p part = not_map m (taken_apart a graph s.holds m id.block (placed a m id.block p (part_at a m) refl part).taken)
 
   pub own_loose : (m : ℕ) (p : Place) → BelongsTo id.block p (part_at a m) → IsLoose a (others graph id) m
-  own_loose m p part = owned_is_loose a graph id o holds at m (placed a m id.block p (part_at a m) refl part).taken
+  own_loose m p part = owned_is_loose a graph id (objects.File f) s.holds s.at m (placed a m id.block p (part_at a m) refl part).taken
 
   node_block : (n : ℕ) → node_of root n ≢ 0 → IsBlockOf a id.block (node_of root n)
-  node_block = owned_node a id root rooted
+  node_block = owned_node a id root s.rooted
 
   leaf_block : (n k : ℕ) → k < 128 → leaf_of a root n k ≢ 0 → IsBlockOf a id.block (leaf_of a root n k)
-  leaf_block = owned_leaf a id root rooted
+  leaf_block = owned_leaf a id root s.rooted
 
   pub leaf_held : (n k : ℕ) → k < 128 → leaf_of a root n k ≢ 0 → leaves_of a root (128 * n + k) ≡ Some (held a (leaf_of a root n k))
   leaf_held n k small real = leaf_stands a (root_spelling root) root is_root n k small ∙ held_there a (leaf_of a root n k) real
@@ -68,17 +49,17 @@ module _ (a : Image) (graph : Graph) (id : Puid) (o : Object) (holds : Holds a g
     pub among_begin : (c : Image) → Frames a graph c → ((n k : ℕ) → k < 128 → leaf_of a root n k ≢ 0 → P (128 * n + k) (block_at a (leaf_of a root n k))) → IsAmong a graph id root P c
     among_begin c frames bytes = record {
       frames = frames_fewer a c graph (others graph id) frames (λ x p there. (other_is graph id x p there).0);
-      root_kept = frames.held id.block (id, o, at, inl refl);
-      nodes = λ n real. frames.held (node_of root n) (id, o, at, node_block n real);
-      parts = λ n k small real. (frames.held (leaf_of a root n k) (id, o, at, leaf_block n k small real)).part;
-      bytes = λ n k small real. subst (P (128 * n + k)) (sym (frames.held (leaf_of a root n k) (id, o, at, leaf_block n k small real)).content) (bytes n k small real);
+      root_kept = frames.held id.block (id, objects.File f, s.at, inl refl);
+      nodes = λ n real. frames.held (node_of root n) (id, objects.File f, s.at, node_block n real);
+      parts = λ n k small real. (frames.held (leaf_of a root n k) (id, objects.File f, s.at, leaf_block n k small real)).part;
+      bytes = λ n k small real. subst (P (128 * n + k)) (sym (frames.held (leaf_of a root n k) (id, objects.File f, s.at, leaf_block n k small real)).content) (bytes n k small real);
     }
 
     -- a block that no object holds is written
     pub among_loose : (c : Image) (m : ℕ) (v : List ℕ) → IsAmong a graph id root P c → IsLoose a graph m → IsAmong a graph id root P (set c m v)
     among_loose c m v among loose =
         let no_map = not_map m loose.apart in
-        let other = λ (b : ℕ) (own : IsBlockOf a id.block b) (same : b ≡ m). loose.unheld (id, o, at, subst (IsBlockOf a id.block) same own) in
+        let other = λ (b : ℕ) (own : IsBlockOf a id.block b) (same : b ≡ m). loose.unheld (id, objects.File f, s.at, subst (IsBlockOf a id.block) same own) in
         let same_at = λ (b : ℕ) (own : IsBlockOf a id.block b). get_or-set_other c m b v [] (other b own) in
         let part = λ (b : ℕ). ap part_of (entry_in-set c m v b no_map) in
         record {
@@ -96,7 +77,7 @@ module _ (a : Image) (graph : Graph) (id : Puid) (o : Object) (holds : Holds a g
         let content = λ (b : ℕ) (p : Place) (own : BelongsTo id.block p (part_at a b)). get_or-set_other c m b (block_at k m) [] (λ same. own_apart b p own (omega (arith, ap (λ (x : ℕ). x % 64) same, map))) in
         record {
           frames = frames_mix a (others graph id) c k m one.frames two.frames;
-          root_kept = record { part = part id.block one.root_kept.part two.root_kept.part; content = content id.block Root rooted.part ∙ one.root_kept.content };
+          root_kept = record { part = part id.block one.root_kept.part two.root_kept.part; content = content id.block Root s.rooted.part ∙ one.root_kept.content };
           nodes = λ n real. record { part = part (node_of root n) (one.nodes n real).part (two.nodes n real).part; content = content (node_of root n) (Node n) (node_is n real) ∙ (one.nodes n real).content };
           parts = λ n j small real. part (leaf_of a root n j) (one.parts n j small real) (two.parts n j small real);
           bytes = λ n j small real. subst (P (128 * n + j)) (sym (content (leaf_of a root n j) (Leaf (128 * n + j)) (leaf_is n j small real))) (one.bytes n j small real);
@@ -122,10 +103,10 @@ module _ (a : Image) (graph : Graph) (id : Puid) (o : Object) (holds : Holds a g
         let mine = leaf_is n k small real in
         let no_map = own_apart x (Leaf (128 * n + k)) mine in
         let part = λ (b : ℕ). ap part_of (entry_in-set c x v b no_map) in
-        let below = (rooted.laid.leaves n k small real).below in
+        let below = (s.rooted.laid.leaves n k small real).below in
         record {
           frames = frames_content a (others graph id) c x v among.frames (own_loose x (Leaf (128 * n + k)) mine);
-          root_kept = record { part = part id.block ∙ among.root_kept.part; content = get_or-set_other c x id.block v [] (λ same. leaf_no_root (128 * n + k) (sym (places_differ a id.block x id.block Root (Leaf (128 * n + k)) rooted.part mine same))) ∙ among.root_kept.content };
+          root_kept = record { part = part id.block ∙ among.root_kept.part; content = get_or-set_other c x id.block v [] (λ same. leaf_no_root (128 * n + k) (sym (places_differ a id.block x id.block Root (Leaf (128 * n + k)) s.rooted.part mine same))) ∙ among.root_kept.content };
           nodes = λ m there. record {
             part = part (node_of root m) ∙ (among.nodes m there).part;
             content = get_or-set_other c x (node_of root m) v [] (λ same. leaf_no_node (128 * n + k) m (sym (places_differ a (node_of root m) x id.block (Node m) (Leaf (128 * n + k)) (node_is m there) mine same))) ∙ (among.nodes m there).content;
@@ -160,28 +141,28 @@ module _ (a : Image) (graph : Graph) (id : Puid) (o : Object) (holds : Holds a g
       pub leaf_either : (l : ℕ) → Either l
       leaf_either = each_leaf Either (λ n k small.
           let x = leaf_of a root n k in
-          let in_a = stands_at a root rooted.laid.good n k small in
-          let in_c = stands_at c root rooted.laid.good n k small ∙ ap (held_at c) (same_leaf n k) in
+          let in_a = stands_at a root s.rooted.laid.good n k small in
+          let in_c = stands_at c root s.rooted.laid.good n k small ∙ ap (held_at c) (same_leaf n k) in
           elim (cases_eq x 0) [ inl is ↦ inl (in_c ∙ ap (held_at c) is, in_a ∙ ap (held_at a) is) | inr real ↦ inr (x, in_a ∙ held_there a x real, in_c ∙ held_there c x real, among.bytes n k small real) ])
 
       pub among_rooted : LeavesFit root (leaves_of c root) → IsRooted c id root
       among_rooted fit = record {
         laid = record {
-          good = rooted.laid.good;
-          nodes = λ n real. let was = rooted.laid.nodes n real in record { below = omega (arith, was.below, among.frames.size); part = subst (BelongsTo id.block (Node n)) (sym (among.nodes n real).part) was.part };
+          good = s.rooted.laid.good;
+          nodes = λ n real. let was = s.rooted.laid.nodes n real in record { below = omega (arith, was.below, among.frames.size); part = subst (BelongsTo id.block (Node n)) (sym (among.nodes n real).part) was.part };
           leaves = λ n k small real.
               let same = same_leaf n k in
               let there : leaf_of a root n k ≢ 0 = λ none. real (same ∙ none) in
-              let was = rooted.laid.leaves n k small there in
+              let was = s.rooted.laid.leaves n k small there in
               subst (IsAt c id.block (Leaf (128 * n + k))) (sym same) (record { below = omega (arith, was.below, among.frames.size); part = subst (BelongsTo id.block (Leaf (128 * n + k))) (sym (among.parts n k small there)) was.part });
-          leads = λ n real. let to = rooted.laid.leads n real in (to.0, to.1, λ none. to.2 (sym (same_leaf n to.0) ∙ none));
+          leads = λ n real. let to = s.rooted.laid.leads n real in (to.0, to.1, λ none. to.2 (sym (same_leaf n to.0) ∙ none));
           fit = fit;
         };
-        here = among.root_kept.content ∙ rooted.here;
-        part = subst (BelongsTo id.block Root) (sym among.root_kept.part) rooted.part;
-        no_bit = ap is_committed among.root_kept.part ∙ rooted.no_bit;
-        word = rooted.word;
+        here = among.root_kept.content ∙ s.rooted.here;
+        part = subst (BelongsTo id.block Root) (sym among.root_kept.part) s.rooted.part;
+        no_bit = ap is_committed among.root_kept.part ∙ s.rooted.no_bit;
+        word = s.rooted.word;
       }
 
       pub among_holds : LeavesFit root (leaves_of c root) → Holds c (with_object graph id (object_of c root))
-      among_holds fit = object_put a c graph id (object_of c root) holds among.frames (subst (λ (n : ℕ). ReadsAs n id (sight c id.block) (object_of c root)) among.frames.size (rooted_reads c id root (among_rooted fit)))
+      among_holds fit = object_put a c graph id (object_of c root) s.holds among.frames (subst (λ (n : ℕ). ReadsAs n id (sight c id.block) (object_of c root)) among.frames.size (rooted_reads c id root (among_rooted fit)))

@@ -1,11 +1,7 @@
 -- Runs of calls of which some may have tried a write.
-use Rattle.std.proofs.Common.{◌≡◌, ℕ, ◌+◌, ◌≤◌, Bool, true, false, inl, refl, arith}
-use Rattle.cfs_base.specs.Calls.{HasTried, MakesAtMost, OnlyReads}
-use Rattle.cfs_base.specs.declared.disk.Disk.{Ghosts}
-use Rattle.cfs_base.specs.declared.refusal.Trouble.{Trouble}
+use Rattle.normal_files.proofs.Words.{◌≡◌, ℕ, ◌+◌, ◌≤◌, Bool, true, false, inl, refl, arith, Err, List, Ok, subst, sym, ◌∙◌, HasTried, MakesAtMost, OnlyReads, Ghosts, Trouble, makes_then, reads_then, reads_within, stopped_after_reads, stopped_after_try, then_tried, reads_make, tried_then, ◌||◌}
+use Rattle.normal_files.specs.Steps.{HasCome, HasStoppedBy, told_after, WritesBlock, Stops}
 use Rattle.cfs_base.specs.declared.refusal.Trouble.TheVariants as trouble
-use Rattle.cfs_base.proofs.Calls.{makes_then, reads_then, reads_within, stopped_after_reads, stopped_after_try, then_tried}
-use Rattle.normal_files.specs.Steps.{HasCome, HasStoppedBy, told_after}
 
 -- no call
 pub makes_none : {D : Type 0} (g : Ghosts D) (d : D) (n t : ℕ) → MakesAtMost g n t d d
@@ -27,36 +23,60 @@ reads_none g d = record {
 pub makes_within : {D : Type 0} (g : Ghosts D) (old new : D) (n t m s : ℕ) → n ≤ m → t ≤ s → MakesAtMost g n t old new → MakesAtMost g m s old new
 makes_within g old new n t m s more tries makes = makes_then g old old new 0 n m 0 t s (makes_none g old 0 0) makes (omega (arith, more)) (omega (arith, tries))
 
-module _ {D : Type 0} {n t : ℕ} (g : Ghosts D) (start mid new : D) where
-  -- nothing is done
-  pub come_on : (m s : ℕ) (tried : Bool) → n ≤ m → t ≤ s → HasCome g n t tried start mid → HasCome g m s tried start mid
-  come_on m s tried more tries come = record {
-    makes = makes_within g start mid n t m s more tries come.makes;
-    tries = come.tries;
-    reads = λ none. reads_within g start mid n m more (come.reads none);
+-- ---- calls that may have tried a write, one after another
+
+pub come_none : {D : Type 0} (g : Ghosts D) (d : D) (n t : ℕ) → HasCome g n t false d d
+come_none g d n t = record { told = λ b h. h; makes = makes_none g d n t; tries = λ yes. cc; reads = λ none. reads_within g d d 0 n (omega arith) (reads_none g d) }
+
+pub come_wrote : {D : Type 0} {g : Ghosts D} {n block : ℕ} {content : List ℕ} {old new : D} → WritesBlock g n block content old new (Ok tt) → HasCome g n 1 true old new
+come_wrote writes = record { told = writes.told; makes = writes.calls; tries = λ yes. writes.tried; reads = λ none. cc }
+
+pub come_within : {D : Type 0} {g : Ghosts D} {n t m s : ℕ} {tried : Bool} {start mid : D} → HasCome g n t tried start mid → n ≤ m → t ≤ s → HasCome g m s tried start mid
+come_within {g = g} {n = n} {t = t} {m = m} {s = s} {start = start} {mid = mid} come more tries =
+    record { told = come.told; makes = makes_within g start mid n t m s more tries come.makes; tries = come.tries; reads = λ none. reads_within g start mid n m more (come.reads none) }
+
+module _ {D : Type 0} {g : Ghosts D} {n t : ℕ} {start mid : D} where
+  pub come_then : {m s : ℕ} (b c : Bool) {new : D} → HasCome g n t b start mid → HasCome g m s c mid new → HasCome g (n + m) (t + s) (b || c) start new
+  come_then {m} {s} b c {new} come more = record {
+    told = λ k was. more.told k (come.told k was);
+    makes = makes_then g start mid new n m (n + m) t s (t + s) come.makes more.makes (omega arith) (omega arith);
+    tries = tries b come.tries;
+    reads = reads b come.reads;
   }
+    where
+      tries : (x : Bool) → (x ≡ true → HasTried g start mid) → (x || c) ≡ true → HasTried g start new
+      tries true was has = tried_then g start mid new m s (was refl) more.makes
+      tries false was has = then_tried g start mid new n t come.makes (more.tries has)
 
-  -- a call that tried a write
-  pub come_wrote : (m s : ℕ) (tried : Bool) → HasCome g n t tried start mid → MakesAtMost g m s mid new → HasTried g mid new → HasCome g (n + m) (t + s) true start new
-  come_wrote m s tried come makes did = record {
-    makes = makes_then g start mid new n m (n + m) t s (t + s) come.makes makes (omega arith) (omega arith);
-    tries = λ yes. then_tried g start mid new n t come.makes did;
-    reads = λ none. cc;
+      reads : (x : Bool) → (x ≡ false → OnlyReads g n start mid) → (x || c) ≡ false → OnlyReads g (n + m) start new
+      reads true was none = cc
+      reads false was none = reads_then g start mid new n m (n + m) (was refl) (more.reads none) (omega arith)
+
+  -- a call that is stopped, told as one that had tried a write or hadn't
+  pub come_stopped : (new : D) (b : Bool) (e : Trouble) → HasCome g n t b start mid → HasStoppedBy g mid new e → HasStoppedBy g start new (told_after b e)
+  come_stopped new true (trouble.Disk tried) come is = stopped_after_try g start mid new n t tried come.makes (come.tries refl) is
+  come_stopped new true (trouble.Damaged damage) come is = absurd is
+  come_stopped new false (trouble.Disk tried) come is = stopped_after_reads g start mid new n tried (come.reads refl) is
+  come_stopped new false (trouble.Damaged damage) come is = absurd is
+
+  pub come_err : {m s k r : ℕ} {new : D} (b : Bool) {e : Trouble} → HasCome g n t b start mid → Stops g m s mid new e → n + m ≤ k → t + s ≤ r → Stops g k r start new (told_after b e)
+  come_err {m} {s} {k} {r} {new} b {e} come ends few fewer = record {
+    stopped = come_stopped new b e come ends.stopped;
+    untried = untried b e come ends.untried;
+    calls = makes_then g start mid new n m k t s r come.makes ends.calls few fewer;
   }
+    where
+      untried : (x : Bool) (f : Trouble) → HasCome g n t x start mid → (f ≡ trouble.Disk false → OnlyReads g m mid new) → told_after x f ≡ trouble.Disk false → OnlyReads g k start new
+      untried true (trouble.Disk tried) was only same = cc
+      untried true (trouble.Damaged damage) was only same = cc
+      untried false f was only same = reads_then g start mid new n m k (was.reads refl) (only same) few
 
-  -- a call that is stopped
-  pub come_stopped : (tried : Bool) (e : Trouble) → HasCome g n t tried start mid → HasStoppedBy g mid new e → HasStoppedBy g start new (told_after tried e)
-  come_stopped true (trouble.Disk tried) come is = stopped_after_try g start mid new n t tried come.makes (come.tries refl) is
-  come_stopped true (trouble.Damaged damage) come is = absurd is
-  come_stopped false (trouble.Disk tried) come is = stopped_after_reads g start mid new n tried (come.reads refl) is
-  come_stopped false (trouble.Damaged damage) come is = absurd is
+-- a write that failed
+pub write_stopped : {D : Type 0} {g : Ghosts D} {n block : ℕ} {content : List ℕ} {old new : D} {t : Trouble} → WritesBlock g n block content old new (Err t) → t ≡ trouble.Disk true → Stops g n 1 old new t
+write_stopped writes is = record { stopped = writes.refused; untried = λ same. (let no : trouble.Disk true ≡ trouble.Disk false = sym is ∙ same in cc); calls = writes.calls }
 
--- a call that is stopped before anything is tried
-pub come_untried : {D : Type 0} {n t : ℕ} (g : Ghosts D) (start mid new : D) (m : ℕ) (tried : Bool) (e : Trouble) → HasCome g n t tried start mid → (e ≡ trouble.Disk false → OnlyReads g m mid new) → told_after tried e ≡ trouble.Disk false → OnlyReads g (n + m) start new
-come_untried g start mid new m true (trouble.Disk tried) come reads same = cc
-come_untried g start mid new m true (trouble.Damaged damage) come reads same = cc
-come_untried {n = n} g start mid new m false e come reads same = reads_then g start mid new n m (n + m) (come.reads refl) (reads same) (omega arith)
+pub come_reads : {D : Type 0} {g : Ghosts D} {n : ℕ} {old new : D} → OnlyReads g n old new → HasCome g n 0 false old new
+come_reads {g = g} {n = n} {old = old} {new = new} reads = record { told = reads.told; makes = reads_make g old new n reads; tries = λ yes. cc; reads = λ none. reads }
 
--- at the beginning
-pub come_begins : {D : Type 0} (g : Ghosts D) (d : D) → HasCome g 0 0 false d d
-come_begins g d = record { makes = makes_none g d 0 0; tries = λ yes. cc; reads = λ none. reads_none g d }
+pub come_as : {D : Type 0} {g : Ghosts D} {n t : ℕ} {b c : Bool} {old new : D} → b ≡ c → HasCome g n t b old new → HasCome g n t c old new
+come_as {g = g} {n = n} {t = t} {old = old} {new = new} same come = subst (λ (x : Bool). HasCome g n t x old new) same come

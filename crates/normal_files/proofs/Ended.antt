@@ -1,28 +1,6 @@
 -- The end of a file as it was read, and the images that its trimming leaves.
-use Rattle.std.proofs.Common.{◌≡◌, ◌≢◌, ◌⊎◌, inl, inr, ℕ, ◌+◌, ◌*◌, ◌/◌, ◌%◌, ◌<◌, ◌≤◌, List, [], length, set, get_or, refl, sym, ◌∙◌, ap, subst, get_or-set_other, get_or-set_same, arith}
-use Rattle.std.proofs.Math.ListN.{length-set}
-use Rattle.std.proofs.lemmas.Bool.{cases_eq, cases_lt, ne_eqb}
-use Rattle.std.proofs.lemmas.List.{get_or_past}
-use Rattle.cfs_base.specs.Disk.{Image, block_at}
-use Rattle.cfs_base.specs.Run.{left_now}
-use Rattle.cfs_base.specs.declared.disk.Disk.{Ghosts}
-use Rattle.cfs_base.specs.declared.identifier.Puid.{Puid}
-use Rattle.cfs_base.specs.declared.kind.Place.{Place}
-use Rattle.cfs_base.specs.declared.kind.Place.TheVariants.{Leaf, Node, Root}
-use Rattle.block_tree.specs.declared.root.Root as roots
-use Rattle.block_tree.specs.Node.{IsNode, node_spelling}
-use Rattle.block_tree.specs.Pointers.{leaf_pointers, pointers_of}
-use Rattle.block_tree.specs.Root.{IsGoodRoot}
-use Rattle.block_tree.proofs.Spellings.{leaves_of as node_leaves}
-use Rattle.cyl_alloc.specs.Space.{Kept}
-use Rattle.leaf_changes.specs.Bytes.{cut}
-use Rattle.ufs_model.specs.declared.object.File.{File}
-use Rattle.ufs_model.specs.Graph.{Graph}
-use Rattle.ufs_model.specs.Object.{leaves_in}
-use Rattle.vol_image.specs.Part.{BelongsTo, part_at}
-use Rattle.vol_image.proofs.Steps.{frames_begin}
-use Rattle.vol_owners.specs.Account.{Opened}
-use Rattle.normal_files.specs.Cuts.{IsCutRoot, IsEnd, IsReadEnd, MayPut, MayTrim, Shrinks, cut_block, first_gone, last_node, put_at, trimmed}
+use Rattle.normal_files.proofs.Words.{◌≡◌, ◌≢◌, ◌⊎◌, inl, inr, ℕ, ◌+◌, ◌*◌, ◌/◌, ◌%◌, ◌<◌, ◌≤◌, List, [], length, set, get_or, refl, sym, ◌∙◌, ap, subst, get_or-set_other, get_or-set_same, arith, length-set, cases_eq, cases_lt, ne_eqb, get_or_past, Image, block_at, left_now, Ghosts, Puid, Place, Leaf, Node, Root, IsNode, node_spelling, leaf_pointers, pointers_of, IsGoodRoot, node_leaves, Kept, cut, leaves_in, BelongsTo, part_at, frames_begin}
+use Rattle.normal_files.specs.Cuts.{IsCutRoot, IsEnd, IsReadEnd, MayPut, MayTrim, cut_block, first_gone, last_node, put_at, trimmed}
 use Rattle.normal_files.specs.Laid.{leaf_of, node_of}
 use Rattle.normal_files.specs.Nodes.{leaves_at}
 use Rattle.normal_files.specs.declared.cut.End.{End}
@@ -32,6 +10,8 @@ use Rattle.normal_files.proofs.Trees.{leaves_there, same_leaves, zeros}
 use Rattle.normal_files.proofs.Trimmed.{IsEitherWay, IsTrimmed, either_begin, either_put}
 use Rattle.normal_files.proofs.Places.{leaf_no_node, leaf_no_root, node_no_root, one_leaf, one_node}
 use Rattle.normal_files.proofs.LeafReads.{block_read}
+use Rattle.normal_files.specs.View.{View, id_at}
+use Rattle.block_tree.specs.declared.root.Root as roots
 
 -- ---- a block that may be none
 
@@ -53,10 +33,22 @@ put_other c m v b apart = elim (cases_eq m 0) [
 put_here : (c : Image) (m : ℕ) (v : List ℕ) → m ≢ 0 → m < length c → block_at (put_at c m v) m ≡ v
 put_here c m v some below = ap (λ (i : Image). block_at i m) (put_some c m v some) ∙ get_or-set_same c m v [] below
 
-module _ {D : Type 0} (g : Ghosts D) (graph : Graph) (ds : List Opened) (id : Puid) (f : File) (root : roots.Root) (at size : ℕ) (start : D) (kept : Kept) (is : Shrinks g graph ds id f root at size start kept) (blocks : ℕ) (end : End) (read : IsReadEnd blocks root size end)
-    (ended : IsEnd (g.content start) root size end) (spelled : IsNode end.node) (next : roots.Root) (good : IsGoodRoot next) (cut_is : IsCutRoot root size (first_gone size end.kept) next) where
+-- the file is to be set to less: how it is to end was read, and this is its next root
+pub record IsCut {D : Type 0} {g : Ghosts D} {block : ℕ} {root : roots.Root} {disk : D} {kept : Kept} (v : View g block root disk kept) (size : ℕ) (end : End) (next : roots.Root) : Type 0 where
+  pub less : size < length v.file.bytes
+  pub blocks : ℕ
+  pub read : IsReadEnd blocks root size end
+  pub ended : IsEnd (g.content disk) root size end
+  pub spelled : IsNode end.node
+  pub good : IsGoodRoot next
+  pub cut_is : IsCutRoot root size (first_gone size end.kept) next
+
+module _ {D : Type 0} {g : Ghosts D} {r : ℕ} {root : roots.Root} {start : D} {kept : Kept} {v : View g r root start kept} {size : ℕ} {end : End} {next : roots.Root} (z : IsCut v size end next) where
   abbrev a : Image
   a = g.content start
+
+  abbrev id : Puid
+  id = id_at r v.word
 
   abbrev last : ℕ
   last = last_node size
@@ -91,13 +83,13 @@ module _ {D : Type 0} (g : Ghosts D) (graph : Graph) (ds : List Opened) (id : Pu
   from_high some = rw (ne_eqb y 0 some) refl
 
   cut_when : size % 512 ≢ 0 → x ≡ leaf_of a root last j
-  cut_when within = read.cut ∙ when ∙ ap (λ (ls : List ℕ). get_or ls j 0) ended.own
+  cut_when within = z.read.cut ∙ when ∙ ap (λ (ls : List ℕ). get_or ls j 0) z.ended.own
     where
       when : cut_block size end.own.leaves ≡ get_or end.own.leaves j 0
       when = rw (ne_eqb (size % 512) 0 within) refl
 
   cut_none : size % 512 ≡ 0 → x ≡ 0
-  cut_none whole = read.cut ∙ when
+  cut_none whole = z.read.cut ∙ when
     where
       when : cut_block size end.own.leaves ≡ 0
       when = rw whole refl
@@ -111,26 +103,26 @@ module _ {D : Type 0} (g : Ghosts D) (graph : Graph) (ds : List Opened) (id : Pu
   x_real : (some : x ≢ 0) → leaf_of a root last j ≢ 0
   x_real some none = some (cut_when (x_within some) ∙ none)
 
-  x_part : (some : x ≢ 0) → BelongsTo id.block (Leaf (128 * last + j)) (part_at a x)
-  x_part some = subst (λ (m : ℕ). BelongsTo id.block (Leaf (128 * last + j)) (part_at a m)) (sym (cut_when (x_within some))) (is.starts.rooted.laid.leaves last j (omega arith) (x_real some)).part
+  x_part : (some : x ≢ 0) → BelongsTo r (Leaf (128 * last + j)) (part_at a x)
+  x_part some = subst (λ (m : ℕ). BelongsTo r (Leaf (128 * last + j)) (part_at a m)) (sym (cut_when (x_within some))) (v.has.rooted.laid.leaves last j (omega arith) (x_real some)).part
 
   x_below : x ≢ 0 → x < length a
-  x_below some = subst (λ (m : ℕ). m < length a) (sym (cut_when (x_within some))) (is.starts.rooted.laid.leaves last j (omega arith) (x_real some)).below
+  x_below some = subst (λ (m : ℕ). m < length a) (sym (cut_when (x_within some))) (v.has.rooted.laid.leaves last j (omega arith) (x_real some)).below
 
   pub x_own : x ≢ 0 → IsOwn a id root x
   x_own some = inr (inr (last, j, omega arith, x_real some, cut_when (x_within some)))
 
   y_is : y ≢ 0 → y ≡ node_of root last
-  y_is some = elim read.kept [ inl node ↦ node.0 | inr none ↦ absurd (some none.0) ]
+  y_is some = elim z.read.kept [ inl node ↦ node.0 | inr none ↦ absurd (some none.0) ]
 
   y_real : y ≢ 0 → node_of root last ≢ 0
   y_real some none = some (y_is some ∙ none)
 
-  y_part : y ≢ 0 → BelongsTo id.block (Node last) (part_at a y)
-  y_part some = subst (λ (m : ℕ). BelongsTo id.block (Node last) (part_at a m)) (sym (y_is some)) (is.starts.rooted.laid.nodes last (y_real some)).part
+  y_part : y ≢ 0 → BelongsTo r (Node last) (part_at a y)
+  y_part some = subst (λ (m : ℕ). BelongsTo r (Node last) (part_at a m)) (sym (y_is some)) (v.has.rooted.laid.nodes last (y_real some)).part
 
   y_below : y ≢ 0 → y < length a
-  y_below some = subst (λ (m : ℕ). m < length a) (sym (y_is some)) (is.starts.rooted.laid.nodes last (y_real some)).below
+  y_below some = subst (λ (m : ℕ). m < length a) (sym (y_is some)) (v.has.rooted.laid.nodes last (y_real some)).below
 
   pub y_own : y ≢ 0 → IsOwn a id root y
   y_own some = inr (inl (last, y_real some, y_is some))
@@ -141,25 +133,25 @@ module _ {D : Type 0} (g : Ghosts D) (graph : Graph) (ds : List Opened) (id : Pu
   e_other m not_x not_y = put_other mid y (node_spelling end.node) m not_y ∙ put_other a x end.content m not_x
 
   e_x : x ≢ 0 → block_at e x ≡ end.content
-  e_x some = put_other mid y (node_spelling end.node) x (λ real same. leaf_no_node (128 * last + j) last (places_differ a x y id.block (Leaf (128 * last + j)) (Node last) (x_part some) (y_part real) same)) ∙ put_here a x end.content some (x_below some)
+  e_x some = put_other mid y (node_spelling end.node) x (λ real same. leaf_no_node (128 * last + j) last (places_differ a x y r (Leaf (128 * last + j)) (Node last) (x_part some) (y_part real) same)) ∙ put_here a x end.content some (x_below some)
 
   e_y : y ≢ 0 → block_at e y ≡ node_spelling end.node
   e_y some = put_here mid y (node_spelling end.node) some (omega (arith, y_below some, put_long a x end.content))
 
   -- a block of the file at another place stays
-  place_stays : (m : ℕ) (p : Place) → BelongsTo id.block p (part_at a m) → p ≢ Leaf (128 * last + j) ⊎ (x ≡ 0) → p ≢ Node last ⊎ (y ≡ 0) → block_at e m ≡ block_at a m
+  place_stays : (m : ℕ) (p : Place) → BelongsTo r p (part_at a m) → p ≢ Leaf (128 * last + j) ⊎ (x ≡ 0) → p ≢ Node last ⊎ (y ≡ 0) → block_at e m ≡ block_at a m
   place_stays m p own not_x not_y = e_other m
-      (λ some same. elim not_x [ inl other ↦ other (places_differ a m x id.block p (Leaf (128 * last + j)) own (x_part some) same) | inr none ↦ some none ])
-      (λ some same. elim not_y [ inl other ↦ other (places_differ a m y id.block p (Node last) own (y_part some) same) | inr none ↦ some none ])
+      (λ some same. elim not_x [ inl other ↦ other (places_differ a m x r p (Leaf (128 * last + j)) own (x_part some) same) | inr none ↦ some none ])
+      (λ some same. elim not_y [ inl other ↦ other (places_differ a m y r p (Node last) own (y_part some) same) | inr none ↦ some none ])
 
   pub node_stays : (n : ℕ) → (n ≢ last) ⊎ (y ≡ 0) → leaves_at e (node_of root n) ≡ leaves_at a (node_of root n)
-  node_stays n other = same_leaves e a (node_of root n) (λ some. place_stays (node_of root n) (Node n) (is.starts.rooted.laid.nodes n some).part (inl (λ same. leaf_no_node (128 * last + j) n (sym same))) (elim other [ inl apart ↦ inl (λ same. apart (one_node n last same)) | inr none ↦ inr none ]))
+  node_stays n other = same_leaves e a (node_of root n) (λ some. place_stays (node_of root n) (Node n) (v.has.rooted.laid.nodes n some).part (inl (λ same. leaf_no_node (128 * last + j) n (sym same))) (elim other [ inl apart ↦ inl (λ same. apart (one_node n last same)) | inr none ↦ inr none ]))
 
   last_leaves : y ≢ 0 → leaves_at e (node_of root last) ≡ end.node.leaves
-  last_leaves some = ap (leaves_at e) (sym (y_is some)) ∙ leaves_there e y some ∙ ap (λ (c : List ℕ). pointers_of leaf_pointers c) (e_y some) ∙ sym (node_leaves end.node spelled)
+  last_leaves some = ap (leaves_at e) (sym (y_is some)) ∙ leaves_there e y some ∙ ap (λ (c : List ℕ). pointers_of leaf_pointers c) (e_y some) ∙ sym (node_leaves end.node z.spelled)
 
   own_at : (k : ℕ) → get_or end.own.leaves k 0 ≡ leaf_of a root last k
-  own_at k = ap (λ (ls : List ℕ). get_or ls k 0) ended.own
+  own_at k = ap (λ (ls : List ℕ). get_or ls k 0) z.ended.own
 
   pointer : (n k : ℕ) → (leaf_of e root n k ≡ leaf_of a root n k) ⊎ ((n ≡ last) × (y ≢ 0) × (leaf_of e root n k ≡ get_or end.node.leaves k 0))
   pointer n k = elim (cases_eq n last) [
@@ -173,28 +165,28 @@ module _ {D : Type 0} (g : Ghosts D) (graph : Graph) (ds : List Opened) (id : Pu
   early : (n k : ℕ) → k < 128 → 128 * n + k < keep → leaf_of e root n k ≡ leaf_of a root n k
   early n k small before = elim (pointer n k) [
     | inl same ↦ same
-    | inr now ↦ now.2 ∙ read.before k (omega (arith, before, now.0)) ∙ own_at k ∙ ap (λ (m : ℕ). leaf_of a root m k) (sym now.0)
+    | inr now ↦ now.2 ∙ z.read.before k (omega (arith, before, now.0)) ∙ own_at k ∙ ap (λ (m : ℕ). leaf_of a root m k) (sym now.0)
   ]
 
   late : (n k : ℕ) → k < 128 → keep ≤ 128 * n + k → (leaf_of e root n k ≡ leaf_of a root n k) ⊎ (leaf_of e root n k ≡ 0)
-  late n k small past = elim (pointer n k) [ inl same ↦ inl same | inr now ↦ inr (now.2 ∙ read.past k small (omega (arith, past, now.0))) ]
+  late n k small past = elim (pointer n k) [ inl same ↦ inl same | inr now ↦ inr (now.2 ∙ z.read.past k small (omega (arith, past, now.0))) ]
 
   -- where no node is kept the last one has no leaf that is
   none_kept : y ≡ 0 → (k : ℕ) → k < 128 → get_or end.node.leaves k 0 ≡ 0
-  none_kept none k small = elim read.kept [
+  none_kept none k small = elim z.read.kept [
     | inr all ↦ all.1 k small
     | inl node ↦
         let zero_node : node_of root last ≡ 0 = sym node.0 ∙ none in
         let nothing : (i : ℕ) → get_or end.own.leaves i 0 ≡ 0 = λ i. own_at i ∙ ap (λ (m : ℕ). get_or (leaves_at a m) i 0) zero_node ∙ zeros 128 i in
-        absurd (node.1.2 (elim (cases_lt (128 * last + node.1.0) keep) [ inl before ↦ read.before node.1.0 before ∙ nothing node.1.0 | inr past ↦ read.past node.1.0 node.1.1 past ]))
+        absurd (node.1.2 (elim (cases_lt (128 * last + node.1.0) keep) [ inl before ↦ z.read.before node.1.0 before ∙ nothing node.1.0 | inr past ↦ z.read.past node.1.0 node.1.1 past ]))
   ]
 
   leads : (n : ℕ) → node_of root n ≢ 0 → (k : ℕ) × (k < 128) × (leaf_of e root n k ≢ 0)
   leads n real = elim (cases_eq n last) [
-    | inr apart ↦ let to = is.starts.rooted.laid.leads n real in (to.0, to.1, λ none. to.2 (sym (ap (λ (ls : List ℕ). get_or ls to.0 0) (node_stays n (inl apart))) ∙ none))
+    | inr apart ↦ let to = v.has.rooted.laid.leads n real in (to.0, to.1, λ none. to.2 (sym (ap (λ (ls : List ℕ). get_or ls to.0 0) (node_stays n (inl apart))) ∙ none))
     | inl same ↦ elim (cases_eq y 0) [
-      | inl none ↦ let to = is.starts.rooted.laid.leads n real in (to.0, to.1, λ gone. to.2 (sym (ap (λ (ls : List ℕ). get_or ls to.0 0) (node_stays n (inr none))) ∙ gone))
-      | inr some ↦ elim read.kept [
+      | inl none ↦ let to = v.has.rooted.laid.leads n real in (to.0, to.1, λ gone. to.2 (sym (ap (λ (ls : List ℕ). get_or ls to.0 0) (node_stays n (inr none))) ∙ gone))
+      | inr some ↦ elim z.read.kept [
         | inr none ↦ absurd (some none.0)
         | inl node ↦ (node.1.0, node.1.1, λ gone. node.1.2 (sym (ap (λ (m : ℕ). leaf_of e root m node.1.0) same ∙ ap (λ (ls : List ℕ). get_or ls node.1.0 0) (last_leaves some)) ∙ gone))
       ]
@@ -202,7 +194,7 @@ module _ {D : Type 0} (g : Ghosts D) (graph : Graph) (ds : List Opened) (id : Pu
   ]
 
   leaf_stays : (n k : ℕ) → k < 128 → leaf_of a root n k ≢ 0 → (128 * n + k ≡ size / 512 → size % 512 ≡ 0) → block_at e (leaf_of a root n k) ≡ block_at a (leaf_of a root n k)
-  leaf_stays n k small some whole = place_stays (leaf_of a root n k) (Leaf (128 * n + k)) (is.starts.rooted.laid.leaves n k small some).part
+  leaf_stays n k small some whole = place_stays (leaf_of a root n k) (Leaf (128 * n + k)) (v.has.rooted.laid.leaves n k small some).part
       (elim (cases_eq (size % 512) 0) [ inl end_whole ↦ inr (cut_none end_whole) | inr within ↦ inl (λ same. within (whole (one_leaf (128 * n + k) (128 * last + j) same ∙ at_cut within))) ])
       (inl (λ same. leaf_no_node (128 * n + k) last same))
 
@@ -213,12 +205,12 @@ module _ {D : Type 0} (g : Ghosts D) (graph : Graph) (ds : List Opened) (id : Pu
       let place : k ≡ j = omega (arith, here, at_l, small) in
       let same : leaf_of a root n k ≡ x = ap (λ (m : ℕ). leaf_of a root m k) high ∙ ap (leaf_of a root last) place ∙ sym (cut_when within) in
       let real : x ≢ 0 = λ none. some (same ∙ none) in
-      ap (block_at e) same ∙ e_x real ∙ ended.content ∙ ap (cut size root.fill) (block_read a root.fill x real ∙ ap (block_at a) (sym same))
+      ap (block_at e) same ∙ e_x real ∙ z.ended.content ∙ ap (cut size root.fill) (block_read a root.fill x real ∙ ap (block_at a) (sym same))
 
   -- ---- the next root
 
   next_past : (n : ℕ) → from ≤ n → node_of next n ≡ 0
-  next_past n past = elim (cases_lt n 120) [ inl few ↦ cut_is.past n past few | inr many ↦ get_or_past next.nodes n 0 (omega (arith, many, good.0.count)) ]
+  next_past n past = elim (cases_lt n 120) [ inl few ↦ z.cut_is.past n past few | inr many ↦ get_or_past next.nodes n 0 (omega (arith, many, z.good.0.count)) ]
 
   next_before : (n : ℕ) → node_of next n ≢ 0 → n < from
   next_before n real = elim (cases_lt n from) [ inl before ↦ before | inr past ↦ absurd (real (next_past n past)) ]
@@ -234,11 +226,11 @@ module _ {D : Type 0} (g : Ghosts D) (graph : Graph) (ds : List Opened) (id : Pu
 
   next_early : (n k : ℕ) → k < 128 → 128 * n + k < keep → leaf_of e next n k ≡ leaf_of a root n k
   next_early n k small before = elim (cases_lt n from) [
-    | inl stays ↦ ap (λ (m : ℕ). get_or (leaves_at e m) k 0) (cut_is.before n stays) ∙ early n k small before
+    | inl stays ↦ ap (λ (m : ℕ). get_or (leaves_at e m) k 0) (z.cut_is.before n stays) ∙ early n k small before
     | inr past ↦
         let same : n ≡ last = omega (arith, from_least, past, before, small) in
         let none : y ≡ 0 = elim (cases_eq y 0) [ inl is_none ↦ is_none | inr some ↦ absurd (omega (arith, from_high some, past, same)) ] in
-        past_pointer n k past ∙ sym (ap (λ (m : ℕ). leaf_of a root m k) same ∙ sym (own_at k) ∙ sym (read.before k (omega (arith, before, same))) ∙ none_kept none k small)
+        past_pointer n k past ∙ sym (ap (λ (m : ℕ). leaf_of a root m k) same ∙ sym (own_at k) ∙ sym (z.read.before k (omega (arith, before, same))) ∙ none_kept none k small)
   ]
 
   next_late : (n k : ℕ) → k < 128 → keep ≤ 128 * n + k → leaf_of e next n k ≡ 0
@@ -247,22 +239,22 @@ module _ {D : Type 0} (g : Ghosts D) (graph : Graph) (ds : List Opened) (id : Pu
     | inl stays ↦
         let same : n ≡ last = omega (arith, from_most, stays, past, small) in
         let some : y ≢ 0 = λ none. omega (arith, from_low none, stays, same) in
-        ap (λ (m : ℕ). get_or (leaves_at e m) k 0) (cut_is.before n stays ∙ ap (node_of root) same) ∙ ap (λ (ls : List ℕ). get_or ls k 0) (last_leaves some) ∙ read.past k small (omega (arith, past, same))
+        ap (λ (m : ℕ). get_or (leaves_at e m) k 0) (z.cut_is.before n stays ∙ ap (node_of root) same) ∙ ap (λ (ls : List ℕ). get_or ls k 0) (last_leaves some) ∙ z.read.past k small (omega (arith, past, same))
   ]
 
   pub is_trimmed : IsTrimmed a id root next size e
   is_trimmed = record {
-    good = good;
-    head = cut_is.head;
-    word = cut_is.word;
+    good = z.good;
+    head = z.cut_is.head;
+    word = z.cut_is.word;
     long = put_long mid y (node_spelling end.node) ∙ put_long a x end.content;
-    root_kept = place_stays id.block Root is.starts.rooted.part (inl (λ same. leaf_no_root (128 * last + j) (sym same))) (inl (λ same. node_no_root last (sym same)));
+    root_kept = place_stays r Root v.has.rooted.part (inl (λ same. leaf_no_root (128 * last + j) (sym same))) (inl (λ same. node_no_root last (sym same)));
     early = early;
     late = late;
     leads = leads;
     bytes = leaf_stays;
     cut_bytes = leaf_cut;
-    nodes = λ n real. cut_is.before n (next_before n real);
+    nodes = λ n real. z.cut_is.before n (next_before n real);
     next_early = next_early;
     next_late = next_late;
   }
@@ -271,22 +263,22 @@ module _ {D : Type 0} (g : Ghosts D) (graph : Graph) (ds : List Opened) (id : Pu
   pub gone_stays : (n : ℕ) → node_of root n ≢ 0 → node_of next n ≡ 0 → leaves_at e (node_of root n) ≡ leaves_at a (node_of root n)
   gone_stays n real gone = node_stays n (elim (cases_eq n last) [
     | inr apart ↦ inl apart
-    | inl same ↦ elim (cases_eq y 0) [ inl none ↦ inr none | inr some ↦ absurd (real (sym (cut_is.before n (omega (arith, from_high some, same))) ∙ gone)) ]
+    | inl same ↦ elim (cases_eq y 0) [ inl none ↦ inr none | inr some ↦ absurd (real (sym (z.cut_is.before n (omega (arith, from_high some, same))) ∙ gone)) ]
   ])
 
   -- and those before the last stay with the root
   pub stay_before : (n : ℕ) → n < last → node_of root n ≢ 0 → node_of next n ≢ 0
-  stay_before n before real none = real (sym (cut_is.before n (omega (arith, before, from_least))) ∙ none)
+  stay_before n before real none = real (sym (z.cut_is.before n (omega (arith, before, from_least))) ∙ none)
 
   -- ---- what its trimming leaves
 
   abbrev Either : Image → Type 0
-  Either c = IsEitherWay g graph id f root start is.starts e c
+  Either c = IsEitherWay v.has e c
 
-  either_put_at : (c : Image) (m : ℕ) (v : List ℕ) → (m ≢ 0 → IsOwn a id root m × (m < length a) × (v ≡ block_at e m)) → Either c → Either (put_at c m v)
-  either_put_at c m v known way = elim (cases_eq m 0) [
-    | inl none ↦ subst Either (sym (put_none c m v none)) way
-    | inr some ↦ let three = known some in subst Either (sym (put_some c m v some)) (either_put g graph id f root start is.starts e c m v way three.0 three.1 three.2)
+  either_put_at : (c : Image) (m : ℕ) (s : List ℕ) → (m ≢ 0 → IsOwn a id root m × (m < length a) × (s ≡ block_at e m)) → Either c → Either (put_at c m s)
+  either_put_at c m s known way = elim (cases_eq m 0) [
+    | inl none ↦ subst Either (sym (put_none c m s none)) way
+    | inr some ↦ let three = known some in subst Either (sym (put_some c m s some)) (either_put v.has e c m s way three.0 three.1 three.2)
   ]
 
   known_x : x ≢ 0 → IsOwn a id root x × (x < length a) × (end.content ≡ block_at e x)
@@ -296,11 +288,11 @@ module _ {D : Type 0} (g : Ghosts D) (graph : Graph) (ds : List Opened) (id : Pu
   known_y some = (y_own some, y_below some, sym (e_y some))
 
   pub either_e : Either e
-  either_e = either_put_at mid y (node_spelling end.node) known_y (either_put_at a x end.content known_x (either_begin g graph id f root start is.starts e a (frames_begin a graph is.starts.holds)))
+  either_e = either_put_at mid y (node_spelling end.node) known_y (either_put_at a x end.content known_x (either_begin v.has e a (frames_begin a v.graph v.has.holds)))
 
-  may_put : (images : Image → Type 0) (m : ℕ) (v : List ℕ) → (m ≢ 0 → IsOwn a id root m × (m < length a) × (v ≡ block_at e m)) → ((c : Image) → images c → Either c) → (c : Image) → MayPut images m v c → Either c
-  may_put images m v known each c (inl was) = each c was
-  may_put images m v known each c (inr (some, w)) = let three = known some in subst Either (sym w.2) (either_put g graph id f root start is.starts e w.0 m v (each w.0 w.1) three.0 three.1 three.2)
+  may_put : (images : Image → Type 0) (m : ℕ) (s : List ℕ) → (m ≢ 0 → IsOwn a id root m × (m < length a) × (s ≡ block_at e m)) → ((c : Image) → images c → Either c) → (c : Image) → MayPut images m s c → Either c
+  may_put images m s known each c (inl was) = each c was
+  may_put images m s known each c (inr (some, w)) = let three = known some in subst Either (sym w.2) (either_put v.has e w.0 m s (each w.0 w.1) three.0 three.1 three.2)
 
   pub either_left : (c : Image) → MayTrim (left_now g start) end c → Either c
-  either_left = may_put (MayPut (left_now g start) x end.content) y (node_spelling end.node) known_y (may_put (left_now g start) x end.content known_x (λ c left. either_begin g graph id f root start is.starts e c (is.store.carries.here c left)))
+  either_left = may_put (MayPut (left_now g start) x end.content) y (node_spelling end.node) known_y (may_put (left_now g start) x end.content known_x (λ c left. either_begin v.has e c (v.store.carries.here c left)))

@@ -1,54 +1,13 @@
 -- How calls end that take blocks, one after another.
-use Rattle.std.proofs.Common.{◌≡◌, ◌⊎◌, inl, inr, ℕ, zero, suc, ◌+◌, ◌-◌, ◌/◌, ◌≤◌, Bool, true, false, IsTrue, Ok, Err, List, [], ◌∷◌, length, get_or, set, refl, sym, ◌∙◌, ap, subst, arith}
-use Rattle.std.specs.Prelude.{sum}
-use Rattle.std.proofs.lemmas.List.Sums.{sum_by-cons}
-use Rattle.cfs_base.specs.Calls.{HasTried, MakesAtMost, OnlyReads}
-use Rattle.cfs_base.specs.Disk.{Image}
-use Rattle.cfs_base.specs.Refusals.{after_try, had_tried, refused_by, trouble_after_try}
-use Rattle.cfs_base.specs.Run.{Tells}
-use Rattle.cfs_base.specs.declared.disk.Disk.{Ghosts}
-use Rattle.cfs_base.specs.declared.identifier.BlockNo.{BlockNo}
-use Rattle.cfs_base.specs.declared.refusal.Refused.{Refused}
+use Rattle.normal_files.proofs.Words.{◌≡◌, ◌⊎◌, inl, inr, ℕ, zero, suc, ◌+◌, ◌-◌, ◌/◌, ◌≤◌, Bool, true, false, Ok, Err, List, [], ◌∷◌, get_or, set, refl, sym, ◌∙◌, ap, subst, arith, sum, IsSome, None, Some, Option, ◌||◌, sum_by-cons, OnlyReads, Image, after_try, had_tried, refused_by, trouble_after_try, Tells, Ghosts, BlockNo, Refused, Trouble, makes_then, reads_then, reads_within, stopped_after_reads, stopped_after_try, still_tells, MapEntry, AreMaps, entry_in, map_of, Enters, IsFindRefusal, AreCounts, IsBadMap, Kept, Damage}
+use Rattle.normal_files.specs.Ends.{HasGone, IsNoSpace, IsStop, is_damaged, refused_after, Halts, NoMap, OtherCount}
+use Rattle.normal_files.specs.Steps.{HasStoppedBy, WritesBlock, HasCome, told_after, Stops}
+use Rattle.normal_files.specs.Takes.{GetsNode, leaf_takes, Claims, Had}
+use Rattle.normal_files.proofs.Come.{makes_within, come_none, come_then, come_within, come_wrote, write_stopped}
 use Rattle.cfs_base.specs.declared.refusal.Refused.TheVariants as refusals
-use Rattle.cfs_base.specs.declared.refusal.Trouble.{Trouble}
 use Rattle.cfs_base.specs.declared.refusal.Trouble.TheVariants as trouble
-use Rattle.cfs_base.proofs.Calls.{makes_then, reads_then, reads_within, stopped_after_reads, stopped_after_try, then_tried}
-use Rattle.cfs_base.proofs.Runs.{still_tells}
-use Rattle.cyl_map.specs.declared.entry.MapEntry.{MapEntry}
-use Rattle.cyl_map.specs.Volume.{AreMaps, entry_in, map_of}
-use Rattle.cyl_alloc.specs.Enters.{Enters}
-use Rattle.cyl_alloc.specs.Refusals.{IsFindRefusal}
-use Rattle.cyl_alloc.specs.Space.{AreCounts, IsBadMap, Kept, after_taking}
-use Rattle.std.specs.Prelude.{IsSome, None, Some, Option}
-use Rattle.normal_files.specs.Ends.{Finishes, HasGone, IsNoSpace, IsStop, NoMap, OtherCount, is_damaged, refused_after}
-use Rattle.normal_files.specs.Steps.{HasStoppedBy, WritesBlock}
-use Rattle.normal_files.specs.Takes.{Claims, GetsNode, Had, leaf_takes}
-use Rattle.normal_files.proofs.Come.{makes_none, makes_within, reads_none}
 
 -- ---- one refusal told as another
-
-module _ {D : Type 0} (g : Ghosts D) (d0 d1 d2 : D) (kept : Kept) (on : Tells g d0 → Tells g d1) where
-  no_space_since : (damage : _) → IsNoSpace g d1 d2 kept damage → IsNoSpace g d0 d2 kept damage
-  no_space_since damage (NoMap code on_disk bad) = NoMap code on_disk (λ tells. bad (on tells))
-  no_space_since damage (OtherCount code other) = OtherCount code (λ tells. other (on tells))
-
-  stop_after_try : (n t : ℕ) → MakesAtMost g n t d0 d1 → HasTried g d0 d1 → (e : Refused) → IsStop g d1 d2 kept e → IsStop g d0 d2 kept (after_try e)
-  stop_after_try n t calls tried (refusals.Full need) is = is
-  stop_after_try n t calls tried (refusals.Disk was) is = stopped_after_try g d0 d1 d2 n t was calls tried is
-  stop_after_try n t calls tried (refusals.Damaged damage) is = no_space_since damage is
-  stop_after_try n t calls tried refusals.Memory is = is
-
-  stop_after_reads : (n : ℕ) → OnlyReads g n d0 d1 → (e : Refused) → IsStop g d1 d2 kept e → IsStop g d0 d2 kept e
-  stop_after_reads n reads (refusals.Full need) is = is
-  stop_after_reads n reads (refusals.Disk was) is = stopped_after_reads g d0 d1 d2 n was reads is
-  stop_after_reads n reads (refusals.Damaged damage) is = no_space_since damage is
-  stop_after_reads n reads refusals.Memory is = is
-
-not_untried : (e : Refused) → after_try e ≡ refusals.Disk false → ⊥
-not_untried (refusals.Full need) same = cc
-not_untried (refusals.Disk was) same = cc
-not_untried (refusals.Damaged damage) same = cc
-not_untried refusals.Memory same = cc
 
 pub still_sound : (tried : Bool) (e : Refused) → is_damaged e ≡ false → is_damaged (refused_after tried e) ≡ false
 still_sound false e is = is
@@ -61,84 +20,98 @@ pub stopped_sound : {D : Type 0} (g : Ghosts D) (old new : D) (t : Trouble) → 
 stopped_sound g old new (trouble.Disk tried) is = refl
 stopped_sound g old new (trouble.Damaged damage) is = absurd is
 
-pub stop_by : {D : Type 0} (g : Ghosts D) (old new : D) (kept : Kept) (t : Trouble) → HasStoppedBy g old new t → IsStop g old new kept (refused_by t)
-stop_by g old new kept (trouble.Disk tried) is = is
-stop_by g old new kept (trouble.Damaged damage) is = absurd is
+pub same_after : (tried : Bool) (t : Trouble) → refused_by (told_after tried t) ≡ refused_after tried (refused_by t)
+same_after true (trouble.Disk tried) = refl
+same_after true (trouble.Damaged damage) = refl
+same_after false t = refl
 
-pub same_after : (t : Trouble) → refused_by (trouble_after_try t) ≡ after_try (refused_by t)
-same_after (trouble.Disk tried) = refl
-same_after (trouble.Damaged damage) = refl
+pub same_disk : (tried : Bool) {t : Trouble} → t ≡ trouble.Disk true → refused_after tried (refused_by t) ≡ refused_by t
+same_disk true is = ap (λ t. after_try (refused_by t)) is ∙ sym (ap refused_by is)
+same_disk false is = refl
+
+-- what was refused after calls of which none failed
+pub stop_after : {D : Type 0} {g : Ghosts D} {n t : ℕ} {start mid : D} (new : D) (kept : Kept) (b : Bool) (e : Refused) → HasCome g n t b start mid → IsStop g mid new kept e → IsStop g start new kept (refused_after b e)
+stop_after {g = g} {n = n} {t = t} {start = start} {mid = mid} new kept b e come stop = by b e come stop
+  where
+    on : (damage : Damage) → IsNoSpace g mid new kept damage → IsNoSpace g start new kept damage
+    on damage (NoMap code on_disk bad) = NoMap code on_disk (λ tells. bad (still_tells g tells come.told come.makes.same))
+    on damage (OtherCount code other) = OtherCount code (λ tells. other (still_tells g tells come.told come.makes.same))
+
+    by : (x : Bool) (f : Refused) → HasCome g n t x start mid → IsStop g mid new kept f → IsStop g start new kept (refused_after x f)
+    by true (refusals.Full need) was is = is
+    by true (refusals.Disk tried) was is = stopped_after_try g start mid new n t tried was.makes (was.tries refl) is
+    by true (refusals.Damaged damage) was is = on damage is
+    by true refusals.Memory was is = is
+    by false (refusals.Full need) was is = is
+    by false (refusals.Disk tried) was is = stopped_after_reads g start mid new n tried (was.reads refl) is
+    by false (refusals.Damaged damage) was is = on damage is
+    by false refusals.Memory was is = is
 
 -- ---- runs
 
-pub gone_begins : {D : Type 0} (g : Ghosts D) (d : D) (kept : Kept) → HasGone g 0 0 0 false d d kept kept
-gone_begins g d kept = record { told = λ b h. h; makes = makes_none g d 0 0; tries = λ yes. cc; reads = λ none. (refl, reads_none g d); cylinders = refl; takes = omega arith }
+pub gone_none : {D : Type 0} (g : Ghosts D) (d : D) (kept : Kept) (n t k : ℕ) → HasGone g n t k false d d kept kept
+gone_none g d kept n t k = record { come = come_none g d n t; kept = λ none. refl; cylinders = refl; takes = omega arith }
 
-module _ {D : Type 0} (g : Ghosts D) (start mid new : D) (k0 k1 k2 : Kept) (n t k : ℕ) where
-  -- the same with greater bounds
-  pub gone_within : (tried : Bool) (m s j : ℕ) → n ≤ m → t ≤ s → k ≤ j → HasGone g n t k tried start mid k0 k1 → HasGone g m s j tried start mid k0 k1
-  gone_within tried m s j more tries blocks gone = record {
-    told = gone.told;
-    makes = makes_within g start mid n t m s more tries gone.makes;
-    tries = gone.tries;
-    reads = λ none. ((gone.reads none).0, reads_within g start mid n m more (gone.reads none).1);
-    cylinders = gone.cylinders;
-    takes = omega (arith, gone.takes, blocks);
-  }
+-- calls that take no block
+pub gone_come : {D : Type 0} {g : Ghosts D} {n t : ℕ} {b : Bool} {old new : D} → HasCome g n t b old new → (kept : Kept) → HasGone g n t 0 b old new kept kept
+gone_come come kept = record { come = come; kept = λ none. refl; cylinders = refl; takes = omega arith }
 
-  -- a call that is done
-  pub gone_on : (tried : Bool) (m s j : ℕ) → HasGone g n t k tried start mid k0 k1 → ((b : ℕ) → IsTrue (g.told mid b) → IsTrue (g.told new b)) → MakesAtMost g m s mid new → HasTried g mid new → length k2.free ≡ length k1.free → sum k1.free ≤ sum k2.free + j
-      → HasGone g (n + m) (t + s) (k + j) true start new k0 k2
-  gone_on tried m s j gone told makes did cylinders takes = record {
-    told = λ b was. told b (gone.told b was);
-    makes = makes_then g start mid new n m (n + m) t s (t + s) gone.makes makes (omega arith) (omega arith);
-    tries = λ yes. then_tried g start mid new n t gone.makes did;
-    reads = λ none. cc;
-    cylinders = cylinders ∙ gone.cylinders;
-    takes = omega (arith, gone.takes, takes);
-  }
+pub or_true : (b : Bool) → (b || true) ≡ true
+or_true true = refl
+or_true false = refl
 
-  pub gone_done : {A : Type 0} (x : A) → HasGone g n t k true start mid k0 k1 → Finishes g n t k start mid k0 k1 (Ok x)
-  gone_done x gone = record { told = gone.told; tried = gone.tries refl; refused = λ room. tt; untried = tt; cylinders = gone.cylinders; takes = gone.takes; calls = gone.makes }
+pub gone_as : {D : Type 0} {g : Ghosts D} {n t k : ℕ} {b c : Bool} {old new : D} {before after : Kept} → b ≡ c → HasGone g n t k b old new before after → HasGone g n t k c old new before after
+gone_as {g = g} {n = n} {t = t} {k = k} {old = old} {new = new} {before = before} {after = after} same gone = subst (λ (x : Bool). HasGone g n t k x old new before after) same gone
 
-  -- a call that is stopped, after a write was tried
-  pub stopped_tried : {A : Type 0} (m s j : ℕ) (e : Refused) → HasGone g n t k true start mid k0 k1 → (j ≤ sum k1.free → IsStop g mid new k2 e) → length k2.free ≡ length k1.free → MakesAtMost g m s mid new
-      → (most tries blocks : ℕ) → n + m ≤ most → t + s ≤ tries → k + j ≤ blocks → Finishes {A = A} g most tries blocks start new k0 k2 (Err (after_try e))
-  stopped_tried m s j e gone stop cylinders calls most tries blocks lm lt lk = record {
-    told = tt;
-    tried = tt;
-    refused = λ room. stop_after_try g start mid new k2 (λ tells. still_tells g tells gone.told gone.makes.same) n t gone.makes (gone.tries refl) e (stop (omega (arith, room, lk, gone.takes)));
-    untried = λ same. absurd (not_untried e same);
-    cylinders = cylinders ∙ gone.cylinders;
-    takes = tt;
-    calls = makes_then g start mid new n m most t s tries gone.makes calls lm lt;
-  }
+pub gone_within : {D : Type 0} {g : Ghosts D} {n t k m s j : ℕ} {b : Bool} {old new : D} {before after : Kept} → HasGone g n t k b old new before after → n ≤ m → t ≤ s → k ≤ j → HasGone g m s j b old new before after
+gone_within gone more tries blocks = record { come = come_within gone.come more tries; kept = gone.kept; cylinders = gone.cylinders; takes = omega (arith, gone.takes, blocks) }
 
-  -- a call that ends so, tried or not
-  pub gone_err : {A B : Type 0} (tried : Bool) (m s j : ℕ) (e : Refused) → HasGone g n t k tried start mid k0 k1 → Finishes {A = A} g m s j mid new k1 k2 (Err e)
-      → (most tries blocks : ℕ) → n + m ≤ most → t + s ≤ tries → k + j ≤ blocks → Finishes {A = B} g most tries blocks start new k0 k2 (Err (refused_after tried e))
-  gone_err true m s j e gone ends most tries blocks lm lt lk = stopped_tried m s j e gone ends.refused ends.cylinders ends.calls most tries blocks lm lt lk
-  gone_err false m s j e gone ends most tries blocks lm lt lk = record {
-    told = tt;
-    tried = tt;
-    refused = λ room. stop_after_reads g start mid new k2 (λ tells. still_tells g tells gone.told gone.makes.same) n (gone.reads refl).1 e (ends.refused (omega (arith, room, lk, gone.takes)));
-    untried = λ same. let two = ends.untried same in (two.0 ∙ (gone.reads refl).0, reads_then g start mid new n m most (gone.reads refl).1 two.1 lm);
-    cylinders = ends.cylinders ∙ gone.cylinders;
-    takes = tt;
-    calls = makes_then g start mid new n m most t s tries gone.makes ends.calls lm lt;
-  }
-
--- a refusal with greater bounds
-pub finishes_within : {D A : Type 0} (g : Ghosts D) (start new : D) (k0 k2 : Kept) (e : Refused) (n t k m s j : ℕ) → n ≤ m → t ≤ s → k ≤ j → Finishes {A = A} g n t k start new k0 k2 (Err e) → Finishes {A = A} g m s j start new k0 k2 (Err e)
-finishes_within g start new k0 k2 e n t k m s j more tries blocks ends = record {
-  told = tt;
-  tried = tt;
+pub halts_within : {D : Type 0} {g : Ghosts D} {n t k m s j : ℕ} {old new : D} {before after : Kept} {e : Refused} → Halts g n t k old new before after e → n ≤ m → t ≤ s → k ≤ j → Halts g m s j old new before after e
+halts_within {g = g} {n = n} {t = t} {m = m} {s = s} {old = old} {new = new} ends more tries blocks = record {
   refused = λ room. ends.refused (omega (arith, room, blocks));
-  untried = λ same. let two = ends.untried same in (two.0, reads_within g start new n m more two.1);
+  untried = λ same. let two = ends.untried same in (two.0, reads_within g old new n m more two.1);
   cylinders = ends.cylinders;
-  takes = tt;
-  calls = makes_within g start new n t m s more tries ends.calls;
+  calls = makes_within g old new n t m s more tries ends.calls;
 }
+
+module _ {D : Type 0} {g : Ghosts D} {n t k : ℕ} {start mid : D} {k0 k1 : Kept} where
+  pub gone_then : {m s j : ℕ} (b c : Bool) {new : D} {k2 : Kept} → HasGone g n t k b start mid k0 k1 → HasGone g m s j c mid new k1 k2 → HasGone g (n + m) (t + s) (k + j) (b || c) start new k0 k2
+  gone_then b c {new} {k2} gone more = record { come = come_then b c gone.come more.come; kept = kept b gone.kept; cylinders = more.cylinders ∙ gone.cylinders; takes = omega (arith, gone.takes, more.takes) }
+    where
+      kept : (x : Bool) → (x ≡ false → k1 ≡ k0) → (x || c) ≡ false → k2 ≡ k0
+      kept true was none = cc
+      kept false was none = more.kept none ∙ was refl
+
+  pub gone_err : {m s j : ℕ} (b : Bool) {new : D} {k2 : Kept} (e : Refused) → HasGone g n t k b start mid k0 k1 → Halts g m s j mid new k1 k2 e → Halts g (n + m) (t + s) (k + j) start new k0 k2 (refused_after b e)
+  gone_err {m} {s} b {new} {k2} e gone ends = record {
+    refused = λ room. stop_after new k2 b e gone.come (ends.refused (omega (arith, room, gone.takes)));
+    untried = untried b e gone ends.untried;
+    cylinders = ends.cylinders ∙ gone.cylinders;
+    calls = makes_then g start mid new n m (n + m) t s (t + s) gone.come.makes ends.calls (omega arith) (omega arith);
+  }
+    where
+      untried : (x : Bool) (f : Refused) → HasGone g n t k x start mid k0 k1 → (f ≡ refusals.Disk false → (k2 ≡ k1) × OnlyReads g m mid new) → refused_after x f ≡ refusals.Disk false → (k2 ≡ k0) × OnlyReads g (n + m) start new
+      untried true (refusals.Full need) was only same = cc
+      untried true (refusals.Disk tried) was only same = cc
+      untried true (refusals.Damaged damage) was only same = cc
+      untried true refusals.Memory was only same = cc
+      untried false f was only same = let two = only same in (two.0 ∙ was.kept refl, reads_then g start mid new n m (n + m) (was.come.reads refl) two.1 (omega arith))
+
+-- calls that take no block, stopped
+pub halts_come : {D : Type 0} {g : Ghosts D} {n t : ℕ} {old new : D} {e : Trouble} → Stops g n t old new e → (kept : Kept) → Halts g n t 0 old new kept kept (refused_by e)
+halts_come {g = g} {n = n} {old = old} {new = new} {e = e} ends kept = record { refused = λ room. stop e ends.stopped; untried = λ same. (refl, ends.untried (disk e same)); cylinders = refl; calls = ends.calls }
+  where
+    stop : (x : Trouble) → HasStoppedBy g old new x → IsStop g old new kept (refused_by x)
+    stop (trouble.Disk tried) is = is
+    stop (trouble.Damaged damage) is = absurd is
+
+    disk : (x : Trouble) → refused_by x ≡ refusals.Disk false → x ≡ trouble.Disk false
+    disk (trouble.Disk tried) same = cc
+    disk (trouble.Damaged damage) same = cc
+
+-- the last call of three, which tried a write
+pub gone_last : {D : Type 0} {g : Ghosts D} {n t k m s j l q : ℕ} (a b : Bool) {d0 d1 d2 d3 : D} {k0 k1 k2 : Kept} → HasGone g n t k a d0 d1 k0 k1 → HasGone g m s j b d1 d2 k1 k2 → HasCome g l q true d2 d3 → HasGone g (n + m + l) (t + s + q) (k + j + 0) true d0 d3 k0 k2
+gone_last a b {k2 = k2} one two last = gone_as (or_true (a || b)) (gone_then (a || b) true (gone_then a b one two) (gone_come last k2))
 
 -- ---- a block taken
 
@@ -150,20 +123,27 @@ one_less [] i = omega arith
 one_less (x ∷ xs) zero = omega (arith, sum_by-cons itself x xs, sum_by-cons itself (x - 1) xs)
 one_less (x ∷ xs) (suc i) = omega (arith, sum_by-cons itself x xs, sum_by-cons itself x (set xs i (get_or xs i 0 - 1)), one_less xs i)
 
-sum_taken : (kept : Kept) (n : ℕ) → sum kept.free ≤ sum (after_taking kept n).free + 1
-sum_taken kept n = one_less kept.free (n / 64)
+pub enters_gone : {D : Type 0} {g : Ghosts D} {e : MapEntry} {old new : D} {before after : Kept} {x : BlockNo} → Enters g e old new before after (Ok x) → HasGone g 2 1 1 true old new before after
+enters_gone {before = before} {x = x} is = record {
+  come = record { told = is.told; makes = is.calls; tries = λ yes. is.made; reads = λ none. cc };
+  kept = λ none. cc;
+  cylinders = is.cylinders;
+  takes = subst (λ (k : Kept). sum before.free ≤ sum k.free + 1) (sym is.taken) (one_less before.free (x.0 / 64));
+}
 
-pub entered_takes : {D : Type 0} (g : Ghosts D) (old new : D) (before after : Kept) (e : MapEntry) (x : BlockNo) → Enters g e old new before after (Ok x) → sum before.free ≤ sum after.free + 1
-entered_takes g old new before after e x is = subst (λ (k : Kept). sum before.free ≤ sum k.free + 1) (sym is.taken) (sum_taken before x.0)
-
-module _ {D : Type 0} (g : Ghosts D) (old new : D) (before after : Kept) (e : MapEntry) (error : Refused) (is : Enters g e old new before after (Err error)) where
-  pub enters_stops : 1 ≤ sum before.free → IsStop g old new after error
-  enters_stops room = why error is.refused is.unless_tried
+module _ {D : Type 0} {g : Ghosts D} {e : MapEntry} {old new : D} {before after : Kept} {error : Refused} (is : Enters g e old new before after (Err error)) where
+  pub enters_halts : Halts g 2 1 1 old new before after error
+  enters_halts = record {
+    refused = λ room. why error is.refused is.unless_tried room;
+    untried = λ same. (is.kept refl, reads_within g old new 1 2 (omega arith) (is.unless_tried (ap had_tried same)));
+    cylinders = is.cylinders;
+    calls = is.calls;
+  }
     where
-      why : (x : Refused) → IsFindRefusal g old new before x → (had_tried x ≡ false → OnlyReads g 1 old new) → IsStop g old new after x
-      why (refusals.Full need) find only = absurd (omega (arith, find.2, room))
-      why (refusals.Disk tried) find only = find
-      why (refusals.Damaged damage) find only = by find.why
+      why : (x : Refused) → IsFindRefusal g old new before x → (had_tried x ≡ false → OnlyReads g 1 old new) → 1 ≤ sum before.free → IsStop g old new after x
+      why (refusals.Full need) find only room = absurd (omega (arith, find.2, room))
+      why (refusals.Disk tried) find only room = find
+      why (refusals.Damaged damage) find only room = by find.why
         where
           content : g.content new ≡ g.content old
           content = (only refl).content
@@ -171,18 +151,7 @@ module _ {D : Type 0} (g : Ghosts D) (old new : D) (before after : Kept) (e : Ma
           by : ((damage.code ≡ 2) × (Tells g old → IsBadMap (g.content old) damage.block)) ⊎ ((damage.code ≡ 12) × (Tells g old → ¬ AreCounts (g.content old) before)) → IsNoSpace g old new after damage
           by (inl (code, bad)) = NoMap code (omega (arith, find.on_disk, (only refl).same.size)) (λ tells. subst (λ (c : Image). IsBadMap c damage.block) (sym content) (bad tells))
           by (inr (code, other)) = OtherCount code (λ tells. subst (λ (k : Kept). ¬ AreCounts (g.content new) k) (sym (is.kept refl)) (subst (λ (c : Image). ¬ AreCounts c before) (sym content) (other tells)))
-      why refusals.Memory find only = absurd find
-
-  pub enters_err : {A : Type 0} (most tries blocks : ℕ) → 2 ≤ most → 1 ≤ tries → 1 ≤ blocks → Finishes {A = A} g most tries blocks old new before after (Err error)
-  enters_err most tries blocks lm lt lk = record {
-    told = tt;
-    tried = tt;
-    refused = λ room. enters_stops (omega (arith, room, lk));
-    untried = λ same. (is.kept refl, reads_within g old new 1 most (omega (arith, lm)) (is.unless_tried (ap had_tried same)));
-    cylinders = is.cylinders;
-    takes = tt;
-    calls = makes_within g old new 2 1 most tries lm lt is.calls;
-  }
+      why refusals.Memory find only room = absurd find
 
   -- where the maps are whole and counted a Free block is found, or a device call failed
   pub enters_sound : Tells g old → AreMaps (g.content old) → AreCounts (g.content old) before → is_damaged error ≡ false
@@ -208,26 +177,24 @@ pub takes_one : (h : Bool) → 1 ≤ leaf_takes h
 takes_one true = omega arith
 takes_one false = omega arith
 
-module _ {D : Type 0} (g : Ghosts D) (owner number : ℕ) (held : Bool) (block : ℕ) (e : MapEntry) (d0 d1 d2 d3 : D) (k0 k1 k2 : Kept) (x : BlockNo) (enters : Enters g e d0 d1 k0 k1 (Ok x)) where
-  gone1 : HasGone g 2 1 1 true d0 d1 k0 k1
-  gone1 = gone_on g d0 d0 d1 k0 k0 k1 0 0 0 false 2 1 1 (gone_begins g d0 k0) enters.told enters.calls enters.made enters.cylinders (entered_takes g d0 d1 k0 k1 e x enters)
+module _ {D : Type 0} {g : Ghosts D} {owner number : ℕ} {held : Bool} {block : ℕ} {e : MapEntry} {d0 d1 d2 : D} {k0 k1 k2 : Kept} {x : BlockNo} (enters : Enters g e d0 d1 k0 k1 (Ok x)) where
+  pub node_halts : {error : Refused} → GetsNode g number owner held block d1 d2 k1 k2 (Err error) → Halts g 5 3 (leaf_takes held) d0 d2 k0 k2 (after_try error)
+  node_halts (Had some same kept is) = cc
+  node_halts {error} (Claims none gets) = halts_within (gone_err true error (enters_gone enters) (enters_halts gets)) (omega arith) (omega arith) (let two : leaf_takes held ≡ 2 = ap leaf_takes none in omega (arith, two))
 
-  pub node_err : {A : Type 0} (error : Refused) → GetsNode g number owner held block d1 d2 k1 k2 (Err error) → Finishes {A = A} g 5 3 (leaf_takes held) d0 d2 k0 k2 (Err (after_try error))
-  node_err error (Had some same kept is) = cc
-  node_err error (Claims none gets) =
-      stopped_tried g d0 d1 d2 k0 k1 k2 2 1 1 2 1 1 error gone1 (enters_stops g d1 d2 k1 k2 _ error gets) gets.cylinders gets.calls 5 3 (leaf_takes held) (omega arith) (omega arith) (let two : leaf_takes held ≡ 2 = ap leaf_takes none in omega (arith, two))
-
-  module _ (y : BlockNo) (gets : GetsNode g number owner held block d1 d2 k1 k2 (Ok y)) where
+  module _ {y : BlockNo} (gets : GetsNode g number owner held block d1 d2 k1 k2 (Ok y)) where
     gone2 : HasGone g 4 2 (leaf_takes held) true d0 d2 k0 k2
     gone2 = by gets
       where
         by : GetsNode g number owner held block d1 d2 k1 k2 (Ok y) → HasGone g 4 2 (leaf_takes held) true d0 d2 k0 k2
         by (Had some same kept is) =
-            subst (λ (d : D). HasGone g 4 2 (leaf_takes held) true d0 d k0 k2) (sym same) (subst (HasGone g 4 2 (leaf_takes held) true d0 d1 k0) (sym kept) (gone_within g d0 d1 d1 k0 k1 k1 2 1 1 true 4 2 (leaf_takes held) (omega arith) (omega arith) (takes_one held) gone1))
-        by (Claims none enters2) =
-            subst (λ (k : ℕ). HasGone g 4 2 k true d0 d2 k0 k2) (sym (ap leaf_takes none)) (gone_on g d0 d1 d2 k0 k1 k2 2 1 1 true 2 1 1 gone1 enters2.told enters2.calls enters2.made enters2.cylinders (entered_takes g d1 d2 k1 k2 _ y enters2))
+            let one : leaf_takes held ≡ 1 = ap leaf_takes some in
+            subst (λ (d : D). HasGone g 4 2 (leaf_takes held) true d0 d k0 k2) (sym same) (subst (HasGone g 4 2 (leaf_takes held) true d0 d1 k0) (sym kept) (gone_within (enters_gone enters) (omega arith) (omega arith) (omega (arith, one))))
+        by (Claims none gets2) = let two : leaf_takes held ≡ 2 = ap leaf_takes none in gone_within (gone_then true true (enters_gone enters) (enters_gone gets2)) (omega arith) (omega arith) (omega (arith, two))
 
-    module _ (at : ℕ) (content : List ℕ) where
-      pub leaf_done : {A : Type 0} (v : A) → WritesBlock g 1 at content d2 d3 (Ok tt) → Finishes g 5 3 (leaf_takes held) d0 d3 k0 k2 (Ok v)
-      leaf_done v writes = gone_done g d0 d3 d3 k0 k2 k2 5 3 (leaf_takes held) v
-          (gone_within g d0 d3 d3 k0 k2 k2 5 3 (leaf_takes held + 0) true 5 3 (leaf_takes held) (omega arith) (omega arith) (omega arith) (gone_on g d0 d2 d3 k0 k2 k2 4 2 (leaf_takes held) true 1 1 0 gone2 writes.told writes.calls writes.tried refl (omega arith)))
+    module _ {at : ℕ} {content : List ℕ} {d3 : D} where
+      pub leaf_gone : WritesBlock g 1 at content d2 d3 (Ok tt) → HasGone g 5 3 (leaf_takes held) true d0 d3 k0 k2
+      leaf_gone writes = gone_within (gone_then true true gone2 (gone_come (come_wrote writes) k2)) (omega arith) (omega arith) (omega arith)
+
+      pub leaf_halts : (t : Trouble) → WritesBlock g 1 at content d2 d3 (Err t) → t ≡ trouble.Disk true → Halts g 5 3 (leaf_takes held) d0 d3 k0 k2 (refused_by (trouble_after_try t))
+      leaf_halts t writes is = subst (Halts g 5 3 (leaf_takes held) d0 d3 k0 k2) (sym (same_after true t)) (halts_within (gone_err true (refused_by t) gone2 (halts_come (write_stopped writes is) k2)) (omega arith) (omega arith) (omega arith))

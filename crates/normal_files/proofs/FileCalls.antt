@@ -1,55 +1,31 @@
 -- A file written, or set to a size, from what the store has of it.
-use Rattle.std.proofs.Common.{◌≡◌, inl, inr, ℕ, ◌+◌, ◌<◌, ◌≤◌, true, false, List, [], length, Some, refl, sym, ◌∙◌, ap, subst, arith, Ok, Err, set}
-use Rattle.std.specs.Prelude.{sum, IfErr, OnOk, Result}
-use Rattle.cfs_base.specs.Calls.{OnlyReads}
-use Rattle.cfs_base.proofs.Runs.{then, wider}
-use Rattle.cfs_base.specs.Disk.{AreBlocks, Image, block_at}
-use Rattle.cfs_base.specs.Run.{Leaves, Tells, IsSettled, left_now}
-use Rattle.cfs_base.specs.Refusals.{refused_by}
-use Rattle.cfs_base.specs.declared.disk.Disk.{Ghosts}
-use Rattle.cfs_base.specs.declared.identifier.Puid.{Puid}
-use Rattle.cfs_base.specs.declared.refusal.Refused.{Refused}
-use Rattle.cfs_base.specs.declared.refusal.Refused.TheVariants as refusals
-use Rattle.cfs_base.specs.declared.refusal.Trouble.{Trouble}
-use Rattle.cfs_base.specs.declared.refusal.Trouble.TheVariants as trouble
-use Rattle.cfs_base.proofs.Calls.{stopped_after_reads, tells_on}
-use Rattle.block_tree.specs.declared.root.Root as roots
-use Rattle.block_tree.specs.Root.{IsRootBlock, IsGoodRoot, IsRoot, root_spelling}
-use Rattle.block_tree.proofs.Spellings.{one_root}
-use Rattle.cyl_alloc.specs.Space.{AreCounts, Kept}
-use Rattle.intentions.specs.Store.{StoreHas}
-use Rattle.leaf_changes.proofs.Given.{file_to_leaves}
-use Rattle.ufs_model.specs.declared.object.File.{File}
-use Rattle.ufs_model.specs.declared.object.Object.TheVariants as objects
-use Rattle.ufs_model.specs.Graph.{Graph, object_at, with_object}
-use Rattle.vol_image.specs.Seen.{tree_in}
-use Rattle.vol_image.specs.Sound.{Holds}
-use Rattle.vol_image.specs.Reading.{IsTree}
-use Rattle.vol_image.proofs.Carries.{carries_on}
-use Rattle.vol_owners.specs.Account.{Accounts, Opened, drafts_of}
-use Rattle.vol_owners.specs.Change.{ChangesOnly, of_owner}
-use Rattle.normal_files.specs.Ends.{is_damaged, IsStop, NoMap, OtherCount}
-use Rattle.normal_files.specs.Cuts.{Shrinks, IsCutRoot, IsEnd, IsReadEnd, MayTrim, first_gone, last_node, trimmed}
-use Rattle.normal_files.specs.Grows.{Grows}
+use Rattle.normal_files.proofs.Words.{◌≡◌, inl, inr, ℕ, ◌+◌, ◌<◌, ◌≤◌, true, false, List, [], length, Some, refl, sym, ◌∙◌, ap, subst, arith, Ok, Err, set, sum, IfErr, OnOk, Result, OnlyReads, then, wider, AreBlocks, Image, block_at, Leaves, IsSettled, left_now, refused_by, Ghosts, Puid, Refused, Trouble, stopped_after_reads, IsRootBlock, IsGoodRoot, IsRoot, root_spelling, one_root, AreCounts, Kept, StoreHas, file_to_leaves, File, Graph, object_at, with_object, tree_in, IsTree, carries_on, Accounts, Opened, drafts_of, ChangesOnly, of_owner, IsNode, leaves_in, resized, AreClaimed}
+use Rattle.normal_files.specs.Ends.{is_damaged, IsStop}
+use Rattle.normal_files.specs.Cuts.{IsCutRoot, IsEnd, IsReadEnd, MayTrim, first_gone, last_node, trimmed}
 use Rattle.normal_files.specs.Laid.{IsRooted, leaves_of, node_of, object_of}
 use Rattle.normal_files.specs.Nodes.{IsNear}
 use Rattle.normal_files.specs.Parts.{IsPart}
 use Rattle.normal_files.specs.Refusal.{IsTrouble, is_damage}
-use Rattle.normal_files.specs.Standing.{BecomesFile, IsFileAt, IsPartly}
-use Rattle.normal_files.specs.Steps.{Starts, HasStoppedBy}
+use Rattle.normal_files.specs.Standing.{BecomesFile, IsFileAt, IsPartly, Becomes}
+use Rattle.normal_files.specs.Steps.{HasStoppedBy}
 use Rattle.normal_files.specs.WriteRefusal.{IsWriteRefusal, TellsNeed, is_untried}
-use Rattle.normal_files.specs.Writes.{Writes}
 use Rattle.normal_files.specs.declared.part.Part.{Part}
 use Rattle.normal_files.proofs.Laid.{rooted_is, tree_of_laid}
 use Rattle.normal_files.proofs.Trees.{near}
-use Rattle.cfs_base.specs.declared.kind.Kind.TheVariants as kinds
-use Rattle.block_tree.specs.Node.{IsNode}
-use Rattle.ufs_model.specs.Object.{leaves_in, resized}
-use Rattle.normal_files.specs.Frees.{FreesTo, GivesEnd, IsDropTrouble, IsFreeing, IsResizeRefusal, IsShrinkTrouble, NoMap, OfFile, TakesNone}
+use Rattle.normal_files.specs.Frees.{FreesTo, GivesEnd, IsDropTrouble, IsFreeing, IsResizeRefusal, IsShrinkTrouble, TakesNone, NoMap, OfFile}
 use Rattle.normal_files.specs.declared.cut.End.{End}
 use Rattle.normal_files.proofs.Partly.{no_index}
 use Rattle.normal_files.proofs.Refusals.{tells_after, trouble_after_reads}
 use Rattle.normal_files.proofs.Shrunk.{drops, framed_partly, freeing, left_partly, root_partly, shrunk_entries, shrunk_stores}
+use Rattle.normal_files.specs.View.{HasFile, View, id_at}
+use Rattle.normal_files.proofs.Ended.{IsCut}
+use Rattle.normal_files.specs.Writes.{IsWritable, Wrote}
+use Rattle.normal_files.specs.Order.{claims_of}
+use Rattle.cfs_base.specs.declared.refusal.Refused.TheVariants as refusals
+use Rattle.cfs_base.specs.declared.refusal.Trouble.TheVariants as trouble
+use Rattle.block_tree.specs.declared.root.Root as roots
+use Rattle.ufs_model.specs.declared.object.Object.TheVariants as objects
+use Rattle.cfs_base.specs.declared.kind.Kind.TheVariants as kinds
 
 -- a node of a file, after calls that only read
 pub near_after : {D : Type 0} {n : ℕ} (g : Ghosts D) (old mid : D) (at : ℕ) (root : roots.Root) (f : File) → length (g.content old) ≡ g.blocks old → at < g.blocks old → OnlyReads g n old mid → IsRootBlock (block_at (g.content old) at) root → IsFileAt (g.content old) at f
@@ -60,72 +36,81 @@ near_after g old mid at root f size below reads is file m =
     (subst (λ (i : Image). IsNear (length image) i (node_of root m)) (sym reads.content)
     (near image (block_at image at) root is (length image) file.owner file.root (objects.File f) file.tree (omega (arith, below, size)) m))
 
-module _ {D : Type 0} {n : ℕ} (g : Ghosts D) (old mid : D) (reads : OnlyReads g n old mid) where
-  pub store_on : (graph : Graph) (ds : List Opened) (kept : Kept) → StoreHas g graph ds old kept → StoreHas g graph ds mid kept
-  store_on graph ds kept store = record {
-    carries = carries_on g graph old mid store.carries reads.content reads.told reads.images reads.same;
-    account = subst (λ (i : Image). Accounts i graph ds) (sym reads.content) store.account;
-    counts = subst (λ (i : Image). AreCounts i kept) (sym reads.content) store.counts;
-    ordered = store.ordered;
+pub images_read : {D : Type 0} {n : ℕ} {g : Ghosts D} {old mid : D} → OnlyReads g n old mid → (P : Image → Type 0) → Leaves g old mid P
+images_read {g = g} {old = old} {mid = mid} reads P = wider g old mid _ P reads.images (λ c none. absurd none)
+
+-- the identifier told by its block
+pub by_block : (id : Puid) (at : ℕ) → id.block ≡ at → id ≡ id_at at id.word
+by_block id at here = ap (λ (block : ℕ). id_at block id.word) here
+
+pub has_file : (a : Image) (graph : Graph) (ds : List Opened) (id : Puid) (f : File) (root : roots.Root) → Accounts a graph ds → object_at graph id ≡ Some (objects.File f) → AreBlocks a → IsRootBlock (block_at a id.block) root → HasFile a graph id f root
+has_file a graph ds id f root account there blocks is =
+    let r = rooted_is a id (objects.File f) (account.objects id (objects.File f) there).no_bit (account.holds.objects id (objects.File f) there) in
+    let same : r.0 ≡ root = one_root r.0 root r.1.laid.good is.good (sym r.1.here ∙ is.spelled) in
+    record { holds = account.holds; at = there; rooted = subst (IsRooted a id) same r.1; same = ap (object_of a) (sym same) ∙ r.2; blocks = blocks }
+
+pub file_size : {D : Type 0} {g : Ghosts D} {r : ℕ} {root : roots.Root} {disk : D} {kept : Kept} (v : View g r root disk kept) → length v.file.bytes ≡ root.size
+file_size {g = g} {root = root} {disk = disk} v = (file_to_leaves root (leaves_of (g.content disk) root) v.file v.has.same).size
+
+-- told of the identifier that the call was given
+pub becomes_as : {D : Type 0} {g : Ghosts D} {graph : Graph} {ds : List Opened} (id : Puid) (at : ℕ) {to : File} {old new : D} {after : Kept} → id.block ≡ at → BecomesFile g graph ds (id_at at id.word) to old new after → BecomesFile g graph ds id to old new after
+becomes_as {g = g} {graph = graph} {ds = ds} id at {to} {old} {new} {after} here is = subst (λ x. BecomesFile g graph ds x to old new after) (sym (by_block id at here)) is
+
+pub partly_as : {D : Type 0} (g : Ghosts D) (graph : Graph) (id : Puid) (at : ℕ) (f to : File) (old new : D) → id.block ≡ at → Leaves g old new (λ c. IsPartly c graph (id_at at id.word) f to) → Leaves g old new (λ c. IsPartly c graph id f to)
+partly_as g graph id at f to old new here is = subst (λ x. Leaves g old new (λ c. IsPartly c graph x f to)) (sym (by_block id at here)) is
+
+module _ {D : Type 0} {n : ℕ} {g : Ghosts D} {old mid : D} (reads : OnlyReads g n old mid) where
+  -- what was known of a file is known after calls that only read
+  abbrev pub view_on : {r : ℕ} {root : roots.Root} {kept : Kept} → View g r root old kept → View g r root mid kept
+  view_on {r} {root} {kept} v = record {
+    graph = v.graph;
+    drafts = v.drafts;
+    word = v.word;
+    file = v.file;
+    store = record {
+      carries = carries_on g v.graph old mid v.store.carries reads.content reads.told reads.images reads.same;
+      account = subst (λ (i : Image). Accounts i v.graph v.drafts) (sym reads.content) v.store.account;
+      counts = subst (λ (i : Image). AreCounts i kept) (sym reads.content) v.store.counts;
+      ordered = v.store.ordered;
+    };
+    has = subst (λ (i : Image). HasFile i v.graph (id_at r v.word) v.file root) (sym reads.content) v.has;
+    no_draft = v.no_draft;
   }
 
-  pub starts_on : (graph : Graph) (id : Puid) (f : File) (root : roots.Root) → Starts g graph id f root old → Starts g graph id f root mid
-  starts_on graph id f root starts = record {
-    holds = subst (λ (i : Image). Holds i graph) (sym reads.content) starts.holds;
-    at = starts.at;
-    rooted = subst (λ (i : Image). IsRooted i id root) (sym reads.content) starts.rooted;
-    same = ap (λ (i : Image). object_of i root) reads.content ∙ starts.same;
-    blocks = subst AreBlocks (sym reads.content) starts.blocks;
+  pub becomes_on : {E : Type 0} {r : ℕ} {root : roots.Root} {kept after : Kept} {to : File} {new : D} {result : Result (Unit {0}) E} (v : View g r root old kept) → Becomes (view_on v) to new after result → Becomes v to new after result
+  becomes_on {E} {r = r} {after = after} {to = to} {new = new} {result = result} v is = record {
+    done = done result is.done;
+    images = (then) g old mid new _ _ (images_read reads _) is.images (λ c h. h);
   }
+    where
+      done : (x : Result (Unit {0}) E) → OnOk x (BecomesFile g v.graph v.drafts (id_at r v.word) to mid new after) → OnOk x (BecomesFile g v.graph v.drafts (id_at r v.word) to old new after)
+      done (Ok y) so = record { store = so.store; only = subst (λ (i : Image). ChangesOnly (λ e. of_owner r e) i (g.content new)) reads.content so.only }
+      done (Err e) so = tt
 
-  -- the store has the file, and its root was read
-  module _ (graph : Graph) (ds : List Opened) (id : Puid) (f : File) (kept : Kept) (at : ℕ) (root : roots.Root) (store : StoreHas g graph ds old kept) (there : object_at graph id ≡ Some (objects.File f)) (no_draft : drafts_of ds id ≡ []) (here : id.block ≡ at)
-      (blocks : AreBlocks (g.content old)) (is : IsRootBlock (block_at (g.content old) at) root) where
-    starts : Starts g graph id f root mid
-    starts =
-        let a = g.content old in
-        let r = rooted_is a id (objects.File f) (store.account.objects id (objects.File f) there).no_bit (store.account.holds.objects id (objects.File f) there) in
-        let is' = subst (λ (m : ℕ). IsRootBlock (block_at a m) root) (sym here) is in
-        let same : r.0 ≡ root = one_root r.0 root r.1.laid.good is'.good (sym r.1.here ∙ is'.spelled) in
-        starts_on graph id f root (record { holds = store.account.holds; at = there; rooted = subst (IsRooted a id) same r.1; same = ap (object_of a) (sym same) ∙ r.2; blocks = blocks })
+  pub none_on : {E : Type 0} (new : D) (result : Result (Unit {0}) E) → OnOk result (TakesNone (g.content mid) (g.content new)) → OnOk result (TakesNone (g.content old) (g.content new))
+  none_on new (Ok x) is = subst (λ (i : Image). TakesNone i (g.content new)) reads.content is
+  none_on new (Err e) is = tt
 
-    file_size : length f.bytes ≡ root.size
-    file_size = (file_to_leaves root (leaves_of (g.content mid) root) f starts.same).size
+  pub wrote_on : {r : ℕ} {root : roots.Root} {kept after : Kept} {offset : ℕ} {bytes : List ℕ} {new : D} {result : Result (Unit {0}) Refused} (v : View g r root old kept) → Wrote (view_on v) offset bytes new after result → Wrote v offset bytes new after result
+  wrote_on {r = r} {offset = offset} {bytes = bytes} {new = new} {result = result} v is =
+      record { file = becomes_on v is.file; settled = is.settled; order = subst (λ (i : Image). OnOk result (AreClaimed (claims_of r v.file offset (length bytes)) i (g.content new))) reads.content is.order; sound = is.sound }
 
-    pub writes_on : (offset : ℕ) (bytes : List ℕ) (low high : Part) → offset + length bytes ≤ length f.bytes → IsPart (g.content old) root low → IsPart (g.content old) root high → Writes g graph ds id f root at offset bytes low high mid kept
-    writes_on offset bytes low high inside low_is high_is = record {
-      store = store_on graph ds kept store;
-      starts = starts;
-      no_draft = no_draft;
-      here = here;
-      inside = inside;
-      low_is = subst (λ (i : Image). IsPart i root low) (sym reads.content) low_is;
-      high_is = subst (λ (i : Image). IsPart i root high) (sym reads.content) high_is;
-    }
+  pub writable_on : {r : ℕ} {root : roots.Root} {kept : Kept} {offset : ℕ} {bytes : List ℕ} {low high : Part} (v : View g r root old kept) → offset + length bytes ≤ length v.file.bytes → IsPart (g.content old) root low → IsPart (g.content old) root high → IsWritable (view_on v) offset bytes low high
+  writable_on {root = root} {low = low} {high = high} v inside low_is high_is =
+      record { inside = inside; low_is = subst (λ (i : Image). IsPart i root low) (sym reads.content) low_is; high_is = subst (λ (i : Image). IsPart i root high) (sym reads.content) high_is }
 
-    pub grows_on : (size : ℕ) → size ≤ 7864320 → root.size ≤ size → Grows g graph ds id f root at size mid kept
-    grows_on size allowed more = record { store = store_on graph ds kept store; starts = starts; no_draft = no_draft; here = here; more = omega (arith, more, file_size); allowed = allowed }
-
-    pub shrinks_to : (size : ℕ) → size < root.size → Shrinks g graph ds id f root at size mid kept
-    shrinks_to size less = record { store = store_on graph ds kept store; starts = starts; no_draft = no_draft; here = here; less = omega (arith, less, file_size) }
-
-  pub becomes_on : (graph : Graph) (ds : List Opened) (id : Puid) (f : File) (new : D) (kept : Kept) → BecomesFile g graph ds id f mid new kept → BecomesFile g graph ds id f old new kept
-  becomes_on graph ds id f new kept is = record { store = is.store; only = subst (λ (i : Image). ChangesOnly (λ e. of_owner id.block e) i (g.content new)) reads.content is.only }
-
-  pub resized_on : (graph : Graph) (ds : List Opened) (id : Puid) (f : File) (new : D) (kept : Kept) (result : Result (Unit {0}) Trouble) → OnOk result (BecomesFile g graph ds id f mid new kept × TakesNone (g.content mid) (g.content new))
-      → OnOk result (BecomesFile g graph ds id f old new kept × TakesNone (g.content old) (g.content new))
-  resized_on graph ds id f new kept (Ok v) is = (becomes_on graph ds id f new kept is.0, subst (λ (i : Image). TakesNone i (g.content new)) reads.content is.1)
-  resized_on graph ds id f new kept (Err e) is = tt
-
-  on : Tells g old → Tells g mid
-  on tells = tells_on g old mid mid n reads tells
-
-  pub stop_on : (new : D) (kept : Kept) (e : Refused) → IsStop g mid new kept e → IsStop g old new kept e
-  stop_on new kept (refusals.Full need) is = is
-  stop_on new kept (refusals.Disk tried) is = stopped_after_reads g old mid new n tried reads is
-  stop_on new kept (refusals.Damaged damage) (NoMap code on_disk bad) = NoMap code on_disk (λ tells. bad (on tells))
-  stop_on new kept (refusals.Damaged damage) (OtherCount code other) = OtherCount code (λ tells. other (on tells))
-  stop_on new kept refusals.Memory is = is
+-- the store has a file without a draft, and its root was read
+abbrev pub view : {D : Type 0} (g : Ghosts D) (disk : D) (graph : Graph) (ds : List Opened) (id : Puid) (f : File) (kept : Kept) (at : ℕ) (root : roots.Root) → StoreHas g graph ds disk kept → object_at graph id ≡ Some (objects.File f) → drafts_of ds id ≡ [] → id.block ≡ at
+    → AreBlocks (g.content disk) → IsRootBlock (block_at (g.content disk) at) root → View g at root disk kept
+view g disk graph ds id f kept at root store there no_draft here blocks is = record {
+  graph = graph;
+  drafts = ds;
+  word = id.word;
+  file = f;
+  store = store;
+  has = has_file (g.content disk) graph ds (id_at at id.word) f root store.account (subst (λ x. object_at graph x ≡ Some (objects.File f)) (by_block id at here) there) blocks is;
+  no_draft = subst (λ x. drafts_of ds x ≡ []) (by_block id at here) no_draft;
+}
 
 -- the file by its root block
 pub file_of : (image : Image) (graph : Graph) (ds : List Opened) (id : Puid) (f : File) (at : ℕ) → Accounts image graph ds → object_at graph id ≡ Some (objects.File f) → id.block ≡ at → IsFileAt image at f
@@ -137,15 +122,6 @@ file_of image graph ds id f at account there here =
       root = r.0;
       tree = subst (λ o. IsTree (length image) id.block (tree_in image content) r.0 o) r.2 (tree_of_laid image content r.0 (record { good = r.1.laid.good; spelled = r.1.here }) id.block r.1.here r.1.laid);
     })
-
--- ---- calls that only read, before the rest
-
-module _ {D : Type 0} {n : ℕ} (g : Ghosts D) (old mid : D) (reads : OnlyReads g n old mid) where
-  pub images_read : (P : Image → Type 0) → Leaves g old mid P
-  images_read P = wider g old mid _ P reads.images (λ c none. absurd none)
-
-  pub images_on : (new : D) (P : Image → Type 0) → Leaves g mid new P → Leaves g old new P
-  images_on new P images = (then) g old mid new P P (images_read P) images (λ c h. h)
 
 -- ---- refusals
 
@@ -193,69 +169,64 @@ parts_tell g n mid new kept (refusals.Disk tried) is = tt
 parts_tell g n mid new kept (refusals.Damaged damage) is = tt
 parts_tell g n mid new kept refusals.Memory is = tt
 
--- ---- a file set to less, after calls that only read
+-- ---- a file set to less
 
-pub shrinks_on : {D : Type 0} {n : ℕ} (g : Ghosts D) (old mid : D) → OnlyReads g n old mid → (graph : Graph) (ds : List Opened) (id : Puid) (f : File) (root : roots.Root) (at size : ℕ) (kept : Kept) → Shrinks g graph ds id f root at size old kept → Shrinks g graph ds id f root at size mid kept
-shrinks_on g old mid reads graph ds id f root at size kept is =
-    record { store = store_on g old mid reads graph ds kept is.store; starts = starts_on g old mid reads graph id f root is.starts; no_draft = is.no_draft; here = is.here; less = is.less }
-
--- its nodes are on the disk
-pub shrinks_near : {D : Type 0} (g : Ghosts D) (graph : Graph) (ds : List Opened) (id : Puid) (f : File) (root : roots.Root) (at size : ℕ) (start : D) (kept : Kept) → Shrinks g graph ds id f root at size start kept → length (g.content start) ≡ g.blocks start → (n : ℕ) → IsNear (g.blocks start) (g.content start) (node_of root n)
-shrinks_near g graph ds id f root at size start kept is sized n =
-    let a = g.content start in
-    let is_root : IsRootBlock (root_spelling root) root = record { good = is.starts.rooted.laid.good; spelled = refl } in
-    subst (λ (s : ℕ). IsNear s a (node_of root n)) sized (near a (root_spelling root) root is_root (length a) id.block root (object_of a root) (tree_of_laid a (root_spelling root) root is_root id.block refl is.starts.rooted.laid)
-    (omega (arith, is.starts.holds.label.size_is, is.starts.holds.label.is_label.some)) n)
+-- the nodes of a file are on the disk
+pub near_of : {a : Image} {graph : Graph} {id : Puid} {f : File} {root : roots.Root} → HasFile a graph id f root → (blocks : ℕ) → length a ≡ blocks → (n : ℕ) → IsNear blocks a (node_of root n)
+near_of {a} {graph} {id} {f} {root} s blocks sized n =
+    let is_root : IsRootBlock (root_spelling root) root = record { good = s.rooted.laid.good; spelled = refl } in
+    subst (λ (m : ℕ). IsNear m a (node_of root n)) sized (near a (root_spelling root) root is_root (length a) id.block root (object_of a root) (tree_of_laid a (root_spelling root) root is_root id.block refl s.rooted.laid)
+    (omega (arith, s.holds.label.size_is, s.holds.label.is_label.some)) n)
 
 -- the next root is one
-pub next_root : {D : Type 0} (g : Ghosts D) (graph : Graph) (ds : List Opened) (id : Puid) (f : File) (root : roots.Root) (at size : ℕ) (start : D) (kept : Kept) → Shrinks g graph ds id f root at size start kept → size ≤ 7864320 → (from : ℕ) (next : roots.Root) → IsCutRoot root size from next → IsRoot next
-next_root g graph ds id f root at size start kept is small from next cut =
-    let file = λ (index : next.kind ≡ kinds.Index). no_index f.kind (sym (file_to_leaves root (leaves_of (g.content start) root) f is.starts.same).kind ∙ sym cut.head.kind ∙ index) in
+pub next_root : {a : Image} {graph : Graph} {id : Puid} {f : File} {root : roots.Root} → HasFile a graph id f root → {size from : ℕ} {next : roots.Root} → size ≤ 7864320 → IsCutRoot root size from next → IsRoot next
+next_root {a} {graph} {id} {f} {root} s {size} {from} {next} small cut =
+    let file = λ (index : next.kind ≡ kinds.Index). no_index f.kind (sym (file_to_leaves root (leaves_of a root) f s.same).kind ∙ sym cut.head.kind ∙ index) in
     record { fill = λ index. absurd (file index); size = record { limit = omega (arith, small, cut.head.size); slots = λ index. absurd (file index) } }
 
--- ---- what it leaves
+-- how it is to end was read, and its next root is made
+pub cut_of : {D : Type 0} {n : ℕ} {g : Ghosts D} {old mid : D} (reads : OnlyReads g n old mid) {r : ℕ} {root : roots.Root} {kept : Kept} (v : View g r root old kept) {size blocks from : ℕ} {end : End} {next : roots.Root} → size < length v.file.bytes → IsReadEnd blocks root size end → IsEnd (g.content old) root size end → IsNode end.node
+    → IsGoodRoot next → IsCutRoot root size from next → from ≡ first_gone size end.kept → IsCut (view_on reads v) size end next
+cut_of reads {root = root} v {size = size} {blocks = blocks} {end = end} {next = next} less read ended spelled good cut same =
+    record { less = less; blocks = blocks; read = read; ended = subst (λ (i : Image). IsEnd i root size end) (sym reads.content) ended; spelled = spelled; good = good; cut_is = subst (λ (m : ℕ). IsCutRoot root size m next) same cut }
 
-module _ {D : Type 0} (g : Ghosts D) (graph : Graph) (ds : List Opened) (id : Puid) (f : File) (root : roots.Root) (at size : ℕ) (start : D) (kept : Kept) (is : Shrinks g graph ds id f root at size start kept) (blocks : ℕ) (end : End) (read : IsReadEnd blocks root size end)
-    (ended : IsEnd (g.content start) root size end) (spelled : IsNode end.node) (next : roots.Root) (good : IsGoodRoot next) (cut_is : IsCutRoot root size (first_gone size end.kept) next) where
+module _ {D : Type 0} {g : Ghosts D} {r : ℕ} {root : roots.Root} {start : D} {kept : Kept} {v : View g r root start kept} {size : ℕ} {end : End} {next : roots.Root} (z : IsCut v size end next) where
   abbrev Partly : Image → Type 0
-  Partly c = IsPartly c graph id f (resized f size)
+  Partly c = IsPartly c v.graph (id_at r v.word) v.file (resized v.file size)
 
   pub trim_images : (d : D) → Leaves g start d (MayTrim (left_now g start) end) → Leaves g start d Partly
-  trim_images d images = wider g start d _ _ images (left_partly g graph ds id f root at size start kept is blocks end read ended spelled next good cut_is)
+  trim_images d images = wider g start d _ _ images (left_partly z)
 
   -- the root is written over what was trimmed
-  module _ (mid : D) (trims : Leaves g start mid (MayTrim (left_now g start) end)) (content : g.content mid ≡ trimmed (g.content start) end) where
-    abbrev b : Image
-    b = set (trimmed (g.content start) end) id.block (root_spelling next)
+  module _ {mid : D} (trims : Leaves g start mid (MayTrim (left_now g start) end)) (content : g.content mid ≡ trimmed (g.content start) end) {now : D} (images : Leaves g mid now (λ c. c ≡ set (g.content mid) r (root_spelling next))) where
+    as_b : (c : Image) → c ≡ set (g.content mid) r (root_spelling next) → c ≡ set (trimmed (g.content start) end) r (root_spelling next)
+    as_b c same = same ∙ ap (λ (i : Image). set i r (root_spelling next)) content
 
-    as_b : (c : Image) → c ≡ set (g.content mid) at (root_spelling next) → c ≡ b
-    as_b c same = same ∙ ap (λ (i : Image). set i at (root_spelling next)) content ∙ ap (λ (m : ℕ). set (trimmed (g.content start) end) m (root_spelling next)) (sym is.here)
+    pub root_images : Leaves g start now Partly
+    root_images = (then) g start mid now Partly _ (trim_images mid trims) images (λ c same. subst Partly (sym (as_b c same)) (root_partly z))
 
-    pub root_images : (now : D) → Leaves g mid now (λ c. c ≡ set (g.content mid) at (root_spelling next)) → Leaves g start now Partly
-    root_images now images = (then) g start mid now Partly _ (trim_images mid trims) images (λ c same. subst Partly (sym (as_b c same)) (root_partly g graph ds id f root at size start kept is blocks end read ended spelled next good cut_is))
-
-    module _ (now : D) (images : Leaves g mid now (λ c. c ≡ set (g.content mid) at (root_spelling next))) (written : g.content now ≡ set (g.content mid) at (root_spelling next)) (settled : IsSettled g now)
-        (new : D) (k1 : Kept) (result : Result (Unit {0}) Trouble) (frees : FreesTo g root (GivesEnd root size end) (leaves_in size) (last_node size) 15360 120 now new kept k1 result) where
+    module _ (written : g.content now ≡ set (g.content mid) r (root_spelling next)) (settled : IsSettled g now)
+        {new : D} {k1 : Kept} {result : Result (Unit {0}) Trouble} (frees : FreesTo g root (GivesEnd root size end) (leaves_in size) (last_node size) 15360 120 now new kept k1 result) where
       given : GivesEnd root size end (g.content start) next (leaves_in size)
-      given = (refl, ended.own, cut_is)
+      given = (refl, z.ended.own, z.cut_is)
 
-      begun : IsFreeing g (g.content start) b (with_object graph id (objects.File (resized f size))) id root next (leaves_in size) (leaves_in size) (last_node size) now now kept
-      begun = freeing g graph ds id f root at size start kept is blocks end read ended spelled next good cut_is now settled (as_b (g.content now) written)
-
-      pub free_images : Leaves g start new Partly
-      free_images = (then) g start now new Partly _ (root_images now images)
-          (frees.leaves (g.content start) b (with_object graph id (objects.File (resized f size))) id next (leaves_in size) now (drops g graph ds id f root at size start kept is blocks end read ended spelled next good cut_is) given begun)
-          (framed_partly g graph ds id f root at size start kept is blocks end read ended spelled next good cut_is)
-
-      pub free_sound : IfErr result (λ t. is_damage t ≡ false)
-      free_sound = frees.sound (g.content start) b (with_object graph id (objects.File (resized f size))) id next (leaves_in size) now (drops g graph ds id f root at size start kept is blocks end read ended spelled next good cut_is) given begun
-
-      pub free_stores : OnOk result (BecomesFile g graph ds id (resized f size) start new k1 × TakesNone (g.content start) (g.content new))
-      free_stores = by result (frees.on (g.content start) b (with_object graph id (objects.File (resized f size))) id next (leaves_in size) now (drops g graph ds id f root at size start kept is blocks end read ended spelled next good cut_is) given begun)
+      pub shrunk_ends : Becomes v (resized v.file size) new k1 result × OnOk result (TakesNone (g.content start) (g.content new)) × IfErr result (λ t. is_damage t ≡ false)
+      shrunk_ends = (
+        record { done = done result (frees.on _ _ _ _ _ _ now (drops z) given begun); images = (then) g start now new Partly _ root_images (frees.leaves _ _ _ _ _ _ now (drops z) given begun) (framed_partly z) },
+        none result (frees.on _ _ _ _ _ _ now (drops z) given begun),
+        frees.sound _ _ _ _ _ _ now (drops z) given begun,
+      )
         where
-          by : (x : Result (Unit {0}) Trouble) → OnOk x (IsFreeing g (g.content start) b (with_object graph id (objects.File (resized f size))) id root next (leaves_in size) 15360 120 now new k1) → OnOk x (BecomesFile g graph ds id (resized f size) start new k1 × TakesNone (g.content start) (g.content new))
-          by (Ok v) done = (shrunk_stores g graph ds id f root at size start kept is blocks end read ended spelled next good cut_is now new k1 done, shrunk_entries g graph ds id f root at size start kept is blocks end read ended spelled next good cut_is now new k1 done)
-          by (Err e) done = tt
+          begun : IsFreeing g (g.content start) (set (trimmed (g.content start) end) r (root_spelling next)) (with_object v.graph (id_at r v.word) (objects.File (resized v.file size))) (id_at r v.word) root next (leaves_in size) (leaves_in size) (last_node size) now now kept
+          begun = freeing z now settled (as_b (g.content now) written)
+
+          done : (x : Result (Unit {0}) Trouble) → OnOk x (IsFreeing g (g.content start) (set (trimmed (g.content start) end) r (root_spelling next)) (with_object v.graph (id_at r v.word) (objects.File (resized v.file size))) (id_at r v.word) root next (leaves_in size) 15360 120 now new k1) → OnOk x (BecomesFile g v.graph v.drafts (id_at r v.word) (resized v.file size) start new k1)
+          done (Ok y) is = shrunk_stores z now new k1 is
+          done (Err e) is = tt
+
+          none : (x : Result (Unit {0}) Trouble) → OnOk x (IsFreeing g (g.content start) (set (trimmed (g.content start) end) r (root_spelling next)) (with_object v.graph (id_at r v.word) (objects.File (resized v.file size))) (id_at r v.word) root next (leaves_in size) 15360 120 now new k1) → OnOk x (TakesNone (g.content start) (g.content new))
+          none (Ok y) is = shrunk_entries z now new k1 is
+          none (Err e) is = tt
 
 -- ---- why it is refused
 

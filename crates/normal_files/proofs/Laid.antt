@@ -1,27 +1,8 @@
 -- A file that lies on a disk is the tree of its root, and the other way round.
-use Rattle.std.proofs.Common.{◌≡◌, ◌≢◌, inl, inr, ℕ, zero, suc, ◌+◌, ◌*◌, ◌<◌, ◌≤◌, false, List, [], ◌∷◌, ◌++◌, length, Option, Some, refl, sym, ◌∙◌, ap, subst, arith}
-use Rattle.std.specs.Prelude.{IsTrue, is_some}
-use Rattle.std.proofs.lemmas.Bool.{cases_lt}
-use Rattle.cfs_base.specs.Disk.{Image, block_at}
-use Rattle.cfs_base.specs.declared.identifier.Puid.{Puid}
-use Rattle.cfs_base.specs.declared.kind.Place.TheVariants.{Leaf, Node}
-use Rattle.block_tree.specs.declared.root.Root as roots
-use Rattle.block_tree.specs.Pointers.{leaf_pointers, node_pointers}
-use Rattle.block_tree.specs.Root.{IsRootBlock, root_spelling}
-use Rattle.block_tree.specs.Tree.{end_of, levels_of, pointer, tree_of}
-use Rattle.block_tree.proofs.Spellings.{one_root}
-use Rattle.ufs_model.specs.declared.object.Object.{Object}
-use Rattle.vol_image.specs.Part.{BelongsTo, is_committed, part_at}
-use Rattle.leaf_changes.specs.Leaves.{LeavesFit}
-use Rattle.vol_image.specs.Reading.{IsTree, leaf_in, object_with}
-use Rattle.vol_image.specs.Seen.{Held, held_at, place_at, tree_in}
-use Rattle.vol_image.specs.Sight.{first_or, sight, source}
-use Rattle.vol_image.specs.Sound.{ReadsAs}
-use Rattle.vol_image.proofs.AtRoot.{no_shadows, reads_by_root}
-use Rattle.vol_image.proofs.Paths.{held_some, held_there, some_held}
-use Rattle.vol_image.proofs.Views.{held, held_is}
+use Rattle.normal_files.proofs.Words.{◌≡◌, ◌≢◌, inl, inr, ℕ, zero, suc, ◌+◌, ◌*◌, ◌<◌, ◌≤◌, false, List, [], ◌∷◌, ◌++◌, length, Option, Some, refl, sym, ◌∙◌, ap, subst, arith, IsTrue, is_some, cases_lt, Image, block_at, Puid, Leaf, Node, leaf_pointers, node_pointers, IsRootBlock, root_spelling, end_of, levels_of, pointer, tree_of, one_root, Object, BelongsTo, is_committed, part_at, LeavesFit, IsTree, leaf_in, object_with, Held, held_at, place_at, tree_in, first_or, sight, source, ReadsAs, no_shadows, reads_by_root, held_some, held_there, some_held, held, held_is}
 use Rattle.normal_files.specs.Laid.{IsLaid, IsRooted, leaf_of, node_of, object_of}
 use Rattle.normal_files.proofs.Trees.{leaf_at, node_at, none_past}
+use Rattle.block_tree.specs.declared.root.Root as roots
 
 -- ---- places
 

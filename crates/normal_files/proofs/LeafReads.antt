@@ -1,24 +1,9 @@
 -- Leaves that are read one after another.
-use Rattle.std.proofs.Common.{◌≡◌, ◌≢◌, ℕ, zero, suc, ◌+◌, ◌*◌, ◌%◌, ◌<◌, ◌≤◌, List, length, Option, refl, sym, ◌∙◌, ap, subst, arith}
-use Rattle.std.specs.Prelude.{min, replicate, slice_index, slice_range}
-use Rattle.std.proofs.lemmas.List.{ext_get_or, take_at}
-use Rattle.cfs_base.specs.Disk.{AreBlocks, Image, block_at}
-use Rattle.block_tree.specs.declared.root.Root as roots
-use Rattle.block_tree.specs.Root.{IsRootBlock}
-use Rattle.block_tree.proofs.Spellings.{one_root}
-use Rattle.block_tree.specs.Tree.{bytes_in}
-use Rattle.leaf_changes.specs.Bytes.{overlaid}
-use Rattle.leaf_changes.specs.Leaves.{IsReadTo}
-use Rattle.leaf_changes.proofs.Overlays.{laid, length-overlaid}
-use Rattle.leaf_changes.proofs.Given.{file_to_leaves}
-use Rattle.leaf_changes.proofs.ReadParts.{read_all}
-use Rattle.ufs_model.specs.Object.{leaves_in}
-use Rattle.ufs_model.specs.declared.object.File.{File}
-use Rattle.vol_image.specs.Reading.{leaf_content, leaf_in}
-use Rattle.vol_image.specs.Seen.{Held, held_at, tree_in}
+use Rattle.normal_files.proofs.Words.{◌≡◌, ◌≢◌, ℕ, zero, suc, ◌+◌, ◌*◌, ◌%◌, ◌<◌, ◌≤◌, List, length, Option, refl, sym, ◌∙◌, ap, subst, arith, min, replicate, slice_index, slice_range, ext_get_or, take_at, AreBlocks, Image, block_at, IsRootBlock, one_root, bytes_in, overlaid, IsReadTo, laid, length-overlaid, file_to_leaves, read_all, leaves_in, File, leaf_content, leaf_in, Held, held_at, tree_in}
 use Rattle.normal_files.specs.Nodes.{LeadTo, leaves_at}
 use Rattle.normal_files.specs.Standing.{IsFileAt}
 use Rattle.normal_files.proofs.Trees.{leads}
+use Rattle.block_tree.specs.declared.root.Root as roots
 
 -- what a leaf with this block reads as
 pub content_read : (image : Image) (fill block : ℕ) → (block ≢ 0 → length (block_at image block) ≡ 512) → leaf_content fill (held_at image block) ≡ bytes_in image fill block

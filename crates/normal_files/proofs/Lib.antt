@@ -1,3 +1,4 @@
+pub mod Words
 pub mod Trees
 pub mod LeafReads
 pub mod Refusals
@@ -10,7 +11,6 @@ pub mod Come
 pub mod Places
 mod PutParts
 pub mod Owned
-pub mod PartlyBelow
 pub mod NeedOf
 pub mod Orders
 pub mod LackingTo
@@ -31,3 +31,4 @@ pub mod Freed
 pub mod Ended
 pub mod Shrunk
 pub mod FileCalls
+pub mod FreedRun

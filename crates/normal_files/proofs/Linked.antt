@@ -1,24 +1,11 @@
 -- The root leads to a node with other leaves: a node that stood was written, or a new one is led to.
-use Rattle.std.proofs.Common.{◌≡◌, ◌≢◌, ◌⊎◌, inl, inr, ℕ, zero, suc, ◌+◌, ◌*◌, ◌%◌, ◌<◌, List, length, get_or, Some, refl, sym, ◌∙◌, ap, subst, arith}
-use Rattle.std.proofs.lemmas.Bool.{cases_eq}
-use Rattle.cfs_base.specs.Disk.{Image, block_at}
-use Rattle.cfs_base.specs.declared.identifier.Puid.{Puid}
-use Rattle.cfs_base.specs.declared.kind.Place.{Place}
-use Rattle.cfs_base.specs.declared.kind.Place.TheVariants.{Leaf, Node, Root}
-use Rattle.block_tree.specs.declared.root.Root as roots
-use Rattle.block_tree.specs.Pointers.{leaf_pointers, pointers_of}
-use Rattle.block_tree.specs.Root.{IsGoodRoot, IsRootBlock, root_spelling}
-use Rattle.cyl_map.specs.Volume.{entry_in}
-use Rattle.leaf_changes.specs.Changes.{SetsSize}
-use Rattle.leaf_changes.specs.Leaves.{LeavesFit, bytes_held}
-use Rattle.vol_image.specs.Part.{BelongsTo, is_committed, part_at, part_of}
-use Rattle.vol_image.specs.Seen.{held_at}
-use Rattle.vol_image.proofs.Paths.{held_there}
+use Rattle.normal_files.proofs.Words.{◌≡◌, ◌≢◌, ◌⊎◌, inl, inr, ℕ, zero, suc, ◌+◌, ◌*◌, ◌%◌, ◌<◌, List, length, get_or, Some, refl, sym, ◌∙◌, ap, subst, arith, cases_eq, Image, block_at, Puid, Place, Leaf, Node, Root, leaf_pointers, pointers_of, IsGoodRoot, IsRootBlock, root_spelling, entry_in, SetsSize, LeavesFit, bytes_held, BelongsTo, is_committed, part_at, part_of, held_at, held_there}
 use Rattle.normal_files.specs.Laid.{IsAt, IsRooted, leaf_of, leaves_of, node_of}
 use Rattle.normal_files.specs.Nodes.{leaves_at}
 use Rattle.normal_files.proofs.Among.{places_differ}
 use Rattle.normal_files.proofs.Trees.{leaf_stands}
 use Rattle.normal_files.proofs.Places.{leaf_no_node, leaf_no_root, node_no_root}
+use Rattle.block_tree.specs.declared.root.Root as roots
 
 -- From image c to image d node n, which is at block y, has these leaves: those that it had, and new ones.
 pub record IsLinked (c d : Image) (id : Puid) (r s : roots.Root) (n y : ℕ) (leaves : List ℕ) : Type 0 where

@@ -1,31 +1,14 @@
 -- How many blocks a write takes, told by the pointers of the file.
-use Rattle.std.proofs.Common.{◌≡◌, ◌≢◌, inl, inr, ℕ, zero, suc, ◌+◌, ◌-◌, ◌*◌, ◌/◌, ◌%◌, ◌<◌, ◌≤◌, Bool, true, false, List, length, get_or, refl, sym, ◌∙◌, ap, subst, arith, cond}
-use Rattle.std.specs.Prelude.{◌==◌, count_by, is_some, map, not, ◌&&◌, filter, if◌then◌else◌, nat_lt}
-use Rattle.std.specs.List.{range_with_len}
-use Rattle.std.proofs.Math.Path.{fun_ext}
-use Rattle.std.proofs.lemmas.Bool.{cases_lt, ne_eqb, lt-ltb}
-use Rattle.std.proofs.lemmas.List.Sums.{length-filter}
-use Rattle.cfs_base.specs.Disk.{Image}
-use Rattle.cfs_base.specs.declared.identifier.Puid.{Puid}
-use Rattle.block_tree.specs.declared.root.Root as roots
-use Rattle.block_tree.specs.Root.{IsRootBlock, root_spelling}
-use Rattle.leaf_changes.specs.Gives.{GivesFile}
-use Rattle.leaf_changes.proofs.Given.{file_to_leaves}
-use Rattle.leaf_changes.proofs.HeldNumbers.{held_each, in_touched, to_touched, first_to_last}
-use Rattle.ufs_model.specs.Numbers.{branches, has_number, lacking, missing, parents}
-use Rattle.ufs_model.specs.Object.{held_levels, leaves_in, touched}
-use Rattle.ufs_model.specs.declared.object.File.{File}
-use Rattle.ufs_model.specs.declared.object.Object.TheVariants as objects
-use Rattle.ufs_model.proofs.Rising.{in_map, in_numbers, in_withs, numbers-rise, same_numbers, to_map, to_numbers, to_withs, with_numbers-rise}
-use Rattle.vol_image.specs.Seen.{held_at}
-use Rattle.vol_image.proofs.Paths.{held_some, held_there, some_held}
-use Rattle.normal_files.specs.Laid.{IsRooted, leaf_of, leaves_of, node_of, object_of}
+use Rattle.normal_files.proofs.Words.{◌≡◌, ◌≢◌, inl, inr, ℕ, zero, suc, ◌+◌, ◌-◌, ◌*◌, ◌/◌, ◌%◌, ◌<◌, ◌≤◌, Bool, true, false, List, length, get_or, refl, sym, ◌∙◌, ap, subst, arith, cond, ◌==◌, count_by, is_some, map, not, ◌&&◌, filter, if◌then◌else◌, nat_lt, range_with_len, fun_ext, cases_lt, ne_eqb, lt-ltb, length-filter, Image, Puid, IsRootBlock, root_spelling, GivesFile, file_to_leaves, held_each, in_touched, to_touched, first_to_last, branches, has_number, lacking, missing, parents, held_levels, leaves_in, touched, File, in_map, in_numbers, in_withs, numbers-rise, same_numbers, to_map, to_numbers, to_withs, with_numbers-rise, held_at, held_some, held_there, some_held, nat_tests, Graph}
+use Rattle.normal_files.specs.Laid.{leaf_of, leaves_of, node_of}
 use Rattle.normal_files.specs.Nodes.{leaves_at}
-use Rattle.normal_files.specs.Parts.{IsPart, IsReadPart, absent_in, lacking_to, part_need}
+use Rattle.normal_files.specs.Parts.{IsPart, IsReadPart, absent_in, lacking_to, part_need, AreParts}
 use Rattle.normal_files.specs.declared.part.Part.{Part}
 use Rattle.normal_files.proofs.Trees.{leaf_stands, zeros}
-use Rattle.std.proofs.lemmas.Bool.Decides.{nat_tests}
 use Rattle.normal_files.proofs.LackingTo.{filter_more}
+use Rattle.normal_files.specs.View.{HasFile}
+use Rattle.block_tree.specs.declared.root.Root as roots
+use Rattle.ufs_model.specs.declared.object.Object.TheVariants as objects
 
 -- two tests that hold together are one
 same_test : (a b : Bool) → (a ≡ true → b ≡ true) → (b ≡ true → a ≡ true) → a ≡ b
@@ -62,7 +45,7 @@ touched_nodes offset count some = same_numbers (parents (touched offset count)) 
         let n = leaf_in x row.0 row.1 in
         to_withs x (map (λ m. m / 128) (touched offset count)) (subst (λ (y : ℕ). has_number y (map (λ m. m / 128) (touched offset count)) ≡ true) n.3 (to_map (λ m. m / 128) n.0 (touched offset count) (to_touched offset count n.0 n.1 n.2)))
 
-module _ (a : Image) (id : Puid) (f : File) (root : roots.Root) (rooted : IsRooted a id root) (same : object_of a root ≡ objects.File f) where
+module _ {a : Image} {graph : Graph} {id : Puid} {f : File} {root : roots.Root} (s : HasFile a graph id f root) where
   abbrev pub absent_leaf : ℕ → Bool
   absent_leaf l = not (is_some (leaves_of a root l))
 
@@ -70,13 +53,13 @@ module _ (a : Image) (id : Puid) (f : File) (root : roots.Root) (rooted : IsRoot
   absent_node n = node_of root n == 0
 
   gives : GivesFile root (leaves_of a root) f
-  gives = file_to_leaves root (leaves_of a root) f same
+  gives = file_to_leaves root (leaves_of a root) f s.same
 
   is_root : IsRootBlock (root_spelling root) root
-  is_root = record { good = rooted.laid.good; spelled = refl }
+  is_root = record { good = s.rooted.laid.good; spelled = refl }
 
   pub held_is : (l : ℕ) → has_number l f.held ≡ is_some (leaves_of a root l)
-  held_is l = ap (has_number l) gives.held ∙ held_each root (leaves_of a root) l (rooted.laid.fit.within l)
+  held_is l = ap (has_number l) gives.held ∙ held_each root (leaves_of a root) l (s.rooted.laid.fit.within l)
 
   pub some_is : (n k : ℕ) → k < 128 → is_some (leaves_of a root (128 * n + k)) ≡ is_some (held_at a (leaf_of a root n k))
   some_is n k small = ap is_some (leaf_stands a (root_spelling root) root is_root n k small)
@@ -117,7 +100,7 @@ module _ (a : Image) (id : Puid) (f : File) (root : roots.Root) (rooted : IsRoot
 
       back : not (absent_node n) ≡ true → has_number n (parents f.held) ≡ true
       back h =
-          let to = rooted.laid.leads n (unreal (node_of root n) h) in
+          let to = s.rooted.laid.leads n (unreal (node_of root n) h) in
           let l = 128 * n + to.0 in
           let up : l / 128 ≡ n = omega (arith, to.1) in
           let held : has_number l f.held ≡ true = held_is l ∙ some_is n to.0 to.1 ∙ held_some a (leaf_of a root n to.0) to.2 in
@@ -176,28 +159,27 @@ many_join P from n (suc m) =
     let f = ap (λ (x : ℕ). one (P x)) s in
     omega (arith, rest, e, p, q, f)
 
-module _ (a : Image) (id : Puid) (f : File) (root : roots.Root) (rooted : IsRooted a id root) (same : object_of a root ≡ objects.File f) (size offset count : ℕ) (low high : Part) (low_read : IsReadPart size low) (high_read : IsReadPart size high) (low_is : IsPart a root low) (high_is : IsPart a root high)
-    (first : low.leaves.from ≡ offset / 512) (joins : high.leaves.from ≡ low.leaves.to) (last : high.leaves.to ≡ leaves_in (offset + count)) (apart : high.leaves.from < high.leaves.to → low.number ≢ high.number) (some : low.leaves.from < low.leaves.to) (least : 0 < count) where
+module _ {a : Image} {graph : Graph} {id : Puid} {f : File} {root : roots.Root} (s : HasFile a graph id f root) {size offset count : ℕ} {low high : Part} (parts : AreParts size offset count low high) (low_is : IsPart a root low) (high_is : IsPart a root high) (least : 0 < count) where
   abbrev Leaf : ℕ → Bool
-  Leaf = absent_leaf a id f root rooted same
+  Leaf = absent_leaf s
 
   abbrev Node : ℕ → Bool
-  Node = absent_node a id f root rooted same
+  Node = absent_node s
 
   lacking_is : (part : Part) → IsReadPart size part → IsPart a root part → lacking_to part.own.leaves part.leaves.from part.leaves.to ≡ count_of Leaf part.leaves.from (part.leaves.to - part.leaves.from)
   unfolding count_of
-  lacking_is part read is = many_same (absent_in part.own.leaves) Leaf part.leaves.from (part.leaves.to - part.leaves.from) (λ l from to. told_leaf a id f root rooted same size part read is (omega (arith, to, read.some, from)) l (omega (arith, to, read.some, from, read.from, read.to)))
+  lacking_is part read is = many_same (absent_in part.own.leaves) Leaf part.leaves.from (part.leaves.to - part.leaves.from) (λ l from to. told_leaf s size part read is (omega (arith, to, read.some, from)) l (omega (arith, to, read.some, from, read.from, read.to)))
 
   leaves_is : count_of Leaf (offset / 512) ((offset + count - 1) / 512 + 1 - offset / 512) ≡ lacking_to low.own.leaves low.leaves.from low.leaves.to + lacking_to high.own.leaves high.leaves.from high.leaves.to
   leaves_is =
-      let l = lacking_is low low_read low_is in
-      let h = lacking_is high high_read high_is in
-      let n : (offset + count - 1) / 512 + 1 - offset / 512 ≡ (low.leaves.to - low.leaves.from) + (high.leaves.to - high.leaves.from) = omega (arith, first, joins, last, some, high_read.some, least) in
+      let l = lacking_is low parts.low_read low_is in
+      let h = lacking_is high parts.high_read high_is in
+      let n : (offset + count - 1) / 512 + 1 - offset / 512 ≡ (low.leaves.to - low.leaves.from) + (high.leaves.to - high.leaves.from) = omega (arith, parts.first, parts.next, parts.last, parts.some, parts.high_read.some, least) in
       let e = ap (count_of Leaf (offset / 512)) n in
       let j = many_join Leaf (offset / 512) (low.leaves.to - low.leaves.from) (high.leaves.to - high.leaves.from) in
-      let s : offset / 512 + (low.leaves.to - low.leaves.from) ≡ high.leaves.from = omega (arith, first, joins, some) in
+      let s : offset / 512 + (low.leaves.to - low.leaves.from) ≡ high.leaves.from = omega (arith, parts.first, parts.next, parts.some) in
       let t = ap (λ (m : ℕ). count_of Leaf m (high.leaves.to - high.leaves.from)) s in
-      let u = ap (λ (m : ℕ). count_of Leaf m (low.leaves.to - low.leaves.from)) first in
+      let u = ap (λ (m : ℕ). count_of Leaf m (low.leaves.to - low.leaves.from)) parts.first in
       omega (arith, l, h, e, j, t, u)
 
   abbrev nodes_of : Part → ℕ
@@ -216,14 +198,14 @@ module _ (a : Image) (id : Puid) (f : File) (root : roots.Root) (rooted : IsRoot
   nodes_is : count_of Node (offset / 512 / 128) ((offset + count - 1) / 512 / 128 + 1 - offset / 512 / 128) ≡ nodes_of low + nodes_of high
   unfolding count_of
   nodes_is =
-      let low_one = node_one low some in
-      let at : low.number ≡ offset / 512 / 128 = omega (arith, first, low_read.from, low_read.to, some) in
+      let low_one = node_one low parts.some in
+      let at : low.number ≡ offset / 512 / 128 = omega (arith, parts.first, parts.low_read.from, parts.low_read.to, parts.some) in
       let here = ap (λ (m : ℕ). one (Node m)) at in
       elim (cases_lt high.leaves.from high.leaves.to) [
         | inl more ↦
-            let differ = apart more in
-            let next : high.number ≡ low.number + 1 = omega (arith, differ, joins, more, some, low_read.from, low_read.to, high_read.from, high_read.to, last, least, first) in
-            let n : (offset + count - 1) / 512 / 128 + 1 - offset / 512 / 128 ≡ 2 = omega (arith, next, at, last, more, high_read.from, high_read.to, least) in
+            let differ = parts.apart more in
+            let next : high.number ≡ low.number + 1 = omega (arith, differ, parts.next, more, parts.some, parts.low_read.from, parts.low_read.to, parts.high_read.from, parts.high_read.to, parts.last, least, parts.first) in
+            let n : (offset + count - 1) / 512 / 128 + 1 - offset / 512 / 128 ≡ 2 = omega (arith, next, at, parts.last, more, parts.high_read.from, parts.high_read.to, least) in
             let e = ap (count_of Node (offset / 512 / 128)) n in
             let high_one = node_one high more in
             let p = many_more Node (offset / 512 / 128) 1 in
@@ -232,8 +214,8 @@ module _ (a : Image) (id : Puid) (f : File) (root : roots.Root) (rooted : IsRoot
             let zero_is = ap (λ (m : ℕ). one (Node m)) (let z : offset / 512 / 128 + 0 ≡ offset / 512 / 128 = omega arith in z) in
             omega (arith, low_one, here, e, high_one, p, q, there, zero_is)
         | inr past ↦
-            let none : high.leaves.from ≡ high.leaves.to = omega (arith, past, high_read.some) in
-            let n : (offset + count - 1) / 512 / 128 + 1 - offset / 512 / 128 ≡ 1 = omega (arith, none, at, joins, last, low_read.from, low_read.to, some, first, least) in
+            let none : high.leaves.from ≡ high.leaves.to = omega (arith, past, parts.high_read.some) in
+            let n : (offset + count - 1) / 512 / 128 + 1 - offset / 512 / 128 ≡ 1 = omega (arith, none, at, parts.next, parts.last, parts.low_read.from, parts.low_read.to, parts.some, parts.first, least) in
             let e = ap (count_of Node (offset / 512 / 128)) n in
             let high_none = node_none high none in
             let q = many_more Node (offset / 512 / 128) 0 in
@@ -244,7 +226,7 @@ module _ (a : Image) (id : Puid) (f : File) (root : roots.Root) (rooted : IsRoot
   pub parts_need : part_need root low + part_need root high ≡ missing (branches 1 (touched offset count)) (held_levels (objects.File f))
   unfolding count_of
   parts_need =
-      let need = need_is a id f root rooted same offset count least in
+      let need = need_is s offset count least in
       let leaf_count = ap (count_by Leaf) (first_to_last offset count least) ∙ sym (length-filter Leaf (range_with_len (offset / 512) ((offset + count - 1) / 512 + 1 - offset / 512))) in
       let node_count = sym (length-filter Node (range_with_len (offset / 512 / 128) ((offset + count - 1) / 512 / 128 + 1 - offset / 512 / 128))) in
       omega (arith, need, leaf_count, node_count, leaves_is, nodes_is)

@@ -1,15 +1,5 @@
 -- The claims of a write, leaf after leaf.
-use Rattle.std.proofs.Common.{◌≡◌, ◌≢◌, inl, inr, ℕ, suc, ◌+◌, ◌*◌, ◌/◌, ◌%◌, ◌<◌, Bool, true, false, List, ◌∷◌, get_or, refl, sym, ◌∙◌, ap, subst, eq-eqb, arith}
-use Rattle.std.specs.Prelude.{◌||◌, ◌==◌, if◌then◌else◌, not}
-use Rattle.std.proofs.lemmas.Bool.{cases_eq, ne_eqb}
-use Rattle.cfs_base.specs.Disk.{Image}
-use Rattle.cfs_base.specs.declared.kind.Place.TheVariants.{Leaf}
-use Rattle.cyl_alloc.specs.Space.{allocated}
-use Rattle.cyl_map.specs.Volume.{entry_in, with_entry}
-use Rattle.cyl_map.proofs.Volumes.{entry_in-with_entry_other, entry_in-with_entry_same, entry_in_table}
-use Rattle.claims.specs.Claims.{AreClaimed}
-use Rattle.ufs_model.specs.Numbers.{has_number}
-use Rattle.ufs_model.proofs.Rising.{here}
+use Rattle.normal_files.proofs.Words.{◌≡◌, ◌≢◌, inl, inr, ℕ, suc, ◌+◌, ◌*◌, ◌/◌, ◌%◌, ◌<◌, Bool, true, false, List, ◌∷◌, get_or, refl, sym, ◌∙◌, ap, subst, eq-eqb, arith, ◌||◌, ◌==◌, if◌then◌else◌, not, cases_eq, ne_eqb, Image, Leaf, allocated, entry_in, with_entry, entry_in-with_entry_other, entry_in-with_entry_same, entry_in_table, AreClaimed, has_number, here}
 use Rattle.normal_files.specs.Order.{TellsHeld, claims_from, nodes_now}
 use Rattle.normal_files.specs.Takes.{TakesLeaf}
 use Rattle.normal_files.specs.declared.part.Part.{Part}

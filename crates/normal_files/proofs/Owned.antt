@@ -1,24 +1,8 @@
 -- The blocks of a file that is read by its root: the root, and the nodes and leaves to which the pointers lead.
-use Rattle.std.proofs.Common.{◌≡◌, ◌≢◌, ◌⊎◌, inl, inr, ℕ, ◌<◌, List, [], ◌∷◌, Some, refl, sym, ◌∙◌, ap, subst, true}
-use Rattle.cfs_base.specs.Disk.{Image}
-use Rattle.cfs_base.specs.declared.identifier.Puid.{Puid}
-use Rattle.block_tree.specs.declared.root.Root as roots
-use Rattle.block_tree.specs.Root.{IsRootBlock, root_spelling}
-use Rattle.cyl_map.specs.Volume.{entry_in}
-use Rattle.vol_image.specs.Frame.{IsBlockOf}
-use Rattle.vol_image.specs.Seen.{tree_in}
-use Rattle.vol_image.specs.Sight.{first_or, sight}
-use Rattle.vol_image.proofs.AtRoot.{no_shadows, read_by_root}
-use Rattle.vol_image.proofs.Views.{held}
-use Rattle.vol_owners.specs.Account.{HasItsBlocks, Opened}
-use Rattle.vol_owners.specs.Owner.{is_had, is_leaving, is_of}
+use Rattle.normal_files.proofs.Words.{◌≡◌, ◌≢◌, ◌⊎◌, inl, inr, ℕ, ◌<◌, List, [], ◌∷◌, Some, refl, sym, ◌∙◌, ap, subst, true, Image, Puid, IsRootBlock, root_spelling, entry_in, IsBlockOf, tree_in, first_or, sight, no_shadows, read_by_root, held, HasItsBlocks, Opened, is_had, is_leaving, is_of, list_all, and_from, and_parts, Object, Graph, is_there, with_object, still_there}
 use Rattle.normal_files.specs.Laid.{IsRooted, leaf_of, node_of}
 use Rattle.normal_files.proofs.Laid.{each, leaf_there, node_there}
-use Rattle.std.specs.List.{list_all}
-use Rattle.std.proofs.lemmas.Bool.{and_from, and_parts}
-use Rattle.ufs_model.specs.declared.object.Object.{Object}
-use Rattle.ufs_model.specs.Graph.{Graph, is_there, with_object}
-use Rattle.ufs_model.proofs.WellGraphs.{still_there}
+use Rattle.block_tree.specs.declared.root.Root as roots
 
 -- one of these blocks
 abbrev pub IsOwn : Image → Puid → roots.Root → ℕ → Type 0

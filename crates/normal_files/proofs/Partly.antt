@@ -1,33 +1,12 @@
 -- A file of which each leaf is as in one file or as in another, whatever its root leads to.
-use Rattle.std.proofs.Common.{◌≡◌, ◌≢◌, ◌⊎◌, inl, inr, ℕ, List, length, true, Option, Some, None, is_some, refl, sym, ◌∙◌, ap, subst, arith}
-use Rattle.cfs_base.specs.Disk.{Image}
-use Rattle.cfs_base.specs.declared.identifier.Puid.{Puid}
-use Rattle.cfs_base.specs.declared.kind.Kind.TheVariants as kinds
-use Rattle.cfs_base.specs.declared.kind.FileKind.{FileKind}
-use Rattle.cfs_base.specs.declared.kind.FileKind.TheVariants as file_kinds
-use Rattle.block_tree.specs.declared.root.Root as roots
-use Rattle.leaf_changes.specs.Changes.{SetsSize}
-use Rattle.leaf_changes.specs.Gives.{GivesFile, kind_of}
-use Rattle.leaf_changes.specs.Leaves.{LeavesFit, bytes_held}
-use Rattle.leaf_changes.proofs.Between.{between, leaf_of}
-use Rattle.leaf_changes.proofs.Contents.{same_content}
-use Rattle.leaf_changes.proofs.Given.{file_to_leaves, same_kind, some_file}
-use Rattle.ufs_model.specs.declared.object.File.{File}
-use Rattle.ufs_model.specs.declared.object.Object.TheVariants as objects
-use Rattle.ufs_model.specs.Graph.{Graph}
-use Rattle.ufs_model.specs.Numbers.{has_number, numbers_rise}
-use Rattle.ufs_model.specs.Object.{leaves_in}
-use Rattle.ufs_model.proofs.Rising.{filter-rises, in_filter, numbers-rise, to_filter, to_numbers}
-use Rattle.vol_image.specs.Frame.{Frames}
-use Rattle.vol_image.specs.Reading.{leaf_content}
-use Rattle.vol_image.specs.Seen.{Held}
-use Rattle.vol_image.specs.Sight.{sight}
-use Rattle.vol_image.specs.Sound.{Holds, ReadsAs}
-use Rattle.vol_image.specs.Survives.{leaf_of_file}
-use Rattle.vol_image.proofs.Changes.{object_put, others}
+use Rattle.normal_files.proofs.Words.{◌≡◌, ◌≢◌, ◌⊎◌, inl, inr, ℕ, List, length, true, Option, Some, None, is_some, refl, sym, ◌∙◌, ap, subst, arith, Image, Puid, FileKind, SetsSize, GivesFile, kind_of, LeavesFit, bytes_held, between, leaf_of, same_content, file_to_leaves, same_kind, some_file, File, Graph, has_number, numbers_rise, leaves_in, filter-rises, in_filter, numbers-rise, to_filter, to_numbers, Frames, leaf_content, Held, sight, Holds, ReadsAs, leaf_of_file, object_put, others}
 use Rattle.normal_files.specs.Laid.{IsRooted, leaves_of}
 use Rattle.normal_files.specs.Standing.{HoldsOfEither, IsPartly}
 use Rattle.normal_files.proofs.Laid.{rooted_reads}
+use Rattle.cfs_base.specs.declared.kind.Kind.TheVariants as kinds
+use Rattle.cfs_base.specs.declared.kind.FileKind.TheVariants as file_kinds
+use Rattle.block_tree.specs.declared.root.Root as roots
+use Rattle.ufs_model.specs.declared.object.Object.TheVariants as objects
 
 some_held : (o : Option Held) (bytes : List ℕ) → bytes_held o ≡ Some bytes → (h : Held) × (o ≡ Some h)
 some_held None bytes is = cc

@@ -1,40 +1,15 @@
 -- A file of which some leaves have their new bytes is between the old file and the new.
-use Rattle.std.proofs.Common.{◌≡◌, ◌≢◌, ◌⊎◌, inl, inr, ℕ, ◌+◌, ◌*◌, ◌/◌, ◌<◌, ◌≤◌, Bool, true, false, List, length, Option, Some, None, refl, sym, ◌∙◌, ap, subst, arith}
-use Rattle.std.specs.Prelude.{◌&&◌, nat_le, nat_lt}
-use Rattle.std.proofs.lemmas.Bool.Decides.{nat_tests}
-use Rattle.cfs_base.specs.Disk.{AreBlocks, Image, block_at}
-use Rattle.cfs_base.specs.declared.identifier.Puid.{Puid}
-use Rattle.cfs_base.specs.declared.kind.Kind.TheVariants as kinds
-use Rattle.block_tree.specs.declared.root.Root as roots
-use Rattle.block_tree.specs.Root.{root_spelling}
-use Rattle.block_tree.specs.Tree.{levels_of, path_to, tree_of}
-use Rattle.leaf_changes.specs.Bytes.{patched}
-use Rattle.leaf_changes.specs.Changes.{SetsSize}
-use Rattle.leaf_changes.specs.Gives.{GivesFile}
-use Rattle.leaf_changes.specs.Leaves.{LeavesFit, Writes, bytes_held}
-use Rattle.leaf_changes.proofs.Between.{mixed_fit}
-use Rattle.leaf_changes.proofs.Fits.{same_object}
-use Rattle.leaf_changes.proofs.Contents.{content_is, length-leaf_content}
-use Rattle.leaf_changes.proofs.Given.{file_to_leaves}
-use Rattle.leaf_changes.proofs.Overlays.{laid_outside, over_early, over_past}
-use Rattle.leaf_changes.proofs.Written.{writes_fit, writes_object}
-use Rattle.ufs_model.specs.declared.object.File.{File}
-use Rattle.ufs_model.specs.declared.object.Object.TheVariants as objects
-use Rattle.ufs_model.specs.Graph.{Graph, object_at}
-use Rattle.ufs_model.specs.Object.{changed_object, leaves_in, written}
-use Rattle.ufs_model.specs.declared.change.Change.TheVariants.{Overwrite}
-use Rattle.vol_image.specs.Reading.{leaf_content}
-use Rattle.vol_image.specs.Seen.{Held}
-use Rattle.vol_image.specs.Sound.{Holds}
-use Rattle.vol_image.proofs.Views.{held, held_is}
+use Rattle.normal_files.proofs.Words.{◌≡◌, ◌≢◌, ◌⊎◌, inl, inr, ℕ, ◌+◌, ◌*◌, ◌/◌, ◌<◌, ◌≤◌, Bool, true, false, List, length, Option, Some, None, refl, sym, ◌∙◌, ap, subst, arith, ◌&&◌, nat_le, nat_lt, nat_tests, Image, block_at, Puid, root_spelling, levels_of, path_to, tree_of, patched, SetsSize, GivesFile, LeavesFit, Writes, bytes_held, mixed_fit, same_object, content_is, length-leaf_content, file_to_leaves, laid_outside, over_early, over_past, writes_fit, writes_object, File, Graph, changed_object, leaves_in, written, Overwrite, leaf_content, Held, held, held_is, Frames, others}
 use Rattle.normal_files.specs.Among.{IsAmong, IsEither}
 use Rattle.normal_files.specs.Laid.{IsRooted, leaves_of, object_of}
 use Rattle.normal_files.specs.Standing.{IsPartly}
 use Rattle.normal_files.proofs.Laid.{tree_of_laid}
 use Rattle.normal_files.proofs.Among.{among_rooted, leaf_either}
 use Rattle.normal_files.proofs.Partly.{no_index, partly}
-use Rattle.vol_image.specs.Frame.{Frames}
-use Rattle.vol_image.proofs.Changes.{others}
+use Rattle.normal_files.specs.View.{HasFile}
+use Rattle.cfs_base.specs.declared.kind.Kind.TheVariants as kinds
+use Rattle.block_tree.specs.declared.root.Root as roots
+use Rattle.ufs_model.specs.declared.object.Object.TheVariants as objects
 
 -- ---- the leaves once all is written
 
@@ -99,10 +74,9 @@ module _ (fill offset : ℕ) (bytes : List ℕ) (old : ℕ → Option Held) (who
 
 -- ---- an image of a write
 
-module _ (a : Image) (graph : Graph) (id : Puid) (f : File) (holds : Holds a graph) (at : object_at graph id ≡ Some (objects.File f)) (root : roots.Root) (rooted : IsRooted a id root) (same : object_of a root ≡ objects.File f)
-    (blocks : AreBlocks a) where
+module _ {a : Image} {graph : Graph} {id : Puid} {f : File} {root : roots.Root} (s : HasFile a graph id f root) where
   pub gives : GivesFile root (leaves_of a root) f
-  gives = file_to_leaves root (leaves_of a root) f same
+  gives = file_to_leaves root (leaves_of a root) f s.same
 
   pub a_file : root.kind ≢ kinds.Index
   a_file index = no_index f.kind (sym gives.kind ∙ index)
@@ -110,10 +84,10 @@ module _ (a : Image) (graph : Graph) (id : Puid) (f : File) (holds : Holds a gra
   pub whole : (l : ℕ) (h : Held) → leaves_of a root l ≡ Some h → length h.content ≡ 512
   whole l h is =
       let path = path_to (levels_of (root_spelling root)) l in
-      let tree = tree_of_laid a (root_spelling root) root (record { good = rooted.laid.good; spelled = refl }) id.block refl rooted.laid in
+      let tree = tree_of_laid a (root_spelling root) root (record { good = s.rooted.laid.good; spelled = refl }) id.block refl s.rooted.laid in
       let two = held_is a (tree_of a (root_spelling root) path) h is in
       let below = subst (λ (x : Held). x.block < length a) two.0 (tree.on_disk path h is) in
-      subst (λ (x : Held). length x.content ≡ 512) (sym two.0) (blocks (tree_of a (root_spelling root) path) below).long
+      subst (λ (x : Held). length x.content ≡ 512) (sym two.0) (s.blocks (tree_of a (root_spelling root) path) below).long
 
   module _ (offset : ℕ) (bytes : List ℕ) (inside : offset + length bytes ≤ length f.bytes) where
     abbrev pub last : ℕ → Option Held
@@ -123,20 +97,20 @@ module _ (a : Image) (graph : Graph) (id : Puid) (f : File) (holds : Holds a gra
     fits = omega (arith, inside, gives.size)
 
     pub last_fit : LeavesFit root last
-    last_fit = writes_fit root (leaves_of a root) last offset bytes rooted.laid.fit (next_writes root.fill offset bytes (leaves_of a root) whole) fits
+    last_fit = writes_fit root (leaves_of a root) last offset bytes s.rooted.laid.fit (next_writes root.fill offset bytes (leaves_of a root) whole) fits
 
     last_gives : GivesFile root last (written f offset bytes)
     last_gives = file_to_leaves root last (written f offset bytes)
-        (writes_object root (leaves_of a root) last offset bytes rooted.laid.fit (next_writes root.fill offset bytes (leaves_of a root) whole) fits a_file ∙ ap (λ o. changed_object (Overwrite offset bytes) o) same)
+        (writes_object root (leaves_of a root) last offset bytes s.rooted.laid.fit (next_writes root.fill offset bytes (leaves_of a root) whole) fits a_file ∙ ap (λ o. changed_object (Overwrite offset bytes) o) s.same)
 
     -- ---- an image whose root leads to leaves of before and of after
 
     module _ (c : Image) (r : roots.Root) (head : SetsSize root.size root r) (mixed : (l : ℕ) → (bytes_held (leaves_of c r l) ≡ bytes_held (leaves_of a root l)) ⊎ (bytes_held (leaves_of c r l) ≡ bytes_held (last l))) where
       pub mixed_fits : LeavesFit r (leaves_of c r)
-      mixed_fits = mixed_fit root root r (leaves_of a root) last (leaves_of c r) rooted.laid.fit last_fit (omega arith) refl head mixed
+      mixed_fits = mixed_fit root root r (leaves_of a root) last (leaves_of c r) s.rooted.laid.fit last_fit (omega arith) refl head mixed
 
       pub mixed_partly : Frames a (others graph id) c → IsRooted c id r → IsPartly c graph id f (written f offset bytes)
-      mixed_partly frames now_rooted = partly a graph id holds root root (leaves_of a root) last f (written f offset bytes) rooted.laid.fit gives last_fit last_gives refl c r (record { kind = head.kind; fill = head.fill; size = refl }) mixed frames now_rooted mixed_fits (inl head.size)
+      mixed_partly frames now_rooted = partly a graph id s.holds root root (leaves_of a root) last f (written f offset bytes) s.rooted.laid.fit gives last_fit last_gives refl c r (record { kind = head.kind; fill = head.fill; size = refl }) mixed frames now_rooted mixed_fits (inl head.size)
 
     -- ---- one whose leaves are all of after
 
@@ -144,12 +118,12 @@ module _ (a : Image) (graph : Graph) (id : Puid) (f : File) (holds : Holds a gra
     last_file c r head all =
         let w = next_writes root.fill offset bytes (leaves_of a root) whole in
         same_object root.size root r head (leaves_of c r)
-        ∙ writes_object root (leaves_of a root) (leaves_of c r) offset bytes rooted.laid.fit (record { before = λ l early. all l ∙ w.before l early; here = λ l from to. all l ∙ w.here l from to; after = λ l late. all l ∙ w.after l late }) fits a_file
-        ∙ ap (λ o. changed_object (Overwrite offset bytes) o) same
+        ∙ writes_object root (leaves_of a root) (leaves_of c r) offset bytes s.rooted.laid.fit (record { before = λ l early. all l ∙ w.before l early; here = λ l from to. all l ∙ w.here l from to; after = λ l late. all l ∙ w.after l late }) fits a_file
+        ∙ ap (λ o. changed_object (Overwrite offset bytes) o) s.same
 
     module _ (c : Image) (among : IsAmong a graph id root (IsEither a root offset bytes) c) where
       is_mixed : (l : ℕ) → (bytes_held (leaves_of c root l) ≡ bytes_held (leaves_of a root l)) ⊎ (bytes_held (leaves_of c root l) ≡ bytes_held (last l))
-      is_mixed l = elim (leaf_either a graph id (objects.File f) holds at root rooted (IsEither a root offset bytes) c among l) [
+      is_mixed l = elim (leaf_either s (IsEither a root offset bytes) c among l) [
         | inl none ↦ inl (ap bytes_held none.0 ∙ sym (ap bytes_held none.1))
         | inr some ↦ elim some.3 [
           | inl was ↦ inl (ap bytes_held some.2 ∙ ap Some (was ∙ content_is root.fill (leaves_of a root l) (block_at a some.0) (ap bytes_held some.1) (whole l (held a some.0) some.1)) ∙ sym (ap bytes_held some.1))
@@ -160,4 +134,4 @@ module _ (a : Image) (graph : Graph) (id : Puid) (f : File) (holds : Holds a gra
       pub partly_written : IsPartly c graph id f (written f offset bytes)
       partly_written =
           let head : SetsSize root.size root root = record { kind = refl; fill = refl; size = refl } in
-          mixed_partly c root head is_mixed among.frames (among_rooted a graph id (objects.File f) holds at root rooted (IsEither a root offset bytes) c among (mixed_fits c root head is_mixed))
+          mixed_partly c root head is_mixed among.frames (among_rooted s (IsEither a root offset bytes) c among (mixed_fits c root head is_mixed))

@@ -1,6 +1,5 @@
 -- Places in an object, told apart.
-use Rattle.std.proofs.Common.{◌≡◌, ◌≢◌, ℕ}
-use Rattle.cfs_base.specs.declared.kind.Place.TheVariants.{Leaf, Node, Root, ShadowRoot}
+use Rattle.normal_files.proofs.Words.{◌≡◌, ◌≢◌, ℕ, Leaf, Node, Root, ShadowRoot}
 
 pub one_leaf : (p q : ℕ) → Leaf p ≡ Leaf q → p ≡ q
 one_leaf p q same = cc

@@ -1,20 +1,5 @@
 -- A part whose leaves were taken is ready: the root may lead to them.
-use Rattle.std.proofs.Common.{◌≡◌, ◌≢◌, ◌⊎◌, inl, inr, ℕ, zero, suc, ◌+◌, ◌*◌, ◌%◌, ◌<◌, ◌≤◌, ◌^◌, List, [], length, set, get_or, Some, refl, sym, ◌∙◌, ap, subst, get_or-set_other, get_or-set_same, arith}
-use Rattle.std.proofs.lemmas.Bool.{cases_eq, cases_lt}
-use Rattle.std.proofs.lemmas.List.Elements.{All-from_get_or, All-set}
-use Rattle.std.proofs.Math.ListN.{length-set}
-use Rattle.cfs_base.specs.Disk.{Image, block_at}
-use Rattle.cfs_base.specs.declared.identifier.Puid.{Puid}
-use Rattle.cfs_base.specs.declared.kind.Place.{Place}
-use Rattle.cfs_base.specs.declared.kind.Place.TheVariants.{Leaf, Node, Root}
-use Rattle.block_tree.specs.declared.root.Root as roots
-use Rattle.block_tree.specs.Node.{node_spelling}
-use Rattle.block_tree.specs.Pointers.{leaf_pointers, pointers_of}
-use Rattle.block_tree.proofs.Spellings.{leaves_of as spells_leaves}
-use Rattle.block_tree.specs.Root.{root_spelling}
-use Rattle.cyl_map.proofs.Volumes.{entry_in-set}
-use Rattle.leaf_changes.specs.Leaves.{bytes_held}
-use Rattle.vol_image.specs.Part.{BelongsTo, part_at, part_of}
+use Rattle.normal_files.proofs.Words.{◌≡◌, ◌≢◌, ◌⊎◌, inl, inr, ℕ, zero, suc, ◌+◌, ◌*◌, ◌%◌, ◌<◌, ◌≤◌, ◌^◌, List, [], length, set, get_or, Some, refl, sym, ◌∙◌, ap, subst, get_or-set_other, get_or-set_same, arith, cases_eq, cases_lt, All-from_get_or, All-set, length-set, Image, block_at, Puid, Place, Leaf, Node, Root, node_spelling, leaf_pointers, pointers_of, spells_leaves, root_spelling, entry_in-set, bytes_held, BelongsTo, part_at, part_of}
 use Rattle.normal_files.specs.Laid.{IsAt, IsRooted, leaf_of, leaves_of, node_of}
 use Rattle.normal_files.specs.Links.{with_node}
 use Rattle.normal_files.specs.Nodes.{leaves_at}
@@ -25,6 +10,7 @@ use Rattle.normal_files.proofs.Among.{places_differ}
 use Rattle.normal_files.proofs.Linked.{IsLinked, bytes_new, bytes_stay, leaf_other, leaf_there, leaves_other}
 use Rattle.normal_files.proofs.Places.{leaf_no_node, leaf_no_root, node_no_root}
 use Rattle.normal_files.proofs.Trees.{same_leaves}
+use Rattle.block_tree.specs.declared.root.Root as roots
 
 -- In image c nothing leads to the leaves of a part that were taken, and all that the root is to lead to stands.
 pub record IsReady (c : Image) (id : Puid) (r : roots.Root) (fill offset : ℕ) (bytes : List ℕ) (part : Part) (next : Next) : Type 0 where

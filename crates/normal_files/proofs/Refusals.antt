@@ -1,18 +1,8 @@
 -- One refusal told as another.
-use Rattle.std.proofs.Common.{◌≡◌, ◌+◌, ℕ, Ok, Err, false, refl, sym, subst, arith}
-use Rattle.std.specs.Prelude.{IfErr, Result}
-use Rattle.std.specs.Result.{IsErrAnd}
-use Rattle.cfs_base.specs.Calls.{OnlyReads}
-use Rattle.cfs_base.specs.Run.{Tells}
-use Rattle.cfs_base.proofs.Calls.{reads_then, stopped_after_reads, tells_on}
-use Rattle.cfs_base.specs.declared.disk.Disk.{Ghosts}
-use Rattle.cfs_base.specs.declared.refusal.Damage.{Damage}
-use Rattle.cfs_base.specs.declared.refusal.Trouble.{Trouble}
-use Rattle.cfs_base.specs.declared.refusal.Trouble.TheVariants as trouble
-use Rattle.cfs_base.specs.Disk.{Image}
-use Rattle.block_tree.specs.Pointers.{leaf_pointers}
-use Rattle.normal_files.specs.Refusal.{FarNode, FarRoot, IsDamage, IsFar, IsTrouble, NoRoot, is_damage}
+use Rattle.normal_files.proofs.Words.{◌≡◌, ◌+◌, ℕ, Ok, Err, false, refl, sym, subst, arith, IfErr, Result, IsErrAnd, OnlyReads, Tells, reads_then, stopped_after_reads, tells_on, Ghosts, Damage, Trouble, Image, leaf_pointers}
+use Rattle.normal_files.specs.Refusal.{IsDamage, IsFar, IsTrouble, is_damage, FarNode, FarRoot, NoRoot}
 use Rattle.normal_files.specs.Steps.{HasStoppedBy}
+use Rattle.cfs_base.specs.declared.refusal.Trouble.TheVariants as trouble
 
 -- what a `?` makes of a trouble
 pub passed : {A : Type 0} (P : Trouble → Type 0) (r : Result A Trouble) (t : Trouble) → IsErrAnd r (λ e. e ≡ t) → P t → IfErr r P

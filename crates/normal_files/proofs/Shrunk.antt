@@ -1,71 +1,35 @@
 -- A file that was set to less: what its root no longer leads to becomes Free, and then the store has the file.
-use Rattle.std.proofs.Common.{◌≡◌, ◌≢◌, ◌⊎◌, inl, inr, ℕ, ◌+◌, ◌*◌, ◌<◌, ◌≤◌, Bool, true, false, cond, List, [], length, set, get_or, Some, refl, sym, ◌∙◌, ap, subst, get_or-set_other, arith}
-use Rattle.std.specs.Prelude.{nat_lt}
-use Rattle.std.proofs.Math.ListN.{length-set}
-use Rattle.std.proofs.lemmas.Bool.{both_ways, cases_eq, cases_lt}
-use Rattle.std.proofs.lemmas.List.{get_or_past}
-use Rattle.cfs_base.specs.Disk.{Image, block_at}
-use Rattle.cfs_base.specs.Run.{IsSettled, left_now}
-use Rattle.cfs_base.specs.declared.disk.Disk.{Ghosts}
-use Rattle.cfs_base.specs.declared.identifier.Puid.{Puid}
-use Rattle.cfs_base.specs.declared.kind.Place.{Place}
-use Rattle.cfs_base.specs.declared.kind.Place.TheVariants.{Leaf, Node, Root}
-use Rattle.block_tree.specs.declared.root.Root as roots
-use Rattle.block_tree.specs.Node.{IsNode, node_spelling}
-use Rattle.block_tree.specs.Root.{IsGoodRoot, root_spelling}
-use Rattle.cyl_alloc.specs.Space.{AreCounts, Kept}
-use Rattle.cyl_map.specs.Volume.{entry_in}
-use Rattle.cyl_map.specs.declared.state.BlockState.{BlockState}
-use Rattle.cyl_map.specs.declared.state.BlockState.TheVariants.{Free}
-use Rattle.ufs_model.specs.declared.object.File.{File}
-use Rattle.ufs_model.specs.declared.object.Object.{Object}
-use Rattle.ufs_model.specs.declared.object.Object.TheVariants as objects
-use Rattle.ufs_model.specs.Graph.{Graph, object_at, with_object}
-use Rattle.ufs_model.specs.Identifier.{same_puid}
-use Rattle.ufs_model.specs.Object.{leaves_in, resized}
-use Rattle.ufs_model.proofs.Rising.{filter-rises}
-use Rattle.ufs_model.proofs.Graphs.{object_at-with_object, rises-with_object}
-use Rattle.ufs_model.proofs.Reached.{same_puid_is, same_puid_itself}
-use Rattle.vol_image.specs.Frame.{Frames, IsBlockOf, IsLoose}
-use Rattle.vol_image.specs.Part.{BelongsTo, is_committed, part_at, part_of}
-use Rattle.vol_image.specs.Sight.{sight}
-use Rattle.vol_image.specs.Sound.{Holds, ReadsAs}
-use Rattle.vol_image.proofs.Carries.{carried}
-use Rattle.vol_image.proofs.Changes.{other_at, others, owned_is_loose}
-use Rattle.vol_image.proofs.Law.{frames_hold, framed_sight, same_blocks}
-use Rattle.vol_image.proofs.Parts.{placed}
-use Rattle.vol_image.proofs.Runs.{begins}
-use Rattle.vol_owners.specs.Account.{HasDrafts, HasItsBlocks, Opened}
-use Rattle.vol_owners.specs.Change.{ChangesOnly, of_owner}
-use Rattle.vol_owners.specs.Owner.{is_had, is_leaving, is_meant, is_of}
-use Rattle.vol_owners.proofs.Changes.{changes_begin, changes_then}
-use Rattle.vol_owners.proofs.Entries.{free_unowned}
-use Rattle.vol_owners.proofs.Steps.{object_changes_on}
-use Rattle.normal_files.specs.Cuts.{IsCutRoot, IsEnd, IsReadEnd, MayTrim, Shrinks, first_gone, last_node, put_at, trimmed}
-use Rattle.normal_files.specs.Frees.{Drops, FreedLeaf, FreedNode, IsDropped, IsFreed, IsFreeing, TakesNone}
+use Rattle.normal_files.proofs.Words.{◌≡◌, ◌≢◌, ◌⊎◌, inl, inr, ℕ, ◌+◌, ◌*◌, ◌<◌, ◌≤◌, Bool, true, false, cond, List, [], length, set, get_or, Some, refl, sym, ◌∙◌, ap, subst, get_or-set_other, arith, nat_lt, length-set, both_ways, cases_eq, cases_lt, get_or_past, Image, block_at, IsSettled, left_now, Ghosts, Puid, Place, Leaf, Node, Root, node_spelling, root_spelling, AreCounts, Kept, entry_in, BlockState, Free, File, Object, Graph, object_at, with_object, same_puid, leaves_in, resized, filter-rises, object_at-with_object, rises-with_object, same_puid_is, same_puid_itself, Frames, IsBlockOf, IsLoose, BelongsTo, is_committed, part_at, part_of, sight, Holds, ReadsAs, carried, other_at, others, owned_is_loose, frames_hold, framed_sight, same_blocks, placed, begins, HasDrafts, HasItsBlocks, ChangesOnly, of_owner, is_had, is_leaving, is_meant, is_of, changes_begin, changes_then, free_unowned, object_changes_on}
+use Rattle.normal_files.specs.Cuts.{MayTrim, last_node, put_at, trimmed}
+use Rattle.normal_files.specs.Frees.{Drops, IsDropped, IsFreed, IsFreeing, TakesNone, FreedLeaf, FreedNode}
 use Rattle.normal_files.specs.Laid.{IsRooted, leaf_of, leaves_of, node_of}
 use Rattle.normal_files.specs.Nodes.{leaves_at}
 use Rattle.normal_files.specs.Standing.{BecomesFile, IsPartly}
 use Rattle.normal_files.specs.declared.cut.End.{End}
 use Rattle.normal_files.proofs.Among.{places_differ}
-use Rattle.normal_files.proofs.Ended.{either_e, either_left, gone_stays, is_trimmed, put_none, put_some, stay_before, x_own, y_own}
+use Rattle.normal_files.proofs.Ended.{either_e, either_left, gone_stays, is_trimmed, put_none, put_some, stay_before, x_own, y_own, IsCut}
 use Rattle.normal_files.proofs.Laid.{tree_of_laid}
 use Rattle.normal_files.proofs.Partly.{held_rises}
 use Rattle.normal_files.proofs.Owned.{IsOwn, all_there, block_from_own, own_from_block}
 use Rattle.normal_files.proofs.Trees.{near, same_leaves, zeros}
 use Rattle.normal_files.proofs.Trimmed.{IsEitherWay, IsLed, IsTrimmed, KeepsEntries, either_partly, entries_begin, gives, led, set_content, shrunk_holds, shrunk_own, shrunk_partly, shrunk_parts, shrunk_rooted}
 use Rattle.normal_files.proofs.Places.{one_leaf, one_node}
+use Rattle.normal_files.specs.View.{View, id_at}
+use Rattle.block_tree.specs.declared.root.Root as roots
+use Rattle.ufs_model.specs.declared.object.Object.TheVariants as objects
 
-module _ {D : Type 0} (g : Ghosts D) (graph : Graph) (ds : List Opened) (id : Puid) (f : File) (root : roots.Root) (at size : ℕ) (start : D) (kept : Kept) (is : Shrinks g graph ds id f root at size start kept) (blocks : ℕ) (end : End) (read : IsReadEnd blocks root size end)
-    (ended : IsEnd (g.content start) root size end) (spelled : IsNode end.node) (next : roots.Root) (good : IsGoodRoot next) (cut_is : IsCutRoot root size (first_gone size end.kept) next) where
+module _ {D : Type 0} {g : Ghosts D} {r : ℕ} {root : roots.Root} {start : D} {kept : Kept} {v : View g r root start kept} {size : ℕ} {end : End} {next : roots.Root} (z : IsCut v size end next) where
   abbrev a : Image
   a = g.content start
+
+  abbrev id : Puid
+  id = id_at r v.word
 
   abbrev e : Image
   e = trimmed a end
 
   abbrev pub b : Image
-  b = set e id.block (root_spelling next)
+  b = set e r (root_spelling next)
 
   abbrev keep : ℕ
   keep = leaves_in size
@@ -74,61 +38,61 @@ module _ {D : Type 0} (g : Ghosts D) (graph : Graph) (ds : List Opened) (id : Pu
   last = last_node size
 
   abbrev new_file : File
-  new_file = resized f size
+  new_file = resized v.file size
 
   abbrev pub after : Graph
-  after = with_object graph id (objects.File new_file)
+  after = with_object v.graph id (objects.File new_file)
 
   t : IsTrimmed a id root next size e
-  t = is_trimmed g graph ds id f root at size start kept is blocks end read ended spelled next good cut_is
+  t = is_trimmed z
 
-  way : IsEitherWay g graph id f root start is.starts e e
-  way = either_e g graph ds id f root at size start kept is blocks end read ended spelled next good cut_is
+  way : IsEitherWay v.has e e
+  way = either_e z
 
   led_now : IsLed a e root next size new_file
-  led_now = led g graph id f root start is.starts size is.less next e t
+  led_now = led v.has z.less t
 
   b_rooted : IsRooted b id next
-  b_rooted = shrunk_rooted g graph id f root start is.starts size next e led_now e way (λ m own. refl)
+  b_rooted = shrunk_rooted v.has led_now way (λ m own. refl)
 
   b_parts : (m : ℕ) → IsOwn a id root m → part_at b m ≡ part_at a m
-  b_parts = shrunk_parts g graph id f root start is.starts size next e led_now e way (λ m own. refl)
+  b_parts = shrunk_parts v.has led_now way (λ m own. refl)
 
   pub b_holds : Holds b after
-  b_holds = shrunk_holds g graph id f root start is.starts size next e led_now e way (λ m own. refl)
+  b_holds = shrunk_holds v.has led_now way (λ m own. refl)
 
   b_own : (m : ℕ) → IsOwn b id next m → IsOwn a id root m
-  b_own = shrunk_own g graph id f root start is.starts size next e led_now e way (λ m own. refl)
+  b_own = shrunk_own v.has led_now way (λ m own. refl)
 
   -- ---- the images until the root is written
 
-  pub left_partly : (c : Image) → MayTrim (left_now g start) end c → IsPartly c graph id f new_file
-  left_partly c may = either_partly g graph id f root start is.starts size is.less next e t c (either_left g graph ds id f root at size start kept is blocks end read ended spelled next good cut_is c may)
+  pub left_partly : (c : Image) → MayTrim (left_now g start) end c → IsPartly c v.graph id v.file new_file
+  left_partly c may = either_partly v.has z.less t (either_left z c may)
 
-  pub root_partly : IsPartly b graph id f new_file
-  root_partly = shrunk_partly g graph id f root start is.starts size next e led_now e way (λ m own. refl)
+  pub root_partly : IsPartly b v.graph id v.file new_file
+  root_partly = shrunk_partly v.has led_now way (λ m own. refl)
 
   -- and once it is
-  pub framed_partly : (c : Image) → Frames b after c → IsPartly c graph id f new_file
+  pub framed_partly : (c : Image) → Frames b after c → IsPartly c v.graph id v.file new_file
   framed_partly c frames = record {
     file = new_file;
     holds = frames_hold b c after b_holds frames;
     between = record { kind = refl; fill = refl; size = inr refl; leaves = λ l. inr refl };
-    either = record { rising = filter-rises (λ leaf. nat_lt leaf (leaves_in size)) f.held (held_rises root (leaves_of a root) f (gives g graph id f root start is.starts)); each = λ leaf has. inr has };
+    either = record { rising = filter-rises (λ leaf. nat_lt leaf (leaves_in size)) v.file.held (held_rises root (leaves_of a root) v.file (gives v.has)); each = λ leaf has. inr has };
   }
 
   -- ---- what it no longer leads to
 
-  id_at : object_at after id ≡ Some (objects.File new_file)
-  id_at = object_at-with_object graph id (objects.File new_file) id ∙ ap (λ (x : Bool). cond x (Some (objects.File new_file)) (object_at graph id)) (same_puid_itself id)
+  file_at : object_at after id ≡ Some (objects.File new_file)
+  file_at = object_at-with_object v.graph id (objects.File new_file) id ∙ ap (λ (x : Bool). cond x (Some (objects.File new_file)) (object_at v.graph id)) (same_puid_itself id)
 
-  in_b : (m : ℕ) (p : Place) → IsOwn a id root m → BelongsTo id.block p (part_at a m) → BelongsTo id.block p (part_at b m)
-  in_b m p own was = subst (BelongsTo id.block p) (sym (b_parts m own)) was
+  in_b : (m : ℕ) (p : Place) → IsOwn a id root m → BelongsTo r p (part_at a m) → BelongsTo r p (part_at b m)
+  in_b m p own was = subst (BelongsTo r p) (sym (b_parts m own)) was
 
-  is_dropped : (m : ℕ) (p : Place) → IsOwn a id root m → BelongsTo id.block p (part_at a m) → (IsOwn b id next m → ⊥) → IsDropped b after id.block p m
+  is_dropped : (m : ℕ) (p : Place) → IsOwn a id root m → BelongsTo r p (part_at a m) → (IsOwn b id next m → ⊥) → IsDropped b after r p m
   is_dropped m p own was gone =
       let now = in_b m p own was in
-      let others_loose = owned_is_loose b after id (objects.File new_file) b_holds id_at m (placed b m id.block p (part_at b m) refl now).taken in
+      let others_loose = owned_is_loose b after id (objects.File new_file) b_holds file_at m (placed b m r p (part_at b m) refl now).taken in
       record {
         part = now;
         loose = record {
@@ -149,8 +113,8 @@ module _ {D : Type 0} (g : Ghosts D) (graph : Graph) (ds : List Opened) (id : Pu
 
   -- what the next root leads to stands in image b as in image e
   b_node : (n : ℕ) → leaves_at b (node_of next n) ≡ leaves_at e (node_of next n)
-  b_node n = same_leaves b e (node_of next n) (λ real. get_or-set_other e id.block (node_of next n) (root_spelling next) [] (λ same.
-      (let clash = places_differ b _ _ id.block (Node n) Root (b_rooted.laid.nodes n real).part b_rooted.part same in cc)))
+  b_node n = same_leaves b e (node_of next n) (λ real. get_or-set_other e r (node_of next n) (root_spelling next) [] (λ same.
+      (let clash = places_differ b _ _ r (Node n) Root (b_rooted.laid.nodes n real).part b_rooted.part same in cc)))
 
   b_pointer : (n k : ℕ) → leaf_of b next n k ≡ leaf_of e next n k
   b_pointer n k = ap (λ (ls : List ℕ). get_or ls k 0) (b_node n)
@@ -158,69 +122,69 @@ module _ {D : Type 0} (g : Ghosts D) (graph : Graph) (ds : List Opened) (id : Pu
   leaf_gone : (q k : ℕ) → k < 128 → keep ≤ 128 * q + k → (real : leaf_of a root q k ≢ 0) → IsOwn b id next (leaf_of a root q k) → ⊥
   leaf_gone q k small past real own = by own
     where
-      mine : BelongsTo id.block (Leaf (128 * q + k)) (part_at b (leaf_of a root q k))
-      mine = in_b _ _ (leaf_own q k small real) (is.starts.rooted.laid.leaves q k small real).part
+      mine : BelongsTo r (Leaf (128 * q + k)) (part_at b (leaf_of a root q k))
+      mine = in_b _ _ (leaf_own q k small real) (v.has.rooted.laid.leaves q k small real).part
 
       by : IsOwn b id next (leaf_of a root q k) → ⊥
-      by (inl same) = (let clash = places_differ b _ _ id.block (Leaf (128 * q + k)) Root mine b_rooted.part same in cc)
-      by (inr (inl (n, there, same))) = (let clash = places_differ b _ _ id.block (Leaf (128 * q + k)) (Node n) mine (b_rooted.laid.nodes n there).part same in cc)
+      by (inl same) = (let clash = places_differ b _ _ r (Leaf (128 * q + k)) Root mine b_rooted.part same in cc)
+      by (inr (inl (n, there, same))) = (let clash = places_differ b _ _ r (Leaf (128 * q + k)) (Node n) mine (b_rooted.laid.nodes n there).part same in cc)
       by (inr (inr (n, j, low, there, same))) =
-          let number = one_leaf _ _ (places_differ b _ _ id.block (Leaf (128 * q + k)) (Leaf (128 * n + j)) mine (b_rooted.laid.leaves n j low there).part same) in
+          let number = one_leaf _ _ (places_differ b _ _ r (Leaf (128 * q + k)) (Leaf (128 * n + j)) mine (b_rooted.laid.leaves n j low there).part same) in
           there (b_pointer n j ∙ t.next_late n j low (omega (arith, number, past)))
 
   node_gone : (q : ℕ) (real : node_of root q ≢ 0) → node_of next q ≡ 0 → IsOwn b id next (node_of root q) → ⊥
   node_gone q real none own = by own
     where
-      mine : BelongsTo id.block (Node q) (part_at b (node_of root q))
-      mine = in_b _ _ (node_own q real) (is.starts.rooted.laid.nodes q real).part
+      mine : BelongsTo r (Node q) (part_at b (node_of root q))
+      mine = in_b _ _ (node_own q real) (v.has.rooted.laid.nodes q real).part
 
       by : IsOwn b id next (node_of root q) → ⊥
-      by (inl same) = (let clash = places_differ b _ _ id.block (Node q) Root mine b_rooted.part same in cc)
-      by (inr (inl (n, there, same))) = let number = one_node _ _ (places_differ b _ _ id.block (Node q) (Node n) mine (b_rooted.laid.nodes n there).part same) in there (ap (node_of next) (sym number) ∙ none)
-      by (inr (inr (n, j, low, there, same))) = (let clash = places_differ b _ _ id.block (Node q) (Leaf (128 * n + j)) mine (b_rooted.laid.leaves n j low there).part same in cc)
+      by (inl same) = (let clash = places_differ b _ _ r (Node q) Root mine b_rooted.part same in cc)
+      by (inr (inl (n, there, same))) = let number = one_node _ _ (places_differ b _ _ r (Node q) (Node n) mine (b_rooted.laid.nodes n there).part same) in there (ap (node_of next) (sym number) ∙ none)
+      by (inr (inr (n, j, low, there, same))) = (let clash = places_differ b _ _ r (Node q) (Leaf (128 * n + j)) mine (b_rooted.laid.leaves n j low there).part same in cc)
 
   b_long : length b ≡ length a
-  b_long = length-set e id.block (root_spelling next) ∙ t.long
+  b_long = length-set e r (root_spelling next) ∙ t.long
 
   gone_content : (q : ℕ) → node_of root q ≢ 0 → node_of next q ≡ 0 → leaves_at b (node_of root q) ≡ leaves_at a (node_of root q)
   gone_content q real none =
-      same_leaves b e (node_of root q) (λ some. get_or-set_other e id.block (node_of root q) (root_spelling next) [] (λ same.
-      (let clash = places_differ a _ _ id.block (Node q) Root (is.starts.rooted.laid.nodes q real).part is.starts.rooted.part same in cc)))
-      ∙ gone_stays g graph ds id f root at size start kept is blocks end read ended spelled next good cut_is q real none
+      same_leaves b e (node_of root q) (λ some. get_or-set_other e r (node_of root q) (root_spelling next) [] (λ same.
+      (let clash = places_differ a _ _ r (Node q) Root (v.has.rooted.laid.nodes q real).part v.has.rooted.part same in cc)))
+      ∙ gone_stays z q real none
 
   some_block : 0 < length a
-  some_block = omega (arith, is.starts.holds.label.size_is, is.starts.holds.label.is_label.some)
+  some_block = omega (arith, v.has.holds.label.size_is, v.has.holds.label.is_label.some)
 
   pub drops : Drops a b after id root next keep
   drops = record {
     holds = b_holds;
     size = b_long;
-    leaves = λ q k small past real. is_dropped _ _ (leaf_own q k small real) (is.starts.rooted.laid.leaves q k small real).part (leaf_gone q k small past real);
-    nodes = λ q real none. is_dropped _ _ (node_own q real) (is.starts.rooted.laid.nodes q real).part (node_gone q real none);
+    leaves = λ q k small past real. is_dropped _ _ (leaf_own q k small real) (v.has.rooted.laid.leaves q k small real).part (leaf_gone q k small past real);
+    nodes = λ q real none. is_dropped _ _ (node_own q real) (v.has.rooted.laid.nodes q real).part (node_gone q real none);
     same = gone_content;
-    near = near a (root_spelling root) root (record { good = is.starts.rooted.laid.good; spelled = refl }) (length a) id.block root _ (tree_of_laid a (root_spelling root) root (record { good = is.starts.rooted.laid.good; spelled = refl }) id.block refl is.starts.rooted.laid) some_block;
+    near = near a (root_spelling root) root (record { good = v.has.rooted.laid.good; spelled = refl }) (length a) r root _ (tree_of_laid a (root_spelling root) root (record { good = v.has.rooted.laid.good; spelled = refl }) r refl v.has.rooted.laid) some_block;
   }
 
   -- ---- once the root is durable
 
   abbrev OnlyContents : Image → Type 0
-  OnlyContents c = KeepsEntries g graph id f root start is.starts kept c
+  OnlyContents c = KeepsEntries v.has kept c
 
-  put_content : (c : Image) (m : ℕ) (v : List ℕ) → (m ≢ 0 → IsOwn a id root m) → OnlyContents c → OnlyContents (put_at c m v)
-  put_content c m v own was = elim (cases_eq m 0) [
-    | inl none ↦ subst OnlyContents (sym (put_none c m v none)) was
-    | inr some ↦ subst OnlyContents (sym (put_some c m v some)) (set_content g graph id f root start is.starts kept c m v (own some) was)
+  put_content : (c : Image) (m : ℕ) (s : List ℕ) → (m ≢ 0 → IsOwn a id root m) → OnlyContents c → OnlyContents (put_at c m s)
+  put_content c m s own was = elim (cases_eq m 0) [
+    | inl none ↦ subst OnlyContents (sym (put_none c m s none)) was
+    | inr some ↦ subst OnlyContents (sym (put_some c m s some)) (set_content v.has kept c m s (own some) was)
   ]
 
   contents : OnlyContents b
-  contents = set_content g graph id f root start is.starts kept e id.block (root_spelling next) (inl refl)
-      (put_content (put_at a end.cut end.content) end.kept (node_spelling end.node) (y_own g graph ds id f root at size start kept is blocks end read ended spelled next good cut_is)
-      (put_content a end.cut end.content (x_own g graph ds id f root at size start kept is blocks end read ended spelled next good cut_is)
-      (entries_begin g graph id f root start is.starts kept is.store.counts)))
+  contents = set_content v.has kept e r (root_spelling next) (inl refl)
+      (put_content (put_at a end.cut end.content) end.kept (node_spelling end.node) (y_own z)
+      (put_content a end.cut end.content (x_own z)
+      (entries_begin v.has kept v.store.counts)))
 
   none_freed : (m : ℕ) → IsFreed a root next keep keep last m → ⊥
   none_freed m (FreedLeaf q k small from to real here) = omega (arith, from, to)
-  none_freed m (FreedNode q to real none here) = stay_before g graph ds id f root at size start kept is blocks end read ended spelled next good cut_is q to real none
+  none_freed m (FreedNode q to real none here) = stay_before z q to real none
 
   pub freeing : (now : D) → IsSettled g now → g.content now ≡ b → IsFreeing g a b after id root next keep keep last now now kept
   freeing now settled same = record {
@@ -228,7 +192,7 @@ module _ {D : Type 0} (g : Ghosts D) (graph : Graph) (ds : List Opened) (id : Pu
     entries = λ m. inl (ap (λ (i : Image). entry_in i m) same);
     free = λ m freed. absurd (none_freed m freed);
     contents = λ m no. ap (λ (i : Image). block_at i m) same;
-    only = subst (ChangesOnly (λ x. of_owner id.block x) b) (sym same) (changes_begin _ b after b_holds);
+    only = subst (ChangesOnly (λ x. of_owner r x) b) (sym same) (changes_begin _ b after b_holds);
     counts = subst (λ (i : Image). AreCounts i kept) (sym same) contents.counts;
   }
 
@@ -242,7 +206,7 @@ module _ {D : Type 0} (g : Ghosts D) (graph : Graph) (ds : List Opened) (id : Pu
     Freed m = IsFreed a root next keep 15360 120 m
 
     few_nodes : (n : ℕ) → node_of root n ≢ 0 → n < 120
-    few_nodes n real = elim (cases_lt n 120) [ inl few ↦ few | inr past ↦ absurd (real (get_or_past root.nodes n 0 (omega (arith, past, is.starts.rooted.laid.good.0.count)))) ]
+    few_nodes n real = elim (cases_lt n 120) [ inl few ↦ few | inr past ↦ absurd (real (get_or_past root.nodes n 0 (omega (arith, past, v.has.rooted.laid.good.0.count)))) ]
 
     has_node : (n k : ℕ) → leaf_of a root n k ≢ 0 → node_of root n ≢ 0
     has_node n k real none = real (ap (λ (m : ℕ). get_or (leaves_at a m) k 0) none ∙ zeros 128 k)
@@ -265,8 +229,8 @@ module _ {D : Type 0} (g : Ghosts D) (graph : Graph) (ds : List Opened) (id : Pu
     freed_gone m (FreedLeaf q k small past to real same) own = leaf_gone q k small past real (subst (IsOwn b id next) same own)
     freed_gone m (FreedNode q to real none same) own = node_gone q real none (subst (IsOwn b id next) same own)
 
-    sight_same : sight c id.block ≡ sight b id.block
-    sight_same = framed_sight b c after id (objects.File new_file) id_at was.within.content
+    sight_same : sight c r ≡ sight b r
+    sight_same = framed_sight b c after id (objects.File new_file) file_at was.within.content
 
     -- the entry of before, or Free
     entry_cases : (m : ℕ) → (entry_in c m ≡ entry_in a m) ⊎ Freed m
@@ -275,40 +239,40 @@ module _ {D : Type 0} (g : Ghosts D) (graph : Graph) (ds : List Opened) (id : Pu
     pub shrunk_entries : TakesNone a c
     shrunk_entries m = elim (entry_cases m) [ inl same ↦ inl same | inr freed ↦ inr (was.free m freed) ]
 
-    none_of : (test : BlockState → Bool) → test Free ≡ false → ((m : ℕ) → is_of test id.block (entry_in a m) ≡ false) → (m : ℕ) → is_of test id.block (entry_in c m) ≡ false
-    none_of test real none m = elim (entry_cases m) [ inl same ↦ ap (is_of test id.block) same ∙ none m | inr freed ↦ free_unowned test real id.block (entry_in c m) (was.free m freed) ]
+    none_of : (test : BlockState → Bool) → test Free ≡ false → ((m : ℕ) → is_of test r (entry_in a m) ≡ false) → (m : ℕ) → is_of test r (entry_in c m) ≡ false
+    none_of test real none m = elim (entry_cases m) [ inl same ↦ ap (is_of test r) same ∙ none m | inr freed ↦ free_unowned test real r (entry_in c m) (was.free m freed) ]
 
-    has_now : HasItsBlocks a id.block → HasItsBlocks c id.block
+    has_now : HasItsBlocks a r → HasItsBlocks c r
     has_now has = record {
-      no_bit = ap is_committed (ap part_of (elim (entry_cases id.block) [ inl same ↦ same | inr freed ↦ absurd (freed_gone id.block freed (inl refl)) ])) ∙ has.no_bit;
+      no_bit = ap is_committed (ap part_of (elim (entry_cases r) [ inl same ↦ same | inr freed ↦ absurd (freed_gone r freed (inl refl)) ])) ∙ has.no_bit;
       each = λ m block.
-          let own = own_from_block b id next b_rooted m (same_blocks c b id.block m (sym sight_same) block) in
+          let own = own_from_block b id next b_rooted m (same_blocks c b r m (sym sight_same) block) in
           elim (entry_cases m) [
-            | inl same ↦ ap (is_of is_had id.block) same ∙ has.each m (block_from_own a id root is.starts.rooted m (b_own m own))
+            | inl same ↦ ap (is_of is_had r) same ∙ has.each m (block_from_own a id root v.has.rooted m (b_own m own))
             | inr freed ↦ absurd (freed_gone m freed own)
           ];
       no_other = λ m had. elim (entry_cases m) [
-        | inr freed ↦ absurd (both_ways _ (free_unowned is_had refl id.block (entry_in c m) (was.free m freed)) had)
-        | inl same ↦ elim (kept_or_freed m (own_from_block a id root is.starts.rooted m (has.no_other m (sym (ap (is_of is_had id.block) same) ∙ had)))) [
-          | inl own ↦ same_blocks b c id.block m sight_same (block_from_own b id next b_rooted m own)
-          | inr freed ↦ absurd (both_ways _ (free_unowned is_had refl id.block (entry_in c m) (was.free m freed)) had)
+        | inr freed ↦ absurd (both_ways _ (free_unowned is_had refl r (entry_in c m) (was.free m freed)) had)
+        | inl same ↦ elim (kept_or_freed m (own_from_block a id root v.has.rooted m (has.no_other m (sym (ap (is_of is_had r) same) ∙ had)))) [
+          | inl own ↦ same_blocks b c r m sight_same (block_from_own b id next b_rooted m own)
+          | inr freed ↦ absurd (both_ways _ (free_unowned is_had refl r (entry_in c m) (was.free m freed)) had)
         ]
       ];
       none_leaves = none_of is_leaving refl has.none_leaves;
     }
 
-    reads_now : ReadsAs (length a) id (sight c id.block) (objects.File new_file)
-    reads_now = subst (λ (n : ℕ). ReadsAs n id (sight c id.block) (objects.File new_file)) (was.within.content.size ∙ b_long) ((frames_hold b c after b_holds was.within.content).objects id (objects.File new_file) id_at)
+    reads_now : ReadsAs (length a) id (sight c r) (objects.File new_file)
+    reads_now = subst (λ (n : ℕ). ReadsAs n id (sight c r) (objects.File new_file)) (was.within.content.size ∙ b_long) ((frames_hold b c after b_holds was.within.content).objects id (objects.File new_file) file_at)
 
-    pub shrunk_stores : BecomesFile g graph ds id new_file start now k1
+    pub shrunk_stores : BecomesFile g v.graph v.drafts id new_file start now k1
     shrunk_stores = record {
       store = record {
         carries = carried g after b mid now b_holds was.within;
-        account = object_changes_on a c graph ds ds id (objects.File f) (objects.File new_file) is.store.account is.starts.at reads_now (has_now (is.store.account.objects id (objects.File f) is.starts.at))
-            (subst (HasDrafts c id) (sym is.no_draft) (none_of is_meant refl (subst (HasDrafts a id) is.no_draft (is.store.account.drafts id (objects.File f) is.starts.at)))) (λ x other. refl)
-            (changes_then _ a b c contents.only was.only) refl (all_there graph id (objects.File new_file) ds is.store.account.on_objects);
+        account = object_changes_on a c v.graph v.drafts v.drafts id (objects.File v.file) (objects.File new_file) v.store.account v.has.at reads_now (has_now (v.store.account.objects id (objects.File v.file) v.has.at))
+            (subst (HasDrafts c id) (sym v.no_draft) (none_of is_meant refl (subst (HasDrafts a id) v.no_draft (v.store.account.drafts id (objects.File v.file) v.has.at)))) (λ x other. refl)
+            (changes_then _ a b c contents.only was.only) refl (all_there v.graph id (objects.File new_file) v.drafts v.store.account.on_objects);
         counts = was.counts;
-        ordered = rises-with_object graph id (objects.File new_file) is.store.ordered;
+        ordered = rises-with_object v.graph id (objects.File new_file) v.store.ordered;
       };
       only = changes_then _ a b c contents.only was.only;
     }

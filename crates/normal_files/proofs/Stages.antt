@@ -1,33 +1,6 @@
 -- A file on its way from its leaves before a write to those after it, as its nodes come to lead to what was taken.
-use Rattle.std.proofs.Common.{◌≡◌, ◌≢◌, ◌⊎◌, inl, inr, ℕ, ◌+◌, ◌*◌, ◌/◌, ◌%◌, ◌<◌, ◌≤◌, true, false, List, length, set, get_or, Option, Some, None, refl, sym, ◌∙◌, ap, subst, arith}
-use Rattle.std.proofs.lemmas.Bool.{cases_Bool, cases_eq, ne_eqb}
-use Rattle.cfs_base.specs.Disk.{AreBlocks, Image}
-use Rattle.cfs_base.specs.declared.identifier.Puid.{Puid}
-use Rattle.cfs_base.specs.declared.kind.Place.{Place}
-use Rattle.cfs_base.specs.declared.kind.Place.TheVariants.{Node, Root}
-use Rattle.block_tree.specs.declared.root.Root as roots
-use Rattle.block_tree.specs.Node.{node_spelling}
-use Rattle.block_tree.specs.Root.{IsRootBlock, root_spelling}
-use Rattle.cyl_alloc.specs.Space.{AreCounts, Kept}
-use Rattle.cyl_map.specs.Volume.{entry_in}
-use Rattle.leaf_changes.specs.Bytes.{patched}
-use Rattle.leaf_changes.specs.Changes.{SetsSize}
-use Rattle.leaf_changes.specs.Leaves.{LeavesFit, bytes_held}
-use Rattle.ufs_model.specs.declared.object.File.{File}
-use Rattle.ufs_model.specs.declared.object.Object.TheVariants as objects
-use Rattle.ufs_model.specs.Graph.{Graph, object_at}
-use Rattle.ufs_model.specs.Object.{leaves_in}
-use Rattle.vol_image.specs.Frame.{Frames, IsLoose}
-use Rattle.vol_image.specs.Part.{BelongsTo, part_at, part_of}
-use Rattle.vol_image.specs.Reading.{leaf_content}
-use Rattle.vol_image.specs.Seen.{held_at}
-use Rattle.vol_image.specs.Sound.{Holds}
-use Rattle.vol_image.proofs.Changes.{others}
-use Rattle.vol_image.proofs.Parts.{in_image, placed}
-use Rattle.vol_image.proofs.Steps.{frames_content, not_map}
-use Rattle.vol_owners.specs.Change.{ChangesOnly, of_owner}
-use Rattle.vol_owners.proofs.Changes.{changes_content, changes_then}
-use Rattle.normal_files.specs.Laid.{IsAt, IsRooted, leaf_of, leaves_of, node_of, object_of}
+use Rattle.normal_files.proofs.Words.{◌≡◌, ◌≢◌, ◌⊎◌, inl, inr, ℕ, ◌+◌, ◌*◌, ◌/◌, ◌%◌, ◌<◌, ◌≤◌, true, false, List, length, set, get_or, Option, Some, None, refl, sym, ◌∙◌, ap, subst, arith, cases_Bool, cases_eq, ne_eqb, Image, Puid, Place, Node, Root, node_spelling, IsRootBlock, root_spelling, AreCounts, Kept, entry_in, patched, SetsSize, LeavesFit, bytes_held, File, Graph, leaves_in, Frames, IsLoose, BelongsTo, part_at, part_of, leaf_content, held_at, others, in_image, placed, frames_content, not_map, ChangesOnly, of_owner, changes_content, changes_then}
+use Rattle.normal_files.specs.Laid.{IsAt, IsRooted, leaf_of, leaves_of, node_of}
 use Rattle.normal_files.specs.Links.{linked_image, linked_root, with_node}
 use Rattle.normal_files.specs.Nodes.{leaves_at}
 use Rattle.normal_files.specs.Takes.{IsTakenTo, fresh_content}
@@ -39,12 +12,13 @@ use Rattle.normal_files.proofs.Linked.{IsLinked, leaf_there, linked_rooted}
 use Rattle.normal_files.proofs.Patched.{last, mixed_fits, next_touched, touched_is, whole}
 use Rattle.normal_files.proofs.Ready.{IsReady, node_links, node_stays, other_bytes, pointer_stays, ready_spells, real_stays, root_links, still_ready, taken_bytes, taken_or}
 use Rattle.normal_files.proofs.Trees.{each_leaf, leaf_stands}
+use Rattle.normal_files.specs.View.{HasFile}
+use Rattle.block_tree.specs.declared.root.Root as roots
 
-module _ (a : Image) (graph : Graph) (id : Puid) (f : File) (holds : Holds a graph) (at : object_at graph id ≡ Some (objects.File f)) (root : roots.Root) (rooted : IsRooted a id root) (same : object_of a root ≡ objects.File f)
-    (blocks : AreBlocks a) (offset : ℕ) (bytes : List ℕ) (inside : offset + length bytes ≤ length f.bytes) (base : Image) (kept : Kept) where
+module _ {a : Image} {graph : Graph} {id : Puid} {f : File} {root : roots.Root} (has : HasFile a graph id f root) (offset : ℕ) (bytes : List ℕ) (inside : offset + length bytes ≤ length f.bytes) (base : Image) (kept : Kept) where
   -- the leaves once all is written
   abbrev pub end : ℕ → Option (List ℕ)
-  end l = bytes_held (last a graph id f holds at root rooted same blocks offset bytes inside l)
+  end l = bytes_held (last has offset bytes inside l)
 
   abbrev pub begin : ℕ → Option (List ℕ)
   begin l = bytes_held (leaves_of a root l)
@@ -74,7 +48,7 @@ module _ (a : Image) (graph : Graph) (id : Puid) (f : File) (holds : Holds a gra
     pub ready : (other : Part) (more : Next) → other.number ≢ part.number → IsReady c id r root.fill offset bytes other more → IsReady d id s root.fill offset bytes other more
 
   is_root : IsRootBlock (root_spelling root) root
-  is_root = record { good = rooted.laid.good; spelled = refl }
+  is_root = record { good = has.rooted.laid.good; spelled = refl }
 
   -- ---- leaves of before
 
@@ -84,7 +58,7 @@ module _ (a : Image) (graph : Graph) (id : Puid) (f : File) (holds : Holds a gra
   -- what is put into a leaf that was absent is what it is to have
   pub fresh_end : (l : ℕ) → leaves_of a root l ≡ None → offset / 512 ≤ l → l < leaves_in (offset + length bytes) → end l ≡ Some (fresh_content root.fill l offset bytes)
   fresh_end l none from to =
-      next_touched root.fill offset bytes (leaves_of a root) (whole a graph id f holds at root rooted same blocks) l (touched_is root.fill offset bytes (leaves_of a root) (whole a graph id f holds at root rooted same blocks) l from to)
+      next_touched root.fill offset bytes (leaves_of a root) (whole has) l (touched_is root.fill offset bytes (leaves_of a root) (whole has) l from to)
       ∙ ap (λ o. Some (patched l offset bytes (leaf_content root.fill o))) none
 
   -- ---- one part
@@ -124,7 +98,7 @@ module _ (a : Image) (graph : Graph) (id : Puid) (f : File) (holds : Holds a gra
       head_now = record { kind = link.head.kind ∙ stage.head.kind; fill = link.head.fill ∙ stage.head.fill; size = link.head.size ∙ stage.head.size }
 
       fit_now : LeavesFit s (leaves_of d s)
-      fit_now = mixed_fits a graph id f holds at root rooted same blocks offset bytes inside d s head_now mixed_now
+      fit_now = mixed_fits has offset bytes inside d s head_now mixed_now
 
       real_now : (m k : ℕ) → k < 128 → leaf_of a root m k ≢ 0 → leaf_of d s m k ≡ leaf_of a root m k
       real_now m k small real =
@@ -157,7 +131,7 @@ module _ (a : Image) (graph : Graph) (id : Puid) (f : File) (holds : Holds a gra
     -- ---- as the calls link it
 
     own_at : (m : ℕ) (p : Place) → IsAt a id.block p m → IsLoose a (others graph id) m
-    own_at m p is = own_loose a graph id (objects.File f) holds at root rooted m p is.part
+    own_at m p is = own_loose has m p is.part
 
     -- a block of the file's own is written
     module _ (m : ℕ) (p : Place) (v : List ℕ) (was : IsAt a id.block p m) (now : BelongsTo id.block p (part_at c m)) where
@@ -176,7 +150,7 @@ module _ (a : Image) (graph : Graph) (id : Puid) (f : File) (holds : Holds a gra
 
     module _ (same_had : node_of r n ≡ node_of root n) where
       limit : length a ≤ 4194304
-      limit = omega (arith, holds.label.size_is, holds.label.is_label.at_most)
+      limit = omega (arith, has.holds.label.size_is, has.holds.label.is_label.at_most)
 
       abbrev d : Image
       d = linked_image c id.block r n next
@@ -199,14 +173,14 @@ module _ (a : Image) (graph : Graph) (id : Puid) (f : File) (holds : Holds a gra
       pub linked_comes : Comes c d r s part next
       linked_comes = elim (cases_eq (node_of r n) 0) [
         | inr some ↦
-            let there : IsAt a id.block (Node n) next.block = subst (IsAt a id.block (Node n)) (sym (ready.node_had some ∙ same_had)) (rooted.laid.nodes n (λ none. some (same_had ∙ none))) in
+            let there : IsAt a id.block (Node n) next.block = subst (IsAt a id.block (Node n)) (sym (ready.node_had some ∙ same_had)) (has.rooted.laid.nodes n (λ none. some (same_had ∙ none))) in
             let now : BelongsTo id.block (Node n) (part_at c next.block) = subst (λ (m : ℕ). BelongsTo id.block (Node n) (part_at c m)) (sym (ready.node_had some)) (stage.rooted_now.laid.nodes n some).part in
             let link = node_links c id r root.fill offset bytes part next stage.rooted_now stage.no_map ready some (ready_spells c id r root.fill offset bytes part next stage.rooted_now stage.no_map ready (omega (arith, limit, stage.frames.size))) in
             subst (λ (i : Image). Comes c i r s part next) (sym (stood_image some)) (subst (λ (q : roots.Root). Comes c (set c next.block (node_spelling next.node)) r q part next) (sym (stood_root some))
             (comes (set c next.block (node_spelling next.node)) r link (own_frames next.block (Node n) (node_spelling next.node) there now) (own_only next.block (Node n) (node_spelling next.node) there now) (own_counts next.block (Node n) (node_spelling next.node) there now)))
         | inl none ↦
-            let below : id.block < length a = (let t = (placed a id.block id.block Root (part_at a id.block) refl rooted.part).taken in in_image a graph holds id.block t.is t.here) in
-            let there : IsAt a id.block Root id.block = record { below = below; part = rooted.part } in
+            let below : id.block < length a = (let t = (placed a id.block id.block Root (part_at a id.block) refl has.rooted.part).taken in in_image a graph has.holds id.block t.is t.here) in
+            let there : IsAt a id.block Root id.block = record { below = below; part = has.rooted.part } in
             let v = root_spelling (with_node r n next.block) in
             let link = root_links c id r root.fill offset bytes part next stage.rooted_now stage.no_map ready none (omega (arith, below, stage.frames.size)) in
             subst (λ (i : Image). Comes c i r s part next) (sym (new_image none)) (subst (λ (q : roots.Root). Comes c (set c id.block v) r q part next) (sym (new_root none))

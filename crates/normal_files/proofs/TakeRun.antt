@@ -1,70 +1,48 @@
 -- The absent leaves of one node, taken one after another.
-use Rattle.std.proofs.Common.{◌≡◌, ◌≢◌, ◌⊎◌, inl, inr, ℕ, zero, suc, ◌+◌, ◌*◌, ◌/◌, ◌%◌, ◌<◌, ◌≤◌, Bool, true, false, List, [], ◌∷◌, set, get_or, refl, sym, ◌∙◌, ap, subst, get_or-set_other, get_or-set_same, arith}
-use Rattle.std.specs.Prelude.{◌==◌, ◌||◌}
-use Rattle.std.proofs.lemmas.Bool.{both_ways, cases_Bool, cases_eq, ne_eqb}
-use Rattle.std.proofs.Math.ListN.{length-set}
-use Rattle.cfs_base.specs.Disk.{Image, block_at}
-use Rattle.cfs_base.specs.declared.kind.Place.{Place}
-use Rattle.cfs_base.specs.declared.kind.Place.TheVariants.{Leaf, Node}
-use Rattle.block_tree.specs.Pointers.{leaf_pointers, pointers_of}
-use Rattle.claims.specs.Claims.{AreClaimed}
-use Rattle.claims.proofs.Claims.{claims_then}
-use Rattle.cyl_map.specs.declared.entry.MapEntry.{MapEntry}
-use Rattle.cyl_map.specs.Volume.{entry_in, is_free_entry, is_free_in}
-use Rattle.cyl_map.proofs.Volumes.{entry_in-set}
-use Rattle.std.proofs.lemmas.Option.{same_Some}
-use Rattle.ufs_model.specs.Numbers.{has_number}
+use Rattle.normal_files.proofs.Words.{◌≡◌, ◌≢◌, ◌⊎◌, inl, inr, ℕ, zero, suc, ◌+◌, ◌*◌, ◌/◌, ◌%◌, ◌<◌, ◌≤◌, Bool, true, false, List, [], ◌∷◌, set, get_or, refl, sym, ◌∙◌, ap, subst, get_or-set_other, get_or-set_same, arith, ◌==◌, both_ways, cases_Bool, cases_eq, ne_eqb, length-set, Image, block_at, Place, Leaf, Node, leaf_pointers, pointers_of, AreClaimed, claims_then, MapEntry, entry_in, is_free_entry, is_free_in, entry_in-set, same_Some, has_number}
 use Rattle.normal_files.specs.Nodes.{leaves_at}
 use Rattle.normal_files.specs.Order.{TellsHeld, claims_from, nodes_now}
-use Rattle.normal_files.specs.Takes.{FreesNone, HasTaken, IsNew, IsOneOf, IsTakenTo, IsWhole, KeepsTaken, TakesLeaf, fresh_content, is_held, MayTake, StaysAmid}
+use Rattle.normal_files.specs.Takes.{FreesNone, HasTaken, IsNew, IsOneOf, IsTakenTo, IsWhole, KeepsTaken, TakesLeaf, fresh_content, is_held}
 use Rattle.normal_files.specs.declared.next.Next.{Next}
 use Rattle.normal_files.specs.declared.part.Part.{Part}
 use Rattle.normal_files.proofs.Orders.{leaf_claimed, now_has, now_more, now_same, told_absent, told_held}
-use Rattle.cfs_base.specs.declared.disk.Disk.{Ghosts}
-use Rattle.cfs_base.specs.declared.identifier.Puid.{Puid}
-use Rattle.block_tree.specs.declared.root.Root as roots
-use Rattle.cyl_alloc.specs.Space.{Kept}
-use Rattle.ufs_model.specs.declared.object.File.{File}
-use Rattle.ufs_model.specs.Graph.{Graph}
-use Rattle.normal_files.specs.Ends.{HasGone}
-use Rattle.normal_files.specs.Steps.{IsAmid}
 
 -- ---- single blocks
 
-pub new_taken : (a c : Image) (r : ℕ) (p : Place) (m : ℕ) → IsNew a c r p m → is_free_in c m ≡ false
-new_taken a c r p m is = ap is_free_entry is.entry
+pub new_taken : {a c : Image} {r : ℕ} {p : Place} {m : ℕ} → IsNew a c r p m → is_free_in c m ≡ false
+new_taken is = ap is_free_entry is.entry
 
-pub some_block : (a c : Image) (r : ℕ) (p : Place) (m : ℕ) → IsNew a c r p m → m ≢ 0
-some_block a c r p m is none = is.no_map (ap (λ (z : ℕ). z % 64) none)
+pub some_block : {a c : Image} {r : ℕ} {p : Place} {m : ℕ} → IsNew a c r p m → m ≢ 0
+some_block is none = is.no_map (ap (λ (z : ℕ). z % 64) none)
 
 -- it stays where what isn't Free stays
-pub new_stays : (a c d : Image) (r : ℕ) (p : Place) (m : ℕ) → IsNew a c r p m → KeepsTaken c d → IsNew a d r p m
-new_stays a c d r p m is keeps = record {
+pub new_stays : {a c d : Image} {r : ℕ} {p : Place} {m : ℕ} → IsNew a c r p m → KeepsTaken c d → IsNew a d r p m
+new_stays {m = m} is keeps = record {
   free = is.free;
   no_map = is.no_map;
   below = omega (arith, is.below, keeps.size);
-  entry = keeps.entries m (new_taken a c r p m is) ∙ is.entry;
+  entry = keeps.entries m (new_taken is) ∙ is.entry;
 }
 
-pub content_stays : (a c d : Image) (r : ℕ) (p : Place) (m : ℕ) → IsNew a c r p m → KeepsTaken c d → block_at d m ≡ block_at c m
-content_stays a c d r p m is keeps = keeps.contents m is.no_map (new_taken a c r p m is)
+pub content_stays : {a c d : Image} {r : ℕ} {p : Place} {m : ℕ} → IsNew a c r p m → KeepsTaken c d → block_at d m ≡ block_at c m
+content_stays {m = m} is keeps = keeps.contents m is.no_map (new_taken is)
 
-pub keeps_then : (a c d : Image) → KeepsTaken a c → KeepsTaken c d → KeepsTaken a d
-keeps_then a c d one two = record {
+pub keeps_then : {a c d : Image} → KeepsTaken a c → KeepsTaken c d → KeepsTaken a d
+keeps_then one two = record {
   size = two.size ∙ one.size;
   entries = λ m taken. two.entries m (ap is_free_entry (one.entries m taken) ∙ taken) ∙ one.entries m taken;
   contents = λ m no taken. two.contents m no (ap is_free_entry (one.entries m taken) ∙ taken) ∙ one.contents m no taken;
 }
 
 -- blocks at different places are different
-pub new_apart : (a b c : Image) (r : ℕ) (p q : Place) (m n : ℕ) → IsNew a c r p m → IsNew b c r q n → m ≡ n → p ≡ q
-new_apart a b c r p q m n one two same = same_Some _ _ (ap (λ (e : MapEntry). e.place) (same_Some _ _ (sym one.entry ∙ ap (entry_in c) same ∙ two.entry)))
+pub new_apart : {a b c : Image} {r : ℕ} {p q : Place} {m n : ℕ} → IsNew a c r p m → IsNew b c r q n → m ≡ n → p ≡ q
+new_apart {c = c} one two same = same_Some _ _ (ap (λ (e : MapEntry). e.place) (same_Some _ _ (sym one.entry ∙ ap (entry_in c) same ∙ two.entry)))
 
-module _ (a c : Image) (owner fill offset : ℕ) (bytes : List ℕ) (part : Part) (had upto : ℕ) (next : Next) (has : HasTaken a c owner fill offset bytes part had upto next) where
+module _ {a c : Image} {owner fill offset : ℕ} {bytes : List ℕ} {part : Part} {had upto : ℕ} {next : Next} (has : HasTaken a c owner fill offset bytes part had upto next) where
   -- what is one of these isn't Free
   one_taken : (m : ℕ) → IsOneOf part had upto next m → is_free_in c m ≡ false
-  one_taken m (inl (k, t, is)) = ap (is_free_in c) is ∙ new_taken a c owner (Leaf (128 * part.number + k)) (get_or next.node.leaves k 0) (has.leaves k t)
-  one_taken m (inr (none, grown, is)) = ap (is_free_in c) is ∙ new_taken a c owner (Node part.number) next.block (has.node_new none grown)
+  one_taken m (inl (k, t, is)) = ap (is_free_in c) is ∙ new_taken (has.leaves k t)
+  one_taken m (inr (none, grown, is)) = ap (is_free_in c) is ∙ new_taken (has.node_new none grown)
 
   pub taken_frees : FreesNone a c
   taken_frees m free = elim (has.rest m) [ inl same ↦ sym (ap is_free_entry same) ∙ free | inr one ↦ absurd (both_ways _ (one_taken m one) free) ]
@@ -99,7 +77,7 @@ module _ (a c : Image) (owner fill offset : ℕ) (bytes : List ℕ) (part : Part
     }
 
   -- it is absent, and taken
-  module _ (d : Image) (l x y : ℕ) (at : 128 * part.number + l ≡ upto) (small : l < 128) (from : part.leaves.from ≤ upto) (absent : get_or part.own.leaves l 0 ≡ 0)
+  module _ {d : Image} (l : ℕ) {x y : ℕ} (at : 128 * part.number + l ≡ upto) (small : l < 128) (from : part.leaves.from ≤ upto) (absent : get_or part.own.leaves l 0 ≡ 0)
       (takes : TakesLeaf c d owner upto (is_held had next) next.block x y (fresh_content fill upto offset bytes)) where
     abbrev more : Next
     more = record { block = y; node = record { leaves = set next.node.leaves l x }; grown = true }
@@ -134,7 +112,7 @@ module _ (a c : Image) (owner fill offset : ℕ) (bytes : List ℕ) (part : Part
 
     node_now : had ≡ 0 → (grown : Bool) → next.grown ≡ grown → IsNew a d owner (Node part.number) y
     node_now none true grown =
-        subst (IsNew a d owner (Node part.number)) (sym (takes.y_kept (held_grown none ∙ grown))) (new_stays a c d owner (Node part.number) next.block (has.node_new none grown) takes.keeps)
+        subst (IsNew a d owner (Node part.number)) (sym (takes.y_kept (held_grown none ∙ grown))) (new_stays (has.node_new none grown) takes.keeps)
     node_now none false grown =
         let number : upto / 128 ≡ part.number = omega (arith, at, small) in
         subst (λ (n : ℕ). IsNew a d owner (Node n) y) number (from_a (Node (upto / 128)) y (takes.y_new (held_grown none ∙ grown)))
@@ -169,17 +147,17 @@ module _ (a c : Image) (owner fill offset : ℕ) (bytes : List ℕ) (part : Part
       leaves = λ k t. elim (cases_eq k l) [
         | inl same ↦ subst (λ (j : ℕ). IsNew a d owner (Leaf (128 * part.number + j)) (get_or more.node.leaves j 0)) (sym same)
             (subst (IsNew a d owner (Leaf (128 * part.number + l))) (sym here) (subst (λ (n : ℕ). IsNew a d owner (Leaf n) x) (sym at) (from_a (Leaf upto) x takes.x_new)))
-        | inr apart ↦ subst (IsNew a d owner (Leaf (128 * part.number + k))) (sym (other k apart)) (new_stays a c d owner (Leaf (128 * part.number + k)) (get_or next.node.leaves k 0) (has.leaves k (down k apart t)) takes.keeps)
+        | inr apart ↦ subst (IsNew a d owner (Leaf (128 * part.number + k))) (sym (other k apart)) (new_stays (has.leaves k (down k apart t)) takes.keeps)
       ];
       contents = λ k t. elim (cases_eq k l) [
         | inl same ↦ ap (block_at d) (ap (λ (j : ℕ). get_or more.node.leaves j 0) same ∙ here) ∙ takes.x_content ∙ ap (λ (n : ℕ). fresh_content fill n offset bytes) (sym at ∙ ap (λ (j : ℕ). 128 * part.number + j) (sym same))
-        | inr apart ↦ ap (block_at d) (other k apart) ∙ content_stays a c d owner (Leaf (128 * part.number + k)) (get_or next.node.leaves k 0) (has.leaves k (down k apart t)) takes.keeps ∙ has.contents k (down k apart t)
+        | inr apart ↦ ap (block_at d) (other k apart) ∙ content_stays (has.leaves k (down k apart t)) takes.keeps ∙ has.contents k (down k apart t)
       ];
       node_had = λ some. takes.y_kept (held_some some) ∙ has.node_had some;
       node_new = λ none yes. node_now none next.grown refl;
       none = λ no. cc;
       some = λ yes. (l, this);
-      keeps = keeps_then a c d has.keeps takes.keeps;
+      keeps = keeps_then has.keeps takes.keeps;
       rest = λ m. elim (cases_eq m x) [
         | inl same ↦ inr (inl (l, this, same ∙ sym here))
         | inr not_x ↦ elim (cases_eq m y) [
@@ -208,7 +186,7 @@ module _ (a c : Image) (owner fill offset : ℕ) (bytes : List ℕ) (part : Part
     stays p m new = record { free = new.free; no_map = new.no_map; below = omega (arith, new.below, length-set c next.block v); entry = same_entry m ∙ new.entry }
 
     not_leaf : (k : ℕ) → IsTakenTo part upto k → get_or next.node.leaves k 0 ≢ next.block
-    not_leaf k t same = (let p = new_apart a a c owner (Leaf (128 * part.number + k)) (Node part.number) (get_or next.node.leaves k 0) next.block (has.leaves k t) is same in cc)
+    not_leaf k t same = (let p = new_apart (has.leaves k t) is same in cc)
 
     pub node_written : HasTaken a d owner fill offset bytes part had upto next
     node_written = record {
@@ -230,28 +208,8 @@ module _ (a c : Image) (owner fill offset : ℕ) (bytes : List ℕ) (part : Part
     }
 
     pub node_whole : IsWhole d had next
-    node_whole h h2 = spelled next.block (some_block a c owner (Node part.number) next.block is) (get_or-set_same c next.block v [] is.below) ∙ sym spells
+    node_whole h h2 = spelled next.block (some_block is) (get_or-set_same c next.block v [] is.below) ∙ sym spells
       where
         spelled : (m : ℕ) → m ≢ 0 → block_at d m ≡ v → leaves_at d m ≡ pointers_of leaf_pointers v
         spelled zero some at = absurd (some refl)
         spelled (suc m) some at = ap (pointers_of leaf_pointers) at
-
--- ---- two parts taken, one after the other
-
-module _ {D : Type 0} (g : Ghosts D) (owner fill offset : ℕ) (bytes : List ℕ) (part : Part) (had upto : ℕ) (d0 d1 : D) (k0 k1 : Kept) (next : Next)
-    (takes : (graph : Graph) (id : Puid) (f : File) (root : roots.Root) (last : ℕ) (start : D) → MayTake g graph id f root offset bytes last start d0 k0 owner
-    → IsAmid g graph id root offset bytes last start d1 k1 × HasTaken (g.content d0) (g.content d1) owner fill offset bytes part had upto next × IsWhole (g.content d1) had next) where
-  pub may_then : (graph : Graph) (id : Puid) (f : File) (root : roots.Root) (last : ℕ) (start : D) → MayTake g graph id f root offset bytes last start d0 k0 owner → MayTake g graph id f root offset bytes last start d1 k1 owner
-  may_then graph id f root last start may =
-      let on = takes graph id f root last start may in
-      record { starts = may.starts; here = may.here; amid = on.0; frees = λ m free. may.frees m (taken_frees (g.content d0) (g.content d1) owner fill offset bytes part had upto next on.1 m free) }
-
-  pub leaves_then : (d2 : D) → StaysAmid g owner offset bytes d1 d2 k1 → StaysAmid g owner offset bytes d0 d2 k0
-  leaves_then d2 stays = record { leaves = λ graph id f root last start may. stays.leaves graph id f root last start (may_then graph id f root last start may) }
-
-pub or_twice : (a b c : Bool) → ((a || b) || c) ≡ (a || b || c)
-or_twice true b c = refl
-or_twice false b c = refl
-
-pub gone_as : {D : Type 0} {n t k : ℕ} (g : Ghosts D) (start now : D) (before after : Kept) (b c : Bool) → b ≡ c → HasGone g n t k b start now before after → HasGone g n t k c start now before after
-gone_as {n = n} {t = t} {k = k} g start now before after b c same gone = subst (λ (tried : Bool). HasGone g n t k tried start now before after) same gone

@@ -1,23 +1,8 @@
 -- A tree of nodes and leaves: what stands at each path, as the pointers say.
-use Rattle.std.proofs.Common.{◌≡◌, ◌≢◌, inl, inr, ℕ, zero, suc, ◌+◌, ◌*◌, ◌/◌, ◌%◌, ◌<◌, ◌≤◌, List, [], ◌∷◌, get_or, refl, sym, ◌∙◌, ap, subst, arith}
-use Rattle.std.specs.Prelude.{replicate, slice_index}
-use Rattle.std.proofs.lemmas.Bool.{cases_eq, cases_lt}
-use Rattle.std.proofs.lemmas.List.{get_or-replicate, get_or_past, length-replicate}
-use Rattle.std.proofs.lemmas.List.FromFn.{length-map-range_with_len}
-use Rattle.cfs_base.specs.Disk.{Image, block_at}
-use Rattle.block_tree.specs.declared.root.Root as roots
-use Rattle.block_tree.specs.Pointers.{leaf_pointers, node_pointers, number_at, numbers_from, pointers_of}
-use Rattle.block_tree.specs.Root.{IsGoodRoot, IsRootBlock, root_spelling}
-use Rattle.block_tree.specs.Tree.{end_of, pointer, tree_of}
-use Rattle.block_tree.proofs.Spellings.{nodes_of}
-use Rattle.block_tree.proofs.Trees.{leaf_is, node_block, path_is}
-use Rattle.ufs_model.specs.declared.object.Object.{Object}
-use Rattle.vol_image.specs.Reading.{IsTree, leaf_in}
-use Rattle.vol_image.specs.Seen.{held_at, tree_in}
-use Rattle.vol_image.proofs.Paths.{held_there}
-use Rattle.vol_image.proofs.Views.{held}
+use Rattle.normal_files.proofs.Words.{◌≡◌, ◌≢◌, inl, inr, ℕ, zero, suc, ◌+◌, ◌*◌, ◌/◌, ◌%◌, ◌<◌, ◌≤◌, List, [], ◌∷◌, get_or, refl, sym, ◌∙◌, ap, subst, arith, replicate, slice_index, cases_eq, cases_lt, get_or-replicate, get_or_past, length-replicate, length-map-range_with_len, Image, block_at, leaf_pointers, node_pointers, number_at, numbers_from, pointers_of, IsGoodRoot, IsRootBlock, root_spelling, end_of, pointer, tree_of, nodes_of, leaf_is, node_block, path_is, Object, IsTree, leaf_in, held_at, tree_in, held_there, held}
 use Rattle.normal_files.specs.Laid.{leaf_of, leaves_of}
 use Rattle.normal_files.specs.Nodes.{IsNear, LeadTo, leaves_at}
+use Rattle.block_tree.specs.declared.root.Root as roots
 
 pub zeros : (n k : ℕ) → get_or (replicate {A = ℕ} n 0) k 0 ≡ 0
 zeros n k = elim (cases_lt k n) [ inl below ↦ get_or-replicate n k 0 0 below | inr past ↦ get_or_past (replicate n 0) k 0 (omega (arith, past, length-replicate {A = ℕ} n 0)) ]

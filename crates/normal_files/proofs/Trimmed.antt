@@ -1,60 +1,19 @@
 -- A file on its way to a smaller size: its leaves in each image, and the file that they give.
-use Rattle.std.proofs.Common.{◌≡◌, ◌≢◌, ◌⊎◌, inl, inr, ℕ, ◌+◌, ◌*◌, ◌/◌, ◌%◌, ◌<◌, ◌≤◌, List, [], length, set, get_or, Option, Some, None, refl, sym, ◌∙◌, ap, subst, get_or-set_other, get_or-set_same, arith}
-use Rattle.std.proofs.lemmas.Bool.{cases_eq, cases_lt}
-use Rattle.cfs_base.specs.Disk.{Image, block_at}
-use Rattle.cfs_base.specs.declared.disk.Disk.{Ghosts}
-use Rattle.cfs_base.specs.declared.identifier.Puid.{Puid}
-use Rattle.cfs_base.specs.declared.kind.Kind.TheVariants as kinds
-use Rattle.cfs_base.specs.declared.kind.Place.{Place}
-use Rattle.cfs_base.specs.declared.kind.Place.TheVariants.{Leaf, Node, Root}
-use Rattle.block_tree.specs.declared.root.Root as roots
-use Rattle.block_tree.specs.Root.{IsGoodRoot, root_spelling}
-use Rattle.cyl_map.proofs.Volumes.{entry_in-set}
-use Rattle.leaf_changes.specs.Bytes.{cut}
-use Rattle.leaf_changes.specs.Changes.{SetsSize}
-use Rattle.leaf_changes.specs.Gives.{GivesFile}
-use Rattle.leaf_changes.specs.Leaves.{LeavesFit, Shrinks, bytes_held, cut_held}
-use Rattle.leaf_changes.proofs.Between.{mixed_fit}
-use Rattle.leaf_changes.proofs.Contents.{content_is}
-use Rattle.leaf_changes.proofs.Fits.{same_fit, same_object}
-use Rattle.leaf_changes.proofs.Given.{file_to_leaves}
-use Rattle.leaf_changes.proofs.Resized.{cut_fit, cut_object}
-use Rattle.ufs_model.specs.declared.change.Change.TheVariants.{SetSize}
-use Rattle.ufs_model.specs.declared.object.File.{File}
-use Rattle.ufs_model.specs.declared.object.Object.TheVariants as objects
-use Rattle.ufs_model.specs.Graph.{Graph, with_object}
-use Rattle.ufs_model.specs.Object.{changed_object, leaves_in, resized}
-use Rattle.vol_image.specs.Frame.{Frames, IsLoose}
-use Rattle.vol_image.specs.Part.{BelongsTo, SameAt, is_committed, part_at, part_of}
-use Rattle.vol_image.specs.Reading.{object_with}
-use Rattle.vol_image.specs.Seen.{Held, held_at}
-use Rattle.vol_image.specs.Sight.{sight}
-use Rattle.vol_image.specs.Sound.{Holds, ReadsAs}
-use Rattle.vol_image.proofs.Changes.{object_put, other_is, others}
-use Rattle.vol_image.proofs.Parts.{in_image, placed}
-use Rattle.vol_image.proofs.Paths.{held_there}
-use Rattle.vol_image.proofs.Steps.{frames_content, frames_fewer, not_map}
-use Rattle.vol_image.proofs.Views.{held}
+use Rattle.normal_files.proofs.Words.{◌≡◌, ◌≢◌, ◌⊎◌, inl, inr, ℕ, ◌+◌, ◌*◌, ◌/◌, ◌%◌, ◌<◌, ◌≤◌, List, [], length, set, get_or, Option, Some, None, refl, sym, ◌∙◌, ap, subst, get_or-set_other, get_or-set_same, arith, cases_eq, cases_lt, Image, block_at, Puid, Place, Leaf, Node, Root, IsGoodRoot, root_spelling, entry_in-set, cut, SetsSize, GivesFile, LeavesFit, Shrinks, bytes_held, cut_held, mixed_fit, content_is, same_fit, same_object, file_to_leaves, cut_fit, cut_object, SetSize, File, Graph, with_object, changed_object, leaves_in, resized, Frames, IsLoose, BelongsTo, SameAt, is_committed, part_at, part_of, object_with, Held, held_at, sight, Holds, ReadsAs, object_put, other_is, others, in_image, placed, held_there, frames_content, frames_fewer, not_map, held, AreCounts, Kept, entry_in, ChangesOnly, of_owner, changes_begin, changes_content, changes_then}
 use Rattle.normal_files.specs.Laid.{IsAt, IsRooted, leaf_of, leaves_of, node_of}
 use Rattle.normal_files.specs.Nodes.{leaves_at}
 use Rattle.normal_files.specs.Standing.{IsPartly}
-use Rattle.normal_files.specs.Steps.{Starts}
 use Rattle.normal_files.proofs.Among.{own_loose, places_differ}
 use Rattle.normal_files.proofs.Laid.{rooted_reads}
 use Rattle.normal_files.proofs.Owned.{IsOwn, block_from_own}
 use Rattle.normal_files.proofs.Partly.{no_index, partly}
 use Rattle.normal_files.proofs.Trees.{each_leaf, same_leaves, stands_at}
 use Rattle.normal_files.proofs.Places.{leaf_no_root, node_no_root}
-use Rattle.cyl_alloc.specs.Space.{AreCounts, Kept}
-use Rattle.cyl_map.specs.Volume.{entry_in}
-use Rattle.vol_owners.specs.Change.{ChangesOnly, of_owner}
-use Rattle.vol_owners.proofs.Changes.{changes_begin, changes_content, changes_then}
 use Rattle.normal_files.proofs.Amid.{counts_content, taken_open}
-
--- ---- the leaves of any image
-
-none_at : (image : Image) (p : ℕ) → p ≡ 0 → held_at image p ≡ None
-none_at image p none = ap (held_at image) none
+use Rattle.normal_files.specs.View.{HasFile}
+use Rattle.cfs_base.specs.declared.kind.Kind.TheVariants as kinds
+use Rattle.block_tree.specs.declared.root.Root as roots
+use Rattle.ufs_model.specs.declared.object.Object.TheVariants as objects
 
 some_bytes : (image : Image) (p : ℕ) → p ≢ 0 → bytes_held (held_at image p) ≡ Some (block_at image p)
 some_bytes image p some = ap bytes_held (held_there image p some)
@@ -62,7 +21,7 @@ some_bytes image p some = ap bytes_held (held_there image p some)
 -- the same bytes at a place in two images, absent in both or with the same content
 alike : (i j : Image) (p q : ℕ) → p ≡ q → (q ≢ 0 → block_at i q ≡ block_at j q) → bytes_held (held_at i p) ≡ bytes_held (held_at j q)
 alike i j p q same content = ap (λ (m : ℕ). bytes_held (held_at i m)) same ∙ elim (cases_eq q 0) [
-  | inl none ↦ ap bytes_held (none_at i q none) ∙ sym (ap bytes_held (none_at j q none))
+  | inl none ↦ ap bytes_held (ap (held_at i) none) ∙ sym (ap bytes_held (ap (held_at j) none))
   | inr some ↦ some_bytes i q some ∙ ap Some (content some) ∙ sym (some_bytes j q some)
 ]
 
@@ -98,10 +57,7 @@ pub record IsTrimmed (a : Image) (id : Puid) (root next : roots.Root) (size : �
   pub next_early : (n k : ℕ) → k < 128 → 128 * n + k < leaves_in size → leaf_of e next n k ≡ leaf_of a root n k
   pub next_late : (n k : ℕ) → k < 128 → leaves_in size ≤ 128 * n + k → leaf_of e next n k ≡ 0
 
-module _ {D : Type 0} (g : Ghosts D) (graph : Graph) (id : Puid) (f : File) (root : roots.Root) (start : D) (s : Starts g graph id f root start) where
-  abbrev a : Image
-  a = g.content start
-
+module _ {a : Image} {graph : Graph} {id : Puid} {f : File} {root : roots.Root} (s : HasFile a graph id f root) where
   pub gives : GivesFile root (leaves_of a root) f
   gives = file_to_leaves root (leaves_of a root) f s.same
 
@@ -116,7 +72,7 @@ module _ {D : Type 0} (g : Ghosts D) (graph : Graph) (id : Puid) (f : File) (roo
   belongs m (inr (inr (n, k, small, real, is))) = (Leaf (128 * n + k), subst (λ (x : ℕ). BelongsTo id.block (Leaf (128 * n + k)) (part_at a x)) (sym is) (s.rooted.laid.leaves n k small real).part)
 
   pub own_is_loose : (m : ℕ) → IsOwn a id root m → IsLoose a (others graph id) m
-  own_is_loose m own = let two = belongs m own in own_loose a graph id (objects.File f) s.holds s.at root s.rooted m two.0 two.1
+  own_is_loose m own = let two = belongs m own in own_loose s m two.0 two.1
 
   -- no entry is changed, and no content but the file's
   pub record KeepsEntries (kept : Kept) (c : Image) : Type 0 where
@@ -170,7 +126,7 @@ module _ {D : Type 0} (g : Ghosts D) (graph : Graph) (id : Puid) (f : File) (roo
         ];
       }
 
-  module _ (size : ℕ) (next : roots.Root) (e : Image) (led : IsLed a e root next size (resized f size)) where
+  module _ {size : ℕ} {next : roots.Root} {e : Image} (led : IsLed a e root next size (resized f size)) where
     abbrev new : ℕ → Option Held
     new = leaves_of e next
 
@@ -199,7 +155,7 @@ module _ {D : Type 0} (g : Ghosts D) (graph : Graph) (id : Puid) (f : File) (roo
       pub mixed : (l : ℕ) → (bytes_held (leaves_of c r l) ≡ bytes_held (leaves_of a root l)) ⊎ (bytes_held (leaves_of c r l) ≡ bytes_held (new l))
       pub fit : LeavesFit r (leaves_of c r)
 
-    module _ (c : Image) (r : roots.Root) (way : IsOnWay c r) where
+    module _ {c : Image} {r : roots.Root} (way : IsOnWay c r) where
       still_at : (m : ℕ) (p : Place) → IsOwn a id root m → IsAt a id.block p m → IsAt c id.block p m
       still_at m p own was = record { below = omega (arith, was.below, way.frames.size); part = subst (BelongsTo id.block p) (sym (way.parts m own)) was.part }
 
@@ -229,18 +185,15 @@ module _ {D : Type 0} (g : Ghosts D) (graph : Graph) (id : Puid) (f : File) (roo
 
     -- ---- once the root is written
 
-    module _ (c : Image) (way : IsEitherWay e c) (as_e : (m : ℕ) → IsOwn a id root m → block_at c m ≡ block_at e m) where
+    module _ {c : Image} (way : IsEitherWay e c) (as_e : (m : ℕ) → IsOwn a id root m → block_at c m ≡ block_at e m) where
       abbrev pub shrunk : Image
       shrunk = set c id.block (root_spelling next)
-
-      root_own : IsOwn a id root id.block
-      root_own = inl refl
 
       below : id.block < length c
       below = let taken = (placed a id.block id.block Root (part_at a id.block) refl s.rooted.part).taken in omega (arith, way.frames.size, in_image a graph s.holds id.block taken.is taken.here)
 
       loose : IsLoose a (others graph id) id.block
-      loose = own_is_loose id.block root_own
+      loose = own_is_loose id.block (inl refl)
 
       no_map : id.block % 64 ≢ 0
       no_map = not_map id.block loose.apart
@@ -286,10 +239,10 @@ module _ {D : Type 0} (g : Ghosts D) (graph : Graph) (id : Puid) (f : File) (roo
       }
 
       pub shrunk_rooted : IsRooted shrunk id next
-      shrunk_rooted = way_rooted shrunk next on_shrunk
+      shrunk_rooted = way_rooted on_shrunk
 
       pub shrunk_partly : IsPartly shrunk graph id f new_file
-      shrunk_partly = way_partly shrunk next on_shrunk
+      shrunk_partly = way_partly on_shrunk
 
       pub shrunk_parts : (m : ℕ) → IsOwn a id root m → part_at shrunk m ≡ part_at a m
       shrunk_parts = on_shrunk.parts
@@ -309,7 +262,7 @@ module _ {D : Type 0} (g : Ghosts D) (graph : Graph) (id : Puid) (f : File) (roo
 
   -- ---- set to less
 
-  module _ (size : ℕ) (less : size < length f.bytes) (next : roots.Root) (e : Image) (t : IsTrimmed a id root next size e) where
+  module _ {size : ℕ} (less : size < length f.bytes) {next : roots.Root} {e : Image} (t : IsTrimmed a id root next size e) where
     abbrev wanted : ℕ → Option Held
     wanted = leaves_of e next
 
@@ -329,7 +282,7 @@ module _ {D : Type 0} (g : Ghosts D) (graph : Graph) (id : Puid) (f : File) (roo
         let p = leaf_of a root n k in
         ap bytes_held (stands_at e next t.good n k small) ∙ ap (λ (m : ℕ). bytes_held (held_at e m)) (t.next_early n k small (omega (arith, is, within)))
         ∙ elim (cases_eq p 0) [
-          | inl none ↦ ap bytes_held (none_at e p none) ∙ sym (ap (cut_held size root.fill) (stands_at a root s.rooted.laid.good n k small ∙ none_at a p none))
+          | inl none ↦ ap bytes_held (ap (held_at e) none) ∙ sym (ap (cut_held size root.fill) (stands_at a root s.rooted.laid.good n k small ∙ ap (held_at a) none))
           | inr some ↦
               some_bytes e p some ∙ ap Some (t.cut_bytes n k small some is within
               ∙ ap (cut size root.fill) (sym (content_is root.fill (Some (held a p)) (block_at a p) refl (s.blocks p (s.rooted.laid.leaves n k small some).below).long)))
@@ -337,7 +290,7 @@ module _ {D : Type 0} (g : Ghosts D) (graph : Graph) (id : Puid) (f : File) (roo
         ])
 
     gone_leaf : (l : ℕ) → leaves_in size ≤ l → wanted l ≡ None
-    gone_leaf = each_leaf (λ l. leaves_in size ≤ l → wanted l ≡ None) (λ n k small late. stands_at e next t.good n k small ∙ none_at e _ (t.next_late n k small late))
+    gone_leaf = each_leaf (λ l. leaves_in size ≤ l → wanted l ≡ None) (λ n k small late. stands_at e next t.good n k small ∙ ap (held_at e) (t.next_late n k small late))
 
     -- leaves with the same bytes
     module _ (p : ℕ → Option Held) (all : (l : ℕ) → bytes_held (p l) ≡ bytes_held (wanted l)) where
@@ -372,7 +325,7 @@ module _ {D : Type 0} (g : Ghosts D) (graph : Graph) (id : Puid) (f : File) (roo
 
     -- ---- before the root is written
 
-    module _ (c : Image) (way : IsEitherWay e c) where
+    module _ {c : Image} (way : IsEitherWay e c) where
       node_either : (n : ℕ) → (leaves_at c (node_of root n) ≡ leaves_at a (node_of root n)) ⊎ (leaves_at c (node_of root n) ≡ leaves_at e (node_of root n))
       node_either n = elim (cases_eq (node_of root n) 0) [
         | inl none ↦ inl (same_leaves c a (node_of root n) (λ some. absurd (some none)))
@@ -413,14 +366,14 @@ module _ {D : Type 0} (g : Ghosts D) (graph : Graph) (id : Puid) (f : File) (roo
             ]
             | inr late ↦ elim (way_late n k small late) [
               | inl same ↦ inl (here ∙ alike c a (leaf_of c root n k) p same (late_bytes n k small late) ∙ old)
-              | inr none ↦ inr (here ∙ ap bytes_held (none_at c (leaf_of c root n k) none ∙ sym (none_at e (leaf_of e next n k) (t.next_late n k small late))) ∙ now)
+              | inr none ↦ inr (here ∙ ap bytes_held (ap (held_at c) none ∙ sym (ap (held_at e) (t.next_late n k small late))) ∙ now)
             ]
           ]
 
       way_mixed : (l : ℕ) → (bytes_held (leaves_of c root l) ≡ bytes_held (leaves_of a root l)) ⊎ (bytes_held (leaves_of c root l) ≡ bytes_held (wanted l))
       way_mixed = each_leaf (λ l. (bytes_held (leaves_of c root l) ≡ bytes_held (leaves_of a root l)) ⊎ (bytes_held (leaves_of c root l) ≡ bytes_held (wanted l))) mixed_at
 
-      on_way : IsOnWay size next e led c root
+      on_way : IsOnWay led c root
       on_way = record {
         frames = way.frames;
         parts = way.parts;
@@ -443,4 +396,4 @@ module _ {D : Type 0} (g : Ghosts D) (graph : Graph) (id : Puid) (f : File) (roo
       }
 
       pub either_partly : IsPartly c graph id f (resized f size)
-      either_partly = way_partly size next e led c root on_way
+      either_partly = way_partly led on_way

@@ -1,54 +1,14 @@
 -- A write, from the first leaf to the last pointer.
-use Rattle.std.proofs.Common.{◌≡◌, ◌≢◌, ◌⊎◌, inl, inr, ℕ, zero, suc, ◌+◌, ◌-◌, ◌*◌, ◌/◌, ◌%◌, ◌<◌, ◌≤◌, Bool, true, false, List, [], length, get_or, Option, Some, None, refl, sym, ◌∙◌, ap, subst, arith}
-use Rattle.std.specs.Prelude.{◌&&◌, ◌==◌, is_some, not}
-use Rattle.std.proofs.lemmas.Bool.{both_ways, cases_eq, cases_lt}
-use Rattle.cfs_base.specs.Disk.{Image, block_at}
-use Rattle.cfs_base.specs.Run.{IsSettled}
-use Rattle.cfs_base.specs.declared.disk.Disk.{Ghosts}
-use Rattle.cfs_base.specs.declared.identifier.Puid.{Puid}
-use Rattle.cfs_base.specs.declared.kind.Place.{Place}
-use Rattle.cfs_base.specs.declared.kind.Place.TheVariants.{Leaf, Node, Root}
-use Rattle.block_tree.specs.declared.root.Root as roots
-use Rattle.block_tree.specs.Root.{root_spelling}
-use Rattle.claims.specs.Claims.{AreClaimed}
-use Rattle.claims.proofs.Claims.{claims_then}
-use Rattle.cyl_alloc.specs.Space.{AreCounts, Kept, allocated}
-use Rattle.cyl_map.specs.declared.state.BlockState.{BlockState}
-use Rattle.cyl_map.specs.declared.state.BlockState.TheVariants.{Allocated, Free, IntendAllocate, IntendDeallocate}
-use Rattle.cyl_map.specs.declared.entry.MapEntry.{MapEntry}
-use Rattle.cyl_map.specs.Volume.{entry_in}
-use Rattle.leaf_changes.specs.Leaves.{LeavesFit, bytes_held}
-use Rattle.ufs_model.specs.declared.object.File.{File}
-use Rattle.ufs_model.specs.declared.object.Object.TheVariants as objects
-use Rattle.ufs_model.specs.Graph.{Graph, with_object}
-use Rattle.ufs_model.specs.Numbers.{has_number, parents}
-use Rattle.ufs_model.specs.Object.{leaves_in, written}
-use Rattle.ufs_model.proofs.Graphs.{rises-with_object}
-use Rattle.vol_image.specs.Part.{BelongsTo, part_at, part_of}
-use Rattle.vol_image.specs.Seen.{Held, held_at}
-use Rattle.vol_image.specs.Sight.{sight}
-use Rattle.vol_image.specs.Sound.{Holds, ReadsAs}
-use Rattle.vol_image.proofs.Carries.{carries_settled}
-use Rattle.vol_image.proofs.Changes.{object_put}
-use Rattle.vol_image.proofs.Parts.{placed, taken_apart}
-use Rattle.vol_image.proofs.Paths.{held_there}
-use Rattle.vol_image.proofs.Views.{held}
-use Rattle.vol_image.proofs.Steps.{not_map}
-use Rattle.vol_owners.specs.Account.{Accounts, HasDrafts, HasItsBlocks, Opened, drafts_of, is_meant_for}
-use Rattle.vol_owners.specs.Change.{ChangesOnly, of_owner}
-use Rattle.vol_owners.specs.Owner.{is_had, is_leaving, is_meant, is_of, is_taken}
-use Rattle.vol_owners.proofs.Entries.{taken_of}
-use Rattle.vol_owners.proofs.Steps.{object_changes_on}
-use Rattle.intentions.specs.Store.{StoreHas}
+use Rattle.normal_files.proofs.Words.{◌≡◌, ◌≢◌, ◌⊎◌, inl, inr, ℕ, zero, suc, ◌+◌, ◌-◌, ◌*◌, ◌/◌, ◌%◌, ◌<◌, ◌≤◌, Bool, true, false, List, [], length, get_or, Option, Some, None, refl, sym, ◌∙◌, ap, subst, arith, ◌&&◌, ◌==◌, is_some, not, both_ways, cases_eq, cases_lt, Image, block_at, IsSettled, Ghosts, Puid, Place, Leaf, Node, Root, root_spelling, AreClaimed, claims_then, AreCounts, Kept, allocated, BlockState, Allocated, Free, IntendAllocate, IntendDeallocate, MapEntry, entry_in, LeavesFit, bytes_held, Graph, with_object, has_number, parents, leaves_in, written, rises-with_object, BelongsTo, part_at, part_of, Held, held_at, sight, Holds, ReadsAs, carries_settled, object_put, placed, taken_apart, held_there, held, not_map, Accounts, HasDrafts, HasItsBlocks, is_meant_for, ChangesOnly, of_owner, is_had, is_leaving, is_meant, is_of, is_taken, taken_of, object_changes_on}
 use Rattle.normal_files.specs.Among.{leaf_after}
 use Rattle.normal_files.specs.Laid.{IsAt, IsRooted, leaf_of, leaves_of, node_of}
 use Rattle.normal_files.specs.Links.{linked_image, linked_root}
 use Rattle.normal_files.specs.Nodes.{leaves_at}
 use Rattle.normal_files.specs.Order.{TellsHeld, claims_from, claims_of, nodes_now}
-use Rattle.normal_files.specs.Parts.{IsPart, IsReadPart}
+use Rattle.normal_files.specs.Parts.{IsPart, IsReadPart, AreParts}
 use Rattle.normal_files.specs.Standing.{BecomesFile, IsPartly}
-use Rattle.normal_files.specs.Steps.{IsAmid, IsWrittenTo, Starts}
-use Rattle.normal_files.specs.Takes.{HasTaken, IsNew, IsOneOf, IsTakenTo, IsWhole, KeepsTaken, TakesBoth}
+use Rattle.normal_files.specs.Steps.{IsWrittenTo}
+use Rattle.normal_files.specs.Takes.{HasTaken, IsNew, IsOneOf, IsTakenTo, IsWhole, KeepsTaken, TakesBoth, MayTake}
 use Rattle.normal_files.specs.declared.next.Next.{Next}
 use Rattle.normal_files.specs.declared.part.Part.{Part}
 use Rattle.normal_files.proofs.Among.{among_holds, among_rooted, leaf_either, same_leaf, same_node}
@@ -61,6 +21,10 @@ use Rattle.normal_files.proofs.Ready.{IsReady}
 use Rattle.normal_files.proofs.Stages.{Comes, IsStage, begin, end, steps}
 use Rattle.normal_files.proofs.TakeRun.{content_stays, new_stays, some_block}
 use Rattle.normal_files.proofs.Trees.{leaf_stands, same_leaves}
+use Rattle.normal_files.specs.Writes.{IsWritable}
+use Rattle.normal_files.specs.View.{View, id_at, way_of}
+use Rattle.block_tree.specs.declared.root.Root as roots
+use Rattle.ufs_model.specs.declared.object.Object.TheVariants as objects
 
 -- ---- entries
 
@@ -84,13 +48,14 @@ small_image image g holds = omega (arith, holds.label.size_is, holds.label.is_la
 keeps_itself : (c : Image) → KeepsTaken c c
 keeps_itself c = record { size = refl; entries = λ m taken. refl; contents = λ m no taken. refl }
 
-module _ {D : Type 0} (g : Ghosts D) (graph : Graph) (id : Puid) (f : File) (root : roots.Root) (offset : ℕ) (bytes : List ℕ) (low high : Part) (start : D) (starts : Starts g graph id f root start) (inside : offset + length bytes ≤ length f.bytes)
-    (size : ℕ) (low_read : IsReadPart size low) (high_read : IsReadPart size high) (low_is : IsPart (g.content start) root low) (high_is : IsPart (g.content start) root high)
-    (first : low.leaves.from ≡ offset / 512) (joins : high.leaves.from ≡ low.leaves.to) (last : high.leaves.to ≡ leaves_in (offset + length bytes)) (apart : high.leaves.from < high.leaves.to → low.number ≢ high.number)
-    (p d : D) (kept : Kept) (same_p : (m : ℕ) → entry_in (g.content p) m ≡ entry_in (g.content start) m) (amid : IsAmid g graph id root offset bytes (leaves_in (offset + length bytes)) start d kept)
-    (low_next high_next : Next) (both : TakesBoth (g.content p) (g.content d) id.block root.fill offset bytes low (node_of root low.number) low_next high (node_of root high.number) high_next) where
+module _ {D : Type 0} {g : Ghosts D} {r : ℕ} {root : roots.Root} {start : D} {k0 : Kept} {v : View g r root start k0} {offset : ℕ} {bytes : List ℕ} {low high : Part} (can : IsWritable v offset bytes low high) {size : ℕ} (parts : AreParts size offset (length bytes) low high)
+    {p d : D} {kept : Kept} (same_p : (m : ℕ) → entry_in (g.content p) m ≡ entry_in (g.content start) m) (may : MayTake (way_of v) offset bytes d kept)
+    {low_next high_next : Next} (both : TakesBoth (g.content p) (g.content d) r root.fill offset bytes low (node_of root low.number) low_next high (node_of root high.number) high_next) where
   abbrev a : Image
   a = g.content start
+
+  abbrev id : Puid
+  id = id_at r v.word
 
   abbrev c : Image
   c = g.content d
@@ -102,21 +67,21 @@ module _ {D : Type 0} (g : Ghosts D) (graph : Graph) (id : Puid) (f : File) (roo
   P = IsWrittenTo a root offset bytes upto
 
   abbrev End : ℕ → Option (List ℕ)
-  End l = end a graph id f starts.holds starts.at root starts.rooted starts.same starts.blocks offset bytes inside c kept l
+  End l = end v.has offset bytes can.inside c kept l
 
   abbrev Begin : ℕ → Option (List ℕ)
-  Begin l = begin a graph id f starts.holds starts.at root starts.rooted starts.same starts.blocks offset bytes inside c kept l
+  Begin l = begin v.has offset bytes can.inside c kept l
 
   abbrev Stage : Image → roots.Root → Type 0
-  Stage i r = IsStage a graph id f starts.holds starts.at root starts.rooted starts.same starts.blocks offset bytes inside c kept i r
+  Stage i q = IsStage v.has offset bytes can.inside c kept i q
 
   -- ---- before a pointer leads to what was taken
 
   abbrev each_whole : (l : ℕ) (h : Held) → leaves_of a root l ≡ Some h → length h.content ≡ 512
-  each_whole = whole a graph id f starts.holds starts.at root starts.rooted starts.same starts.blocks
+  each_whole = whole v.has
 
   cases : (l : ℕ) → ((leaves_of c root l ≡ None) × (leaves_of a root l ≡ None)) ⊎ ((x : ℕ) × (leaves_of a root l ≡ Some (held a x)) × (leaves_of c root l ≡ Some (held c x)) × P l (block_at c x))
-  cases = leaf_either a graph id (objects.File f) starts.holds starts.at root starts.rooted P c amid.content
+  cases = leaf_either v.has P c may.amid.content
 
   written_now : (l : ℕ) (content : List ℕ) → P l content → content ≡ leaf_after a root offset bytes l
   written_now l content is = elim (cases_lt l upto) [
@@ -137,68 +102,68 @@ module _ {D : Type 0} (g : Ghosts D) (graph : Graph) (id : Puid) (f : File) (roo
   ]
 
   fit0 : LeavesFit root (leaves_of c root)
-  fit0 = mixed_fits a graph id f starts.holds starts.at root starts.rooted starts.same starts.blocks offset bytes inside c root (record { kind = refl; fill = refl; size = refl }) base_mixed
+  fit0 = mixed_fits v.has offset bytes can.inside c root (record { kind = refl; fill = refl; size = refl }) base_mixed
 
-  no_map0 : (m : ℕ) (q : Place) → BelongsTo id.block q (part_at c m) → m % 64 ≢ 0
-  no_map0 m q is = not_map m (taken_apart c _ (among_holds a graph id (objects.File f) starts.holds starts.at root starts.rooted P c amid.content fit0) m id.block (placed c m id.block q (part_at c m) refl is).taken)
+  no_map0 : (m : ℕ) (q : Place) → BelongsTo r q (part_at c m) → m % 64 ≢ 0
+  no_map0 m q is = not_map m (taken_apart c _ (among_holds v.has P c may.amid.content fit0) m r (placed c m r q (part_at c m) refl is).taken)
 
   stage0 : Stage c root
   stage0 = record {
-    rooted_now = among_rooted a graph id (objects.File f) starts.holds starts.at root starts.rooted P c amid.content fit0;
-    frames = amid.content.frames;
+    rooted_now = among_rooted v.has P c may.amid.content fit0;
+    frames = may.amid.content.frames;
     head = record { kind = refl; fill = refl; size = refl };
     entries = λ m. refl;
     held = base_held;
     mixed = base_mixed;
     nodes = λ m real. refl;
-    pointers = λ m k small real. same_leaf a graph id (objects.File f) starts.holds starts.at root starts.rooted P c amid.content m k;
-    only = amid.only;
-    counts = amid.counts;
+    pointers = λ m k small real. same_leaf v.has P c may.amid.content m k;
+    only = may.amid.only;
+    counts = may.amid.counts;
     no_map = no_map0;
   }
 
   -- ---- what was taken is ready
 
-  new_at : (b : Image) (q : Place) (m : ℕ) → IsNew b c id.block q m → IsAt c id.block q m
-  new_at b q m is = record { below = is.below; part = allocated_at c m id.block q is.entry }
+  new_at : (b : Image) (q : Place) (m : ℕ) → IsNew b c r q m → IsAt c r q m
+  new_at b q m is = record { below = is.below; part = allocated_at c m r q is.entry }
 
-  ready_of : (b e : Image) (part : Part) (next : Next) → IsReadPart size part → IsPart a root part → HasTaken b e id.block root.fill offset bytes part (node_of root part.number) part.leaves.to next → IsWhole e (node_of root part.number) next → KeepsTaken e c → next.grown ≡ true
+  ready_of : (b e : Image) (part : Part) (next : Next) → IsReadPart size part → IsPart a root part → HasTaken b e r root.fill offset bytes part (node_of root part.number) part.leaves.to next → IsWhole e (node_of root part.number) next → KeepsTaken e c → next.grown ≡ true
       → IsReady c id root root.fill offset bytes part next
   ready_of b e part next read is has is_whole keeps grown =
       let t = has.some grown in
       let some : part.leaves.from < part.leaves.to = omega (arith, t.1.from, t.1.to) in
       record {
         number = read.number;
-        own = is.own some ∙ sym (same_node a graph id (objects.File f) starts.holds starts.at root starts.rooted P c amid.content part.number);
+        own = is.own some ∙ sym (same_node v.has P c may.amid.content part.number);
         others = has.others;
         leaves = λ k taken. (
-          new_at b (Leaf (128 * part.number + k)) (get_or next.node.leaves k 0) (new_stays b e c id.block (Leaf (128 * part.number + k)) (get_or next.node.leaves k 0) (has.leaves k taken) keeps),
-          some_block b e id.block (Leaf (128 * part.number + k)) (get_or next.node.leaves k 0) (has.leaves k taken),
+          new_at b (Leaf (128 * part.number + k)) (get_or next.node.leaves k 0) (new_stays (has.leaves k taken) keeps),
+          some_block (has.leaves k taken),
         );
-        contents = λ k taken. content_stays b e c id.block (Leaf (128 * part.number + k)) (get_or next.node.leaves k 0) (has.leaves k taken) keeps ∙ has.contents k taken;
+        contents = λ k taken. content_stays (has.leaves k taken) keeps ∙ has.contents k taken;
         node_had = has.node_had;
         node_new = λ none.
             let new = has.node_new none grown in (
-              new_at b (Node part.number) next.block (new_stays b e c id.block (Node part.number) next.block new keeps),
-              some_block b e id.block (Node part.number) next.block new,
-              same_leaves c e next.block (λ _. content_stays b e c id.block (Node part.number) next.block new keeps) ∙ is_whole none grown,
+              new_at b (Node part.number) next.block (new_stays new keeps),
+              some_block new,
+              same_leaves c e next.block (λ _. content_stays new keeps) ∙ is_whole none grown,
             );
         some = t;
         count = has.count;
         small = elim (cases_eq (node_of root part.number) 0) [
-          | inl none ↦ let new = new_stays b e c id.block (Node part.number) next.block (has.node_new none grown) keeps in omega (arith, new.below, limit)
+          | inl none ↦ let new = new_stays (has.node_new none grown) keeps in omega (arith, new.below, limit)
           | inr real ↦ let old = stage0.rooted_now.laid.nodes part.number real in omega (arith, old.below, limit, has.node_had real)
         ];
       }
     where
       limit : length c ≤ 4194304
-      limit = small_image c _ (among_holds a graph id (objects.File f) starts.holds starts.at root starts.rooted P c amid.content fit0)
+      limit = small_image c _ (among_holds v.has P c may.amid.content fit0)
 
   touched_low : (k : ℕ) → IsTakenTo low low.leaves.to k → (offset / 512 ≤ 128 * low.number + k) × (128 * low.number + k < upto)
-  touched_low k t = (omega (arith, t.from, first), omega (arith, t.to, joins, last, high_read.some))
+  touched_low k t = (omega (arith, t.from, parts.first), omega (arith, t.to, parts.next, parts.last, parts.high_read.some))
 
   touched_high : (k : ℕ) → IsTakenTo high high.leaves.to k → (offset / 512 ≤ 128 * high.number + k) × (128 * high.number + k < upto)
-  touched_high k t = (omega (arith, t.from, first, joins, low_read.some), omega (arith, t.to, last))
+  touched_high k t = (omega (arith, t.from, parts.first, parts.next, parts.low_read.some), omega (arith, t.to, parts.last))
 
   own_of : (part : Part) → IsPart a root part → (grown_some : (k : ℕ) × IsTakenTo part part.leaves.to k) → part.own.leaves ≡ leaves_at a (node_of root part.number)
   own_of part is some = is.own (omega (arith, some.1.from, some.1.to))
@@ -206,43 +171,43 @@ module _ {D : Type 0} (g : Ghosts D) (graph : Graph) (id : Puid) (f : File) (roo
   -- ---- the low node, and then the high one
 
   abbrev pub c1 : Image
-  c1 = linked_image c id.block root low.number low_next
+  c1 = linked_image c r root low.number low_next
 
   abbrev pub r1 : roots.Root
   r1 = linked_root root low.number low_next
 
-  comes1 : Comes a graph id f starts.holds starts.at root starts.rooted starts.same starts.blocks offset bytes inside c kept c c1 root r1 low low_next
-  comes1 = steps a graph id f starts.holds starts.at root starts.rooted starts.same starts.blocks offset bytes inside c kept c root stage0 low low_next
-      (λ grown. ready_of (g.content p) both.mid low low_next low_read low_is both.low_has both.low_whole both.high_has.keeps grown) both.low_has.none touched_low (λ grown. own_of low low_is (both.low_has.some grown)) (λ grown. refl)
+  comes1 : Comes v.has offset bytes can.inside c kept c c1 root r1 low low_next
+  comes1 = steps v.has offset bytes can.inside c kept c root stage0 low low_next
+      (λ grown. ready_of (g.content p) both.mid low low_next parts.low_read can.low_is both.low_has both.low_whole both.high_has.keeps grown) both.low_has.none touched_low (λ grown. own_of low can.low_is (both.low_has.some grown)) (λ grown. refl)
 
   high_apart : high_next.grown ≡ true → high.number ≢ low.number
-  high_apart grown same = let t = both.high_has.some grown in apart (omega (arith, t.1.from, t.1.to)) (sym same)
+  high_apart grown same = let t = both.high_has.some grown in parts.apart (omega (arith, t.1.from, t.1.to)) (sym same)
 
   abbrev pub c2 : Image
-  c2 = linked_image c1 id.block r1 high.number high_next
+  c2 = linked_image c1 r r1 high.number high_next
 
   abbrev pub r2 : roots.Root
   r2 = linked_root r1 high.number high_next
 
-  comes2 : Comes a graph id f starts.holds starts.at root starts.rooted starts.same starts.blocks offset bytes inside c kept c1 c2 r1 r2 high high_next
-  comes2 = steps a graph id f starts.holds starts.at root starts.rooted starts.same starts.blocks offset bytes inside c kept c1 r1 comes1.stage high high_next
-      (λ grown. comes1.ready high high_next (high_apart grown) (ready_of both.mid c high high_next high_read high_is both.high_has both.high_whole (keeps_itself c) grown)) both.high_has.none touched_high
-      (λ grown. own_of high high_is (both.high_has.some grown)) (λ grown. comes1.other_nodes high.number (λ _. high_apart grown))
+  comes2 : Comes v.has offset bytes can.inside c kept c1 c2 r1 r2 high high_next
+  comes2 = steps v.has offset bytes can.inside c kept c1 r1 comes1.stage high high_next
+      (λ grown. comes1.ready high high_next (high_apart grown) (ready_of both.mid c high high_next parts.high_read can.high_is both.high_has both.high_whole (keeps_itself c) grown)) both.high_has.none touched_high
+      (λ grown. own_of high can.high_is (both.high_has.some grown)) (λ grown. comes1.other_nodes high.number (λ _. high_apart grown))
 
-  partly_at : (i : Image) (r : roots.Root) → Stage i r → IsPartly i graph id f (written f offset bytes)
-  partly_at i r stage = mixed_partly a graph id f starts.holds starts.at root starts.rooted starts.same starts.blocks offset bytes inside i r stage.head stage.mixed stage.frames stage.rooted_now
+  partly_at : (i : Image) (q : roots.Root) → Stage i q → IsPartly i v.graph id v.file (written v.file offset bytes)
+  partly_at i q stage = mixed_partly v.has offset bytes can.inside i q stage.head stage.mixed stage.frames stage.rooted_now
 
-  pub partly1 : IsPartly c1 graph id f (written f offset bytes)
+  pub partly1 : IsPartly c1 v.graph id v.file (written v.file offset bytes)
   partly1 = partly_at c1 r1 comes1.stage
 
-  pub partly2 : IsPartly c2 graph id f (written f offset bytes)
+  pub partly2 : IsPartly c2 v.graph id v.file (written v.file offset bytes)
   partly2 = partly_at c2 r2 comes2.stage
 
   -- ---- all leaves have their new bytes
 
   -- a leaf of the low part isn't one of the high part, and the other way round
   low_not_high : (k : ℕ) → IsTakenTo low low.leaves.to k → low.number ≡ high.number → IsTakenTo high high.leaves.to k → ⊥
-  low_not_high k t same u = omega (arith, t.to, u.from, joins, same)
+  low_not_high k t same u = omega (arith, t.to, u.from, parts.next, same)
 
   absent_in_part : (part : Part) → IsPart a root part → (l : ℕ) → 128 * part.number ≤ l → l < 128 * part.number + 128 → part.leaves.from ≤ l → l < part.leaves.to → leaves_of a root l ≡ None → IsTakenTo part part.leaves.to (l % 128)
   absent_in_part part is l low_l high_l from to none =
@@ -251,7 +216,7 @@ module _ {D : Type 0} (g : Ghosts D) (graph : Graph) (id : Puid) (f : File) (roo
         small = omega arith;
         from = omega (arith, at, from);
         to = omega (arith, at, to);
-        absent = ap (λ (ls : List ℕ). get_or ls (l % 128) 0) (is.own (omega (arith, from, to))) ∙ absent_pointer (leaf_of a root part.number (l % 128)) refl (sym (leaf_stands a (root_spelling root) root (record { good = starts.rooted.laid.good; spelled = refl }) part.number (l % 128) (omega arith)) ∙ ap (leaves_of a root) at ∙ none);
+        absent = ap (λ (ls : List ℕ). get_or ls (l % 128) 0) (is.own (omega (arith, from, to))) ∙ absent_pointer (leaf_of a root part.number (l % 128)) refl (sym (leaf_stands a (root_spelling root) root (record { good = v.has.rooted.laid.good; spelled = refl }) part.number (l % 128) (omega arith)) ∙ ap (leaves_of a root) at ∙ none);
       }
     where
       absent_pointer : (z : ℕ) → leaf_of a root part.number (l % 128) ≡ z → held_at a (leaf_of a root part.number (l % 128)) ≡ None → leaf_of a root part.number (l % 128) ≡ 0
@@ -267,14 +232,14 @@ module _ {D : Type 0} (g : Ghosts D) (graph : Graph) (id : Puid) (f : File) (roo
         | inl early ↦ out (inl early)
         | inr from ↦ elim (cases_lt l low.leaves.to) [
           | inl in_low ↦
-              let t = absent_in_part low low_is l (omega (arith, low_read.from, first, from)) (omega (arith, low_read.to, in_low)) (omega (arith, first, from)) in_low is in
-              let at : 128 * low.number + l % 128 ≡ l = omega (arith, low_read.from, first, from, low_read.to, in_low) in
+              let t = absent_in_part low can.low_is l (omega (arith, parts.low_read.from, parts.first, from)) (omega (arith, parts.low_read.to, in_low)) (omega (arith, parts.first, from)) in_low is in
+              let at : 128 * low.number + l % 128 ≡ l = omega (arith, parts.low_read.from, parts.first, from, parts.low_read.to, in_low) in
               subst (λ (q : ℕ). bytes_held (leaves_of c2 r2 q) ≡ End q) at (comes2.other_bytes low.number (l % 128) (omega arith) (low_not_high (l % 128) t) ∙ (comes1.done (l % 128) t).0)
           | inr past ↦ elim (cases_lt l upto) [
             | inr late ↦ out (inr late)
             | inl in_high ↦
-                let t = absent_in_part high high_is l (omega (arith, high_read.from, joins, past)) (omega (arith, high_read.to, in_high, last)) (omega (arith, joins, past)) (omega (arith, last, in_high)) is in
-                let at : 128 * high.number + l % 128 ≡ l = omega (arith, high_read.from, joins, past, high_read.to, in_high, last) in
+                let t = absent_in_part high can.high_is l (omega (arith, parts.high_read.from, parts.next, past)) (omega (arith, parts.high_read.to, in_high, parts.last)) (omega (arith, parts.next, past)) (omega (arith, parts.last, in_high)) is in
+                let at : 128 * high.number + l % 128 ≡ l = omega (arith, parts.high_read.from, parts.next, past, parts.high_read.to, in_high, parts.last) in
                 subst (λ (q : ℕ). bytes_held (leaves_of c2 r2 q) ≡ End q) at (comes2.done (l % 128) t).0
           ]
         ]
@@ -285,7 +250,7 @@ module _ {D : Type 0} (g : Ghosts D) (graph : Graph) (id : Puid) (f : File) (roo
 
   -- ---- its blocks
 
-  module _ (has : HasItsBlocks a id.block) (none : (m : ℕ) → is_meant_for a id.block m ≡ false) where
+  module _ (has : HasItsBlocks a r) (none : (m : ℕ) → is_meant_for a r m ≡ false) where
     now_rooted : IsRooted c2 id r2
     now_rooted = comes2.stage.rooted_now
 
@@ -299,28 +264,28 @@ module _ {D : Type 0} (g : Ghosts D) (graph : Graph) (id : Puid) (f : File) (roo
       | inl same ↦ elim (both.low_has.rest m) [ inr one ↦ inr (inl one) | inl was ↦ inl (comes2.stage.entries m ∙ same ∙ was ∙ same_p m) ]
     ]
 
-    new_entry : (m : ℕ) → New m → (q : Place) × (entry_in c2 m ≡ Some (allocated q id.block))
+    new_entry : (m : ℕ) → New m → (q : Place) × (entry_in c2 m ≡ Some (allocated q r))
     new_entry m (inl (inl (k, t, is))) =
-        (Leaf (128 * low.number + k), comes2.stage.entries m ∙ ap (entry_in c) is ∙ (new_stays (g.content p) both.mid c id.block (Leaf (128 * low.number + k)) (get_or low_next.node.leaves k 0) (both.low_has.leaves k t) both.high_has.keeps).entry)
+        (Leaf (128 * low.number + k), comes2.stage.entries m ∙ ap (entry_in c) is ∙ (new_stays (both.low_has.leaves k t) both.high_has.keeps).entry)
     new_entry m (inl (inr (zero_had, grown, is))) =
-        (Node low.number, comes2.stage.entries m ∙ ap (entry_in c) is ∙ (new_stays (g.content p) both.mid c id.block (Node low.number) low_next.block (both.low_has.node_new zero_had grown) both.high_has.keeps).entry)
+        (Node low.number, comes2.stage.entries m ∙ ap (entry_in c) is ∙ (new_stays (both.low_has.node_new zero_had grown) both.high_has.keeps).entry)
     new_entry m (inr (inl (k, t, is))) = (Leaf (128 * high.number + k), comes2.stage.entries m ∙ ap (entry_in c) is ∙ (both.high_has.leaves k t).entry)
     new_entry m (inr (inr (zero_had, grown, is))) = (Node high.number, comes2.stage.entries m ∙ ap (entry_in c) is ∙ (both.high_has.node_new zero_had grown).entry)
 
-    none_leaves : (m : ℕ) → is_of is_leaving id.block (entry_in c2 m) ≡ false
-    none_leaves m = elim (entry_cases m) [ inl same ↦ ap (is_of is_leaving id.block) same ∙ has.none_leaves m | inr one ↦ ap (is_of is_leaving id.block) (new_entry m one).1 ]
+    none_leaves : (m : ℕ) → is_of is_leaving r (entry_in c2 m) ≡ false
+    none_leaves m = elim (entry_cases m) [ inl same ↦ ap (is_of is_leaving r) same ∙ has.none_leaves m | inr one ↦ ap (is_of is_leaving r) (new_entry m one).1 ]
 
-    pub none_meant : (m : ℕ) → is_of is_meant id.block (entry_in c2 m) ≡ false
-    none_meant m = elim (entry_cases m) [ inl same ↦ ap (is_of is_meant id.block) same ∙ none m | inr one ↦ ap (is_of is_meant id.block) (new_entry m one).1 ]
+    pub none_meant : (m : ℕ) → is_of is_meant r (entry_in c2 m) ≡ false
+    none_meant m = elim (entry_cases m) [ inl same ↦ ap (is_of is_meant r) same ∙ none m | inr one ↦ ap (is_of is_meant r) (new_entry m one).1 ]
 
     -- each block of the file is had
-    had_at : (m : ℕ) (q : Place) → BelongsTo id.block q (part_at c2 m) → is_of is_had id.block (entry_in c2 m) ≡ true
-    had_at m q is = had_only id.block (entry_in c2 m) (taken_of c2 m id.block (placed c2 m id.block q (part_at c2 m) refl is).taken) (none_leaves m) (none_meant m)
+    had_at : (m : ℕ) (q : Place) → BelongsTo r q (part_at c2 m) → is_of is_had r (entry_in c2 m) ≡ true
+    had_at m q is = had_only r (entry_in c2 m) (taken_of c2 m r (placed c2 m r q (part_at c2 m) refl is).taken) (none_leaves m) (none_meant m)
 
-    each_had : (m : ℕ) → IsOwn c2 id r2 m → is_of is_had id.block (entry_in c2 m) ≡ true
-    each_had m (inl is) = had_at m Root (subst (λ (z : ℕ). BelongsTo id.block Root (part_at c2 z)) (sym is) now_rooted.part)
-    each_had m (inr (inl (n, real, is))) = had_at m (Node n) (subst (λ (z : ℕ). BelongsTo id.block (Node n) (part_at c2 z)) (sym is) (now_rooted.laid.nodes n real).part)
-    each_had m (inr (inr (n, k, small, real, is))) = had_at m (Leaf (128 * n + k)) (subst (λ (z : ℕ). BelongsTo id.block (Leaf (128 * n + k)) (part_at c2 z)) (sym is) (now_rooted.laid.leaves n k small real).part)
+    each_had : (m : ℕ) → IsOwn c2 id r2 m → is_of is_had r (entry_in c2 m) ≡ true
+    each_had m (inl is) = had_at m Root (subst (λ (z : ℕ). BelongsTo r Root (part_at c2 z)) (sym is) now_rooted.part)
+    each_had m (inr (inl (n, real, is))) = had_at m (Node n) (subst (λ (z : ℕ). BelongsTo r (Node n) (part_at c2 z)) (sym is) (now_rooted.laid.nodes n real).part)
+    each_had m (inr (inr (n, k, small, real, is))) = had_at m (Leaf (128 * n + k)) (subst (λ (z : ℕ). BelongsTo r (Leaf (128 * n + k)) (part_at c2 z)) (sym is) (now_rooted.laid.leaves n k small real).part)
 
     -- and no other is
     old_own : (m : ℕ) → IsOwn a id root m → IsOwn c2 id r2 m
@@ -336,22 +301,22 @@ module _ {D : Type 0} (g : Ghosts D) (graph : Graph) (id : Puid) (f : File) (roo
 
     new_own : (m : ℕ) → New m → IsOwn c2 id r2 m
     new_own m (inl (inl (k, t, is))) =
-        inr (inr (low.number, k, t.small, λ zero_is. some_block (g.content p) both.mid id.block (Leaf (128 * low.number + k)) (get_or low_next.node.leaves k 0) (both.low_has.leaves k t) (sym (low_leaf k t) ∙ zero_is), is ∙ sym (low_leaf k t)))
+        inr (inr (low.number, k, t.small, λ zero_is. some_block (both.low_has.leaves k t) (sym (low_leaf k t) ∙ zero_is), is ∙ sym (low_leaf k t)))
     new_own m (inl (inr (zero_had, grown, is))) =
-        inr (inl (low.number, λ zero_is. some_block (g.content p) both.mid id.block (Node low.number) low_next.block (both.low_has.node_new zero_had grown) (sym (low_node grown) ∙ zero_is), is ∙ sym (low_node grown)))
+        inr (inl (low.number, λ zero_is. some_block (both.low_has.node_new zero_had grown) (sym (low_node grown) ∙ zero_is), is ∙ sym (low_node grown)))
     new_own m (inr (inl (k, t, is))) =
         let there = (comes2.done k t).1 in
-        inr (inr (high.number, k, t.small, λ zero_is. some_block both.mid c id.block (Leaf (128 * high.number + k)) (get_or high_next.node.leaves k 0) (both.high_has.leaves k t) (sym there ∙ zero_is), is ∙ sym there))
+        inr (inr (high.number, k, t.small, λ zero_is. some_block (both.high_has.leaves k t) (sym there ∙ zero_is), is ∙ sym there))
     new_own m (inr (inr (zero_had, grown, is))) =
         let there = comes2.block grown in
-        inr (inl (high.number, λ zero_is. some_block both.mid c id.block (Node high.number) high_next.block (both.high_has.node_new zero_had grown) (sym there ∙ zero_is), is ∙ sym there))
+        inr (inl (high.number, λ zero_is. some_block (both.high_has.node_new zero_had grown) (sym there ∙ zero_is), is ∙ sym there))
 
-    pub has_now : HasItsBlocks c2 id.block
+    pub has_now : HasItsBlocks c2 r
     has_now = record {
       no_bit = now_rooted.no_bit;
       each = λ m is. each_had m (own_from_block c2 id r2 now_rooted m is);
       no_other = λ m is. block_from_own c2 id r2 now_rooted m (elim (entry_cases m) [
-        | inl same ↦ old_own m (own_from_block a id root starts.rooted m (has.no_other m (sym (ap (is_of is_had id.block) same) ∙ is)))
+        | inl same ↦ old_own m (own_from_block a id root v.has.rooted m (has.no_other m (sym (ap (is_of is_had r) same) ∙ is)))
         | inr one ↦ new_own m one
       ]);
       none_leaves = none_leaves;
@@ -359,43 +324,43 @@ module _ {D : Type 0} (g : Ghosts D) (graph : Graph) (id : Puid) (f : File) (roo
 
   -- ---- the store
 
-  pub reads_now : ReadsAs (length a) id (sight c2 id.block) (objects.File (written f offset bytes))
+  pub reads_now : ReadsAs (length a) id (sight c2 r) (objects.File (written v.file offset bytes))
   reads_now =
-      let file = last_file a graph id f starts.holds starts.at root starts.rooted starts.same starts.blocks offset bytes inside c2 r2 comes2.stage.head all_end in
-      subst (λ (n : ℕ). ReadsAs n id (sight c2 id.block) (objects.File (written f offset bytes))) comes2.stage.frames.size (subst (ReadsAs (length c2) id (sight c2 id.block)) file (rooted_reads c2 id r2 comes2.stage.rooted_now))
+      let file = last_file v.has offset bytes can.inside c2 r2 comes2.stage.head all_end in
+      subst (λ (n : ℕ). ReadsAs n id (sight c2 r) (objects.File (written v.file offset bytes))) comes2.stage.frames.size (subst (ReadsAs (length c2) id (sight c2 r)) file (rooted_reads c2 id r2 comes2.stage.rooted_now))
 
-  pub stores_now : (ds : List Opened) (space : Kept) → StoreHas g graph ds start space → drafts_of ds id ≡ [] → (now : D) → g.content now ≡ c2 → IsSettled g now → BecomesFile g graph ds id (written f offset bytes) start now kept
-  stores_now ds space store no_draft now content settled =
-      let none = subst (HasDrafts a id) no_draft (store.account.drafts id (objects.File f) starts.at) in
-      let has = store.account.objects id (objects.File f) starts.at in
-      let new = objects.File (written f offset bytes) in
+  pub stores_now : (now : D) → g.content now ≡ c2 → IsSettled g now → BecomesFile g v.graph v.drafts id (written v.file offset bytes) start now kept
+  stores_now now content settled =
+      let none = subst (HasDrafts a id) v.no_draft (v.store.account.drafts id (objects.File v.file) v.has.at) in
+      let has = v.store.account.objects id (objects.File v.file) v.has.at in
+      let new = objects.File (written v.file offset bytes) in
       record {
         store = record {
-          carries = carries_settled g (with_object graph id new) now settled (subst (λ (i : Image). Holds i (with_object graph id new)) (sym content) (object_put a c2 graph id new starts.holds comes2.stage.frames reads_now));
-          account = subst (λ (i : Image). Accounts i (with_object graph id new) ds) (sym content) (object_changes_on a c2 graph ds ds id (objects.File f) new store.account starts.at reads_now (has_now has none)
-              (subst (HasDrafts c2 id) (sym no_draft) (none_meant has none)) (λ x other. refl) comes2.stage.only refl (all_there graph id new ds store.account.on_objects));
+          carries = carries_settled g (with_object v.graph id new) now settled (subst (λ (i : Image). Holds i (with_object v.graph id new)) (sym content) (object_put a c2 v.graph id new v.has.holds comes2.stage.frames reads_now));
+          account = subst (λ (i : Image). Accounts i (with_object v.graph id new) v.drafts) (sym content) (object_changes_on a c2 v.graph v.drafts v.drafts id (objects.File v.file) new v.store.account v.has.at reads_now (has_now has none)
+              (subst (HasDrafts c2 id) (sym v.no_draft) (none_meant has none)) (λ x other. refl) comes2.stage.only refl (all_there v.graph id new v.drafts v.store.account.on_objects));
           counts = subst (λ (i : Image). AreCounts i kept) (sym content) comes2.stage.counts;
-          ordered = rises-with_object graph id new store.ordered;
+          ordered = rises-with_object v.graph id new v.store.ordered;
         };
-        only = subst (ChangesOnly (λ e. of_owner id.block e) a) (sym content) comes2.stage.only;
+        only = subst (ChangesOnly (λ e. of_owner r e) a) (sym content) comes2.stage.only;
       }
 
   -- ---- the claims in their order
 
-  tells : (part : Part) → IsReadPart size part → IsPart a root part → part.leaves.from < part.leaves.to → (nodes : List ℕ) → has_number part.number nodes ≡ not (node_of root part.number == 0) → TellsHeld part (node_of root part.number) f.held nodes
+  tells : (part : Part) → IsReadPart size part → IsPart a root part → part.leaves.from < part.leaves.to → (nodes : List ℕ) → has_number part.number nodes ≡ not (node_of root part.number == 0) → TellsHeld part (node_of root part.number) v.file.held nodes
   tells part read is some nodes node = record {
-    leaf = λ l number. not_is _ _ (told_leaf a id f root starts.rooted starts.same size part read is some l number ∙ ap not (sym (held_is a id f root starts.rooted starts.same l)));
+    leaf = λ l number. not_is _ _ (told_leaf v.has size part read is some l number ∙ ap not (sym (held_is v.has l)));
     node = node;
   }
 
   abbrev low_nodes : List ℕ
-  low_nodes = nodes_now (node_of root low.number == 0) low_next.grown low.number (parents f.held)
+  low_nodes = nodes_now (node_of root low.number == 0) low_next.grown low.number (parents v.file.held)
 
-  high_claims : (n : ℕ) → high.leaves.from + n ≡ high.leaves.to → AreClaimed (claims_from id.block f.held low_nodes high.leaves.from n) both.mid c2
+  high_claims : (n : ℕ) → high.leaves.from + n ≡ high.leaves.to → AreClaimed (claims_from r v.file.held low_nodes high.leaves.from n) both.mid c2
   high_claims n is = elim (cases_lt high.leaves.from high.leaves.to) [
-    | inl more ↦ both.high_has.order f.held low_nodes
-        (tells high high_read high_is more low_nodes (now_other _ low_next.grown low.number high.number (parents f.held) (apart more) ∙ node_held a id f root starts.rooted starts.same high.number)) 0 n c2 (omega (arith, is)) comes2.stage.entries
-    | inr past ↦ let none : 0 ≡ n = omega (arith, is, past) in subst (λ (k : ℕ). AreClaimed (claims_from id.block f.held low_nodes high.leaves.from k) both.mid c2) none
+    | inl more ↦ both.high_has.order v.file.held low_nodes
+        (tells high parts.high_read can.high_is more low_nodes (now_other _ low_next.grown low.number high.number (parents v.file.held) (parts.apart more) ∙ node_held v.has high.number)) 0 n c2 (omega (arith, is)) comes2.stage.entries
+    | inr past ↦ let none : 0 ≡ n = omega (arith, is, past) in subst (λ (k : ℕ). AreClaimed (claims_from r v.file.held low_nodes high.leaves.from k) both.mid c2) none
         (λ m. comes2.stage.entries m ∙ elim (both.high_has.rest m) [
           | inl same ↦ same
           | inr (inl (k, t, at)) ↦ absurd (omega (arith, t.from, t.to, past))
@@ -403,9 +368,9 @@ module _ {D : Type 0} (g : Ghosts D) (graph : Graph) (id : Puid) (f : File) (roo
         ])
   ]
 
-  pub order_now : low.leaves.from < low.leaves.to → AreClaimed (claims_of id.block f offset (length bytes)) a c2
-  order_now some =
+  pub order_now : AreClaimed (claims_of r v.file offset (length bytes)) a c2
+  order_now =
       let n = high.leaves.to - high.leaves.from in
-      let rest = subst (λ (l : ℕ). AreClaimed (claims_from id.block f.held low_nodes l n) both.mid c2) joins (high_claims n (omega (arith, high_read.some))) in
-      let all = both.low_has.order f.held (parents f.held) (tells low low_read low_is some (parents f.held) (node_held a id f root starts.rooted starts.same low.number)) n (leaves_in (offset + length bytes) - offset / 512) c2 (omega (arith, first, joins, last, high_read.some, low_read.some)) rest in
-      claims_then [] _ a (g.content p) c2 same_p (subst (λ (l : ℕ). AreClaimed (claims_from id.block f.held (parents f.held) l (leaves_in (offset + length bytes) - offset / 512)) (g.content p) c2) first all)
+      let rest = subst (λ (l : ℕ). AreClaimed (claims_from r v.file.held low_nodes l n) both.mid c2) parts.next (high_claims n (omega (arith, parts.high_read.some))) in
+      let all = both.low_has.order v.file.held (parents v.file.held) (tells low parts.low_read can.low_is parts.some (parents v.file.held) (node_held v.has low.number)) n (leaves_in (offset + length bytes) - offset / 512) c2 (omega (arith, parts.first, parts.next, parts.last, parts.high_read.some, parts.low_read.some)) rest in
+      claims_then [] _ a (g.content p) c2 same_p (subst (λ (l : ℕ). AreClaimed (claims_from r v.file.held (parents v.file.held) l (leaves_in (offset + length bytes) - offset / 512)) (g.content p) c2) parts.first all)

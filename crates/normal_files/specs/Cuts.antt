@@ -1,24 +1,18 @@
--- A file set to less: the leaf in which it ends is cut, and the last node that it keeps is written without the leaves past it.
-use Rattle.std.specs.Prelude.{◌≡◌, ◌≢◌, ◌⊎◌, ℕ, ◌+◌, ◌-◌, ◌*◌, ◌/◌, ◌%◌, ◌<◌, ◌≤◌, ◌==◌, if◌then◌else◌, List, [], length, get_or, set}
+-- A file set to less: the leaf in which it ends is cut, and the last node that it keeps is written without the leaves
+-- past it.
+use Rattle.std.specs.Prelude.{◌≡◌, ◌≢◌, ◌⊎◌, ℕ, ◌+◌, ◌-◌, ◌*◌, ◌/◌, ◌%◌, ◌<◌, ◌≤◌, ◌==◌, if◌then◌else◌, List, length}
+use Rattle.std.specs.Prelude.{get_or, set}
 use Rattle.std.specs.List.{All}
 use Rattle.cfs_base.specs.Disk.{Image, Written}
-use Rattle.cfs_base.specs.declared.disk.Disk.{Ghosts}
-use Rattle.cfs_base.specs.declared.identifier.Puid.{Puid}
-use Rattle.block_tree.specs.declared.root.Root as roots
 use Rattle.block_tree.specs.Node.{node_spelling}
 use Rattle.block_tree.specs.Tree.{bytes_in}
-use Rattle.cyl_alloc.specs.Space.{Kept}
-use Rattle.intentions.specs.Store.{StoreHas}
 use Rattle.leaf_changes.specs.Bytes.{cut}
 use Rattle.leaf_changes.specs.Changes.{SetsSize}
-use Rattle.ufs_model.specs.declared.object.File.{File}
-use Rattle.ufs_model.specs.Graph.{Graph}
 use Rattle.ufs_model.specs.Object.{leaves_in}
-use Rattle.vol_owners.specs.Account.{Opened, drafts_of}
 use Rattle.normal_files.specs.Laid.{node_of}
 use Rattle.normal_files.specs.Nodes.{leaves_at}
-use Rattle.normal_files.specs.Steps.{Starts}
 use Rattle.normal_files.specs.declared.cut.End.{End}
+use Rattle.block_tree.specs.declared.root.Root as roots
 
 -- the last node of which a file of this size may keep a leaf
 abbrev pub last_node : ℕ → ℕ
@@ -34,7 +28,8 @@ pub record IsReadEnd (blocks : ℕ) (root : roots.Root) (size : ℕ) (end : End)
   pub count : length end.own.leaves ≡ 128
   pub cut : end.cut ≡ cut_block size end.own.leaves
   pub near : end.cut < blocks
-  pub before : (k : ℕ) → 128 * last_node size + k < leaves_in size → get_or end.node.leaves k 0 ≡ get_or end.own.leaves k 0
+  pub before : (k : ℕ) → 128 * last_node size + k < leaves_in size
+      → get_or end.node.leaves k 0 ≡ get_or end.own.leaves k 0
   pub past : (k : ℕ) → k < 128 → leaves_in size ≤ 128 * last_node size + k → get_or end.node.leaves k 0 ≡ 0
   pub kept : ((end.kept ≡ node_of root (last_node size)) × ((k : ℕ) × (k < 128) × (get_or end.node.leaves k 0 ≢ 0)))
       ⊎ ((end.kept ≡ 0) × ((k : ℕ) → k < 128 → get_or end.node.leaves k 0 ≡ 0))
@@ -72,13 +67,3 @@ pub record IsCutRoot (root : roots.Root) (size from : ℕ) (next : roots.Root) :
   pub word : next.word ≡ root.word
   pub before : (n : ℕ) → n < from → node_of next n ≡ node_of root n
   pub past : (n : ℕ) → from ≤ n → n < 120 → node_of next n ≡ 0
-
--- ---- when
-
--- The store has a file without a draft, whose root is in this block, and the size is less than the file's.
-pub record Shrinks {D : Type 0} (g : Ghosts D) (graph : Graph) (ds : List Opened) (id : Puid) (f : File) (root : roots.Root) (at size : ℕ) (disk : D) (kept : Kept) : Type 0 where
-  pub store : StoreHas g graph ds disk kept
-  pub starts : Starts g graph id f root disk
-  pub no_draft : drafts_of ds id ≡ []
-  pub here : id.block ≡ at
-  pub less : size < length f.bytes

@@ -1,5 +1,6 @@
 -- Blocks that a file had and that become Free, once its root no longer leads to them.
-use Rattle.std.specs.Prelude.{◌≡◌, ◌≢◌, ◌⊎◌, ℕ, ◌+◌, ◌*◌, ◌%◌, ◌<◌, ◌≤◌, true, false, IsTrue, List, length, Result, IfErr, OnOk}
+use Rattle.std.specs.Prelude.{◌≡◌, ◌≢◌, ◌⊎◌, ℕ, ◌+◌, ◌*◌, ◌%◌, ◌<◌, ◌≤◌, true, false, IsTrue, List, length, Result}
+use Rattle.std.specs.Prelude.{IfErr, OnOk}
 use Rattle.cfs_base.specs.Calls.{HasStopped, HasTried, MakesAtMost}
 use Rattle.cfs_base.specs.Codes.{no_entry}
 use Rattle.cfs_base.specs.Disk.{Image, Written, block_at}
@@ -11,8 +12,6 @@ use Rattle.cfs_base.specs.declared.kind.Place.TheVariants.{Leaf, Node}
 use Rattle.cfs_base.specs.declared.refusal.Damage.{Damage}
 use Rattle.cfs_base.specs.declared.refusal.Refused.{Refused}
 use Rattle.cfs_base.specs.declared.refusal.Trouble.{Trouble}
-use Rattle.cfs_base.specs.declared.refusal.Trouble.TheVariants as trouble
-use Rattle.block_tree.specs.declared.root.Root as roots
 use Rattle.cyl_alloc.specs.Space.{AreCounts, IsBadMap, Kept, free_entry}
 use Rattle.cyl_map.specs.Volume.{AreMaps, entry_in, is_free_in, map_of, map_with, with_entry}
 use Rattle.ufs_model.specs.Graph.{Graph}
@@ -27,13 +26,17 @@ use Rattle.normal_files.specs.Nodes.{IsNear, leaves_at}
 use Rattle.normal_files.specs.Refusal.{IsDamage, IsRefusal, is_damage}
 use Rattle.normal_files.specs.declared.cut.End.{End}
 use Rattle.ufs_model.specs.Object.{leaves_in}
+use Rattle.cfs_base.specs.declared.refusal.Trouble.TheVariants as trouble
+use Rattle.block_tree.specs.declared.root.Root as roots
 
 -- ---- on any disk
 
 -- what is wrong: the map of a block is none, or a block of the file is damaged, as the disk is then
 pub data IsDropDamage {D : Type 0} (g : Ghosts D) (at : ℕ) (start new : D) (damage : Damage) : Type 0 where
-  NoMap : damage.code ≡ no_entry → (Tells g start → IsBadMap (g.content new) damage.block) → IsDropDamage g at start new damage
-  OfFile : (mid : D) → (Tells g start → Tells g mid) → g.content mid ≡ g.content new → IsDamage g at mid damage → IsDropDamage g at start new damage
+  NoMap : damage.code ≡ no_entry → (Tells g start → IsBadMap (g.content new) damage.block)
+      → IsDropDamage g at start new damage
+  OfFile : (mid : D) → (Tells g start → Tells g mid) → g.content mid ≡ g.content new → IsDamage g at mid damage
+      → IsDropDamage g at start new damage
 
 -- a device call failed, or a block that was read is damaged
 abbrev pub IsDropTrouble : {D : Type 0} → Ghosts D → ℕ → D → D → Trouble → Type 0
@@ -54,7 +57,8 @@ pub record HasBegun {D : Type 0} (g : Ghosts D) (start now : D) : Type 0 where
   pub tried : HasTried g start now
 
 -- at most n device calls are made, t of them writes, after such a start
-pub record Follows {D : Type 0} (g : Ghosts D) (at n t : ℕ) (old new : D) (before after : Kept) (result : Result (Unit {0}) Trouble) : Type 0 where
+pub record Follows {D : Type 0} (g : Ghosts D) (at n t : ℕ) (old new : D) (before after : Kept)
+    (result : Result (Unit {0}) Trouble) : Type 0 where
   pub told : OnOk result ((b : ℕ) → IsTrue (g.told old b) → IsTrue (g.told new b))
   pub stopped : (start : D) → HasBegun g start old → IfErr result (IsDropTrouble g at start new)
   pub tried : IfErr result (λ t. t ≢ trouble.Disk false)
@@ -62,11 +66,14 @@ pub record Follows {D : Type 0} (g : Ghosts D) (at n t : ℕ) (old new : D) (bef
   pub calls : MakesAtMost g n t old new
 
 -- one block becomes Free; 0 is none
-pub record FreesBlock {D : Type 0} (g : Ghosts D) (block : ℕ) (old new : D) (before after : Kept) (result : Result (Unit {0}) Trouble) : Type 0 where
+pub record FreesBlock {D : Type 0} (g : Ghosts D) (block : ℕ) (old new : D) (before after : Kept)
+    (result : Result (Unit {0}) Trouble) : Type 0 where
   pub none : block ≡ 0 → (new ≡ old) × (after ≡ before)
   pub freed : block ≢ 0 → Tells g old → OnOk result (g.content new ≡ with_entry (g.content old) block free_entry)
-  pub counts : block ≢ 0 → Tells g old → AreCounts (g.content old) before → is_free_in (g.content old) block ≡ false → OnOk result (AreCounts (g.content new) after)
-  pub images : block ≢ 0 → Tells g old → Leaves g old new (Written (left_now g old) (map_of block) (map_with (g.content old) block free_entry))
+  pub counts : block ≢ 0 → Tells g old → AreCounts (g.content old) before → is_free_in (g.content old) block ≡ false
+      → OnOk result (AreCounts (g.content new) after)
+  pub images : block ≢ 0 → Tells g old
+      → Leaves g old new (Written (left_now g old) (map_of block) (map_with (g.content old) block free_entry))
   pub sound : Tells g old → AreMaps (g.content old) → IfErr result (λ t. is_damage t ≡ false)
 
 -- ---- what the file had
@@ -80,18 +87,23 @@ pub record IsDropped (b : Image) (graph : Graph) (owner : ℕ) (place : Place) (
 pub record Drops (a b : Image) (graph : Graph) (id : Puid) (root next : roots.Root) (keep : ℕ) : Type 0 where
   pub holds : Holds b graph
   pub size : length b ≡ length a
-  pub leaves : (q k : ℕ) → k < 128 → keep ≤ 128 * q + k → leaf_of a root q k ≢ 0 → IsDropped b graph id.block (Leaf (128 * q + k)) (leaf_of a root q k)
+  pub leaves : (q k : ℕ) → k < 128 → keep ≤ 128 * q + k → leaf_of a root q k ≢ 0
+      → IsDropped b graph id.block (Leaf (128 * q + k)) (leaf_of a root q k)
   pub nodes : (q : ℕ) → node_of root q ≢ 0 → node_of next q ≡ 0 → IsDropped b graph id.block (Node q) (node_of root q)
-  pub same : (q : ℕ) → node_of root q ≢ 0 → node_of next q ≡ 0 → leaves_at b (node_of root q) ≡ leaves_at a (node_of root q)
+  pub same : (q : ℕ) → node_of root q ≢ 0 → node_of next q ≡ 0
+      → leaves_at b (node_of root q) ≡ leaves_at a (node_of root q)
   pub near : (q : ℕ) → IsNear (length a) a (node_of root q)
 
 -- the leaves from `keep` on that lie before one, and the nodes before one to which the new root doesn't lead
 pub data IsFreed (a : Image) (root next : roots.Root) (keep leaf node block : ℕ) : Type 0 where
-  FreedLeaf : (q k : ℕ) → k < 128 → keep ≤ 128 * q + k → 128 * q + k < leaf → leaf_of a root q k ≢ 0 → block ≡ leaf_of a root q k → IsFreed a root next keep leaf node block
-  FreedNode : (q : ℕ) → q < node → node_of root q ≢ 0 → node_of next q ≡ 0 → block ≡ node_of root q → IsFreed a root next keep leaf node block
+  FreedLeaf : (q k : ℕ) → k < 128 → keep ≤ 128 * q + k → 128 * q + k < leaf → leaf_of a root q k ≢ 0
+      → block ≡ leaf_of a root q k → IsFreed a root next keep leaf node block
+  FreedNode : (q : ℕ) → q < node → node_of root q ≢ 0 → node_of next q ≡ 0 → block ≡ node_of root q
+      → IsFreed a root next keep leaf node block
 
 -- These are Free, and all else is as it was in image b.
-pub record IsFreeing {D : Type 0} (g : Ghosts D) (a b : Image) (graph : Graph) (id : Puid) (root next : roots.Root) (keep leaf node : ℕ) (start now : D) (kept : Kept) : Type 0 where
+pub record IsFreeing {D : Type 0} (g : Ghosts D) (a b : Image) (graph : Graph) (id : Puid) (root next : roots.Root)
+    (keep leaf node : ℕ) (start now : D) (kept : Kept) : Type 0 where
   pub within : Within g b graph start now
   pub entries : (m : ℕ) → (entry_in (g.content now) m ≡ entry_in b m) ⊎ IsFreed a root next keep leaf node m
   pub free : (m : ℕ) → IsFreed a root next keep leaf node m → is_free_in (g.content now) m ≡ true
@@ -100,19 +112,28 @@ pub record IsFreeing {D : Type 0} (g : Ghosts D) (a b : Image) (graph : Graph) (
   pub counts : AreCounts (g.content now) kept
 
 -- A call that frees from one leaf and node up to others, given what is known of the file.
-pub record FreesTo {D : Type 0} (g : Ghosts D) (root : roots.Root) (Given : Image → roots.Root → ℕ → Type 0) (leaf node to_leaf to_node : ℕ) (old new : D) (before after : Kept) (result : Result (Unit {0}) Trouble) : Type 0 where
-  pub on : (a b : Image) (graph : Graph) (id : Puid) (next : roots.Root) (keep : ℕ) (start : D) → Drops a b graph id root next keep → Given a next keep → IsFreeing g a b graph id root next keep leaf node start old before
+pub record FreesTo {D : Type 0} (g : Ghosts D) (root : roots.Root) (Given : Image → roots.Root → ℕ → Type 0)
+    (leaf node to_leaf to_node : ℕ) (old new : D) (before after : Kept)
+    (result : Result (Unit {0}) Trouble) : Type 0 where
+  pub on : (a b : Image) (graph : Graph) (id : Puid) (next : roots.Root) (keep : ℕ) (start : D)
+      → Drops a b graph id root next keep → Given a next keep
+      → IsFreeing g a b graph id root next keep leaf node start old before
       → OnOk result (IsFreeing g a b graph id root next keep to_leaf to_node start new after)
-  pub leaves : (a b : Image) (graph : Graph) (id : Puid) (next : roots.Root) (keep : ℕ) (start : D) → Drops a b graph id root next keep → Given a next keep → IsFreeing g a b graph id root next keep leaf node start old before
+  pub leaves : (a b : Image) (graph : Graph) (id : Puid) (next : roots.Root) (keep : ℕ) (start : D)
+      → Drops a b graph id root next keep → Given a next keep
+      → IsFreeing g a b graph id root next keep leaf node start old before
       → Leaves g start new (Frames b graph)
-  pub sound : (a b : Image) (graph : Graph) (id : Puid) (next : roots.Root) (keep : ℕ) (start : D) → Drops a b graph id root next keep → Given a next keep → IsFreeing g a b graph id root next keep leaf node start old before
+  pub sound : (a b : Image) (graph : Graph) (id : Puid) (next : roots.Root) (keep : ℕ) (start : D)
+      → Drops a b graph id root next keep → Given a next keep
+      → IsFreeing g a b graph id root next keep leaf node start old before
       → IfErr result (λ t. is_damage t ≡ false)
 
 -- ---- what is given
 
 -- a list has the leaf pointers of a node, of which those from a place on are dropped
 abbrev pub GivesLeaves : roots.Root → List ℕ → (number from : ℕ) → Image → roots.Root → ℕ → Type 0
-GivesLeaves root leaves number from a next keep = (leaves ≡ leaves_at a (node_of root number)) × (keep ≤ 128 * number + from)
+GivesLeaves root leaves number from a next keep =
+    (leaves ≡ leaves_at a (node_of root number)) × (keep ≤ 128 * number + from)
 
 -- the node with this number is dropped, and all its leaves
 abbrev pub GivesNode : (number : ℕ) → Image → roots.Root → ℕ → Type 0
@@ -125,7 +146,8 @@ GivesNodes from a next keep = ((q : ℕ) → from ≤ q → q < 120 → node_of 
 -- the last node is as it was read, and the root leads to none from one on
 abbrev pub GivesEnd : roots.Root → (size : ℕ) → End → Image → roots.Root → ℕ → Type 0
 GivesEnd root size end a next keep =
-    (keep ≡ leaves_in size) × (end.own.leaves ≡ leaves_at a (node_of root (last_node size))) × IsCutRoot root size (first_gone size end.kept) next
+    (keep ≡ leaves_in size) × (end.own.leaves ≡ leaves_at a (node_of root (last_node size)))
+    × IsCutRoot root size (first_gone size end.kept) next
 
 -- ---- a resize
 
@@ -134,4 +156,5 @@ abbrev pub TakesNone : Image → Image → Type 0
 TakesNone a c = (m : ℕ) → (entry_in c m ≡ entry_in a m) ⊎ (is_free_in c m ≡ true)
 
 abbrev pub IsResizeRefusal : {D : Type 0} → Ghosts D → (at floor : ℕ) → D → D → Kept → Refused → Type 0
-IsResizeRefusal g at floor old new = IsRefusal g (λ damage. IsDamage g at old damage ⊎ IsDropDamage g at old new damage) floor old new
+IsResizeRefusal g at floor old new = IsRefusal g (λ damage. IsDamage g at old damage
+    ⊎ IsDropDamage g at old new damage) floor old new

@@ -9,18 +9,20 @@ use Rattle.ufs_model.specs.declared.object.File.{File}
 use Rattle.normal_files.specs.Parts.{absent_in}
 use Rattle.normal_files.specs.declared.part.Part.{Part}
 
--- So many leaves, one after another from one on, with these leaves and nodes held: each that isn't takes a block, and after it
--- its node, where that isn't. The node is held then.
+-- So many leaves, one after another from one on, with these leaves and nodes held: each that isn't takes a block, and
+-- after it its node, where that isn't. The node is held then.
 abbrev pub claims_from : (owner : ℕ) → (leaves nodes : List ℕ) → (leaf count : ℕ) → List MapEntry
 claims_from owner leaves nodes leaf zero = []
 claims_from owner leaves nodes leaf (suc n) =
     if has_number leaf leaves then claims_from owner leaves nodes (leaf + 1) n else allocated (Leaf leaf) owner
-    ∷ (if has_number (leaf / 128) nodes then claims_from owner leaves nodes (leaf + 1) n else allocated (Node (leaf / 128)) owner
+    ∷ (if has_number (leaf / 128) nodes then claims_from owner leaves nodes (leaf + 1) n
+    else allocated (Node (leaf / 128)) owner
     ∷ claims_from owner leaves (leaf / 128 ∷ nodes) (leaf + 1) n)
 
 -- the leaves that so many bytes at an offset touch
 abbrev pub claims_of : (owner : ℕ) → File → (offset count : ℕ) → List MapEntry
-claims_of owner f offset count = claims_from owner f.held (parents f.held) (offset / 512) (leaves_in (offset + count) - offset / 512)
+claims_of owner f offset count = claims_from owner f.held (parents f.held) (offset / 512)
+    (leaves_in (offset + count) - offset / 512)
 
 -- ---- the leaves of one node
 

@@ -1,11 +1,13 @@
 -- The leaves that bytes touch in one node.
-use Rattle.std.specs.Prelude.{◌≡◌, ℕ, ◌+◌, ◌-◌, ◌*◌, ◌%◌, ◌<◌, ◌≤◌, Bool, ◌==◌, ◌&&◌, nat_lt, if◌then◌else◌, List, length, get_or, filter}
+use Rattle.std.specs.Prelude.{◌≡◌, ◌≢◌, ℕ, ◌/◌, ◌+◌, ◌-◌, ◌*◌, ◌%◌, ◌<◌, ◌≤◌, Bool, ◌==◌, ◌&&◌, nat_lt, if◌then◌else◌}
+use Rattle.std.specs.Prelude.{List, length, get_or, filter}
 use Rattle.std.specs.List.{All, range_with_len}
 use Rattle.cfs_base.specs.Disk.{Image}
-use Rattle.block_tree.specs.declared.root.Root as roots
+use Rattle.ufs_model.specs.Object.{leaves_in}
 use Rattle.normal_files.specs.Laid.{node_of}
 use Rattle.normal_files.specs.Nodes.{leaves_at}
 use Rattle.normal_files.specs.declared.part.Part.{Part}
+use Rattle.block_tree.specs.declared.root.Root as roots
 
 -- all that is known of them on any disk
 pub record IsReadPart (size : ℕ) (part : Part) : Type 0 where
@@ -19,6 +21,16 @@ pub record IsReadPart (size : ℕ) (part : Part) : Type 0 where
 -- the node that was read is the root's, where any of its leaves is touched
 pub record IsPart (image : Image) (root : roots.Root) (part : Part) : Type 0 where
   pub own : part.leaves.from < part.leaves.to → part.own.leaves ≡ leaves_at image (node_of root part.number)
+
+-- the two parts that bytes touch at most, first the low one and then the high one
+pub record AreParts (size offset count : ℕ) (low high : Part) : Type 0 where
+  pub low_read : IsReadPart size low
+  pub high_read : IsReadPart size high
+  pub first : low.leaves.from ≡ offset / 512
+  pub next : high.leaves.from ≡ low.leaves.to
+  pub last : high.leaves.to ≡ leaves_in (offset + count)
+  pub apart : high.leaves.from < high.leaves.to → low.number ≢ high.number
+  pub some : low.leaves.from < low.leaves.to
 
 -- of these leaves those whose pointers lead nowhere
 abbrev pub absent_in : (leaves : List ℕ) → ℕ → Bool

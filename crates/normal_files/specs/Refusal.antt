@@ -7,23 +7,27 @@ use Rattle.cfs_base.specs.Run.{Tells}
 use Rattle.cfs_base.specs.declared.disk.Disk.{Ghosts}
 use Rattle.cfs_base.specs.declared.refusal.Damage.{Damage}
 use Rattle.cfs_base.specs.declared.refusal.Refused.{Refused}
-use Rattle.cfs_base.specs.declared.refusal.Refused.TheVariants as refusals
 use Rattle.cfs_base.specs.declared.refusal.Trouble.{Trouble}
-use Rattle.cfs_base.specs.declared.refusal.Trouble.TheVariants as trouble
-use Rattle.block_tree.specs.declared.root.Root as roots
 use Rattle.cyl_alloc.specs.Space.{Kept}
 use Rattle.block_tree.specs.Pointers.{Level, leaf_pointers, pointers_of}
 use Rattle.block_tree.specs.Root.{IsRootBlock}
+use Rattle.cfs_base.specs.declared.refusal.Refused.TheVariants as refusals
+use Rattle.cfs_base.specs.declared.refusal.Trouble.TheVariants as trouble
+use Rattle.block_tree.specs.declared.root.Root as roots
 
 -- a pointer in this block leads past a disk of this size
 abbrev pub IsFar : ℕ → Image → Level → ℕ → Type 0
 IsFar size image level block = (k : ℕ) × (size ≤ get_or (pointers_of level (block_at image block)) k 0)
 
--- what is wrong with the block that is named: the root block is none, or a pointer in it or in a node leads past the disk
+-- what is wrong with the block that is named: the root block is none, or a pointer in it or in a node leads past the
+-- disk
 pub data IsDamage {D : Type 0} (g : Ghosts D) (at : ℕ) (old : D) (damage : Damage) : Type 0 where
-  NoRoot : damage.code ≡ no_root → damage.block ≡ at → (Tells g old → (root : roots.Root) → ¬ IsRootBlock (block_at (g.content old) at) root) → IsDamage g at old damage
+  NoRoot : damage.code ≡ no_root → damage.block ≡ at
+      → (Tells g old → (root : roots.Root) → ¬ IsRootBlock (block_at (g.content old) at) root)
+      → IsDamage g at old damage
   FarRoot : damage.code ≡ past_disk → damage.block ≡ at → IsDamage g at old damage
-  FarNode : damage.code ≡ past_disk → (Tells g old → IsFar (g.blocks old) (g.content old) leaf_pointers damage.block) → IsDamage g at old damage
+  FarNode : damage.code ≡ past_disk → (Tells g old → IsFar (g.blocks old) (g.content old) leaf_pointers damage.block)
+      → IsDamage g at old damage
 
 -- a device call failed, or a block that was read is damaged
 abbrev pub IsTrouble : {D : Type 0} → Ghosts D → ℕ → D → D → Trouble → Type 0
@@ -36,7 +40,8 @@ is_damage (trouble.Damaged damage) = true
 
 -- fewer blocks are Free than are needed beside the floor, a device call failed, or a block that was read is damaged, so
 abbrev pub IsRefusal : {D : Type 0} → Ghosts D → (Damage → Type 0) → (floor : ℕ) → D → D → Kept → Refused → Type 0
-IsRefusal g IsSo floor old new kept (refusals.Full need) = (need.free ≡ sum kept.free) × (sum kept.free < need.need + floor)
+IsRefusal g IsSo floor old new kept (refusals.Full need) =
+    (need.free ≡ sum kept.free) × (sum kept.free < need.need + floor)
 IsRefusal g IsSo floor old new kept (refusals.Disk tried) = HasStopped g tried old new
 IsRefusal g IsSo floor old new kept (refusals.Damaged damage) = IsSo damage
 IsRefusal g IsSo floor old new kept refusals.Memory = ⊥

@@ -1,13 +1,11 @@
 -- A file as it stands on a disk.
-use Rattle.std.specs.Prelude.{◌≡◌, ◌⊎◌, ℕ, true, List, length}
+use Rattle.std.specs.Prelude.{◌≡◌, ◌⊎◌, ℕ, true, List, length, OnOk, Result}
 use Rattle.cfs_base.specs.Disk.{Image, block_at}
 use Rattle.cfs_base.specs.declared.disk.Disk.{Ghosts}
 use Rattle.cfs_base.specs.declared.identifier.Puid.{Puid}
-use Rattle.block_tree.specs.declared.root.Root as roots
 use Rattle.cyl_alloc.specs.Space.{Kept}
 use Rattle.intentions.specs.Store.{StoreHas}
 use Rattle.ufs_model.specs.declared.object.File.{File}
-use Rattle.ufs_model.specs.declared.object.Object.TheVariants as objects
 use Rattle.ufs_model.specs.Graph.{Graph, with_object}
 use Rattle.ufs_model.specs.Numbers.{has_number, numbers_rise}
 use Rattle.vol_image.specs.Reading.{IsTree}
@@ -15,7 +13,11 @@ use Rattle.vol_image.specs.Seen.{tree_in}
 use Rattle.vol_image.specs.Sound.{Holds}
 use Rattle.vol_image.specs.Survives.{IsBetween}
 use Rattle.vol_owners.specs.Account.{Opened}
+use Rattle.normal_files.specs.View.{View, id_at}
 use Rattle.vol_owners.specs.Change.{ChangesOnly, of_owner}
+use Rattle.cfs_base.specs.Run.{Leaves}
+use Rattle.block_tree.specs.declared.root.Root as roots
+use Rattle.ufs_model.specs.declared.object.Object.TheVariants as objects
 
 -- the root at a block gives this file
 pub record IsFileAt (image : Image) (at : ℕ) (f : File) : Type 0 where
@@ -24,14 +26,16 @@ pub record IsFileAt (image : Image) (at : ℕ) (f : File) : Type 0 where
   pub tree : IsTree (length image) owner (tree_in image (block_at image at)) root (objects.File f)
 
 -- The store has this file in the place of the old one, and nothing changed but blocks of it or such as were Free.
-pub record BecomesFile {D : Type 0} (g : Ghosts D) (graph : Graph) (ds : List Opened) (id : Puid) (f : File) (old new : D) (space : Kept) : Type 0 where
+pub record BecomesFile {D : Type 0} (g : Ghosts D) (graph : Graph) (ds : List Opened) (id : Puid) (f : File)
+    (old new : D) (space : Kept) : Type 0 where
   pub store : StoreHas g (with_object graph id (objects.File f)) ds new space
   pub only : ChangesOnly (λ entry. of_owner id.block entry) (g.content old) (g.content new)
 
 -- the file holds no leaf but such as the old one or the new one holds
 pub record HoldsOfEither (old new f : File) : Type 0 where
   pub rising : numbers_rise f.held ≡ true
-  pub each : (leaf : ℕ) → has_number leaf f.held ≡ true → (has_number leaf old.held ≡ true) ⊎ (has_number leaf new.held ≡ true)
+  pub each : (leaf : ℕ) → has_number leaf f.held ≡ true → (has_number leaf old.held ≡ true)
+      ⊎ (has_number leaf new.held ≡ true)
 
 -- the image holds all other objects, and of this file each leaf and the size are old or new
 pub record IsPartly (image : Image) (graph : Graph) (id : Puid) (old new : File) : Type 0 where
@@ -39,3 +43,10 @@ pub record IsPartly (image : Image) (graph : Graph) (id : Puid) (old new : File)
   pub holds : Holds image (with_object graph id (objects.File file))
   pub between : IsBetween old new file
   pub either : HoldsOfEither old new file
+
+-- how a call ends that changes a file into another: done, the store has that; done or not, a crash leaves what is
+-- between
+pub record Becomes {D E : Type 0} {g : Ghosts D} {block : ℕ} {root : roots.Root} {disk : D} {kept : Kept}
+    (v : View g block root disk kept) (to : File) (new : D) (after : Kept) (result : Result (Unit {0}) E) : Type 0 where
+  pub done : OnOk result (BecomesFile g v.graph v.drafts (id_at block v.word) to disk new after)
+  pub images : Leaves g disk new (λ c. IsPartly c v.graph (id_at block v.word) v.file to)

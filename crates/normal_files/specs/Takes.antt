@@ -1,25 +1,25 @@
 -- Blocks that a write takes for leaves which were absent, and for their node.
-use Rattle.std.specs.Prelude.{◌≡◌, ◌≢◌, ◌⊎◌, ◌==◌, ◌&&◌, if◌then◌else◌, ℕ, ◌+◌, ◌*◌, ◌/◌, ◌%◌, ◌<◌, ◌≤◌, Bool, true, false, List, length, get_or, replicate, set, Some, Result, Ok, Err}
+use Rattle.std.specs.Prelude.{◌≡◌, ◌≢◌, ◌⊎◌, ◌==◌, ◌&&◌, if◌then◌else◌, ℕ, ◌+◌, ◌*◌, ◌/◌, ◌%◌, ◌<◌, ◌≤◌, Bool, true}
+use Rattle.std.specs.Prelude.{false, List, length, get_or, replicate, set, Some, Result, Ok, Err}
 use Rattle.cfs_base.specs.Disk.{Image, block_at}
 use Rattle.cfs_base.specs.Run.{Leaves}
 use Rattle.cfs_base.specs.declared.disk.Disk.{Ghosts}
 use Rattle.cfs_base.specs.declared.identifier.BlockNo.{BlockNo}
-use Rattle.cfs_base.specs.declared.identifier.Puid.{Puid}
 use Rattle.cfs_base.specs.declared.kind.Place.{Place}
 use Rattle.cfs_base.specs.declared.kind.Place.TheVariants.{Leaf, Node}
 use Rattle.cfs_base.specs.declared.refusal.Refused.{Refused}
-use Rattle.block_tree.specs.declared.root.Root as roots
 use Rattle.claims.specs.Claims.{AreClaimed}
 use Rattle.cyl_alloc.specs.Enters.{Enters}
 use Rattle.cyl_alloc.specs.Space.{IsLeastFree, Kept, allocated}
 use Rattle.cyl_map.specs.Volume.{entry_in, is_free_in, with_entry}
 use Rattle.leaf_changes.specs.Bytes.{patched}
-use Rattle.ufs_model.specs.declared.object.File.{File}
-use Rattle.ufs_model.specs.Graph.{Graph}
-use Rattle.normal_files.specs.Among.{IsAmong, IsEither}
+use Rattle.ufs_model.specs.Object.{leaves_in}
+use Rattle.normal_files.specs.Ends.{Halts, HasGone, is_damaged}
 use Rattle.normal_files.specs.Nodes.{leaves_at}
+use Rattle.normal_files.specs.Parts.{absent_in}
 use Rattle.normal_files.specs.Order.{TellsHeld, claims_from, nodes_now}
-use Rattle.normal_files.specs.Steps.{IsAmid, Starts}
+use Rattle.normal_files.specs.Steps.{IsAmid, MayLeave}
+use Rattle.normal_files.specs.View.{Way}
 use Rattle.normal_files.specs.declared.next.Next.{Next}
 use Rattle.normal_files.specs.declared.part.Part.{Part}
 
@@ -43,11 +43,15 @@ FreesNone a c = (m : ℕ) → is_free_in c m ≡ true → is_free_in a m ≡ tru
 -- ---- one leaf
 
 -- where the node has this block already nothing is done; else the least-numbered Free block becomes it
-pub data GetsNode {D : Type 0} (g : Ghosts D) (n owner : ℕ) (held : Bool) (block : ℕ) (old new : D) (before after : Kept) (result : Result BlockNo Refused) : Type 0 where
-  Had : held ≡ true → new ≡ old → after ≡ before → result ≡ Ok (record { 0 = block }) → GetsNode g n owner held block old new before after result
-  Claims : held ≡ false → Enters g (allocated (Node n) owner) old new before after result → GetsNode g n owner held block old new before after result
+pub data GetsNode {D : Type 0} (g : Ghosts D) (n owner : ℕ) (held : Bool) (block : ℕ) (old new : D)
+    (before after : Kept) (result : Result BlockNo Refused) : Type 0 where
+  Had : held ≡ true → new ≡ old → after ≡ before → result ≡ Ok (record { 0 = block })
+      → GetsNode g n owner held block old new before after result
+  Claims : held ≡ false → Enters g (allocated (Node n) owner) old new before after result
+      → GetsNode g n owner held block old new before after result
 
--- From image a to image c the leaf got block x, with this content, and its node block y. Each is the least-numbered Free block.
+-- From image a to image c the leaf got block x, with this content, and its node block y. Each is the least-numbered
+-- Free block.
 pub record TakesLeaf (a c : Image) (owner leaf : ℕ) (held : Bool) (block x y : ℕ) (content : List ℕ) : Type 0 where
   pub least_x : IsLeastFree a x
   pub least_y : held ≡ false → IsLeastFree (with_entry a x (allocated (Leaf leaf) owner)) y
@@ -82,14 +86,19 @@ with_taken next k x y = record { block = y; node = record { leaves = set next.no
 -- a block is a leaf's that was taken, or the node's
 abbrev pub IsOneOf : Part → (had upto : ℕ) → Next → ℕ → Type 0
 IsOneOf part had upto next m =
-    ((k : ℕ) × IsTakenTo part upto k × (m ≡ get_or next.node.leaves k 0)) ⊎ ((had ≡ 0) × (next.grown ≡ true) × (m ≡ next.block))
+    ((k : ℕ) × IsTakenTo part upto k × (m ≡ get_or next.node.leaves k 0))
+    ⊎ ((had ≡ 0) × (next.grown ≡ true) × (m ≡ next.block))
 
--- From image a to image c the absent leaves of a part up to one were taken, and are written; `had` is the node's old block.
-pub record HasTaken (a c : Image) (owner fill offset : ℕ) (bytes : List ℕ) (part : Part) (had upto : ℕ) (next : Next) : Type 0 where
+-- From image a to image c the absent leaves of a part up to one were taken, and are written; `had` is the node's old
+-- block.
+pub record HasTaken (a c : Image) (owner fill offset : ℕ) (bytes : List ℕ) (part : Part) (had upto : ℕ)
+    (next : Next) : Type 0 where
   pub count : length next.node.leaves ≡ 128
   pub others : (k : ℕ) → (IsTakenTo part upto k → ⊥) → get_or next.node.leaves k 0 ≡ get_or part.own.leaves k 0
-  pub leaves : (k : ℕ) → IsTakenTo part upto k → IsNew a c owner (Leaf (128 * part.number + k)) (get_or next.node.leaves k 0)
-  pub contents : (k : ℕ) → IsTakenTo part upto k → block_at c (get_or next.node.leaves k 0) ≡ fresh_content fill (128 * part.number + k) offset bytes
+  pub leaves : (k : ℕ) → IsTakenTo part upto k
+      → IsNew a c owner (Leaf (128 * part.number + k)) (get_or next.node.leaves k 0)
+  pub contents : (k : ℕ) → IsTakenTo part upto k
+      → block_at c (get_or next.node.leaves k 0) ≡ fresh_content fill (128 * part.number + k) offset bytes
   pub node_had : had ≢ 0 → next.block ≡ had
   pub node_new : had ≡ 0 → next.grown ≡ true → IsNew a c owner (Node part.number) next.block
   pub none : next.grown ≡ false → (k : ℕ) → IsTakenTo part upto k → ⊥
@@ -97,8 +106,10 @@ pub record HasTaken (a c : Image) (owner fill offset : ℕ) (bytes : List ℕ) (
   pub keeps : KeepsTaken a c
   pub rest : (m : ℕ) → (entry_in c m ≡ entry_in a m) ⊎ IsOneOf part had upto next m
   -- what is claimed for more leaves, up to image e, follows what was claimed for these
-  pub order : (leaves nodes : List ℕ) → TellsHeld part had leaves nodes → (n m : ℕ) (e : Image) → part.leaves.from + m ≡ upto + n
-      → AreClaimed (claims_from owner leaves (nodes_now (had == 0) next.grown part.number nodes) upto n) c e → AreClaimed (claims_from owner leaves nodes part.leaves.from m) a e
+  pub order : (leaves nodes : List ℕ) → TellsHeld part had leaves nodes → (n m : ℕ) (e : Image)
+      → part.leaves.from + m ≡ upto + n
+      → AreClaimed (claims_from owner leaves (nodes_now (had == 0) next.grown part.number nodes) upto n) c e
+      → AreClaimed (claims_from owner leaves nodes part.leaves.from m) a e
 
 -- the new node is written too
 abbrev pub IsWhole : Image → (had : ℕ) → Next → Type 0
@@ -112,33 +123,45 @@ leaf_takes held = if held then 1 else 2
 abbrev pub node_takes : (had : ℕ) → (grown : Bool) → ℕ
 node_takes had grown = if had == 0 && grown then 1 else 0
 
--- a call that takes a part is refused
-abbrev pub stop : Refused → Result Next Refused
-stop e = Err e
+-- how a call ends that passes one leaf: it is held, and nothing is done, or it is taken
+abbrev pub Passes : {D : Type 0} → Ghosts D → (had : ℕ) → (own : List ℕ) → (leaf : ℕ) → Next → D → D → Kept → Kept
+    → Result Next Refused → Type 0
+Passes g had own leaf next old new before after (Ok more) =
+    ((absent_in own leaf ≡ false) × (more ≡ next) × (new ≡ old) × (after ≡ before))
+    ⊎ ((absent_in own leaf ≡ true) × (more.grown ≡ true)
+    × HasGone g 5 3 (leaf_takes (is_held had next)) true old new before after)
+Passes g had own leaf next old new before after (Err e) =
+    (absent_in own leaf ≡ true) × Halts g 5 3 (leaf_takes (is_held had next)) old new before after e
 
 -- ---- runs
 
--- A disk on the way through a write of the file of an owner, in which a block is Free only where it was at the start.
-pub record MayTake {D : Type 0} (g : Ghosts D) (graph : Graph) (id : Puid) (f : File) (root : roots.Root) (offset : ℕ) (bytes : List ℕ) (last : ℕ) (start now : D) (kept : Kept) (owner : ℕ) : Type 0 where
-  pub starts : Starts g graph id f root start
-  pub here : id.block ≡ owner
-  pub amid : IsAmid g graph id root offset bytes last start now kept
-  pub frees : FreesNone (g.content start) (g.content now)
+-- The held leaves are written, and a block is Free only where it was at the start: blocks may be taken.
+pub record MayTake {D : Type 0} {g : Ghosts D} {block : ℕ} (w : Way g block) (offset : ℕ) (bytes : List ℕ) (now : D)
+    (kept : Kept) : Type 0 where
+  pub amid : IsAmid w offset bytes (leaves_in (offset + length bytes)) now kept
+  pub frees : FreesNone (g.content w.start) (g.content now)
 
--- from such a disk the leaves of a part up to one were taken
-pub record TakesTo {D : Type 0} (g : Ghosts D) (owner fill offset : ℕ) (bytes : List ℕ) (part : Part) (had upto : ℕ) (old new : D) (before after : Kept) (next : Next) : Type 0 where
-  pub on : (graph : Graph) (id : Puid) (f : File) (root : roots.Root) (last : ℕ) (start : D) → MayTake g graph id f root offset bytes last start old before owner
-      → IsAmid g graph id root offset bytes last start new after × HasTaken (g.content old) (g.content new) owner fill offset bytes part had upto next
+-- How a call ends on the way. Done, blocks may be taken on, and P holds of the image before it and after; else a crash
+-- leaves what a write may leave, and nothing was damaged.
+abbrev pub Took : {D A : Type 0} {g : Ghosts D} {block : ℕ} → Way g block → (offset : ℕ) → (bytes : List ℕ) → D → D
+    → Kept
+    → Result A Refused → (Image → Image → A → Type 0) → Type 0
+Took {g = g} w offset bytes old new after (Ok x) P =
+    MayTake w offset bytes new after × P (g.content old) (g.content new) x
+Took {g = g} w offset bytes old new after (Err e) P =
+    Leaves g w.start new (MayLeave w offset bytes) × (is_damaged e ≡ false)
 
--- done or not, a crash leaves what a write may leave
-pub record StaysAmid {D : Type 0} (g : Ghosts D) (owner offset : ℕ) (bytes : List ℕ) (old new : D) (before : Kept) : Type 0 where
-  pub leaves : (graph : Graph) (id : Puid) (f : File) (root : roots.Root) (last : ℕ) (start : D) → MayTake g graph id f root offset bytes last start old before owner
-      → Leaves g start new (IsAmong (g.content start) graph id root (IsEither (g.content start) root offset bytes))
+-- so it ends wherever blocks may be taken
+abbrev pub Takes : {D A : Type 0} → Ghosts D → (block offset : ℕ) → (bytes : List ℕ) → D → D → Kept → Kept
+    → Result A Refused → (Image → Image → A → Type 0) → Type 0
+Takes g block offset bytes old new before after result P =
+    (w : Way g block) → MayTake w offset bytes old before → Took w offset bytes old new after result P
 
 -- ---- both parts
 
 -- from image a to image c the leaves of two parts were taken, first of the low one, and their new nodes are written
-pub record TakesBoth (a c : Image) (owner fill offset : ℕ) (bytes : List ℕ) (low : Part) (low_had : ℕ) (low_next : Next) (high : Part) (high_had : ℕ) (high_next : Next) : Type 0 where
+pub record TakesBoth (a c : Image) (owner fill offset : ℕ) (bytes : List ℕ) (low : Part) (low_had : ℕ) (low_next : Next)
+    (high : Part) (high_had : ℕ) (high_next : Next) : Type 0 where
   pub mid : Image
   pub low_has : HasTaken a mid owner fill offset bytes low low_had low.leaves.to low_next
   pub low_whole : IsWhole mid low_had low_next

@@ -10,8 +10,5 @@ nodes_touched offset count = (leaves_in (offset + count) + 127) / 128 - offset /
 
 -- the leaves of one node among them
 abbrev pub touched_below : (offset count number : ℕ) → ℕ
-touched_below offset count number = min (leaves_in (offset + count)) (128 * number + 128) - max (offset / 512) (128 * number)
-
--- of the touched leaves before one, how many at most are written in part: the first, and the last
-unfoldable pub partly_below : (offset count leaf : ℕ) → ℕ
-partly_below offset count leaf = min 1 (leaf - offset / 512) + min 1 (leaf - (offset + count) / 512)
+touched_below offset count number = min (leaves_in (offset + count)) (128 * number + 128) - max (offset / 512)
+    (128 * number)

@@ -2,18 +2,19 @@
 use Rattle.std.specs.Prelude.{◌≡◌, ◌⊎◌, ℕ, Bool, true, false, if◌then◌else◌}
 use Rattle.cfs_base.specs.declared.disk.Disk.{Ghosts}
 use Rattle.cfs_base.specs.declared.refusal.Refused.{Refused}
-use Rattle.cfs_base.specs.declared.refusal.Refused.TheVariants as refusals
 use Rattle.cyl_alloc.specs.Space.{Kept}
 use Rattle.ufs_model.specs.declared.object.File.{File}
-use Rattle.ufs_model.specs.declared.object.Object.TheVariants as objects
 use Rattle.ufs_model.specs.Numbers.{branches, missing}
 use Rattle.ufs_model.specs.Object.{held_levels, touched}
 use Rattle.normal_files.specs.Ends.{IsNoSpace}
 use Rattle.normal_files.specs.Refusal.{IsDamage, IsRefusal}
+use Rattle.cfs_base.specs.declared.refusal.Refused.TheVariants as refusals
+use Rattle.ufs_model.specs.declared.object.Object.TheVariants as objects
 
 -- of a write; `after` is what was counted Free at its end
 abbrev pub IsWriteRefusal : {D : Type 0} → Ghosts D → (at floor : ℕ) → D → D → (before after : Kept) → Refused → Type 0
-IsWriteRefusal g at floor old new before after = IsRefusal g (λ damage. IsDamage g at old damage ⊎ IsNoSpace g old new after damage) floor old new before
+IsWriteRefusal g at floor old new before after =
+    IsRefusal g (λ damage. IsDamage g at old damage ⊎ IsNoSpace g old new after damage) floor old new before
 
 -- nothing was tried, and no damage met
 abbrev pub is_untried : Refused → Bool

@@ -1,23 +1,31 @@
--- When bytes may be written into a file.
-use Rattle.std.specs.Prelude.{◌≡◌, ℕ, ◌+◌, ◌≤◌, List, [], length}
+-- Bytes written into a file.
+use Rattle.std.specs.Prelude.{◌≡◌, ℕ, ◌+◌, ◌≤◌, false, List, Result, IfErr, OnOk, length}
+use Rattle.cfs_base.specs.Run.{IsSettled}
 use Rattle.cfs_base.specs.declared.disk.Disk.{Ghosts}
-use Rattle.cfs_base.specs.declared.identifier.Puid.{Puid}
-use Rattle.block_tree.specs.declared.root.Root as roots
+use Rattle.cfs_base.specs.declared.refusal.Refused.{Refused}
+use Rattle.claims.specs.Claims.{AreClaimed}
 use Rattle.cyl_alloc.specs.Space.{Kept}
-use Rattle.ufs_model.specs.declared.object.File.{File}
-use Rattle.ufs_model.specs.Graph.{Graph}
-use Rattle.vol_owners.specs.Account.{Opened, drafts_of}
+use Rattle.ufs_model.specs.Object.{written}
+use Rattle.normal_files.specs.Ends.{is_damaged}
+use Rattle.normal_files.specs.Order.{claims_of}
 use Rattle.normal_files.specs.Parts.{IsPart}
-use Rattle.normal_files.specs.Steps.{Starts}
-use Rattle.intentions.specs.Store.{StoreHas}
+use Rattle.normal_files.specs.Standing.{Becomes}
+use Rattle.normal_files.specs.View.{View}
 use Rattle.normal_files.specs.declared.part.Part.{Part}
+use Rattle.block_tree.specs.declared.root.Root as roots
 
--- The store has a file without a draft, whose root is in this block, these parts are nodes of it, and the bytes lie within its size.
-pub record Writes {D : Type 0} (g : Ghosts D) (graph : Graph) (ds : List Opened) (id : Puid) (f : File) (root : roots.Root) (at offset : ℕ) (bytes : List ℕ) (low high : Part) (disk : D) (kept : Kept) : Type 0 where
-  pub store : StoreHas g graph ds disk kept
-  pub starts : Starts g graph id f root disk
-  pub no_draft : drafts_of ds id ≡ []
-  pub here : id.block ≡ at
-  pub inside : offset + length bytes ≤ length f.bytes
+-- the bytes lie within the file, and these parts are of it
+pub record IsWritable {D : Type 0} {g : Ghosts D} {block : ℕ} {root : roots.Root} {disk : D} {kept : Kept}
+    (v : View g block root disk kept) (offset : ℕ) (bytes : List ℕ) (low high : Part) : Type 0 where
+  pub inside : offset + length bytes ≤ length v.file.bytes
   pub low_is : IsPart (g.content disk) root low
   pub high_is : IsPart (g.content disk) root high
+
+-- how a write ends
+pub record Wrote {D : Type 0} {g : Ghosts D} {block : ℕ} {root : roots.Root} {disk : D} {kept : Kept}
+    (v : View g block root disk kept) (offset : ℕ) (bytes : List ℕ) (new : D) (after : Kept)
+    (result : Result (Unit {0}) Refused) : Type 0 where
+  pub file : Becomes v (written v.file offset bytes) new after result
+  pub settled : OnOk result (IsSettled g new)
+  pub order : OnOk result (AreClaimed (claims_of block v.file offset (length bytes)) (g.content disk) (g.content new))
+  pub sound : IfErr result (λ e. is_damaged e ≡ false)

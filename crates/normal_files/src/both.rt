@@ -1,23 +1,18 @@
 //! The two nodes that bytes touch at most.
-ghost use Rattle.std.specs.Prelude.{◌≡◌, ◌≢◌, ◌⊎◌, ◌||◌, ℕ, ◌+◌, ◌-◌, ◌*◌, ◌/◌, ◌<◌, true, false, List, length, IfErr, IfOk, OnOk};
-ghost use Rattle.block_tree.specs.declared.root.Root as roots;
-ghost use Rattle.cfs_base.specs.Calls.{MakesAtMost};
+ghost use Rattle.std.specs.Prelude.{◌≡◌, ◌≢◌, ◌⊎◌, ◌||◌, ◌+◌, ◌-◌, ◌*◌, ◌<◌, true, length, IfOk, OnOk};
 ghost use Rattle.cfs_base.specs.Run.{IsSettled, Leaves as LeavesOf};
-ghost use Rattle.cfs_base.specs.declared.identifier.Puid.{Puid};
-ghost use Rattle.cyl_alloc.specs.Space.{Kept};
-ghost use Rattle.normal_files.specs.Ends.{Finishes, HasGone, is_damaged};
+ghost use Rattle.normal_files.specs.Ends.{Finishes};
 ghost use Rattle.normal_files.specs.Laid.{node_of};
 ghost use Rattle.normal_files.specs.Links.{linked_image, linked_root};
 ghost use Rattle.normal_files.specs.Parts.{IsReadPart, part_need};
-ghost use Rattle.normal_files.specs.Steps.{HasStoppedBy, IsAmid};
+ghost use Rattle.normal_files.specs.Steps.{Comes};
 ghost use Rattle.normal_files.specs.Takes as spec;
-ghost use Rattle.ufs_model.specs.Graph.{Graph};
-ghost use Rattle.ufs_model.specs.declared.object.File as files;
 
 use crate::link::link;
 use crate::next::Next;
 use crate::part::Part;
 use crate::put::after;
+use crate::take::refused;
 use block_tree::Root;
 use cfs_base::{BlockNo, Disk, Refused, Trouble};
 use cyl_alloc::Space;
@@ -39,50 +34,37 @@ pub(crate) fn take_both<D: Disk>(
     high: &Part,
     offset: u64,
     bytes: &[u8],
-    tried: bool,
 ) -> Result<Both, Refused>
     requires size { D.blocks disk.old ≡ 64 * length space.old.free }
     requires some { at.0 ≢ 0 }
     requires low { IsReadPart (D.blocks disk.old) low.now }
     requires high { IsReadPart (D.blocks disk.old) high.now }
     requires low_near { low.now.leaves.from < low.now.leaves.to → node_of root.now low.now.number < D.blocks disk.old }
-    requires high_near { high.now.leaves.from < high.now.leaves.to → node_of root.now high.now.number < D.blocks disk.old }
-    ensures takes { (graph : Graph) (id : Puid) (f : files.File) (r : roots.Root) (last : ℕ) (start : D)
-        → spec.MayTake D.Disk graph id f r offset bytes.now last start disk.old space.old at.0
-        → IfOk result (λ both. IsAmid D.Disk graph id r offset bytes.now last start disk.new space.new
-        × spec.TakesBoth (D.content disk.old) (D.content disk.new) at.0 root.now.fill offset bytes.now
-        low.now (node_of root.now low.now.number) both.low high.now (node_of root.now high.now.number) both.high) }
-    ensures leaves { spec.StaysAmid D.Disk at.0 offset bytes.now disk.old disk.new space.old }
-    ensures sound { (graph : Graph) (id : Puid) (f : files.File) (r : roots.Root) (last : ℕ) (start : D)
-        → spec.MayTake D.Disk graph id f r offset bytes.now last start disk.old space.old at.0
-        → IfErr result (λ e. is_damaged e ≡ false) }
+    requires high_near { high.now.leaves.from < high.now.leaves.to
+        → node_of root.now high.now.number < D.blocks disk.old }
+    ensures takes { spec.Takes D.Disk at.0 offset bytes.now disk.old disk.new space.old space.new result (λ a c both.
+        spec.TakesBoth a c at.0 root.now.fill offset bytes.now low.now (node_of root.now low.now.number) both.low
+        high.now (node_of root.now high.now.number) both.high) }
     ensures low_near { IfOk result (λ both. both.low.grown ≡ true → both.low.block < D.blocks disk.old) }
     ensures high_near { IfOk result (λ both. both.high.grown ≡ true → both.high.block < D.blocks disk.old) }
-    ensures ends { (start : D) (n t k : ℕ) (kept : Kept) → HasGone D.Disk n t k tried start disk.old kept space.old
-        → IfOk result (λ both. HasGone D.Disk
-        (n + 5 * (low.now.leaves.to - low.now.leaves.from) + 1 + 5 * (high.now.leaves.to - high.now.leaves.from) + 1)
-        (t + 3 * (low.now.leaves.to - low.now.leaves.from) + 1 + 3 * (high.now.leaves.to - high.now.leaves.from) + 1)
-        (k + part_need root.now low.now + part_need root.now high.now) (tried || both.low.grown || both.high.grown)
-        start disk.new kept space.new) }
-    ensures stopped { (start : D) (n t k : ℕ) (kept : Kept) → HasGone D.Disk n t k tried start disk.old kept space.old
-        → IfErr result (λ e. Finishes D.Disk
-        (n + 5 * (low.now.leaves.to - low.now.leaves.from) + 1 + 5 * (high.now.leaves.to - high.now.leaves.from) + 1)
-        (t + 3 * (low.now.leaves.to - low.now.leaves.from) + 1 + 3 * (high.now.leaves.to - high.now.leaves.from) + 1)
-        (k + part_need root.now low.now + part_need root.now high.now) start disk.new kept space.new (spec.stop e)) }
+    ensures ends { Finishes D.Disk
+        (5 * (low.now.leaves.to - low.now.leaves.from) + 1 + (5 * (high.now.leaves.to - high.now.leaves.from) + 1))
+        (3 * (low.now.leaves.to - low.now.leaves.from) + 1 + (3 * (high.now.leaves.to - high.now.leaves.from) + 1))
+        (part_need root.now low.now + part_need root.now high.now)
+        disk.old disk.new space.old space.new result (λ both. both.low.grown || both.high.grown) }
     ensures size { D.blocks disk.new ≡ D.blocks disk.old }
     ensures cylinders { length space.new.free ≡ length space.old.free }
 {
-    let first = match low.take(disk, space, at, root, offset, bytes, tried) {
+    let first = match low.take(disk, space, at, root, offset, bytes) {
         Ok(next) => next,
         Err(error) => return Err(error),
     };
-    let by_now = first.tried(tried);
-    match high.take(disk, space, at, root, offset, bytes, by_now) {
+    match high.take(disk, space, at, root, offset, bytes) {
         Ok(second) => Ok(Both {
             low: first,
             high: second,
         }),
-        Err(error) => Err(error),
+        Err(error) => Err(refused(first.grown, error)),
     }
 }
 
@@ -101,14 +83,14 @@ pub(crate) fn link_both<D: Disk>(
     requires low_near { both.now.low.grown ≡ true → both.now.low.block < D.blocks disk.old }
     requires high_near { both.now.high.grown ≡ true → both.now.high.block < D.blocks disk.old }
     ensures done { IsSettled D.Disk disk.old → OnOk result ((D.content disk.new ≡ linked_image
-        (linked_image (D.content disk.old) at.0 root.now low both.now.low) at.0 (linked_root root.now low both.now.low) high both.now.high)
+        (linked_image (D.content disk.old) at.0 root.now low both.now.low) at.0 (linked_root root.now low both.now.low)
+        high both.now.high)
         × IsSettled D.Disk disk.new) }
     ensures images { IsSettled D.Disk disk.old → LeavesOf D.Disk disk.old disk.new (λ c.
         (c ≡ linked_image (D.content disk.old) at.0 root.now low both.now.low)
         ⊎ (c ≡ linked_image (linked_image (D.content disk.old) at.0 root.now low both.now.low) at.0
         (linked_root root.now low both.now.low) high both.now.high)) }
-    ensures stopped { IfErr result (HasStoppedBy D.Disk disk.old disk.new) }
-    ensures calls { MakesAtMost D.Disk 4 4 disk.old disk.new }
+    ensures ends { Comes D.Disk 4 4 disk.old disk.new result (λ done. both.now.low.grown || both.now.high.grown) }
 {
     let led = match link(disk, at, root, low, &both.low) {
         Ok(led) => led,

@@ -1,5 +1,6 @@
 //! The end of a file that is set to less: the leaf in which it ends, and the last node that it keeps.
-ghost use Rattle.std.specs.Prelude.{◌≡◌, ◌≢◌, ◌⊎◌, ◌+◌, ◌-◌, ◌*◌, ◌/◌, ◌<◌, ◌≤◌, ℕ, true, false, length, get_or, slice_index, IsTrue, IfErr, IfOk, OnOk};
+ghost use Rattle.std.specs.Prelude.{◌≡◌, ◌≢◌, ◌⊎◌, ◌+◌, ◌-◌, ◌*◌, ◌/◌, ◌<◌, ◌≤◌, ℕ, true, false, length, get_or};
+ghost use Rattle.std.specs.Prelude.{slice_index, IsTrue, IfErr, IfOk, OnOk};
 ghost use Rattle.std.specs.List.{All};
 ghost use Rattle.block_tree.specs.Node.{IsNode};
 ghost use Rattle.block_tree.specs.Tree.{bytes_in};

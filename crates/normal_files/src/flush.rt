@@ -1,9 +1,9 @@
 //! Writes made to outlast a crash.
-ghost use Rattle.std.specs.Prelude.{◌≡◌, ℕ, IfErr, IsTrue, OnOk};
-ghost use Rattle.cfs_base.specs.Calls.{HasTried, MakesAtMost};
+ghost use Rattle.std.specs.Prelude.{◌≡◌, ℕ, IfErr, IsTrue, OnOk, true};
 ghost use Rattle.cfs_base.specs.Disk.{Nothing};
 ghost use Rattle.cfs_base.specs.Run.{IsSettled, Leaves as LeavesOf};
-ghost use Rattle.normal_files.specs.Steps.{HasStoppedBy};
+ghost use Rattle.cfs_base.specs.declared.refusal.Trouble.TheVariants as troubles;
+ghost use Rattle.normal_files.specs.Steps.{Comes};
 
 use cfs_base::{Disk, Trouble};
 
@@ -13,9 +13,8 @@ pub(crate) fn flush<D: Disk>(disk: &mut D) -> Result<(), Trouble>
     ensures content { D.content disk.new ≡ D.content disk.old }
     ensures told { (n : ℕ) → IsTrue (D.told disk.old n) → IsTrue (D.told disk.new n) }
     ensures images { LeavesOf D.Disk disk.old disk.new Nothing }
-    ensures tried { HasTried D.Disk disk.old disk.new }
-    ensures stopped { IfErr result (HasStoppedBy D.Disk disk.old disk.new) }
-    ensures calls { MakesAtMost D.Disk 1 1 disk.old disk.new }
+    ensures failed { IfErr result (λ t. t ≡ troubles.Disk true) }
+    ensures ends { Comes D.Disk 1 1 disk.old disk.new result (λ done. true) }
 {
     match disk.barrier() {
         Ok(()) => Ok(()),

@@ -1,5 +1,6 @@
-//! Normal files, which are changed where they lie. The layer above uses that the bytes which `read` gives are the file's, and
-//! that after `write` and `resize` the store has the changed file, or of it each leaf and the size old or new.
+//! Normal files, which are changed where they lie. The layer above uses that the bytes which `read` gives are the
+//! file's, and that after `write` and `resize` the store has the changed file, or of it each leaf and the size old or
+//! new.
 #![tactic(auto)]
 
 mod both;

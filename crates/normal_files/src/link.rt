@@ -1,9 +1,8 @@
 //! Pointers to the leaves that were taken.
-ghost use Rattle.std.specs.Prelude.{◌≡◌, ◌<◌, ℕ, true, false, set, IfErr, IfOk, IsTrue, OnOk};
-ghost use Rattle.cfs_base.specs.Calls.{HasTried, MakesAtMost};
+ghost use Rattle.std.specs.Prelude.{◌≡◌, ◌<◌, true, set, IfOk, OnOk};
 ghost use Rattle.cfs_base.specs.Run.{IsSettled, Leaves as LeavesOf};
 ghost use Rattle.normal_files.specs.Links.{linked_image, linked_root};
-ghost use Rattle.normal_files.specs.Steps.{HasStoppedBy};
+ghost use Rattle.normal_files.specs.Steps.{Comes};
 
 use crate::flush::flush;
 use crate::next::Next;
@@ -18,14 +17,12 @@ pub(crate) fn write_through<D: Disk>(
     content: &Block,
 ) -> Result<(), Trouble>
     requires { block < D.blocks disk.old }
-    ensures done { IsSettled D.Disk disk.old → OnOk result ((D.content disk.new ≡ set (D.content disk.old) block content.now)
+    ensures done { IsSettled D.Disk disk.old
+        → OnOk result ((D.content disk.new ≡ set (D.content disk.old) block content.now)
         × IsSettled D.Disk disk.new) }
     ensures images { IsSettled D.Disk disk.old
         → LeavesOf D.Disk disk.old disk.new (λ c. c ≡ set (D.content disk.old) block content.now) }
-    ensures told { OnOk result ((b : ℕ) → IsTrue (D.told disk.old b) → IsTrue (D.told disk.new b)) }
-    ensures tried { OnOk result (HasTried D.Disk disk.old disk.new) }
-    ensures stopped { IfErr result (HasStoppedBy D.Disk disk.old disk.new) }
-    ensures calls { MakesAtMost D.Disk 2 2 disk.old disk.new }
+    ensures ends { Comes D.Disk 2 2 disk.old disk.new result (λ done. true) }
 {
     match write_block(disk, block, content) {
         Ok(()) => {}
@@ -37,7 +34,8 @@ pub(crate) fn write_through<D: Disk>(
     }
 }
 
-/// Leads to the leaves of a node that were taken: it is written, or the root leads to it where it is new. Gives the root.
+/// Leads to the leaves of a node that were taken: it is written, or the root leads to it where it is new. Gives the
+/// root.
 pub(crate) fn link<D: Disk>(
     disk: &mut D,
     at: BlockNo,
@@ -54,10 +52,7 @@ pub(crate) fn link<D: Disk>(
         × IsSettled D.Disk disk.new) }
     ensures images { IsSettled D.Disk disk.old
         → LeavesOf D.Disk disk.old disk.new (λ c. c ≡ linked_image (D.content disk.old) at.0 root.now number next.now) }
-    ensures tried { next.now.grown ≡ true → OnOk result (HasTried D.Disk disk.old disk.new) }
-    ensures none { next.now.grown ≡ false → disk.new ≡ disk.old }
-    ensures stopped { IfErr result (HasStoppedBy D.Disk disk.old disk.new) }
-    ensures calls { MakesAtMost D.Disk 2 2 disk.old disk.new }
+    ensures ends { Comes D.Disk 2 2 disk.old disk.new result (λ led. next.now.grown) }
 {
     if !next.grown {
         return Ok(*root);

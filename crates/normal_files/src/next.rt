@@ -1,5 +1,5 @@
 //! A node as it is to be.
-ghost use Rattle.std.specs.Prelude.{◌≡◌, ◌==◌, ◌<◌, ◌||◌, ◌&&◌};
+ghost use Rattle.std.specs.Prelude.{◌≡◌, ◌==◌, ◌<◌, ◌&&◌};
 ghost use Rattle.normal_files.specs.Takes.{is_held, with_taken};
 
 use crate::take::Taken;
@@ -28,13 +28,6 @@ impl Next {
         ensures { result ≡ (had == 0 && self.now.grown) }
     {
         had == 0 && self.grown
-    }
-
-    /// Whether a write was tried by now, given whether one was before any leaf was taken.
-    pub fn tried(&self, before: bool) -> bool
-        ensures { result ≡ (before || self.now.grown) }
-    {
-        before || self.grown
     }
 
     /// The same with a leaf that was taken.

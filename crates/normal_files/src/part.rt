@@ -56,7 +56,8 @@ impl Part {
             → node_of root.now number < D.blocks disk.old) }
         ensures refused { IfErr result (IsTrouble D.Disk at.0 disk.old disk.new) }
         ensures untried { IfErr result (λ trouble. trouble_had_tried trouble ≡ false) }
-        ensures sound { Tells D.Disk disk.old → IsNear (D.blocks disk.old) (D.content disk.old) (node_of root.now number)
+        ensures sound { Tells D.Disk disk.old → IsNear (D.blocks disk.old) (D.content disk.old)
+            (node_of root.now number)
             → IfErr result (λ trouble. is_damage trouble ≡ false) }
         ensures reads { OnlyReads D.Disk 1 disk.old disk.new }
     {

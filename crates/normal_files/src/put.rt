@@ -1,15 +1,17 @@
 //! Leaves that are held, written in place.
-ghost use Rattle.std.specs.Prelude.{◌≡◌, ◌≢◌, ◌<◌, ◌≤◌, ◌+◌, ◌*◌, ◌/◌, ◌-◌, ℕ, false, true, length, is_ok, IsTrue, IfErr, IfOk, OnOk};
+ghost use Rattle.std.specs.Prelude.{◌≡◌, ◌≢◌, ◌||◌, ◌<◌, ◌≤◌, ◌+◌, ◌*◌, ◌/◌, ◌-◌, ℕ, false, true, length, IsTrue};
+ghost use Rattle.std.specs.Prelude.{IfErr, IfOk, OnOk};
 ghost use Rattle.cfs_base.specs.Calls.{HasTried, MakesAtMost, OnlyReads};
 ghost use Rattle.cfs_base.specs.Disk.{block_at};
 ghost use Rattle.cfs_base.specs.Refusals.{trouble_had_tried};
 ghost use Rattle.cfs_base.specs.declared.refusal.Trouble.TheVariants as troubles;
 ghost use Rattle.cfs_base.specs.Run.{Tells};
+ghost use Rattle.cyl_alloc.specs.Space.{Kept};
 ghost use Rattle.leaf_changes.specs.Bytes.{patched as patched_with};
-ghost use Rattle.normal_files.specs.Parts.{IsReadPart};
-ghost use Rattle.normal_files.specs.Touched.{partly_below};
+ghost use Rattle.normal_files.specs.Parts.{IsPart, IsReadPart};
 ghost use Rattle.ufs_model.specs.Object.{leaves_in};
-ghost use Rattle.normal_files.specs.Steps.{Ends, Goes, HasStoppedBy, WritesBlock, told_after};
+ghost use Rattle.normal_files.specs.Steps.{Comes, HasStoppedBy, IsAmid, Puts, WritesBlock, told_after};
+ghost use Rattle.normal_files.specs.View.{Way};
 
 use crate::nodes::read_leaf;
 use crate::part::Part;
@@ -46,8 +48,6 @@ fn patched<D: Disk>(
         → IfOk result (λ content. content ≡ patched_with leaf offset bytes.now (block_at (D.content disk.old) block)) }
     ensures refused { IfErr result (HasStoppedBy D.Disk disk.old disk.new) }
     ensures untried { IfErr result (λ trouble. trouble_had_tried trouble ≡ false) }
-    ensures few { D.calls disk.new + partly_below offset (length bytes.now) leaf
-        ≤ D.calls disk.old + partly_below offset (length bytes.now) (leaf + 1) }
     ensures reads { OnlyReads D.Disk 1 disk.old disk.new }
 {
     let from = 512 * leaf as u64;
@@ -82,8 +82,6 @@ fn put_leaf<D: Disk>(
     ensures tried { OnOk result (HasTried D.Disk disk.old disk.new) }
     ensures refused { IfErr result (HasStoppedBy D.Disk disk.old disk.new) }
     ensures untried { IfErr result (λ t. t ≡ troubles.Disk false → OnlyReads D.Disk 1 disk.old disk.new) }
-    ensures few { D.calls disk.new + partly_below offset (length bytes.now) leaf
-        ≤ D.calls disk.old + partly_below offset (length bytes.now) (leaf + 1) + 1 }
     ensures calls { MakesAtMost D.Disk 2 1 disk.old disk.new }
 {
     let content = patched(disk, block, leaf, offset, bytes)?;
@@ -97,15 +95,21 @@ pub(crate) fn after(tried: bool, trouble: Trouble) -> Trouble
     if tried { trouble.after_try() } else { trouble }
 }
 
+/// Whether one of two calls tried a write.
+pub(crate) fn either(tried: bool, now: bool) -> bool
+    ensures { result ≡ (tried || now) }
+{
+    tried || now
+}
+
 impl Part {
-    /// Writes bytes into one of the leaves, where it is held. Gives whether a write was tried by now.
+    /// Writes bytes into one of the leaves, where it is held. Gives whether a write was tried.
     fn put_one<D: Disk>(
         &self,
         disk: &mut D,
         leaf: u32,
         offset: u64,
         bytes: &[u8],
-        tried: bool,
     ) -> Result<bool, Trouble>
         requires read { IsReadPart (D.blocks disk.old) self.now }
         requires from { self.now.leaves.from ≤ leaf }
@@ -113,55 +117,42 @@ impl Part {
         requires inside { offset + length bytes.now ≤ 7864320 }
         requires first { offset / 512 ≤ self.now.leaves.from }
         requires last { self.now.leaves.to ≤ leaves_in (offset + length bytes.now) }
-        ensures goes { Goes D.Disk offset bytes.now leaf (leaf + 1) self.now disk.old disk.new (is_ok result) }
-        ensures told { OnOk result ((b : ℕ) → IsTrue (D.told disk.old b) → IsTrue (D.told disk.new b)) }
-        ensures ends { Ends D.Disk 2 1 tried disk.old disk.new result }
-        ensures calls { MakesAtMost D.Disk 2 1 disk.old disk.new }
-        ensures few { D.calls disk.new + partly_below offset (length bytes.now) leaf
-            ≤ D.calls disk.old + partly_below offset (length bytes.now) (leaf + 1) + 1 }
+        ensures puts { (block : ℕ) (w : Way D.Disk block) (kept : Kept) → IsPart (D.content w.start) w.root self.now
+            → IsAmid w offset bytes.now leaf disk.old kept
+            → Puts w offset bytes.now (leaf + 1) disk.old disk.new kept result }
+        ensures ends { Comes D.Disk 2 1 disk.old disk.new result (λ tried. tried) }
+        ensures size { D.blocks disk.new ≡ D.blocks disk.old }
     {
         let block = self.own.leaves[(leaf % 128) as usize];
         if block == 0 {
-            return Ok(tried);
+            return Ok(false);
         }
         match put_leaf(disk, block, leaf, offset, bytes) {
             Ok(()) => Ok(true),
-            Err(trouble) => Err(after(tried, trouble)),
+            Err(trouble) => Err(trouble),
         }
     }
 
-    /// Writes bytes into each of the leaves that is held.
-    pub fn put<D: Disk>(
-        &self,
-        disk: &mut D,
-        offset: u64,
-        bytes: &[u8],
-        tried: bool,
-    ) -> Result<bool, Trouble>
+    /// Writes bytes into each of the leaves that is held. Gives whether a write was tried.
+    pub fn put<D: Disk>(&self, disk: &mut D, offset: u64, bytes: &[u8]) -> Result<bool, Trouble>
         requires read { IsReadPart (D.blocks disk.old) self.now }
         requires inside { offset + length bytes.now ≤ 7864320 }
         requires first { offset / 512 ≤ self.now.leaves.from }
         requires last { self.now.leaves.to ≤ leaves_in (offset + length bytes.now) }
-        ensures goes { Goes D.Disk offset bytes.now self.now.leaves.from self.now.leaves.to self.now
-            disk.old disk.new (is_ok result) }
-        ensures told { OnOk result ((b : ℕ) → IsTrue (D.told disk.old b) → IsTrue (D.told disk.new b)) }
-        ensures ends { Ends D.Disk (2 * (self.now.leaves.to - self.now.leaves.from))
-            (self.now.leaves.to - self.now.leaves.from) tried disk.old disk.new result }
-        // one write a held leaf, and one read where it is written in part
-        ensures few { D.calls disk.new + partly_below offset (length bytes.now) self.now.leaves.from
-            ≤ D.calls disk.old + (self.now.leaves.to - self.now.leaves.from)
-            + partly_below offset (length bytes.now) self.now.leaves.to }
-        ensures makes { MakesAtMost D.Disk (2 * (self.now.leaves.to - self.now.leaves.from))
-            (self.now.leaves.to - self.now.leaves.from) disk.old disk.new }
+        ensures puts { (block : ℕ) (w : Way D.Disk block) (kept : Kept) → IsPart (D.content w.start) w.root self.now
+            → IsAmid w offset bytes.now self.now.leaves.from disk.old kept
+            → Puts w offset bytes.now self.now.leaves.to disk.old disk.new kept result }
+        ensures ends { Comes D.Disk (2 * (self.now.leaves.to - self.now.leaves.from))
+            (self.now.leaves.to - self.now.leaves.from) disk.old disk.new result (λ tried. tried) }
         ensures size { D.blocks disk.new ≡ D.blocks disk.old }
     {
-        let mut by_now = tried;
+        let mut tried = false;
         for leaf in self.leaves.from..self.leaves.to {
-            match self.put_one(disk, leaf, offset, bytes, by_now) {
-                Ok(now) => by_now = now,
-                Err(trouble) => return Err(trouble),
+            match self.put_one(disk, leaf, offset, bytes) {
+                Ok(now) => tried = either(tried, now),
+                Err(trouble) => return Err(after(tried, trouble)),
             }
         }
-        Ok(by_now)
+        Ok(tried)
     }
 }

@@ -1,5 +1,6 @@
 //! Bytes of a file, read.
-ghost use Rattle.std.specs.Prelude.{◌≡◌, ◌+◌, ◌*◌, ◌/◌, ◌<◌, ◌≤◌, ◌-◌, ℕ, false, length, slice_range, Option, IfErr, IfOk, OnOk};
+ghost use Rattle.std.specs.Prelude.{◌≡◌, ◌+◌, ◌*◌, ◌/◌, ◌<◌, ◌≤◌, ◌-◌, ℕ, false, length, slice_range, Option, IfErr};
+ghost use Rattle.std.specs.Prelude.{IfOk, OnOk};
 ghost use Rattle.std.specs.List.{All};
 ghost use Rattle.cfs_base.specs.Calls.{OnlyReads};
 ghost use Rattle.cfs_base.specs.Refusals.{trouble_had_tried};
@@ -49,8 +50,8 @@ fn read_below<D: Disk>(
     Ok(())
 }
 
-/// Reads bytes of a file from an offset on. The range lies within the size. `Damaged` names the root block, with code 3,
-/// which is none, or a block with a pointer past the disk, with code 4. Nothing is written.
+/// Reads bytes of a file from an offset on. The range lies within the size. `Damaged` names the root block, with code
+/// 3, which is none, or a block with a pointer past the disk, with code 4. Nothing is written.
 pub fn read<D: Disk>(disk: &mut D, at: BlockNo, offset: u64, into: &mut [u8]) -> Result<(), Trouble>
     requires on_disk { at.0 < D.blocks disk.old }
     requires inside { offset + length into.old ≤ 7864320 }

@@ -22,11 +22,11 @@ use crate::writing::has_room;
 use cfs_base::{BlockNo, Disk, Refused};
 use cyl_alloc::Space;
 
-/// Sets the size of a file, in bytes. It takes no block. Set to its size or more, it outlasts a crash once this is done; set to
-/// less, its root does, and the blocks that it no longer has become Free.
-/// `Full` where fewer blocks are Free than the floor. `Damaged` names the root block, with code 3, which is none; a block with
-/// a pointer past the disk, with code 4; or a map, with code 2, that is none. Where a `Disk` was tried the size and each leaf,
-/// read as fill bytes past the end, are old or new; else all is as it was.
+/// Sets the size of a file, in bytes. It takes no block. Set to its size or more, it outlasts a crash once this is
+/// done; set to less, its root does, and the blocks that it no longer has become Free.
+/// `Full` where fewer blocks are Free than the floor. `Damaged` names the root block, with code 3, which is none; a
+/// block with a pointer past the disk, with code 4; or a map, with code 2, that is none. Where a `Disk` was tried the
+/// size and each leaf, read as fill bytes past the end, are old or new; else all is as it was.
 pub fn resize<D: Disk>(
     disk: &mut D,
     space: &mut Space,
@@ -37,19 +37,23 @@ pub fn resize<D: Disk>(
     requires size { D.blocks disk.old ≡ 64 * length space.old.free }
     requires on_disk { at.0 < D.blocks disk.old }
     requires allowed { size ≤ 7864320 }
-    ensures resized { (graph : Graph) (ds : List Opened) (id : Puid) (f : files.File) → StoreHas D.Disk graph ds disk.old space.old
+    ensures resized { (graph : Graph) (ds : List Opened) (id : Puid) (f : files.File)
+        → StoreHas D.Disk graph ds disk.old space.old
         → object_at graph id ≡ Some (objects.File f) → drafts_of ds id ≡ [] → id.block ≡ at.0
         → OnOk result (BecomesFile D.Disk graph ds id (resized f size) disk.old disk.new space.new
         × TakesNone (D.content disk.old) (D.content disk.new)) }
     // A resize to less ends in writes of maps that no barrier follows: they free what the file had.
-    ensures settled { (graph : Graph) (ds : List Opened) (id : Puid) (f : files.File) → StoreHas D.Disk graph ds disk.old space.old
+    ensures settled { (graph : Graph) (ds : List Opened) (id : Puid) (f : files.File)
+        → StoreHas D.Disk graph ds disk.old space.old
         → object_at graph id ≡ Some (objects.File f) → drafts_of ds id ≡ [] → id.block ≡ at.0 → length f.bytes ≤ size
         → OnOk result (IsSettled D.Disk disk.new) }
     // Done or not, each image that is left has the size and each leaf old or new.
-    ensures images { (graph : Graph) (ds : List Opened) (id : Puid) (f : files.File) → StoreHas D.Disk graph ds disk.old space.old
+    ensures images { (graph : Graph) (ds : List Opened) (id : Puid) (f : files.File)
+        → StoreHas D.Disk graph ds disk.old space.old
         → object_at graph id ≡ Some (objects.File f) → drafts_of ds id ≡ [] → id.block ≡ at.0
         → LeavesOf D.Disk disk.old disk.new (λ c. IsPartly c graph id f (resized f size)) }
-    ensures sound { (graph : Graph) (ds : List Opened) (id : Puid) (f : files.File) → StoreHas D.Disk graph ds disk.old space.old
+    ensures sound { (graph : Graph) (ds : List Opened) (id : Puid) (f : files.File)
+        → StoreHas D.Disk graph ds disk.old space.old
         → object_at graph id ≡ Some (objects.File f) → drafts_of ds id ≡ [] → id.block ≡ at.0
         → IfErr result (λ e. is_damaged e ≡ false) }
     // Full exactly where fewer blocks are Free than the floor: a resize needs none.
@@ -59,7 +63,8 @@ pub fn resize<D: Disk>(
     ensures begun { IfErr result (λ e. e ≡ refusals.Disk true → floor ≤ sum space.old.free) }
     ensures refused { IfErr result (IsResizeRefusal D.Disk at.0 floor disk.old disk.new space.old) }
     // Where nothing was tried, all is as it was.
-    ensures untried { IfErr result (λ e. is_untried e ≡ true → (space.new ≡ space.old) × OnlyReads D.Disk 3 disk.old disk.new) }
+    ensures untried { IfErr result (λ e. is_untried e ≡ true → (space.new ≡ space.old)
+        × OnlyReads D.Disk 3 disk.old disk.new) }
     ensures cylinders { length space.new.free ≡ length space.old.free }
     ensures calls { MakesAtMost D.Disk 31346 15614 disk.old disk.new }
 {

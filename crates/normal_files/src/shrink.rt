@@ -1,19 +1,13 @@
 //! A smaller size, set.
-ghost use Rattle.std.specs.Prelude.{◌≡◌, ◌*◌, ◌+◌, ◌<◌, ◌≤◌, List, false, length, IfErr, OnOk};
+ghost use Rattle.std.specs.Prelude.{◌≡◌, ◌*◌, ◌+◌, ◌<◌, ◌≤◌, false, length, IfErr, OnOk};
 ghost use Rattle.cfs_base.specs.Calls.{MakesAtMost, OnlyReads};
-ghost use Rattle.cfs_base.specs.Run.{Leaves as LeavesOf};
-ghost use Rattle.cfs_base.specs.declared.identifier.Puid.{Puid};
 ghost use Rattle.cfs_base.specs.declared.refusal.Trouble.TheVariants as troubles;
-ghost use Rattle.intentions.specs.Store.{StoreHas};
 ghost use Rattle.normal_files.specs.Cuts as spec;
 ghost use Rattle.normal_files.specs.Frees.{IsShrinkTrouble, TakesNone};
 ghost use Rattle.normal_files.specs.Refusal.{is_damage};
-ghost use Rattle.normal_files.specs.Standing.{BecomesFile, IsPartly};
-ghost use Rattle.ufs_model.specs.Graph.{Graph, with_object};
+ghost use Rattle.normal_files.specs.Standing.{Becomes};
+ghost use Rattle.normal_files.specs.View.{View};
 ghost use Rattle.ufs_model.specs.Object.{resized};
-ghost use Rattle.ufs_model.specs.declared.object.File as files;
-ghost use Rattle.ufs_model.specs.declared.object.Object.TheVariants as objects;
-ghost use Rattle.vol_owners.specs.Account.{Opened};
 
 use crate::cut::{End, cut_root, last_node, read_end, trim};
 use crate::free::free_past;
@@ -32,9 +26,9 @@ fn first_gone(end: &End, size: u64) -> u32
     if end.kept == 0 { last } else { last + 1 }
 }
 
-/// Sets the size of a file to less. First the leaf in which it ends and the last node that it keeps outlast a crash, then
-/// its root, and then what it no longer has becomes Free, which no barrier follows. `Damaged` as in `read_node`, or it
-/// names a map, with code 2, that is none.
+/// Sets the size of a file to less. First the leaf in which it ends and the last node that it keeps outlast a crash,
+/// then its root, and then what it no longer has becomes Free, which no barrier follows. `Damaged` as in `read_node`,
+/// or it names a map, with code 2, that is none.
 pub(crate) fn shrink<D: Disk>(
     disk: &mut D,
     space: &mut Space,
@@ -45,16 +39,10 @@ pub(crate) fn shrink<D: Disk>(
     requires size { D.blocks disk.old ≡ 64 * length space.old.free }
     requires on_disk { at.0 < D.blocks disk.old }
     requires allowed { size ≤ 7864320 }
-    ensures shrunk { (graph : Graph) (ds : List Opened) (id : Puid) (f : files.File)
-        → spec.Shrinks D.Disk graph ds id f root.now at.0 size disk.old space.old
-        → OnOk result (BecomesFile D.Disk graph ds id (resized f size) disk.old disk.new space.new
-        × TakesNone (D.content disk.old) (D.content disk.new)) }
-    ensures images { (graph : Graph) (ds : List Opened) (id : Puid) (f : files.File)
-        → spec.Shrinks D.Disk graph ds id f root.now at.0 size disk.old space.old
-        → LeavesOf D.Disk disk.old disk.new (λ c. IsPartly c graph id f (resized f size)) }
-    ensures sound { (graph : Graph) (ds : List Opened) (id : Puid) (f : files.File)
-        → spec.Shrinks D.Disk graph ds id f root.now at.0 size disk.old space.old
-        → IfErr result (λ t. is_damage t ≡ false) }
+    ensures shrunk { (v : View D.Disk at.0 root.now disk.old space.old) → size < length v.file.bytes
+        → Becomes v (resized v.file size) disk.new space.new result
+        × OnOk result (TakesNone (D.content disk.old) (D.content disk.new))
+        × IfErr result (λ t. is_damage t ≡ false) }
     ensures refused { IfErr result (IsShrinkTrouble D.Disk at.0 disk.old disk.new) }
     ensures untried { IfErr result (λ t. t ≡ troubles.Disk false → (space.new ≡ space.old)
         × OnlyReads D.Disk 2 disk.old disk.new) }

@@ -1,15 +1,10 @@
 //! Blocks taken for leaves that are absent, and for their node.
-ghost use Rattle.std.specs.Prelude.{◌≡◌, ◌≢◌, ◌||◌, ℕ, ◌+◌, ◌-◌, ◌*◌, ◌/◌, ◌<◌, ◌≤◌, cond, true, false, List, length, IfOk, IfErr};
-ghost use Rattle.cfs_base.specs.declared.identifier.Puid.{Puid};
-ghost use Rattle.block_tree.specs.declared.root.Root as roots;
+ghost use Rattle.std.specs.Prelude.{◌≡◌, ◌≢◌, ℕ, ◌+◌, ◌-◌, ◌*◌, ◌<◌, ◌≤◌, true, false, List, length, Ok, IfOk};
 ghost use Rattle.cyl_alloc.specs.Space.{Kept};
-ghost use Rattle.normal_files.specs.Ends.{Finishes, HasGone, is_damaged, refused_after};
+ghost use Rattle.normal_files.specs.Ends.{Finishes, refused_after};
 ghost use Rattle.normal_files.specs.Laid.{node_of};
-ghost use Rattle.normal_files.specs.Parts.{IsReadPart, absent_in, part_need};
-ghost use Rattle.normal_files.specs.Steps.{IsAmid};
+ghost use Rattle.normal_files.specs.Parts.{IsReadPart, part_need};
 ghost use Rattle.normal_files.specs.Takes as spec;
-ghost use Rattle.ufs_model.specs.Graph.{Graph};
-ghost use Rattle.ufs_model.specs.declared.object.File as files;
 
 use crate::next::Next;
 use crate::part::Part;
@@ -66,16 +61,12 @@ fn take_leaf<D: Disk>(
     requires size { D.blocks disk.old ≡ 64 * length space.old.free }
     requires some { at.0 ≢ 0 }
     requires below { leaf < 15360 }
-    ensures takes { (graph : Graph) (id : Puid) (f : files.File) (root : roots.Root) (offset : ℕ) (bytes : List ℕ) (last : ℕ)
-        (start : D) → spec.MayTake D.Disk graph id f root offset bytes last start disk.old space.old at.0
-        → IfOk result (λ taken. IsAmid D.Disk graph id root offset bytes last start disk.new space.new
-        × spec.TakesLeaf (D.content disk.old) (D.content disk.new) at.0 leaf held block taken.leaf taken.node content.now) }
-    ensures leaves { (offset : ℕ) (bytes : List ℕ) → spec.StaysAmid D.Disk at.0 offset bytes disk.old disk.new space.old }
-    ensures sound { (graph : Graph) (id : Puid) (f : files.File) (root : roots.Root) (offset : ℕ) (bytes : List ℕ) (last : ℕ)
-        (start : D) → spec.MayTake D.Disk graph id f root offset bytes last start disk.old space.old at.0
-        → IfErr result (λ e. is_damaged e ≡ false) }
+    ensures takes { (offset : ℕ) (bytes : List ℕ)
+        → spec.Takes D.Disk at.0 offset bytes disk.old disk.new space.old space.new
+        result (λ a c taken. spec.TakesLeaf a c at.0 leaf held block taken.leaf taken.node content.now) }
     ensures near { block < D.blocks disk.old → IfOk result (λ taken. taken.node < D.blocks disk.old) }
-    ensures ends { Finishes D.Disk 5 3 (spec.leaf_takes held) disk.old disk.new space.old space.new result }
+    ensures ends { Finishes D.Disk 5 3 (spec.leaf_takes held) disk.old disk.new space.old space.new result (λ taken.
+        true) }
 {
     let leaf_block = match space.claim(disk, Place::Leaf(leaf as u16), at.0) {
         Ok(block) => block,
@@ -107,7 +98,6 @@ impl Part {
         bytes: &[u8],
         had: u32,
         next: Next,
-        tried: bool,
     ) -> Result<Next, Refused>
         requires size { D.blocks disk.old ≡ 64 * length space.old.free }
         requires some { at.0 ≢ 0 }
@@ -115,27 +105,13 @@ impl Part {
         requires from { self.now.leaves.from ≤ leaf }
         requires to { leaf < self.now.leaves.to }
         ensures takes { (d : D) (kept : Kept)
-            → spec.TakesTo D.Disk at.0 fill offset bytes.now self.now had leaf d disk.old kept space.old next
-            → IfOk result (spec.TakesTo D.Disk at.0 fill offset bytes.now self.now had (leaf + 1) d disk.new kept space.new) }
-        ensures leaves { (d : D) (kept : Kept)
-            → spec.TakesTo D.Disk at.0 fill offset bytes.now self.now had leaf d disk.old kept space.old next
-            → spec.StaysAmid D.Disk at.0 offset bytes.now d disk.new kept }
-        ensures sound { (d : D) (kept : Kept)
-            → spec.TakesTo D.Disk at.0 fill offset bytes.now self.now had leaf d disk.old kept space.old next
-            → (graph : Graph) (id : Puid) (f : files.File) (root : roots.Root) (last : ℕ) (start : D)
-            → spec.MayTake D.Disk graph id f root offset bytes.now last start d kept at.0
-            → IfErr result (λ e. is_damaged e ≡ false) }
+            → spec.Takes D.Disk at.0 offset bytes.now d disk.old kept space.old (Ok next)
+            (λ a c now. spec.HasTaken a c at.0 fill offset bytes.now self.now had leaf now)
+            → spec.Takes D.Disk at.0 offset bytes.now d disk.new kept space.new result
+            (λ a c now. spec.HasTaken a c at.0 fill offset bytes.now self.now had (leaf + 1) now) }
         ensures near { next.block < D.blocks disk.old → IfOk result (λ more. more.block < D.blocks disk.old) }
-        ensures ends { (start : D) (n t k : ℕ) (kept : Kept)
-            → HasGone D.Disk n t (k + spec.node_takes had next.grown) (tried || next.grown) start disk.old kept space.old
-            → IfOk result (λ more. HasGone D.Disk (n + 5) (t + 3)
-            (k + cond (absent_in self.now.own.leaves leaf) 1 0 + spec.node_takes had more.grown) (tried || more.grown)
-            start disk.new kept space.new) }
-        ensures stopped { (start : D) (n t k : ℕ) (kept : Kept)
-            → HasGone D.Disk n t (k + spec.node_takes had next.grown) (tried || next.grown) start disk.old kept space.old
-            → IfErr result (λ e. Finishes D.Disk (n + 5) (t + 3)
-            (k + cond (absent_in self.now.own.leaves leaf) 1 0 + spec.node_takes had true)
-            start disk.new kept space.new (spec.stop e)) }
+        ensures ends { spec.Passes D.Disk had self.now.own.leaves leaf next disk.old disk.new space.old space.new
+            result }
         ensures size { D.blocks disk.new ≡ D.blocks disk.old }
         ensures cylinders { length space.new.free ≡ length space.old.free }
     {
@@ -146,7 +122,6 @@ impl Part {
         }
         let mut content = Block::of([fill; 512]);
         patch_leaf(&mut content, leaf, offset, bytes);
-        let by_now = next.tried(tried);
         match take_leaf(
             disk,
             space,
@@ -157,7 +132,7 @@ impl Part {
             &content,
         ) {
             Ok(taken) => Ok(next.with(place, taken)),
-            Err(error) => Err(refused(by_now, error)),
+            Err(error) => Err(error),
         }
     }
 
@@ -170,27 +145,20 @@ impl Part {
         root: &Root,
         offset: u64,
         bytes: &[u8],
-        tried: bool,
     ) -> Result<Next, Refused>
         requires size { D.blocks disk.old ≡ 64 * length space.old.free }
         requires some { at.0 ≢ 0 }
         requires read { IsReadPart (D.blocks disk.old) self.now }
-        requires near { self.now.leaves.from < self.now.leaves.to → node_of root.now self.now.number < D.blocks disk.old }
-        ensures takes { IfOk result (spec.TakesTo D.Disk at.0 root.now.fill offset bytes.now self.now
-            (node_of root.now self.now.number) self.now.leaves.to disk.old disk.new space.old space.new) }
-        ensures leaves { spec.StaysAmid D.Disk at.0 offset bytes.now disk.old disk.new space.old }
-        ensures sound { (graph : Graph) (id : Puid) (f : files.File) (r : roots.Root) (last : ℕ) (start : D)
-            → spec.MayTake D.Disk graph id f r offset bytes.now last start disk.old space.old at.0
-            → IfErr result (λ e. is_damaged e ≡ false) }
+        requires near { self.now.leaves.from < self.now.leaves.to
+            → node_of root.now self.now.number < D.blocks disk.old }
+        ensures takes { spec.Takes D.Disk at.0 offset bytes.now disk.old disk.new space.old space.new result
+            (λ a c next.
+            spec.HasTaken a c at.0 root.now.fill offset bytes.now self.now (node_of root.now self.now.number)
+            self.now.leaves.to next) }
         ensures near { IfOk result (λ next. next.grown ≡ true → next.block < D.blocks disk.old) }
-        ensures ends { (start : D) (n t k : ℕ) (kept : Kept) → HasGone D.Disk n t k tried start disk.old kept space.old
-            → IfOk result (λ next. HasGone D.Disk (n + 5 * (self.now.leaves.to - self.now.leaves.from))
-            (t + 3 * (self.now.leaves.to - self.now.leaves.from)) (k + part_need root.now self.now) (tried || next.grown)
-            start disk.new kept space.new) }
-        ensures stopped { (start : D) (n t k : ℕ) (kept : Kept) → HasGone D.Disk n t k tried start disk.old kept space.old
-            → IfErr result (λ e. Finishes D.Disk (n + 5 * (self.now.leaves.to - self.now.leaves.from))
-            (t + 3 * (self.now.leaves.to - self.now.leaves.from)) (k + part_need root.now self.now)
-            start disk.new kept space.new (spec.stop e)) }
+        ensures ends { Finishes D.Disk (5 * (self.now.leaves.to - self.now.leaves.from))
+            (3 * (self.now.leaves.to - self.now.leaves.from)) (part_need root.now self.now)
+            disk.old disk.new space.old space.new result (λ next. next.grown) }
         ensures size { D.blocks disk.new ≡ D.blocks disk.old }
         ensures cylinders { length space.new.free ≡ length space.old.free }
     {
@@ -201,11 +169,9 @@ impl Part {
             grown: false,
         };
         for leaf in self.leaves.from..self.leaves.to {
-            match self.take_one(
-                disk, space, at, root.fill, leaf, offset, bytes, had, next, tried,
-            ) {
+            match self.take_one(disk, space, at, root.fill, leaf, offset, bytes, had, next) {
                 Ok(more) => next = more,
-                Err(error) => return Err(error),
+                Err(error) => return Err(refused(next.grown, error)),
             }
         }
         Ok(next)
@@ -220,35 +186,24 @@ impl Part {
         root: &Root,
         offset: u64,
         bytes: &[u8],
-        tried: bool,
     ) -> Result<Next, Refused>
         requires size { D.blocks disk.old ≡ 64 * length space.old.free }
         requires some { at.0 ≢ 0 }
         requires read { IsReadPart (D.blocks disk.old) self.now }
-        requires near { self.now.leaves.from < self.now.leaves.to → node_of root.now self.now.number < D.blocks disk.old }
-        ensures takes { (graph : Graph) (id : Puid) (f : files.File) (r : roots.Root) (last : ℕ) (start : D)
-            → spec.MayTake D.Disk graph id f r offset bytes.now last start disk.old space.old at.0
-            → IfOk result (λ next. IsAmid D.Disk graph id r offset bytes.now last start disk.new space.new
-            × spec.HasTaken (D.content disk.old) (D.content disk.new) at.0 root.now.fill offset bytes.now self.now
-            (node_of root.now self.now.number) self.now.leaves.to next
-            × spec.IsWhole (D.content disk.new) (node_of root.now self.now.number) next) }
-        ensures leaves { spec.StaysAmid D.Disk at.0 offset bytes.now disk.old disk.new space.old }
-        ensures sound { (graph : Graph) (id : Puid) (f : files.File) (r : roots.Root) (last : ℕ) (start : D)
-            → spec.MayTake D.Disk graph id f r offset bytes.now last start disk.old space.old at.0
-            → IfErr result (λ e. is_damaged e ≡ false) }
+        requires near { self.now.leaves.from < self.now.leaves.to
+            → node_of root.now self.now.number < D.blocks disk.old }
+        ensures takes { spec.Takes D.Disk at.0 offset bytes.now disk.old disk.new space.old space.new result
+            (λ a c next.
+            spec.HasTaken a c at.0 root.now.fill offset bytes.now self.now (node_of root.now self.now.number)
+            self.now.leaves.to next × spec.IsWhole c (node_of root.now self.now.number) next) }
         ensures near { IfOk result (λ next. next.grown ≡ true → next.block < D.blocks disk.old) }
-        ensures ends { (start : D) (n t k : ℕ) (kept : Kept) → HasGone D.Disk n t k tried start disk.old kept space.old
-            → IfOk result (λ next. HasGone D.Disk (n + 5 * (self.now.leaves.to - self.now.leaves.from) + 1)
-            (t + 3 * (self.now.leaves.to - self.now.leaves.from) + 1) (k + part_need root.now self.now) (tried || next.grown)
-            start disk.new kept space.new) }
-        ensures stopped { (start : D) (n t k : ℕ) (kept : Kept) → HasGone D.Disk n t k tried start disk.old kept space.old
-            → IfErr result (λ e. Finishes D.Disk (n + 5 * (self.now.leaves.to - self.now.leaves.from) + 1)
-            (t + 3 * (self.now.leaves.to - self.now.leaves.from) + 1) (k + part_need root.now self.now)
-            start disk.new kept space.new (spec.stop e)) }
+        ensures ends { Finishes D.Disk (5 * (self.now.leaves.to - self.now.leaves.from) + 1)
+            (3 * (self.now.leaves.to - self.now.leaves.from) + 1) (part_need root.now self.now)
+            disk.old disk.new space.old space.new result (λ next. next.grown) }
         ensures size { D.blocks disk.new ≡ D.blocks disk.old }
         ensures cylinders { length space.new.free ≡ length space.old.free }
     {
-        let next = match self.take_leaves(disk, space, at, root, offset, bytes, tried) {
+        let next = match self.take_leaves(disk, space, at, root, offset, bytes) {
             Ok(next) => next,
             Err(error) => return Err(error),
         };

@@ -1,5 +1,5 @@
 //! A file that is to be written, read as far as that needs.
-ghost use Rattle.std.specs.Prelude.{◌≡◌, ◌≢◌, ◌+◌, ◌/◌, ◌<◌, ◌≤◌, false, IfErr, IfOk};
+ghost use Rattle.std.specs.Prelude.{◌≡◌, ◌+◌, ◌<◌, ◌≤◌, false, IfErr, IfOk};
 ghost use Rattle.block_tree.specs.Root.{IsRootBlock};
 ghost use Rattle.block_tree.specs.declared.root.Root as roots;
 ghost use Rattle.cfs_base.specs.Calls.{OnlyReads};
@@ -7,10 +7,9 @@ ghost use Rattle.cfs_base.specs.Disk.{block_at};
 ghost use Rattle.cfs_base.specs.Refusals.{trouble_had_tried};
 ghost use Rattle.cfs_base.specs.Run.{Tells};
 ghost use Rattle.normal_files.specs.Laid.{node_of};
-ghost use Rattle.normal_files.specs.Parts.{IsPart, IsReadPart};
+ghost use Rattle.normal_files.specs.Parts.{AreParts, IsPart};
 ghost use Rattle.normal_files.specs.Refusal.{IsTrouble, is_damage};
 ghost use Rattle.normal_files.specs.Standing.{IsFileAt};
-ghost use Rattle.ufs_model.specs.Object.{leaves_in};
 ghost use Rattle.ufs_model.specs.declared.object.File as files;
 
 use crate::nodes::read_root;
@@ -39,20 +38,15 @@ impl Touched {
         requires some { 1 ≤ count }
         requires most { count ≤ 4096 }
         requires inside { offset + count ≤ 7864320 }
-        ensures root { Tells D.Disk disk.old → IfOk result (λ t. IsRootBlock (block_at (D.content disk.old) at.0) t.root) }
-        ensures low { IfOk result (λ t. IsReadPart (D.blocks disk.old) t.low) }
-        ensures high { IfOk result (λ t. IsReadPart (D.blocks disk.old) t.high) }
+        ensures root { Tells D.Disk disk.old
+            → IfOk result (λ t. IsRootBlock (block_at (D.content disk.old) at.0) t.root) }
+        ensures parts { IfOk result (λ t. AreParts (D.blocks disk.old) offset count t.low t.high) }
         ensures low_is { Tells D.Disk disk.old → IfOk result (λ t. IsPart (D.content disk.old) t.root t.low) }
         ensures high_is { Tells D.Disk disk.old → IfOk result (λ t. IsPart (D.content disk.old) t.root t.high) }
         ensures low_near { IfOk result (λ t. t.low.leaves.from < t.low.leaves.to
             → node_of t.root t.low.number < D.blocks disk.old) }
         ensures high_near { IfOk result (λ t. t.high.leaves.from < t.high.leaves.to
             → node_of t.root t.high.number < D.blocks disk.old) }
-        ensures first { IfOk result (λ t. t.low.leaves.from ≡ offset / 512) }
-        ensures next { IfOk result (λ t. t.high.leaves.from ≡ t.low.leaves.to) }
-        ensures last { IfOk result (λ t. t.high.leaves.to ≡ leaves_in (offset + count)) }
-        ensures apart { IfOk result (λ t. t.high.leaves.from < t.high.leaves.to → t.low.number ≢ t.high.number) }
-        ensures some { IfOk result (λ t. t.low.leaves.from < t.low.leaves.to) }
         ensures few { IfOk result (λ t. t.high.leaves.to ≤ t.low.leaves.from + 9) }
         ensures refused { IfErr result (IsTrouble D.Disk at.0 disk.old disk.new) }
         ensures untried { IfErr result (λ trouble. trouble_had_tried trouble ≡ false) }

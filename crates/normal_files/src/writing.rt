@@ -1,6 +1,6 @@
 //! Bytes of a file, written.
-ghost use Rattle.std.specs.Prelude.{◌≡◌, ◌≢◌, ◌⊎◌, ◌||◌, ℕ, ◌+◌, ◌-◌, ◌*◌, ◌/◌, ◌<◌, ◌≤◌, true, false, List, [], Some, IsTrue, length, sum, IfErr, IfOk, OnOk};
-ghost use Rattle.block_tree.specs.declared.root.Root as roots;
+ghost use Rattle.std.specs.Prelude.{◌≡◌, ◌≢◌, ◌⊎◌, ◌||◌, ℕ, ◌+◌, ◌-◌, ◌*◌, ◌/◌, ◌<◌, ◌≤◌, true, false, List, [], Some};
+ghost use Rattle.std.specs.Prelude.{IsTrue, length, sum, IfErr, IfOk, OnOk};
 ghost use Rattle.cfs_base.specs.Calls.{MakesAtMost, OnlyReads};
 ghost use Rattle.cfs_base.specs.Run.{IsSettled, Leaves as LeavesOf, Tells};
 ghost use Rattle.cfs_base.specs.declared.identifier.Puid.{Puid};
@@ -8,18 +8,17 @@ ghost use Rattle.cfs_base.specs.declared.refusal.Refused.TheVariants as refusals
 ghost use Rattle.cfs_base.specs.declared.refusal.Trouble.TheVariants as troubles;
 ghost use Rattle.claims.specs.Claims.{AreClaimed};
 ghost use Rattle.cyl_alloc.specs.Space.{Kept};
-ghost use Rattle.cyl_map.specs.Volume.{entry_in};
 ghost use Rattle.intentions.specs.Store.{StoreHas};
-ghost use Rattle.normal_files.specs.Among.{IsAmong, IsEither};
-ghost use Rattle.normal_files.specs.Ends.{IsStop, is_damaged};
+ghost use Rattle.normal_files.specs.Ends.{Finishes, is_damaged};
 ghost use Rattle.normal_files.specs.Laid.{node_of};
 ghost use Rattle.normal_files.specs.Links.{linked_image, linked_root};
 ghost use Rattle.normal_files.specs.Order.{claims_of};
-ghost use Rattle.normal_files.specs.Parts.{IsReadPart, part_need};
+ghost use Rattle.normal_files.specs.Parts.{AreParts, IsPart, part_need};
 ghost use Rattle.normal_files.specs.Standing.{BecomesFile, IsPartly};
-ghost use Rattle.normal_files.specs.Steps.{HasCome, HasStoppedBy, IsAmid};
+ghost use Rattle.normal_files.specs.Steps.{Comes, IsAmid, Puts};
 ghost use Rattle.normal_files.specs.WriteRefusal.{IsWriteRefusal, TellsNeed, is_untried, needs};
-ghost use Rattle.normal_files.specs.Writes.{Writes};
+ghost use Rattle.normal_files.specs.View.{View, Way};
+ghost use Rattle.normal_files.specs.Writes.{IsWritable, Wrote};
 ghost use Rattle.ufs_model.specs.Graph.{Graph, object_at, with_object};
 ghost use Rattle.ufs_model.specs.Object.{leaves_in, written as written_file};
 ghost use Rattle.ufs_model.specs.declared.object.File as files;
@@ -29,7 +28,8 @@ ghost use Rattle.vol_owners.specs.Account.{Opened, drafts_of};
 use crate::both::{Both, link_both, take_both};
 use crate::flush::flush;
 use crate::part::Part;
-use crate::put::after;
+use crate::put::{after, either};
+use crate::take::refused;
 use crate::touched::Touched;
 use block_tree::Root;
 use cfs_base::{BlockNo, Disk, Need, Refused, Trouble};
@@ -56,33 +56,21 @@ fn put_both<D: Disk>(
     offset: u64,
     bytes: &[u8],
 ) -> Result<bool, Trouble>
-    requires low { IsReadPart (D.blocks disk.old) low.now }
-    requires high { IsReadPart (D.blocks disk.old) high.now }
     requires inside { offset + length bytes.now ≤ 7864320 }
-    requires first { low.now.leaves.from ≡ offset / 512 }
-    requires next { high.now.leaves.from ≡ low.now.leaves.to }
-    requires last { high.now.leaves.to ≡ leaves_in (offset + length bytes.now) }
-    ensures written { (graph : Graph) (ds : List Opened) (id : Puid) (f : files.File) (root : roots.Root) (at : ℕ) (kept : Kept)
-        → Writes D.Disk graph ds id f root at offset bytes.now low.now high.now disk.old kept
-        → OnOk result (IsAmid D.Disk graph id root offset bytes.now (leaves_in (offset + length bytes.now)) disk.old disk.new kept
-        × ((m : ℕ) → entry_in (D.content disk.new) m ≡ entry_in (D.content disk.old) m)) }
-    ensures images { (graph : Graph) (ds : List Opened) (id : Puid) (f : files.File) (root : roots.Root) (at : ℕ) (kept : Kept)
-        → Writes D.Disk graph ds id f root at offset bytes.now low.now high.now disk.old kept
-        → LeavesOf D.Disk disk.old disk.new (IsAmong (D.content disk.old) graph id root
-        (IsEither (D.content disk.old) root offset bytes.now)) }
-    ensures told { OnOk result ((b : ℕ) → IsTrue (D.told disk.old b) → IsTrue (D.told disk.new b)) }
-    ensures come { IfOk result (λ tried. HasCome D.Disk (2 * (high.now.leaves.to - low.now.leaves.from))
-        (high.now.leaves.to - low.now.leaves.from) tried disk.old disk.new) }
-    ensures stopped { IfErr result (HasStoppedBy D.Disk disk.old disk.new) }
-    ensures untried { IfErr result (λ t. t ≡ troubles.Disk false
-        → OnlyReads D.Disk (2 * (high.now.leaves.to - low.now.leaves.from)) disk.old disk.new) }
-    ensures calls { MakesAtMost D.Disk (2 * (high.now.leaves.to - low.now.leaves.from))
-        (high.now.leaves.to - low.now.leaves.from) disk.old disk.new }
+    requires parts { AreParts (D.blocks disk.old) offset (length bytes.now) low.now high.now }
+    ensures puts { (block : ℕ) (w : Way D.Disk block) (kept : Kept)
+        → IsAmid w offset bytes.now (offset / 512) disk.old kept
+        → IsPart (D.content w.start) w.root low.now → IsPart (D.content w.start) w.root high.now
+        → Puts w offset bytes.now (leaves_in (offset + length bytes.now)) disk.old disk.new kept result }
+    ensures ends { Comes D.Disk (2 * (high.now.leaves.to - low.now.leaves.from))
+        (high.now.leaves.to - low.now.leaves.from)
+        disk.old disk.new result (λ tried. tried) }
+    ensures size { D.blocks disk.new ≡ D.blocks disk.old }
 {
-    match low.put(disk, offset, bytes, false) {
-        Ok(tried) => match high.put(disk, offset, bytes, tried) {
-            Ok(by_now) => Ok(by_now),
-            Err(trouble) => Err(trouble),
+    match low.put(disk, offset, bytes) {
+        Ok(tried) => match high.put(disk, offset, bytes) {
+            Ok(now) => Ok(either(tried, now)),
+            Err(trouble) => Err(after(tried, trouble)),
         },
         Err(trouble) => Err(trouble),
     }
@@ -103,19 +91,19 @@ fn end_write<D: Disk>(
     requires low_near { both.now.low.grown ≡ true → both.now.low.block < D.blocks disk.old }
     requires high_near { both.now.high.grown ≡ true → both.now.high.block < D.blocks disk.old }
     ensures done { Tells D.Disk disk.old → OnOk result ((D.content disk.new ≡ linked_image
-        (linked_image (D.content disk.old) at.0 root.now low both.now.low) at.0 (linked_root root.now low both.now.low) high both.now.high)
+        (linked_image (D.content disk.old) at.0 root.now low both.now.low) at.0 (linked_root root.now low both.now.low)
+        high both.now.high)
         × IsSettled D.Disk disk.new) }
     ensures images { Tells D.Disk disk.old → LeavesOf D.Disk disk.old disk.new (λ c.
         (c ≡ linked_image (D.content disk.old) at.0 root.now low both.now.low)
         ⊎ (c ≡ linked_image (linked_image (D.content disk.old) at.0 root.now low both.now.low) at.0
         (linked_root root.now low both.now.low) high both.now.high)) }
-    ensures tried { IfErr result (λ t. t ≡ troubles.Disk true) }
-    ensures stopped { IfErr result (HasStoppedBy D.Disk disk.old disk.new) }
-    ensures calls { MakesAtMost D.Disk 5 5 disk.old disk.new }
+    ensures failed { IfErr result (λ t. t ≡ troubles.Disk true) }
+    ensures ends { Comes D.Disk 5 5 disk.old disk.new result (λ done. true) }
 {
     match flush(disk) {
         Ok(()) => {}
-        Err(trouble) => return Err(after(true, trouble)),
+        Err(trouble) => return Err(trouble),
     }
     match link_both(disk, at, root, low, high, both) {
         Ok(()) => Ok(()),
@@ -123,7 +111,8 @@ fn end_write<D: Disk>(
     }
 }
 
-/// Writes bytes into the leaves that they touch in two nodes. Those that are absent are taken, and so many blocks are Free.
+/// Writes bytes into the leaves that they touch in two nodes. Those that are absent are taken, and so many blocks are
+/// Free.
 pub(crate) fn write_parts<D: Disk>(
     disk: &mut D,
     space: &mut Space,
@@ -137,44 +126,25 @@ pub(crate) fn write_parts<D: Disk>(
     requires size { D.blocks disk.old ≡ 64 * length space.old.free }
     requires some { at.0 ≢ 0 }
     requires on_disk { at.0 < D.blocks disk.old }
-    requires low { IsReadPart (D.blocks disk.old) low.now }
-    requires high { IsReadPart (D.blocks disk.old) high.now }
-    requires low_near { low.now.leaves.from < low.now.leaves.to → node_of root.now low.now.number < D.blocks disk.old }
-    requires high_near { high.now.leaves.from < high.now.leaves.to → node_of root.now high.now.number < D.blocks disk.old }
     requires inside { offset + length bytes.now ≤ 7864320 }
-    requires first { low.now.leaves.from ≡ offset / 512 }
-    requires next { high.now.leaves.from ≡ low.now.leaves.to }
-    requires last { high.now.leaves.to ≡ leaves_in (offset + length bytes.now) }
-    requires apart { high.now.leaves.from < high.now.leaves.to → low.now.number ≢ high.now.number }
+    requires parts { AreParts (D.blocks disk.old) offset (length bytes.now) low.now high.now }
+    requires low_near { low.now.leaves.from < low.now.leaves.to → node_of root.now low.now.number < D.blocks disk.old }
+    requires high_near { high.now.leaves.from < high.now.leaves.to
+        → node_of root.now high.now.number < D.blocks disk.old }
     requires room { part_need root.now low.now + part_need root.now high.now ≤ sum space.old.free }
-    ensures written { (graph : Graph) (ds : List Opened) (id : Puid) (f : files.File)
-        → Writes D.Disk graph ds id f root.now at.0 offset bytes.now low.now high.now disk.old space.old
-        → OnOk result (BecomesFile D.Disk graph ds id (written_file f offset bytes.now) disk.old disk.new space.new × IsSettled D.Disk disk.new) }
-    ensures order { (graph : Graph) (ds : List Opened) (id : Puid) (f : files.File)
-        → Writes D.Disk graph ds id f root.now at.0 offset bytes.now low.now high.now disk.old space.old
-        → low.now.leaves.from < low.now.leaves.to → OnOk result
-        (AreClaimed (claims_of at.0 f offset (length bytes.now)) (D.content disk.old) (D.content disk.new)) }
-    // Done or not, each image that is left has each leaf old or new.
-    ensures images { (graph : Graph) (ds : List Opened) (id : Puid) (f : files.File)
-        → Writes D.Disk graph ds id f root.now at.0 offset bytes.now low.now high.now disk.old space.old
-        → LeavesOf D.Disk disk.old disk.new (λ c. IsPartly c graph id f (written_file f offset bytes.now)) }
-    ensures sound { (graph : Graph) (ds : List Opened) (id : Puid) (f : files.File)
-        → Writes D.Disk graph ds id f root.now at.0 offset bytes.now low.now high.now disk.old space.old
-        → IfErr result (λ e. is_damaged e ≡ false) }
-    ensures refused { IfErr result (IsStop D.Disk disk.old disk.new space.new) }
-    ensures untried { IfErr result (λ e. e ≡ refusals.Disk false → (space.new ≡ space.old)
-        × OnlyReads D.Disk (7 * (high.now.leaves.to - low.now.leaves.from) + 7) disk.old disk.new) }
-    ensures cylinders { length space.new.free ≡ length space.old.free }
-    ensures calls { MakesAtMost D.Disk (7 * (high.now.leaves.to - low.now.leaves.from) + 7)
-        (4 * (high.now.leaves.to - low.now.leaves.from) + 7) disk.old disk.new }
+    ensures writes { (v : View D.Disk at.0 root.now disk.old space.old) → IsWritable v offset bytes.now low.now high.now
+        → Wrote v offset bytes.now disk.new space.new result }
+    ensures ends { Finishes D.Disk (7 * (high.now.leaves.to - low.now.leaves.from) + 7)
+        (4 * (high.now.leaves.to - low.now.leaves.from) + 7) (part_need root.now low.now + part_need root.now high.now)
+        disk.old disk.new space.old space.new result (λ done. true) }
 {
     let tried = match put_both(disk, low, high, offset, bytes) {
         Ok(tried) => tried,
         Err(trouble) => return Err(Refused::from(trouble)),
     };
-    let both = match take_both(disk, space, at, root, low, high, offset, bytes, tried) {
+    let both = match take_both(disk, space, at, root, low, high, offset, bytes) {
         Ok(both) => both,
-        Err(error) => return Err(error),
+        Err(error) => return Err(refused(tried, error)),
     };
     match end_write(disk, at, root, low.number, high.number, &both) {
         Ok(()) => Ok(()),
@@ -182,11 +152,12 @@ pub(crate) fn write_parts<D: Disk>(
     }
 }
 
-/// Writes bytes into a file, from an offset on. The range lies within the size. Each leaf that it touches and that is absent
-/// takes the least-numbered Free block, in increasing order, and after it its node where that is absent too.
-/// `Full` where fewer blocks are Free than it takes, with the floor. `Damaged` names the root block, with code 3, which is
-/// none; a block with a pointer past the disk, with code 4; or a map, with code 2, that is none, or with code 12, that has no
-/// Free block where some were counted. Where a `Disk` was tried each leaf is old or new; else all is as it was.
+/// Writes bytes into a file, from an offset on. The range lies within the size. Each leaf that it touches and that is
+/// absent takes the least-numbered Free block, in increasing order, and after it its node where that is absent too.
+/// `Full` where fewer blocks are Free than it takes, with the floor. `Damaged` names the root block, with code 3, which
+/// is none; a block with a pointer past the disk, with code 4; or a map, with code 2, that is none, or with code 12,
+/// that has no Free block where some were counted. Where a `Disk` was tried each leaf is old or new; else all is as it
+/// was.
 pub fn write<D: Disk>(
     disk: &mut D,
     space: &mut Space,
@@ -201,39 +172,49 @@ pub fn write<D: Disk>(
     requires least { 1 ≤ length bytes.now }
     requires most { length bytes.now ≤ 4096 }
     requires inside { offset + length bytes.now ≤ 7864320 }
-    ensures written { (graph : Graph) (ds : List Opened) (id : Puid) (f : files.File) → StoreHas D.Disk graph ds disk.old space.old
+    ensures written { (graph : Graph) (ds : List Opened) (id : Puid) (f : files.File)
+        → StoreHas D.Disk graph ds disk.old space.old
         → object_at graph id ≡ Some (objects.File f) → drafts_of ds id ≡ [] → id.block ≡ at.0
         → offset + length bytes.now ≤ length f.bytes
-        → OnOk result (BecomesFile D.Disk graph ds id (written_file f offset bytes.now) disk.old disk.new space.new × IsSettled D.Disk disk.new) }
+        → OnOk result (BecomesFile D.Disk graph ds id (written_file f offset bytes.now) disk.old disk.new space.new
+        × IsSettled D.Disk disk.new) }
     // Each touched leaf that isn't held takes the least Free block, and after it its node: in increasing order.
-    ensures order { (graph : Graph) (ds : List Opened) (id : Puid) (f : files.File) → StoreHas D.Disk graph ds disk.old space.old
+    ensures order { (graph : Graph) (ds : List Opened) (id : Puid) (f : files.File)
+        → StoreHas D.Disk graph ds disk.old space.old
         → object_at graph id ≡ Some (objects.File f) → drafts_of ds id ≡ [] → id.block ≡ at.0
         → offset + length bytes.now ≤ length f.bytes → OnOk result
         (AreClaimed (claims_of at.0 f offset (length bytes.now)) (D.content disk.old) (D.content disk.new)) }
     // Done or not, each image that is left has each leaf old or new.
-    ensures images { (graph : Graph) (ds : List Opened) (id : Puid) (f : files.File) → StoreHas D.Disk graph ds disk.old space.old
+    ensures images { (graph : Graph) (ds : List Opened) (id : Puid) (f : files.File)
+        → StoreHas D.Disk graph ds disk.old space.old
         → object_at graph id ≡ Some (objects.File f) → drafts_of ds id ≡ [] → id.block ≡ at.0
         → offset + length bytes.now ≤ length f.bytes
         → LeavesOf D.Disk disk.old disk.new (λ c. IsPartly c graph id f (written_file f offset bytes.now)) }
-    ensures sound { (graph : Graph) (ds : List Opened) (id : Puid) (f : files.File) → StoreHas D.Disk graph ds disk.old space.old
+    ensures sound { (graph : Graph) (ds : List Opened) (id : Puid) (f : files.File)
+        → StoreHas D.Disk graph ds disk.old space.old
         → object_at graph id ≡ Some (objects.File f) → drafts_of ds id ≡ [] → id.block ≡ at.0
         → offset + length bytes.now ≤ length f.bytes → IfErr result (λ e. is_damaged e ≡ false) }
     // Full exactly where fewer blocks are Free than the write needs, with the floor.
-    ensures room { (graph : Graph) (ds : List Opened) (id : Puid) (f : files.File) → StoreHas D.Disk graph ds disk.old space.old
+    ensures room { (graph : Graph) (ds : List Opened) (id : Puid) (f : files.File)
+        → StoreHas D.Disk graph ds disk.old space.old
         → object_at graph id ≡ Some (objects.File f) → drafts_of ds id ≡ [] → id.block ≡ at.0
-        → offset + length bytes.now ≤ length f.bytes → OnOk result (needs f offset (length bytes.now) + floor ≤ sum space.old.free) }
-    ensures full { (graph : Graph) (ds : List Opened) (id : Puid) (f : files.File) → StoreHas D.Disk graph ds disk.old space.old
+        → offset + length bytes.now ≤ length f.bytes
+        → OnOk result (needs f offset (length bytes.now) + floor ≤ sum space.old.free) }
+    ensures full { (graph : Graph) (ds : List Opened) (id : Puid) (f : files.File)
+        → StoreHas D.Disk graph ds disk.old space.old
         → object_at graph id ≡ Some (objects.File f) → drafts_of ds id ≡ [] → id.block ≡ at.0
         → offset + length bytes.now ≤ length f.bytes
         → IfErr result (TellsNeed (needs f offset (length bytes.now))) }
     // Where a write was tried so many were Free.
-    ensures begun { (graph : Graph) (ds : List Opened) (id : Puid) (f : files.File) → StoreHas D.Disk graph ds disk.old space.old
+    ensures begun { (graph : Graph) (ds : List Opened) (id : Puid) (f : files.File)
+        → StoreHas D.Disk graph ds disk.old space.old
         → object_at graph id ≡ Some (objects.File f) → drafts_of ds id ≡ [] → id.block ≡ at.0
         → offset + length bytes.now ≤ length f.bytes
         → IfErr result (λ e. e ≡ refusals.Disk true → needs f offset (length bytes.now) + floor ≤ sum space.old.free) }
     ensures refused { IfErr result (IsWriteRefusal D.Disk at.0 floor disk.old disk.new space.old space.new) }
     // Where nothing was tried, all is as it was.
-    ensures untried { IfErr result (λ e. is_untried e ≡ true → (space.new ≡ space.old) × OnlyReads D.Disk 73 disk.old disk.new) }
+    ensures untried { IfErr result (λ e. is_untried e ≡ true → (space.new ≡ space.old)
+        × OnlyReads D.Disk 73 disk.old disk.new) }
     ensures cylinders { length space.new.free ≡ length space.old.free }
     ensures calls { MakesAtMost D.Disk 73 43 disk.old disk.new }
 {

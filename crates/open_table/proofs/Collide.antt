@@ -1,12 +1,7 @@
 -- Grants that stand beside one another.
-use Rattle.std.proofs.Common.{◌≡◌, List, [], ◌∷◌, ◌++◌, refl, sym, ap, ◌∙◌, Option, Some, None, Bool, true, false, cond, not, ◌&&◌, ◌||◌}
-use Rattle.std.specs.Prelude.{find, option_map}
-use Rattle.std.specs.List.{list_any, list_all}
-use Rattle.cfs_base.specs.declared.kind.Mode.{Mode}
-use Rattle.ufs_model.specs.Identifier.{same_puid, same_tuid}
-use Rattle.open_table.specs.declared.grant.Grant.{Grant}
-use Rattle.open_table.specs.Grants.{mode_in, conflicts, collides, none_collide, tuids_differ}
-use Rattle.open_table.proofs.Lists.{both, not_true, same_puid-trans, collides-sym, one_mode}
+use Rattle.std.proofs.Common.{◌≡◌, List, [], ◌∷◌, ◌++◌, refl, ap, ◌∙◌, Option, Some, None, Bool, true, false, cond, not, ◌&&◌}
+use Rattle.open_table.proofs.Words.{Grant, Mode, and_parts, collides, conflicts, find, list_all, list_any, mode_in, none_collide, option_map, or_parts, same_puid, same_tuid, tuids_differ}
+use Rattle.open_table.proofs.Lists.{not_true, same_puid-trans, collides-sym, one_mode}
 
 -- ---- what a grant collides with
 
@@ -34,7 +29,7 @@ collides-none (h ∷ grants) g none =
 beside : (grants : List Grant) (g h : Grant) → same_puid g.id h.id ≡ true → g.mode ≡ h.mode → list_all (λ x. not (collides h x)) grants ≡ true → find (collides g) grants ≡ None
 beside [] g h same mode all = refl
 beside (x ∷ grants) g h same mode all =
-    let parts = both (not (collides h x)) (list_all (λ x. not (collides h x)) grants) all in
+    let parts = and_parts (not (collides h x)) (list_all (λ x. not (collides h x)) grants) all in
     let alike : collides g x ≡ collides h x = ap (λ s. s && conflicts g.mode x.mode) (same_puid-trans g.id h.id x.id same) ∙ ap (λ m. same_puid h.id x.id && conflicts m x.mode) mode in
     let none : collides g x ≡ false = alike ∙ not_true (collides h x) parts.0 in
     rw none (beside grants g h same mode parts.1)
@@ -42,7 +37,7 @@ beside (x ∷ grants) g h same mode all =
 pub collides-shared : (grants : List Grant) (g : Grant) (m : Mode) → none_collide grants ≡ true → mode_in grants g.id ≡ Some m → conflicts g.mode m ≡ false → find (collides g) grants ≡ None
 collides-shared [] g m apart there shared = cc
 collides-shared (h ∷ grants) g m apart there shared =
-    let parts = both (list_all (λ x. not (collides h x)) grants) (none_collide grants) apart in
+    let parts = and_parts (list_all (λ x. not (collides h x)) grants) (none_collide grants) apart in
     elim (same_puid g.id h.id) as (λ s. same_puid g.id h.id ≡ s → option_map (λ h. h.mode) (cond s (Some h) (find (λ g'. same_puid g.id g'.id) grants)) ≡ Some m
     → cond (s && conflicts g.mode h.mode) (Some h) (find (collides g) grants) ≡ None) [
       | true ↦ λ same here.
@@ -52,32 +47,16 @@ collides-shared (h ∷ grants) g m apart there shared =
       | false ↦ λ other later. collides-shared grants g m parts.1 later shared
     ] refl there
 
--- a grant that collides with none has the mode of those on its object
-pub mode_beside : (grants : List Grant) (g : Grant) (m : Mode) → find (collides g) grants ≡ None → mode_in grants g.id ≡ Some m → m ≡ g.mode
-mode_beside [] g m none there = cc
-mode_beside (h ∷ grants) g m none there =
-    elim (same_puid g.id h.id) as (λ s. cond (s && conflicts g.mode h.mode) (Some h) (find (collides g) grants) ≡ None
-    → option_map (λ h. h.mode) (cond s (Some h) (find (λ g'. same_puid g.id g'.id) grants)) ≡ Some m → m ≡ g.mode) [
-      | true ↦ λ free here.
-          let mode : h.mode ≡ m = cc in
-          sym (one_mode g.mode h.mode (not_found (conflicts g.mode h.mode) h (find (collides g) grants) free) ∙ mode)
-      | false ↦ λ rest later. mode_beside grants g m rest later
-    ] none there
-  where
-    not_found : (t : Bool) (h : Grant) (rest : Option Grant) → cond t (Some h) rest ≡ None → t ≡ false
-    not_found true h rest e = cc
-    not_found false h rest e = refl
-
 -- ---- one more
 
 all_push : (p : Grant → Bool) (xs : List Grant) (y : Grant) → list_all p xs ≡ true → p y ≡ true → list_all p (xs ++ y ∷ []) ≡ true
 all_push p [] y all last = rw last refl
-all_push p (x ∷ xs) y all last = let parts = both (p x) (list_all p xs) all in rw parts.0 (all_push p xs y parts.1 last)
+all_push p (x ∷ xs) y all last = let parts = and_parts (p x) (list_all p xs) all in rw parts.0 (all_push p xs y parts.1 last)
 
 pub none_collide-push : (grants : List Grant) (g : Grant) → none_collide grants ≡ true → find (collides g) grants ≡ None → none_collide (grants ++ g ∷ []) ≡ true
 none_collide-push [] g apart none = refl
 none_collide-push (h ∷ grants) g apart none =
-    let parts = both (list_all (λ x. not (collides h x)) grants) (none_collide grants) apart in
+    let parts = and_parts (list_all (λ x. not (collides h x)) grants) (none_collide grants) apart in
     let free = passed (collides g h) h (find (collides g) grants) none in
     rw (all_push (λ x. not (collides h x)) grants g parts.0 (ap not (collides-sym h g ∙ free.0))) (none_collide-push grants g parts.1 free.1)
   where
@@ -88,10 +67,6 @@ none_collide-push (h ∷ grants) g apart none =
 pub tuids_differ-push : (grants : List Grant) (g : Grant) → tuids_differ grants ≡ true → list_any (λ h. same_tuid h.tuid g.tuid) grants ≡ false → tuids_differ (grants ++ g ∷ []) ≡ true
 tuids_differ-push [] g differ new = refl
 tuids_differ-push (h ∷ grants) g differ new =
-    let parts = both (list_all (λ x. not (same_tuid h.tuid x.tuid)) grants) (tuids_differ grants) differ in
-    let others = neither (same_tuid h.tuid g.tuid) (list_any (λ h. same_tuid h.tuid g.tuid) grants) new in
+    let parts = and_parts (list_all (λ x. not (same_tuid h.tuid x.tuid)) grants) (tuids_differ grants) differ in
+    let others = or_parts (same_tuid h.tuid g.tuid) (list_any (λ h. same_tuid h.tuid g.tuid) grants) new in
     rw (all_push (λ x. not (same_tuid h.tuid x.tuid)) grants g parts.0 (ap not others.0)) (tuids_differ-push grants g parts.1 others.1)
-  where
-    neither : (t u : Bool) → (t || u) ≡ false → (t ≡ false) × (u ≡ false)
-    neither true u h = cc
-    neither false u h = (refl, h)

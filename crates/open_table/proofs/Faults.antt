@@ -1,11 +1,7 @@
 -- Grants that may be acquired.
 use Rattle.std.proofs.Common.{◌≡◌, ℕ, ◌<◌, Bool, true, false, cond, Option, Some, None, refl, arith}
-use Rattle.std.specs.Prelude.{nat_le}
-use Rattle.std.proofs.lemmas.Bool.Decides.{nat_tests}
-use Rattle.cfs_base.specs.declared.kind.Mode.{Mode}
-use Rattle.ufs_model.specs.declared.limits.TheConstants.{MOST_GRANTS}
+use Rattle.open_table.proofs.Words.{MOST_GRANTS, Mode, fault_by, nat_le, nat_tests}
 use Rattle.open_table.specs.declared.fault.AcquireFault.TheVariants as faults
-use Rattle.open_table.specs.Grants.{fault_by}
 
 pub none_against : (m : Option Mode) (count : ℕ) → fault_by m count ≡ None → m ≡ None
 none_against (Some x) count is = cc

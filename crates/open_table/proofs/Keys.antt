@@ -1,12 +1,6 @@
 -- The keys of the table of objects.
 use Rattle.std.proofs.Common.{◌≡◌, ℕ, true, cond, Option, Some, Result, Ok, Err, arith}
-use Rattle.std.specs.Result.{OnOk, is_ok}
-use Rattle.std.specs.HashMap.{get, Updates}
-use Rattle.std.proofs.lemmas.Bool.Decides.{nat_tests}
-use Rattle.cfs_base.specs.declared.identifier.Puid.{Puid}
-use Rattle.cfs_base.specs.declared.kind.Mode.{Mode}
-use Rattle.ufs_model.specs.Identifier.{same_puid}
-use Rattle.open_table.specs.Parts.{Modes, same_key}
+use Rattle.open_table.proofs.Words.{Mode, Modes, OnOk, Puid, Updates, get, is_ok, nat_tests, same_key, same_puid}
 
 -- two identifiers are one where their keys are
 pub same_key-is : (q id : Puid) → same_key (id.block, id.word) (q.block, q.word) ≡ same_puid q id

@@ -5,3 +5,4 @@ pub mod Tied
 pub mod Without
 mod Faults
 mod Models
+mod Words

@@ -1,22 +1,8 @@
 -- Lists of grants.
 use Rattle.std.proofs.Common.{◌≡◌, ◌≢◌, ℕ, suc, ◌<◌, ◌≤◌, List, [], ◌∷◌, ◌++◌, length, refl, sym, ap, ◌∙◌, arith, Option, Some, None, Bool, true, false, cond, not, ◌&&◌, eqb, Result, Ok, Err, append-nil}
-use Rattle.std.specs.Prelude.{filter, find, option_map, slice_get}
-use Rattle.std.specs.Result.{OnOk, OnErr}
-use Rattle.std.proofs.lemmas.Bool.Decides.{nat_tests}
-use Rattle.std.proofs.lemmas.List.Elements.{filter-append}
-use Rattle.cfs_base.specs.declared.identifier.Puid.{Puid}
-use Rattle.cfs_base.specs.declared.identifier.Tuid.{Tuid}
-use Rattle.cfs_base.specs.declared.kind.Mode.{Mode}
-use Rattle.cfs_base.specs.declared.kind.Mode.TheVariants.{Reading, Writing}
-use Rattle.ufs_model.specs.Identifier.{same_puid, same_tuid}
-use Rattle.open_table.specs.declared.grant.Grant.{Grant}
-use Rattle.open_table.specs.Grants.{is_grant, grant_in, grants_of, first_of, mode_in, without_grant, without_session, conflicts, collides}
+use Rattle.open_table.proofs.Words.{Grant, Mode, OnErr, OnOk, Puid, Reading, Tuid, Writing, and_parts, collides, conflicts, filter, filter-append, find, first_of, grant_in, grants_of, is_grant, mode_in, nat_tests, option_map, same_puid, same_tuid, slice_get, without_grant, without_session}
 
 -- ---- tests
-
-pub both : (t u : Bool) → (t && u) ≡ true → (t ≡ true) × (u ≡ true)
-both true u h = (refl, h)
-both false u h = cc
 
 pub not_true : (t : Bool) → not t ≡ true → t ≡ false
 not_true true h = cc
@@ -92,7 +78,7 @@ grants_of-without_other [] who other t apart = refl
 grants_of-without_other (g ∷ grants) who other t apart =
     elim (is_grant who t g) as (λ k. is_grant who t g ≡ k → grants_of (cond (not k) (g ∷ without_grant grants who t) (without_grant grants who t)) other ≡ grants_of (g ∷ grants) other) [
       | true ↦ λ is.
-          let not_own : eqb g.session other ≡ false = grind (arith, nat_tests, both (eqb g.session who) (same_tuid g.tuid t) is) in
+          let not_own : eqb g.session other ≡ false = grind (arith, nat_tests, and_parts (eqb g.session who) (same_tuid g.tuid t) is) in
           rw not_own (grants_of-without_other grants who other t apart)
       | false ↦ λ is. ap (λ rest. cond (eqb g.session other) (g ∷ rest) rest) (grants_of-without_other grants who other t apart)
     ] refl
@@ -103,7 +89,7 @@ pub without_session-without_grant : (grants : List Grant) (who : ℕ) (t : Tuid)
 without_session-without_grant [] who t = refl
 without_session-without_grant (g ∷ grants) who t =
     elim (is_grant who t g) as (λ k. is_grant who t g ≡ k → without_session (cond (not k) (g ∷ without_grant grants who t) (without_grant grants who t)) who ≡ without_session (g ∷ grants) who) [
-      | true ↦ λ is. rw (both (eqb g.session who) (same_tuid g.tuid t) is).0 (without_session-without_grant grants who t)
+      | true ↦ λ is. rw (and_parts (eqb g.session who) (same_tuid g.tuid t) is).0 (without_session-without_grant grants who t)
       | false ↦ λ is. ap (λ rest. cond (not (eqb g.session who)) (g ∷ rest) rest) (without_session-without_grant grants who t)
     ] refl
 

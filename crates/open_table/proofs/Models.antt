@@ -1,16 +1,8 @@
 -- The model's grants without their drafts.
-use Rattle.std.proofs.Common.{◌≡◌, suc, List, [], ◌∷◌, ◌++◌, length, refl, sym, ap, ◌∙◌, Some, Bool, true, false, cond, not, ◌&&◌, ◌||◌, is_some}
-use Rattle.std.specs.Prelude.{filter, find, option_map}
-use Rattle.std.specs.List.{list_any, list_all}
-use Rattle.cfs_base.specs.declared.identifier.Puid.{Puid}
-use Rattle.cfs_base.specs.declared.kind.Mode.{Mode}
-use Rattle.cfs_base.specs.declared.kind.Mode.TheVariants.{Reading, Writing}
+use Rattle.std.proofs.Common.{◌≡◌, suc, List, [], ◌∷◌, length, refl, sym, ap, ◌∙◌, Some, Bool, true, false, cond, not, ◌&&◌, ◌||◌, is_some}
+use Rattle.open_table.proofs.Words.{Grant, Mode, Puid, Reading, Writing, and_parts, collides, conflicts, filter, find, is_writing, list_all, list_any, mode_in, none_collide, option_map, same_puid, shown, table_of}
 use Rattle.ufs_model.specs.declared.object.Grant as models
-use Rattle.ufs_model.specs.Identifier.{same_puid}
-use Rattle.open_table.specs.declared.grant.Grant.{Grant}
-use Rattle.open_table.specs.Grants.{mode_in, conflicts, collides, none_collide}
-use Rattle.open_table.specs.Model.{shown, table_of, is_writing}
-use Rattle.open_table.proofs.Lists.{both, not_true, same_puid-trans}
+use Rattle.open_table.proofs.Lists.{not_true, same_puid-trans}
 
 -- ---- any test that does not look at the draft
 
@@ -72,7 +64,7 @@ no_writer : (grants : List models.Grant) (g : Grant) (id : Puid) → g.mode ≡ 
     → list_any (λ h. same_puid id h.id && not (is_for_reading h.mode)) grants ≡ false
 no_writer [] g id reading same all = refl
 no_writer (h ∷ grants) g id reading same all =
-    let parts = both (not (collides g (shown h))) (list_all (λ x. not (collides g x)) (table_of grants)) all in
+    let parts = and_parts (not (collides g (shown h))) (list_all (λ x. not (collides g x)) (table_of grants)) all in
     let alike : collides g (shown h) ≡ (same_puid id h.id && not (is_for_reading h.mode)) =
     ap (λ t. t && conflicts g.mode h.mode) (sym (same_puid-trans id g.id h.id same)) ∙ ap (λ m. same_puid id h.id && conflicts m h.mode) reading ∙ ap (λ t. same_puid id h.id && t) (conflicts-reading h.mode) in
     rw (sym alike ∙ not_true (collides g (shown h)) parts.0) (no_writer grants g id reading same parts.1)
@@ -81,7 +73,7 @@ pub open_for_writing : (grants : List models.Grant) (id : Puid) → none_collide
     → is_writing (mode_in (table_of grants) id) ≡ list_any (λ g. same_puid id g.id && not (is_for_reading g.mode)) grants
 open_for_writing [] id apart = refl
 open_for_writing (g ∷ grants) id apart =
-    let parts = both (list_all (λ x. not (collides (shown g) x)) (table_of grants)) (none_collide (table_of grants)) apart in
+    let parts = and_parts (list_all (λ x. not (collides (shown g) x)) (table_of grants)) (none_collide (table_of grants)) apart in
     elim (same_puid id g.id) as (λ s. same_puid id g.id ≡ s
     → is_writing (option_map (λ g. g.mode) (cond s (Some (shown g)) (find (λ h. same_puid id h.id) (table_of grants)))) ≡ ((s && not (is_for_reading g.mode)) || list_any (λ g. same_puid id g.id && not (is_for_reading g.mode)) grants)) [
       | true ↦ λ same. first g.mode refl same parts.0

@@ -1,16 +1,6 @@
 -- The tables beside the list.
 use Rattle.std.proofs.Common.{◌≡◌, ℕ, ◌+◌, ◌<◌, ◌≤◌, ◌^◌, List, [], ◌∷◌, ◌++◌, length, refl, sym, ap, ◌∙◌, arith, Option, Some, None, true, false, cond, eqb, leb, length-append}
-use Rattle.std.specs.Prelude.{find, option_map}
-use Rattle.std.specs.Bool.{then_some}
-use Rattle.std.specs.List.{list_any, list_all}
-use Rattle.std.proofs.lemmas.Bool.Decides.{nat_tests}
-use Rattle.cfs_base.specs.declared.identifier.Puid.{Puid}
-use Rattle.cfs_base.specs.declared.kind.Mode.{Mode}
-use Rattle.ufs_model.specs.declared.limits.TheConstants.{MOST_GRANTS}
-use Rattle.ufs_model.specs.Identifier.{same_puid, same_tuid}
-use Rattle.open_table.specs.declared.grant.Grant.{Grant}
-use Rattle.open_table.specs.Grants.{grants_of, conflicts, collides, mode_against, is_held}
-use Rattle.open_table.specs.Parts.{IsTied}
+use Rattle.open_table.proofs.Words.{Grant, IsTied, MOST_GRANTS, Mode, Puid, collides, conflicts, find, grants_of, is_held, list_all, list_any, mode_against, nat_tests, option_map, same_puid, same_tuid, then_some}
 use Rattle.open_table.proofs.Lists.{grants_of-push, mode_in-push}
 use Rattle.open_table.proofs.Collide.{collides-first, collides-none, collides-shared, none_collide-push, tuids_differ-push}
 

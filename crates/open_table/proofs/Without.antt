@@ -1,17 +1,7 @@
 -- One grant less.
 use Rattle.std.proofs.Common.{◌≡◌, ◌≢◌, ℕ, ◌+◌, ◌≤◌, List, [], ◌∷◌, ◌++◌, length, refl, sym, ap, ◌∙◌, arith, Option, Some, None, Bool, true, false, cond, not, ◌&&◌, ◌||◌, eqb, length-append}
-use Rattle.std.specs.Prelude.{filter, find, option_map}
-use Rattle.std.specs.List.{list_any, list_all}
-use Rattle.std.proofs.lemmas.Bool.Decides.{nat_tests}
-use Rattle.std.proofs.lemmas.List.Elements.{filter-append}
-use Rattle.cfs_base.specs.declared.identifier.Puid.{Puid}
-use Rattle.cfs_base.specs.declared.identifier.Tuid.{Tuid}
-use Rattle.cfs_base.specs.declared.kind.Mode.{Mode}
-use Rattle.ufs_model.specs.Identifier.{same_puid, same_tuid}
-use Rattle.open_table.specs.declared.grant.Grant.{Grant}
-use Rattle.open_table.specs.Grants.{is_grant, grant_in, grants_of, mode_in, without_grant, conflicts, collides, none_collide, tuids_differ}
-use Rattle.open_table.specs.Parts.{IsTied}
-use Rattle.open_table.proofs.Lists.{both, not_true, same_puid-sym, same_puid-trans, same_tuid-sym, same_tuid-trans, one_mode, grants_of-without_grant, grants_of-without_other}
+use Rattle.open_table.proofs.Words.{Grant, IsTied, Mode, Puid, Tuid, and_parts, collides, conflicts, filter, filter-append, find, grant_in, grants_of, is_grant, list_all, list_any, mode_in, nat_tests, none_collide, option_map, or_parts, same_puid, same_tuid, tuids_differ, without_grant}
+use Rattle.open_table.proofs.Lists.{not_true, same_puid-sym, same_puid-trans, same_tuid-sym, same_tuid-trans, one_mode, grants_of-without_grant, grants_of-without_other}
 
 -- ---- where it stands
 
@@ -19,7 +9,7 @@ use Rattle.open_table.proofs.Lists.{both, not_true, same_puid-sym, same_puid-tra
 none_left : (grants : List Grant) (g : Grant) (who : ℕ) (t : Tuid) → same_tuid g.tuid t ≡ true → list_all (λ x. not (same_tuid g.tuid x.tuid)) grants ≡ true → without_grant grants who t ≡ grants
 none_left [] g who t is differ = refl
 none_left (x ∷ grants) g who t is differ =
-    let parts = both (not (same_tuid g.tuid x.tuid)) (list_all (λ x. not (same_tuid g.tuid x.tuid)) grants) differ in
+    let parts = and_parts (not (same_tuid g.tuid x.tuid)) (list_all (λ x. not (same_tuid g.tuid x.tuid)) grants) differ in
     let other : same_tuid x.tuid t ≡ false = same_tuid-sym x.tuid t ∙ sym (same_tuid-trans g.tuid t x.tuid is) ∙ not_true _ parts.0 in
     rw (never (eqb x.session who) (same_tuid x.tuid t) other) (ap (λ rest. x ∷ rest) (none_left grants g who t is parts.1))
   where
@@ -37,11 +27,11 @@ pub record IsSplit (grants : List Grant) (who : ℕ) (t : Tuid) (c : Grant) : Ty
 pub split : (grants : List Grant) (who : ℕ) (t : Tuid) (c : Grant) → tuids_differ grants ≡ true → grant_in grants who t ≡ Some c → IsSplit grants who t c
 split [] who t c differ found = cc
 split (g ∷ grants) who t c differ found =
-    let parts = both (list_all (λ h. not (same_tuid g.tuid h.tuid)) grants) (tuids_differ grants) differ in
+    let parts = and_parts (list_all (λ h. not (same_tuid g.tuid h.tuid)) grants) (tuids_differ grants) differ in
     elim (is_grant who t g) as (λ k. is_grant who t g ≡ k → cond k (Some g) (grant_in grants who t) ≡ Some c → IsSplit (g ∷ grants) who t c) [
       | true ↦ λ is here.
           let same : g ≡ c = cc in
-          record { front = []; back = grants; whole = ap (λ c. c ∷ grants) same; left = rw is (none_left grants g who t (both (eqb g.session who) (same_tuid g.tuid t) is).1 parts.0) }
+          record { front = []; back = grants; whole = ap (λ c. c ∷ grants) same; left = rw is (none_left grants g who t (and_parts (eqb g.session who) (same_tuid g.tuid t) is).1 parts.0) }
       | false ↦ λ is later.
           let rest = split grants who t c parts.1 later in
           record { front = g ∷ rest.front; back = rest.back; whole = ap (λ gs. g ∷ gs) rest.whole; left = rw is (ap (λ gs. g ∷ gs) rest.left) }
@@ -61,19 +51,15 @@ mode_in-other (g ∷ front) back c id other =
 mode_in-gone : (grants : List Grant) (c : Grant) (id : Puid) → same_puid id c.id ≡ true → list_any (λ g. same_puid g.id c.id) grants ≡ false → mode_in grants id ≡ None
 mode_in-gone [] c id same gone = refl
 mode_in-gone (g ∷ grants) c id same gone =
-    let parts = neither (same_puid g.id c.id) (list_any (λ g. same_puid g.id c.id) grants) gone in
+    let parts = or_parts (same_puid g.id c.id) (list_any (λ g. same_puid g.id c.id) grants) gone in
     let other : same_puid id g.id ≡ false = same_puid-trans id c.id g.id same ∙ same_puid-sym c.id g.id ∙ parts.0 in
     rw other (mode_in-gone grants c id same parts.1)
-  where
-    neither : (t u : Bool) → (t || u) ≡ false → (t ≡ false) × (u ≡ false)
-    neither true u h = cc
-    neither false u h = (refl, h)
 
 -- and where others are left on it, which are in its mode
 mode_in-beside : (grants : List Grant) (c : Grant) (id : Puid) → same_puid id c.id ≡ true → list_all (λ x. not (collides c x)) grants ≡ true → list_any (λ g. same_puid g.id c.id) grants ≡ true → mode_in grants id ≡ Some c.mode
 mode_in-beside [] c id same all there = cc
 mode_in-beside (g ∷ grants) c id same all there =
-    let parts = both (not (collides c g)) (list_all (λ x. not (collides c x)) grants) all in
+    let parts = and_parts (not (collides c g)) (list_all (λ x. not (collides c x)) grants) all in
     let alike : same_puid id g.id ≡ same_puid g.id c.id = same_puid-trans id c.id g.id same ∙ same_puid-sym c.id g.id in
     elim (same_puid g.id c.id) as (λ s. same_puid g.id c.id ≡ s → (s || list_any (λ g. same_puid g.id c.id) grants) ≡ true → mode_in (g ∷ grants) id ≡ Some c.mode) [
       | true ↦ λ is here.
@@ -84,9 +70,9 @@ mode_in-beside (g ∷ grants) c id same all there =
 
 mode_in-shared : (front back : List Grant) (c : Grant) (id : Puid) → same_puid id c.id ≡ true → none_collide (front ++ c ∷ back) ≡ true → list_any (λ g. same_puid g.id c.id) (front ++ back) ≡ true
     → mode_in (front ++ back) id ≡ mode_in (front ++ c ∷ back) id
-mode_in-shared [] back c id same apart there = rw same (mode_in-beside back c id same (both (list_all (λ x. not (collides c x)) back) (none_collide back) apart).0 there)
+mode_in-shared [] back c id same apart there = rw same (mode_in-beside back c id same (and_parts (list_all (λ x. not (collides c x)) back) (none_collide back) apart).0 there)
 mode_in-shared (g ∷ front) back c id same apart there =
-    let parts = both (list_all (λ x. not (collides g x)) (front ++ c ∷ back)) (none_collide (front ++ c ∷ back)) apart in
+    let parts = and_parts (list_all (λ x. not (collides g x)) (front ++ c ∷ back)) (none_collide (front ++ c ∷ back)) apart in
     elim (same_puid id g.id) as (λ s. same_puid id g.id ≡ s
     → option_map (λ h. h.mode) (cond s (Some g) (find (λ h. same_puid id h.id) (front ++ back))) ≡ option_map (λ h. h.mode) (cond s (Some g) (find (λ h. same_puid id h.id) (front ++ c ∷ back)))) [
       | true ↦ λ here. refl
@@ -99,21 +85,21 @@ mode_in-shared (g ∷ front) back c id same apart there =
 -- ---- what holds of all still does
 
 list_all-without : (p : Grant → Bool) (front back : List Grant) (c : Grant) → list_all p (front ++ c ∷ back) ≡ true → list_all p (front ++ back) ≡ true
-list_all-without p [] back c all = (both (p c) (list_all p back) all).1
+list_all-without p [] back c all = (and_parts (p c) (list_all p back) all).1
 list_all-without p (g ∷ front) back c all =
-    let parts = both (p g) (list_all p (front ++ c ∷ back)) all in
+    let parts = and_parts (p g) (list_all p (front ++ c ∷ back)) all in
     rw parts.0 (list_all-without p front back c parts.1)
 
 none_collide-without : (front back : List Grant) (c : Grant) → none_collide (front ++ c ∷ back) ≡ true → none_collide (front ++ back) ≡ true
-none_collide-without [] back c apart = (both (list_all (λ x. not (collides c x)) back) (none_collide back) apart).1
+none_collide-without [] back c apart = (and_parts (list_all (λ x. not (collides c x)) back) (none_collide back) apart).1
 none_collide-without (g ∷ front) back c apart =
-    let parts = both (list_all (λ x. not (collides g x)) (front ++ c ∷ back)) (none_collide (front ++ c ∷ back)) apart in
+    let parts = and_parts (list_all (λ x. not (collides g x)) (front ++ c ∷ back)) (none_collide (front ++ c ∷ back)) apart in
     rw (list_all-without (λ x. not (collides g x)) front back c parts.0) (none_collide-without front back c parts.1)
 
 tuids_differ-without : (front back : List Grant) (c : Grant) → tuids_differ (front ++ c ∷ back) ≡ true → tuids_differ (front ++ back) ≡ true
-tuids_differ-without [] back c differ = (both (list_all (λ x. not (same_tuid c.tuid x.tuid)) back) (tuids_differ back) differ).1
+tuids_differ-without [] back c differ = (and_parts (list_all (λ x. not (same_tuid c.tuid x.tuid)) back) (tuids_differ back) differ).1
 tuids_differ-without (g ∷ front) back c differ =
-    let parts = both (list_all (λ x. not (same_tuid g.tuid x.tuid)) (front ++ c ∷ back)) (tuids_differ (front ++ c ∷ back)) differ in
+    let parts = and_parts (list_all (λ x. not (same_tuid g.tuid x.tuid)) (front ++ c ∷ back)) (tuids_differ (front ++ c ∷ back)) differ in
     rw (list_all-without (λ x. not (same_tuid g.tuid x.tuid)) front back c parts.0) (tuids_differ-without front back c parts.1)
 
 pub few-without : (front back : List Grant) (c : Grant) (who : ℕ) → length (grants_of (front ++ back) who) ≤ length (grants_of (front ++ c ∷ back) who)

@@ -1,33 +1,12 @@
 -- Calls on the disk below, one after the other.
-use Rattle.std.proofs.Common.{◌≡◌, ◌≢◌, ◌⊎◌, inl, inr, ⊎_elim, ℕ, ◌/◌, ◌<◌, ◌≤◌, Bool, ◌&&◌, IsTrue, List, [], length, set, refl, sym, ◌∙◌, ap, subst, arith, get_or-set_same, get_or-set_other}
-use Rattle.std.proofs.lemmas.Bool.{and_parts}
-use Rattle.cfs_base.specs.Disk.{Image, IsSameDisk, LeavesOnly, Nothing, Written, block_at}
-use Rattle.pair_disk.specs.declared.half.Half.{Half}
-use Rattle.pair_disk.specs.declared.torn_disk.TornDisk.{Ghosts}
-use Rattle.pair_disk.specs.Torn.{Torn}
-use Rattle.pair_disk.specs.Laws.{half_on}
-use Rattle.pair_disk.specs.Pair.{IsFlushed, PairLeft, gate_at, gate_for, half_at, other_half, pairs_in, shown_by, shown_half_of, tells_both, tells_pair}
-use Rattle.pair_disk.specs.Below.{ChangesPair, Stays, PutsBelow}
+use Rattle.std.proofs.Common.{◌≡◌, ◌≢◌, ◌⊎◌, inl, inr, ⊎_elim, ℕ, ◌/◌, ◌<◌, ◌≤◌, Result, Ok, Err, OnOk, IsTrue, List, [], length, set, refl, sym, ◌∙◌, ap, subst, arith, get_or-set_same, get_or-set_other}
+use Rattle.pair_disk.proofs.Words.{ChangesPair, Ghosts, Half, Image, IsFlushed, IsSameDisk, LeavesOnly, Nothing, PairLeft, PutsBelow, Stays, Torn, Written, and_from, and_parts, block_at, gate_at, gate_for, half_at, half_on, joined, other_half, pairs_in, shown_by, shown_half_of, tells_both, tells_pair, widened}
 use Rattle.pair_disk.proofs.Pairs.{gate_apart, gate_turned, gate_written, halves_apart, hidden_written}
 
-pub both : (a b : Bool) → IsTrue a → IsTrue b → IsTrue (a && b)
-both a b one two = ap (λ (x : Bool). x && b) one ∙ two
-
--- images left in two stretches
-pub then : {D : Type 0} (moment : D → ℕ) (left : D → ℕ → Image → Type 0) (old mid new : D) (P Q : Image → Type 0) → LeavesOnly moment left old mid P → LeavesOnly moment left mid new Q → ((c : Image) → Q c → P c) → LeavesOnly moment left old new P
-then moment left old mid new P Q run step has = record {
-  later = omega (arith, run.later, step.later);
-  since = λ t c le h. ⊎_elim (λ was. run.since t c le was) (λ q. inr (has c q)) (step.since t c (omega (arith, le, run.later)) h);
-  now = λ c h. ⊎_elim (λ was. run.now c was) (λ q. inr (has c q)) (step.now c h);
-}
-
--- more room for what is left
-pub wider : {D : Type 0} (moment : D → ℕ) (left : D → ℕ → Image → Type 0) (old new : D) (P Q : Image → Type 0) → LeavesOnly moment left old new P → ((c : Image) → P c → Q c) → LeavesOnly moment left old new Q
-wider moment left old new P Q run has = record {
-  later = run.later;
-  since = λ t c le h. ⊎_elim (λ was. inl was) (λ p. inr (has c p)) (run.since t c le h);
-  now = λ c h. ⊎_elim (λ was. inl was) (λ p. inr (has c p)) (run.now c h);
-}
+-- what was promised of one that is done, made into more
+pub on_ok : {V E P Q : Type 0} (r : Result V E) → OnOk r P → (P → Q) → OnOk r Q
+on_ok (Ok v) p to = to p
+on_ok (Err e) p to = tt
 
 module _ {T : Type 0} (g : Ghosts T) where
   -- what a disk that tells both is
@@ -37,7 +16,7 @@ module _ {T : Type 0} (g : Ghosts T) where
   told_both : (old new : T) → IsSameDisk g.blocks g.honest g.tells_images old new → IsTrue (tells_both g new) → IsTrue (tells_both g old)
   told_both old new same tells =
       let is = tells_two new tells in
-      both (g.honest old) (g.tells_images old) (sym same.honesty ∙ is.0) (sym same.telling ∙ is.1)
+      and_from (g.honest old) (g.tells_images old) (sym same.honesty ∙ is.0) (sym same.telling ∙ is.1)
 
   -- what images below show
   pub lifts : (old new : T) (P Q : Image → Type 0) → LeavesOnly g.moment g.left_since old new P → IsSameDisk g.blocks g.honest g.tells_images old new
@@ -55,7 +34,7 @@ module _ {T : Type 0} (g : Ghosts T) where
 
   -- calls that write nothing
   pub stays_shown : (old new : T) (Q : Image → Type 0) → Stays g old new → LeavesOnly g.moment (PairLeft g) old new Q
-  stays_shown old new Q stays = wider g.moment (PairLeft g) old new (λ c. IsTrue (tells_both g old) × Nothing c) Q
+  stays_shown old new Q stays = widened g.moment (PairLeft g) old new (λ c. IsTrue (tells_both g old) × Nothing c) Q
       (lifts old new Nothing Nothing stays.images stays.same (λ below tells none. absurd none)) (λ c none. absurd none.1)
 
   -- a barrier after a write
@@ -63,7 +42,7 @@ module _ {T : Type 0} (g : Ghosts T) where
   then_stays at old mid new wrote stays = record {
     put = λ honest. let was = wrote.put honest in (was.0, stays.content ∙ was.1);
     told_others = λ k not was. stays.told k (wrote.told_others k not was);
-    images = then g.moment g.left_since old mid new (Torn (λ c. g.left_since old (g.moment old) c) at) Nothing wrote.images stays.images (λ c none. absurd none);
+    images = joined g.moment g.left_since old mid new (Torn (λ c. g.left_since old (g.moment old) c) at) Nothing wrote.images stays.images (λ c none. absurd none);
     keeps = λ t c le was. stays.keeps t c (omega (arith, le, wrote.images.later)) (wrote.keeps t c le was);
     same = record { size = stays.same.size ∙ wrote.same.size; honesty = stays.same.honesty ∙ wrote.same.honesty; telling = stays.same.telling ∙ wrote.same.telling };
     faults = omega (arith, wrote.faults, stays.faults);
@@ -76,7 +55,7 @@ module _ {T : Type 0} (g : Ghosts T) where
   tells_on old new m gate told tells =
       let half : ℕ = half_at (shown_half_of (g.content old) m) m in
       let is = and_parts (g.told old (gate_at m)) (g.told old half) tells in
-      both (g.told new (gate_at m)) (g.told new (half_at (shown_half_of (g.content new) m) m)) (told (gate_at m) (inl refl) is.0)
+      and_from (g.told new (gate_at m)) (g.told new (half_at (shown_half_of (g.content new) m) m)) (told (gate_at m) (inl refl) is.0)
       (subst (λ (b : List ℕ). IsTrue (g.told new (half_at (shown_by b) m))) (sym gate) (told half (inr refl) is.1))
 
   -- the content as it was
@@ -177,7 +156,7 @@ module _ {T : Type 0} (g : Ghosts T) where
       let L : T → ℕ → Image → Type 0 = PairLeft g in
       let P : Image → Type 0 = λ c. IsTrue (tells_both g read) × (c ≡ set (pairs_in (g.content read)) n b) in
       let content : g.content read ≡ g.content old = second.content ∙ first.content in
-      then g.moment L old settled new W W (stays_shown old settled W first) (then g.moment L settled read new W P (stays_shown settled read W second) change.images (λ c is.
+      joined g.moment L old settled new W W (stays_shown old settled W first) (joined g.moment L settled read new W P (stays_shown settled read W second) change.images (λ c is.
       let tells : IsTrue (tells_both g old) = told_both old settled first.same (told_both settled read second.same is.0) in
       (pairs_in (g.content old), stays_left may_stay old tells (pairs_in (g.content old)) refl (g.moment old) (omega arith), is.1 ∙ ap (λ (i : Image). set (pairs_in i) n b) content))) (λ c is. is)
 

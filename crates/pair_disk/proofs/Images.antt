@@ -1,16 +1,6 @@
 -- What a crash leaves of a disk in memory after one call more.
 use Rattle.std.proofs.Common.{◌≡◌, ◌≢◌, ◌⊎◌, inl, inr, ⊎_elim, ℕ, ◌<◌, ◌≤◌, Bool, true, false, ◌||◌, nat_eq, List, [], length, set, refl, sym, ◌∙◌, ap, subst, arith, length-set, get_or-set_same, get_or-set_other, set-set, ext_get_or, Vec, Global}
-use Rattle.std.proofs.lemmas.List.{set-get_or}
-use Rattle.std.proofs.lemmas.Bool.{cases_eq}
-use Rattle.std.proofs.lemmas.Bool.Decides.{nat_tests}
-use Rattle.cfs_base.specs.declared.block.Block.{Block}
-use Rattle.cfs_base.specs.Disk.{Image, AreBlocks, IsBlock, LeavesOnly, Nothing, block_at}
-use Rattle.pair_disk.specs.declared.kept.Call.TheVariants.{Write, Barrier}
-use Rattle.pair_disk.specs.declared.kept.Kept.{Kept}
-use Rattle.pair_disk.specs.Torn.{Torn}
-use Rattle.pair_disk.specs.declared.history.History.{History}
-use Rattle.pair_disk.specs.Replay.{IsImage, State, after, replay, unwritten}
-use Rattle.pair_disk.specs.History.{clock, left_of, count_of, state_now}
+use Rattle.pair_disk.proofs.Words.{AreBlocks, Barrier, Block, History, Image, IsBlock, IsImage, Kept, LeavesOnly, Nothing, State, Torn, Write, after, block_at, cases_eq, clock, count_of, left_of, lifted, nat_tests, replay, set-get_or, state_now, unwritten}
 
 -- a number is itself, and no other
 is_self : (n : ℕ) (b : Bool) → (nat_eq n n || b) ≡ true
@@ -95,14 +85,6 @@ module _ (s : State) (n : ℕ) (c : Image) (on : n < length c) (h : IsImage (aft
 pub flushed : (s : State) (blocks : Vec Block Global) (c : Image) → IsImage (after (Barrier blocks) s) c → c ≡ blocks.items
 flushed s blocks c h = ext_get_or [] c blocks.items h.size (λ n on. h.whole n refl)
 
--- the blocks that aren't torn hold what they held at the barrier, after a write that was tried
-pub held_tried : (s : State) (n : ℕ) (content : Image) → ((k : ℕ) → s.torn k ≡ false → block_at content k ≡ block_at s.base k) → (k : ℕ) → (after (Write n) s).torn k ≡ false → block_at content k ≡ block_at s.base k
-held_tried s n content held k is = held k (sym (apart k n (s.torn k) (not_it k n (s.torn k) is)) ∙ is)
-
--- and one that is done
-pub held_written : (s : State) (n : ℕ) (b : List ℕ) (content : Image) → ((k : ℕ) → s.torn k ≡ false → block_at content k ≡ block_at s.base k) → (k : ℕ) → (after (Write n) s).torn k ≡ false → block_at (set content n b) k ≡ block_at s.base k
-held_written s n b content held k is = get_or-set_other content n k b [] (not_it k n (s.torn k) is) ∙ held_tried s n content held k is
-
 -- nothing was written yet
 pub fresh : (h : History) (t : ℕ) → h.kept.items ≡ [] → (c : Image) → left_of h t c → c ≡ h.first.items
 fresh h t none c left =
@@ -111,21 +93,10 @@ fresh h t none c left =
 
 -- what a history says of the disk that holds it
 module _ {D : Type 0} (history : D → History) where
-  lifts : {old new : D} {P Q : Image → Type 0} → LeavesOnly clock left_of (history old) (history new) P → ((c : Image) → P c → ((t : ℕ) → t ≤ clock (history old) → left_of (history old) t c) ⊎ Q c)
-      → LeavesOnly (λ d. clock (history d)) (λ d. left_of (history d)) old new Q
-  lifts {old} {new} {P} {Q} images has = record {
-    later = images.later;
-    since = λ t c le h. was t c le (images.since t c le h);
-    now = λ c h. was (clock (history old)) c (omega arith) (images.now c h);
-  }
-    where
-      was : (t : ℕ) (c : Image) → t ≤ clock (history old) → left_of (history old) t c ⊎ P c → left_of (history old) t c ⊎ Q c
-      was t c le h = ⊎_elim (λ before. inl before) (λ p. ⊎_elim (λ may. inl (may t le)) (λ q. inr q) (has c p)) h
-
   -- a write that was tried
   pub writes : {old new : D} (n : ℕ) → n < count_of (history old) → LeavesOnly clock left_of (history old) (history new) (IsImage (after (Write n) (state_now (history old))))
       → LeavesOnly (λ d. clock (history d)) (λ d. left_of (history d)) old new (Torn (left_of (history old) (clock (history old))) n)
-  writes {old} n on images = lifts images (λ c h.
+  writes {old} n on images = lifted clock left_of history images (λ c h.
       let m : ℕ = clock (history old) in
       let s : State = state_now (history old) in
       ⊎_elim (λ is. inl (λ t le. (m, le, omega arith, is))) (λ torn. inr (torn.0, (m, omega arith, omega arith, torn.1), torn.2)) (tried s n c (omega (arith, on, h.size, ((history old).sized m).size)) h))
@@ -134,4 +105,4 @@ module _ {D : Type 0} (history : D → History) where
   pub flushes : {old new : D} (blocks : Vec Block Global) → ((t : ℕ) → t ≤ clock (history old) → left_of (history old) t blocks.items) → LeavesOnly clock left_of (history old) (history new) (IsImage (after (Barrier blocks) (state_now (history old))))
       → LeavesOnly (λ d. clock (history d)) (λ d. left_of (history d)) old new Nothing
   flushes {old} blocks may images =
-      lifts images (λ c h. inl (λ t le. subst (left_of (history old) t) (sym (flushed (state_now (history old)) blocks c h)) (may t le)))
+      lifted clock left_of history images (λ c h. inl (λ t le. subst (left_of (history old) t) (sym (flushed (state_now (history old)) blocks c h)) (may t le)))

@@ -2,3 +2,4 @@ mod Pairs
 mod Calls
 mod Replays
 mod Images
+mod Words

@@ -1,12 +1,7 @@
 -- What the pair disk shows once a block below is written.
 use Rattle.std.proofs.Common.{◌≡◌, ◌≢◌, ◌⊎◌, inl, inr, ℕ, ◌+◌, ◌*◌, ◌/◌, ◌<◌, List, [], length, set, refl, sym, ◌∙◌, ap, subst, arith, length-set, get_or-set_same, get_or-set_other}
-use Rattle.std.proofs.lemmas.Bool.{cases_eq}
-use Rattle.std.proofs.lemmas.List.{ext_get_or, set-get_or}
-use Rattle.cfs_base.specs.Disk.{Image, block_at}
-use Rattle.pair_disk.specs.declared.half.Half.{Half}
-use Rattle.pair_disk.specs.declared.half.Half.TheVariants.{First, Second}
-use Rattle.pair_disk.specs.Pair.{gate_at, gate_for, half_at, other_half, pairs_in, shown_in, shown_by, shown_half_of}
-use Rattle.pair_disk.specs.Laws.{length-pairs, pairs-at}
+use Rattle.pair_disk.proofs.Words.{First, Half, Image, Second, block_at, cases_eq, gate_at, gate_for, half_at, length-pairs, other_half, pairs-at, pairs_in, set-get_or, shown_by, shown_half_of, shown_in}
+use Rattle.std.proofs.lemmas.List.{ext_get_or}
 
 -- ---- the blocks below are distinct
 

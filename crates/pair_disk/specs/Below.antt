@@ -28,7 +28,8 @@ pub record PutsBelow {T : Type 0} (g : Ghosts T) (at : ℕ) (old new : T) : Type
 -- A write of block n of the pair disk, or a part of it: it shows what it showed, or an image that has P, and so does
 -- what a crash leaves.
 pub record ChangesPair {T : Type 0} (g : Ghosts T) (n : ℕ) (P : Image → Type 0) (old new : T) : Type 0 where
-  pub content : IsTrue (g.honest old) → (pairs_in (g.content new) ≡ pairs_in (g.content old)) ⊎ P (pairs_in (g.content new))
+  pub content : IsTrue (g.honest old) →
+      (pairs_in (g.content new) ≡ pairs_in (g.content old)) ⊎ P (pairs_in (g.content new))
   pub told_others : (m : ℕ) → m ≢ n → IsTrue (tells_pair g old m) → IsTrue (tells_pair g new m)
   pub images : LeavesOnly g.moment (PairLeft g) old new (λ c. IsTrue (tells_both g old) × P c)
   pub keeps : KeepsLeft g.moment g.left_since old new

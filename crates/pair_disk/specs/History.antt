@@ -1,6 +1,7 @@
 -- What a history has kept.
-use Rattle.std.specs.Prelude.{ℕ, ◌≤◌, length}
+use Rattle.std.specs.Prelude.{ℕ, length}
 use Rattle.cfs_base.specs.Disk.{Image}
+use Rattle.cfs_base.specs.Replay.{Left}
 use Rattle.pair_disk.specs.Replay.{State, unwritten, replay, IsImage}
 use Rattle.pair_disk.specs.declared.history.History.{History}
 
@@ -16,7 +17,7 @@ state_now h = state_at h h.moment
 
 -- a crash at some moment since t may leave it
 abbrev pub left_of : History → ℕ → Image → Type 0
-left_of h t c = (m : ℕ) × (t ≤ m) × (m ≤ h.moment) × IsImage (state_at h m) c
+left_of h t c = Left IsImage (state_at h) h.moment t c
 
 -- how many blocks the disk has
 abbrev pub count_of : History → ℕ

@@ -1,6 +1,7 @@
 -- A disk of atomic blocks. Block n is kept in three blocks of the disk below: two halves, and a gate that says which
 -- of them is shown.
-use Rattle.std.specs.Prelude.{◌≡◌, ℕ, ◌+◌, ◌*◌, ◌/◌, Bool, ◌&&◌, IsTrue, if◌then◌else◌, nat_eq, List, [], length, get_or, map, set, replicate}
+use Rattle.std.specs.Prelude.{◌≡◌, ℕ, ◌+◌, ◌*◌, ◌/◌, Bool, ◌&&◌, IsTrue, if◌then◌else◌, nat_eq}
+use Rattle.std.specs.Prelude.{List, [], length, get_or, map, set, replicate}
 use Rattle.std.specs.List.{range_with_len}
 use Rattle.cfs_base.specs.Disk.{Image, block_at}
 use Rattle.pair_disk.specs.declared.half.Half.{Half}

@@ -1,7 +1,8 @@
 -- What a crash leaves of a disk in memory whose calls were kept.
-use Rattle.std.specs.Prelude.{◌≡◌, ℕ, ◌<◌, ◌&&◌, ◌||◌, Bool, true, false, nat_eq, nat_lt, if◌then◌else◌, List, [], ◌∷◌, length, set}
+use Rattle.std.specs.Prelude.{◌≡◌, ℕ, ◌<◌, ◌||◌, Bool, true, false, nat_eq, List, [], ◌∷◌, length, set}
 use Rattle.std.specs.List.{list_all}
 use Rattle.cfs_base.specs.Disk.{Image, AreBlocks, IsBlock, block_at}
+use Rattle.cfs_base.specs.Replay as calls
 use Rattle.pair_disk.specs.declared.kept.Call.{Call}
 use Rattle.pair_disk.specs.declared.kept.Call.TheVariants.{Write, Barrier}
 use Rattle.pair_disk.specs.declared.kept.Kept.{Kept}
@@ -21,19 +22,15 @@ abbrev pub after : Call → State → State
 after (Write at) s = record { base = s.base; torn = λ n. nat_eq n at || s.torn n }
 after (Barrier blocks) s = record { base = blocks.items; torn = λ n. false }
 
--- the same, where the call was made before moment t
-abbrev pub after_before : ℕ → Kept → State → State
-after_before t kept s = if nat_lt kept.moment t then after kept.call s else s
+abbrev pub made_at : Kept → ℕ
+made_at kept = kept.moment
+
+abbrev pub made : Kept → State → State
+made kept s = after kept.call s
 
 -- the state at moment t, after the calls made before it
 abbrev pub replay : State → ℕ → List Kept → State
-replay s t [] = s
-replay s t (kept ∷ later) = replay (after_before t kept s) t later
-
--- each call was made before moment t
-abbrev pub all_before : ℕ → List Kept → Bool
-all_before t [] = true
-all_before t (kept ∷ later) = nat_lt kept.moment t && all_before t later
+replay s t kept = calls.replay made_at made s t kept
 
 -- a crash may leave it: each block that was written since the barrier has any bytes, each other block those of then
 pub record IsImage (s : State) (c : Image) : Type 0 where

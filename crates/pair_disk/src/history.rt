@@ -2,7 +2,8 @@
 ghost use Rattle.std.specs.Prelude.{◌≡◌, ◌≤◌, ◌-◌, ◌^◌, ℕ, IsTrue, OnErr, OnOk, IsErr, [], length};
 ghost use Rattle.cfs_base.specs.Disk.{AreBlocks};
 ghost use Rattle.cfs_base.specs.Outside.{Rose, count_after};
-ghost use Rattle.pair_disk.specs.Replay.{HasSize, IsImage, IsOfBlocks, after, all_before, may_tear, replay, unwritten};
+ghost use Rattle.cfs_base.specs.Replay.{all_before};
+ghost use Rattle.pair_disk.specs.Replay.{HasSize, IsImage, IsOfBlocks, after, made_at, may_tear, replay, unwritten};
 
 use crate::kept::{Call, Kept, TornPick};
 use crate::replay::{base_after, torn_after};
@@ -18,7 +19,7 @@ pub struct History {
     moment: u64,
     kept: Vec<Kept>,
     ghost clocked: { moment ≤ 2 ^ 64 - 1 },
-    ghost past: { IsTrue (all_before moment kept.items) },
+    ghost past: { IsTrue (all_before made_at moment kept.items) },
     ghost sized: { (t : ℕ) → IsOfBlocks (length first.items) (replay (unwritten first.items) t kept.items) },
 }
 

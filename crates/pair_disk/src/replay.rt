@@ -1,7 +1,8 @@
 //! Kept calls, made again up to a crash.
 ghost use Rattle.std.specs.Prelude.{◌≡◌, ◌<◌, IsTrue, length, set};
 ghost use Rattle.cfs_base.specs.Disk.{AreBlocks, IsBlock};
-ghost use Rattle.pair_disk.specs.Replay.{IsImage, State, after_before, may_tear, picked};
+ghost use Rattle.cfs_base.specs.Replay.{after_before};
+ghost use Rattle.pair_disk.specs.Replay.{IsImage, State, made, made_at, may_tear, picked};
 
 use crate::kept::{Call, Kept, TornPick};
 use crate::store::put;
@@ -9,7 +10,8 @@ use cfs_base::Block;
 
 /// The content at the last barrier, after this call where it was made before the moment.
 pub fn base_after<'a>(base: &'a Vec<Block>, kept: &'a Kept, at: u64) -> &'a Vec<Block>
-    ensures { (s : State) → base.now.items ≡ s.base → result.now.items ≡ (after_before at kept.now s).base }
+    ensures { (s : State) → base.now.items ≡ s.base
+        → result.now.items ≡ (after_before made_at made at kept.now s).base }
 {
     match &kept.call {
         Call::Barrier(blocks) if kept.moment < at => blocks,
@@ -19,7 +21,8 @@ pub fn base_after<'a>(base: &'a Vec<Block>, kept: &'a Kept, at: u64) -> &'a Vec<
 
 /// Whether a block was written since that barrier.
 pub fn torn_after(torn: bool, kept: &Kept, at: u64, block: u32) -> bool
-    ensures { (s : State) → torn ≡ s.torn block → result ≡ (after_before at kept.now s).torn block }
+    ensures { (s : State) → torn ≡ s.torn block
+        → result ≡ (after_before made_at made at kept.now s).torn block }
 {
     if kept.moment >= at {
         return torn;

@@ -1,6 +1,8 @@
 //! A disk whose writes may tear.
-ghost use Rattle.std.specs.Prelude.{◌≡◌, ◌≢◌, ◌-◌, ◌^◌, ◌<◌, ◌≤◌, ℕ, Bool, false, IsTrue, List, [], length, set, OnOk, OnErr, IsErr};
-ghost use Rattle.cfs_base.specs.Disk.{AreBlocks, block_at, Nothing, Only, IsSameDisk, LeavesOnly, KeepsLeft, CountsRead, CountsTry};
+ghost use Rattle.std.specs.Prelude.{◌≡◌, ◌≢◌, ◌-◌, ◌^◌, ◌<◌, ◌≤◌, ℕ, Bool, false, List, [], length, set};
+ghost use Rattle.std.specs.Prelude.{IsErr, IsTrue, OnErr, OnOk};
+ghost use Rattle.cfs_base.specs.Disk.{AreBlocks, IsSameDisk, CountsRead, CountsTry, block_at};
+ghost use Rattle.cfs_base.specs.Disk.{Nothing, Only, LeavesOnly, KeepsLeft};
 ghost use Rattle.pair_disk.specs.Torn.{Torn, TornAt};
 
 use cfs_base::{Block, BlockNo, Failed};

@@ -1,6 +1,6 @@
 //! The disks of tests, called as the server calls a disk.
 use cfs_base::{Block, BlockNo, Disk, Failed};
-use cfs_fakes::{MemoryDisk, Pick, Untold};
+use cfs_fakes::{MemoryDisk, Pick, Watched};
 use std::alloc::Global;
 use std::process::Abort;
 use std::test::Fail;
@@ -154,10 +154,10 @@ fn save_and_replace<D: Disk>(disk: &mut D, value: u64) -> Result<(), Failed> {
 #[test]
 fn six_calls_in_a_row_are_made_on_a_disk_that_tells_nothing(rt: HostRuntime) -> Result<(), Fail> {
     let alloc = rt.alloc();
-    let mut disk = Untold::new(MemoryDisk::failing(alloc, 2, vec![in alloc; 11]?)?);
+    let mut disk = Watched::new(MemoryDisk::failing(alloc, 2, vec![in alloc; 11]?)?);
     save_and_replace(&mut disk, A)?;
     let second = save_and_replace(&mut disk, B);
-    let mut bare = disk.into_inner();
+    let mut bare = disk.lower;
     assert_eq!(rt; (second, bare.calls()), (Err(Failed), 12));
     assert_eq!(rt; (read(&mut bare, 0), read(&mut bare, 1)), (Ok(B), Ok(A)));
     Ok(())

@@ -1,11 +1,6 @@
 -- The first identifier from a number on.
 use Rattle.std.proofs.Common.{◌≡◌, ◌⊎◌, ⊎_elim, ◌/◌, ◌%◌, ℕ, zero, suc, ◌+◌, ◌*◌, ◌^◌, ◌<◌, ◌≤◌, List, [], ◌∷◌, ◌++◌, get_or, drop, refl, ◌∙◌, arith, Option, Some, None, true, false, leb, add-one}
-use Rattle.std.proofs.lemmas.Bool.Decides.{nat_tests}
-use Rattle.cfs_base.specs.declared.identifier.Puid.{Puid}
-use Rattle.cfs_base.specs.declared.kind.Kind.{Kind}
-use Rattle.puid_space.specs.declared.directory.Cell.{Cell}
-use Rattle.puid_space.specs.Directory.{first_in, number_of}
-use Rattle.puid_space.specs.Cells.{listed}
+use Rattle.puid_space.proofs.Words.{Cell, Kind, Puid, first_in, listed, nat_tests, number_of}
 
 -- ---- what is left from a block on
 

@@ -1,18 +1,6 @@
 -- The kinds of a graph's objects, and what a graph's changes do to them.
 use Rattle.std.proofs.Common.{◌≡◌, List, [], ◌∷◌, refl, sym, ap, ◌∙◌, arith, Some, None, Bool, true, false, cond, not, ◌&&◌, ◌||◌, ℕ}
-use Rattle.std.specs.Prelude.{filter, option_map}
-use Rattle.std.specs.List.{list_all}
-use Rattle.std.specs.Ordering.{is_eq, is_lt, match_ordering}
-use Rattle.std.specs.declared.cmp.Ordering.TheVariants.{Less, Equal, Greater}
-use Rattle.std.specs.BTreeMap.{insert_entry, is_at}
-use Rattle.std.specs.Map.{lookup, keys_of}
-use Rattle.std.proofs.lemmas.Bool.Decides.{nat_tests}
-use Rattle.cfs_base.specs.declared.identifier.Puid.{Puid}
-use Rattle.cfs_base.specs.declared.kind.Kind.{Kind}
-use Rattle.ufs_model.specs.declared.object.Object.{Object}
-use Rattle.ufs_model.specs.Identifier.{puid_cmp, same_puid, is_among, rises}
-use Rattle.puid_space.specs.Kinds.{kind_of, kinds_in}
-use Rattle.puid_space.specs.Directory.{kind_in, kept_by, taken_by}
+use Rattle.puid_space.proofs.Words.{Equal, Greater, Kind, Less, Object, Puid, and_parts, filter, insert_entry, is_among, is_at, is_eq, is_lt, kept_by, keys_of, kind_in, kind_of, kinds_in, list_all, lookup, match_ordering, nat_tests, option_map, puid_cmp, rises, same_puid, taken_by}
 
 pub keys_of-kinds_in : (es : List (Puid × Object)) → keys_of (kinds_in es) ≡ keys_of es
 keys_of-kinds_in [] = refl
@@ -40,13 +28,9 @@ kinds_in-insert_entry (e ∷ es) id o =
 not_found : (id x : Puid) (named : List (Puid × Kind)) → puid_cmp id x ≡ Less → list_all (λ y. is_lt (puid_cmp x y)) (keys_of named) ≡ true → kind_in named id ≡ None
 not_found id x [] less all = refl
 not_found id x (e ∷ named) less all =
-    let both = both_true (is_lt (puid_cmp x e.0)) (list_all (λ y. is_lt (puid_cmp x y)) (keys_of named)) all in
+    let both = and_parts (is_lt (puid_cmp x e.0)) (list_all (λ y. is_lt (puid_cmp x y)) (keys_of named)) all in
     rw (other id x e.0 less both.0) (not_found id x named less both.1)
   where
-    both_true : (t u : Bool) → (t && u) ≡ true → (t ≡ true) × (u ≡ true)
-    both_true true u h = (refl, h)
-    both_true false u h = cc
-
     other : (a b c : Puid) → puid_cmp a b ≡ Less → is_lt (puid_cmp b c) ≡ true → is_eq (puid_cmp a c) ≡ false
     other a b c h k = grind (arith, nat_tests)
 
@@ -56,15 +40,11 @@ insert_entry-same [] id kind sorted found = cc
 insert_entry-same (e ∷ named) id kind sorted found =
     elim (puid_cmp id e.0) as (λ r. puid_cmp id e.0 ≡ r → match_ordering r ((id, kind) ∷ e ∷ named) ((e.0, kind) ∷ named) (e ∷ insert_entry puid_cmp named id kind) ≡ e ∷ named) [
       | Less ↦ λ is.
-          let none = not_found id e.0 named is (parts _ _ sorted).0 in
+          let none = not_found id e.0 named is (and_parts _ _ sorted).0 in
           let found' : kind_in named id ≡ Some kind = rw is at found in absurd (cc)
       | Equal ↦ λ is. let found' : Some e.1 ≡ Some kind = rw is at found in let same : e.1 ≡ kind = cc in ap (λ k. (e.0, k) ∷ named) (sym same)
-      | Greater ↦ λ is. ap (λ rest. e ∷ rest) (insert_entry-same named id kind (parts _ _ sorted).1 (rw is at found))
+      | Greater ↦ λ is. ap (λ rest. e ∷ rest) (insert_entry-same named id kind (and_parts _ _ sorted).1 (rw is at found))
     ] refl
-  where
-    parts : (t u : Bool) → (t && u) ≡ true → (t ≡ true) × (u ≡ true)
-    parts true u h = (refl, h)
-    parts false u h = cc
 
 pub kinds_in-filter : (p : Puid → Bool) (es : List (Puid × Object)) → kinds_in (filter (λ e. p e.0) es) ≡ filter (λ e. p e.0) (kinds_in es)
 kinds_in-filter p [] = refl

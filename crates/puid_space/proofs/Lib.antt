@@ -4,3 +4,4 @@ pub mod Opened
 pub mod Firsts
 pub mod Taken
 pub mod Graphs
+mod Words

@@ -1,14 +1,6 @@
 -- What a table lists: the kind of an identifier, its root blocks, one more and one less.
 use Rattle.std.proofs.Common.{◌≡◌, ◌≢◌, ℕ, zero, suc, ◌+◌, ◌<◌, List, [], ◌∷◌, length, get_or, set, refl, sym, ap, ◌∙◌, arith, Option, Some, None, true, false, cond, eqb, is_some}
-use Rattle.std.specs.declared.cmp.Ordering.TheVariants.{Less, Greater}
-use Rattle.std.specs.BTreeMap.{insert_entry}
-use Rattle.std.proofs.lemmas.Bool.Decides.{nat_tests}
-use Rattle.cfs_base.specs.declared.identifier.Puid.{Puid}
-use Rattle.cfs_base.specs.declared.kind.Kind.{Kind}
-use Rattle.ufs_model.specs.Identifier.{puid_cmp, same_puid}
-use Rattle.puid_space.specs.declared.directory.Cell.{Cell}
-use Rattle.puid_space.specs.Directory.{kind_in, has_root_in, without_id}
-use Rattle.puid_space.specs.Cells.{listed}
+use Rattle.puid_space.proofs.Words.{Cell, Greater, Kind, Less, Puid, has_root_in, insert_entry, kind_in, listed, nat_tests, puid_cmp, same_puid, without_id}
 
 -- ---- two identifiers
 

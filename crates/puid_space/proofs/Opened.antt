@@ -1,18 +1,6 @@
 -- A directory, opened: what its table shows, and the changes of one cell.
 use Rattle.std.proofs.Common.{◌≡◌, vec_len, ℕ, zero, suc, ◌+◌, ◌-◌, ◌^◌, ◌<◌, ◌≤◌, List, [], ◌∷◌, length, get_or, set, refl, sym, ap, ◌∙◌, arith, Option, Some, None, Bool, true, false, cond, eqb, ltb, is_some}
-use Rattle.std.specs.List.{list_all}
-use Rattle.std.specs.Ordering.{is_lt}
-use Rattle.std.specs.declared.cmp.Ordering.TheVariants.{Less}
-use Rattle.std.specs.BTreeMap.{insert_entry}
-use Rattle.std.specs.Map.{keys_of}
-use Rattle.std.proofs.lemmas.Bool.Decides.{nat_tests}
-use Rattle.cfs_base.specs.declared.identifier.Puid.{Puid}
-use Rattle.cfs_base.specs.declared.kind.Kind.{Kind}
-use Rattle.ufs_model.specs.Identifier.{puid_cmp, rises}
-use Rattle.puid_space.specs.declared.directory.Cell.{Cell}
-use Rattle.puid_space.specs.declared.directory.Directory.TheInside.{Inside}
-use Rattle.puid_space.specs.Directory.{kind_in, has_root_in, without_id, blocks_rise, is_listing, Listing}
-use Rattle.puid_space.specs.Cells.{listed, IsTable}
+use Rattle.puid_space.proofs.Words.{Cell, Inside, IsTable, Kind, Less, Listing, Puid, blocks_rise, has_root_in, insert_entry, is_listing, is_lt, keys_of, kind_in, list_all, listed, nat_tests, puid_cmp, rises, without_id}
 use Rattle.puid_space.proofs.Listed.{kind_here, kind-listed, root-listed, listed-filled, listed-emptied, below}
 use Rattle.puid_space.proofs.Tables.{length-listed, IsTable-filled, IsTable-emptied}
 

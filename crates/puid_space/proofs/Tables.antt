@@ -1,9 +1,6 @@
 -- A table as a whole: how many identifiers it counts, and what changes keep it.
 use Rattle.std.proofs.Common.{◌≡◌, ◌≢◌, ℕ, zero, suc, ◌+◌, ◌-◌, ◌^◌, ◌<◌, ◌≤◌, List, [], ◌∷◌, ◌++◌, length, get_or, set, replicate, refl, sym, ap, ◌∙◌, arith, Option, Some, None, true, false, eqb, add-zero, length-append, append-nil, get_or-set_same, get_or-set_other}
-use Rattle.std.proofs.lemmas.List.{length-set, length-replicate}
-use Rattle.std.proofs.lemmas.Bool.Decides.{nat_tests}
-use Rattle.puid_space.specs.declared.directory.Cell.{Cell}
-use Rattle.puid_space.specs.Cells.{listed, IsTable}
+use Rattle.puid_space.proofs.Words.{Cell, IsTable, length-replicate, length-set, listed, nat_tests}
 
 -- ---- how many
 

@@ -1,14 +1,7 @@
 -- Identifiers taken out in one pass over the table.
 use Rattle.std.proofs.Common.{◌≡◌, ℕ, zero, suc, ◌+◌, ◌-◌, ◌<◌, ◌≤◌, List, [], ◌∷◌, ◌++◌, length, get_or, set, take, drop, refl, sym, ap, ◌∙◌, arith, Option, Some, None, Bool, true, false, cond, not, add-one, append-nil, append_assoc}
-use Rattle.std.specs.Prelude.{filter}
-use Rattle.std.specs.Map.{keys_of}
-use Rattle.std.proofs.lemmas.List.{length-set, drop-set-lt, take-set, get_or-drop, map-append, drop-drop, take_all, get_or-set_same}
-use Rattle.std.proofs.lemmas.List.Elements.{filter-append}
-use Rattle.cfs_base.specs.declared.identifier.Puid.{Puid}
-use Rattle.cfs_base.specs.declared.kind.Kind.{Kind}
-use Rattle.puid_space.specs.declared.directory.Cell.{Cell}
-use Rattle.puid_space.specs.Directory.{kept_by, taken_by}
-use Rattle.puid_space.specs.Cells.{listed, IsTable}
+use Rattle.puid_space.proofs.Words.{Cell, IsTable, Kind, Puid, drop-drop, drop-set-lt, filter, filter-append, get_or-drop, kept_by, keys_of, length-set, listed, map-append, take-set, take_all, taken_by}
+use Rattle.std.proofs.lemmas.List.{get_or-set_same}
 use Rattle.puid_space.proofs.Firsts.{listed_here}
 use Rattle.puid_space.proofs.Tables.{count_here, length-set_listed, IsTable-emptied}
 

@@ -1,35 +1,6 @@
 -- A disk in the middle of a step of a draft: each object stands in every image, and only blocks of the draft changed.
 use Rattle.std.proofs.Common.{◌≡◌, ◌≢◌, inl, ⊎_elim, ℕ, ◌<◌, IsTrue, true, List, length, set, Ok, Some, sym, subst, arith}
-use Rattle.std.specs.Prelude.{IfOk, OnOk, Result}
-use Rattle.cfs_base.specs.Calls.{OnlyReads}
-use Rattle.cfs_base.specs.Disk.{Image, IsSameDisk, Nothing, Written}
-use Rattle.cfs_base.specs.Run.{Leaves, left_now}
-use Rattle.cfs_base.specs.declared.disk.Disk.{Ghosts}
-use Rattle.cfs_base.specs.declared.identifier.BlockNo.{BlockNo}
-use Rattle.cfs_base.specs.declared.identifier.Puid.{Puid}
-use Rattle.cfs_base.specs.declared.kind.Place.TheVariants.{Root}
-use Rattle.cfs_base.specs.declared.refusal.Refused.{Refused}
-use Rattle.cfs_base.proofs.Runs.{still_tells, then, wider}
-use Rattle.cyl_map.specs.Entry.{IsEntry}
-use Rattle.cyl_map.specs.declared.entry.MapEntry.{MapEntry}
-use Rattle.cyl_map.specs.Volume.{is_free_in, map_of, map_with, with_entry}
-use Rattle.cyl_map.proofs.Volumes.{map_in_image}
-use Rattle.cyl_alloc.specs.Enters.{Enters, EntryWritten}
-use Rattle.cyl_alloc.specs.Space.{AreCounts, IsLeastFree, Kept}
-use Rattle.ufs_model.specs.declared.object.Object.{Object}
-use Rattle.ufs_model.specs.Graph.{Graph, object_at}
-use Rattle.vol_image.specs.Frame.{Frames}
-use Rattle.vol_image.specs.Run.{Carries}
-use Rattle.vol_image.specs.Sound.{Holds}
-use Rattle.vol_image.proofs.Carries.{carries_on}
-use Rattle.vol_image.proofs.Law.{frames_hold}
-use Rattle.vol_image.proofs.Parts.{taken_apart}
-use Rattle.vol_image.proofs.Steps.{frames_back, frames_then, frames_write, not_map}
-use Rattle.vol_owners.specs.Account.{Opened, is_meant_for}
-use Rattle.vol_owners.specs.Change.{ChangesOnly, of_draft}
-use Rattle.vol_owners.specs.Owner.{is_meant, is_of}
-use Rattle.vol_owners.proofs.Changes.{changes_begin, changes_then}
-use Rattle.intentions.specs.Store.{StoreHas}
+use Rattle.special_files.proofs.Words.{AreCounts, BlockNo, Carries, ChangesOnly, Enters, EntryWritten, Frames, Ghosts, Graph, Holds, IfOk, Image, IsEntry, IsLeastFree, IsSameDisk, Kept, Leaves, MapEntry, Nothing, Object, OnOk, OnlyReads, Opened, Puid, Refused, Result, Root, StoreHas, Written, carries_on, changes_begin, changes_then, frames_back, frames_hold, frames_then, frames_write, is_free_in, is_meant, is_meant_for, is_of, left_now, map_in_image, map_of, map_with, not_map, object_at, of_draft, still_tells, taken_apart, then, wider, with_entry}
 use Rattle.special_files.proofs.Meant.{claim_changes, claim_framed, counts_content, free_is, meant_changes, meant_is, meant_written}
 
 -- ---- writes within the frame of what the disk carries

@@ -1,35 +1,7 @@
 -- A draft begun with its shadow root.
 use Rattle.std.proofs.Common.{◌≡◌, ◌≢◌, inl, inr, ℕ, ◌%◌, ◌^◌, ◌<◌, true, false, List, [], ◌∷◌, length, Ok, Some, refl, sym, ◌∙◌, ap, subst, eq-eqb, arith}
-use Rattle.std.specs.Prelude.{◌==◌, Result}
-use Rattle.std.proofs.lemmas.Bool.{both_ways, cases_Bool, eqb-false, eqb-true, lt-ltb}
-use Rattle.std.proofs.lemmas.Option.{same_Some}
-use Rattle.cfs_base.specs.Calls.{OnlyReads}
-use Rattle.cfs_base.specs.Disk.{Image, block_at}
-use Rattle.cfs_base.specs.Run.{Leaves}
-use Rattle.cfs_base.specs.declared.disk.Disk.{Ghosts}
-use Rattle.cfs_base.specs.declared.identifier.BlockNo.{BlockNo}
-use Rattle.cfs_base.specs.declared.identifier.Puid.{Puid}
-use Rattle.cfs_base.specs.declared.kind.Place.TheVariants.{Root, ShadowRoot}
-use Rattle.cfs_base.specs.declared.refusal.Refused.{Refused}
+use Rattle.special_files.proofs.Words.{BlockNo, Enters, Free, Ghosts, Graph, HasDrafts, Holds, Image, IsEntry, IsLeastFree, IsPlaced, IsRootBlock, Kept, Leaves, MapEntry, Object, OnlyReads, Opened, Puid, Refused, Result, Root, ShadowRoot, Steps, StoreHas, block_at, block_at-with_entry, both_ways, cases_Bool, drafts_of, entry_in, entry_in-with_entry_other, entry_in-with_entry_same, eqb-false, eqb-true, in_image, intended, is_meant, is_meant_for, is_of, lt-ltb, not_map, object_at, root_placed, same_Some, stands_for, taken_apart, with_entry, ◌==◌}
 use Rattle.block_tree.specs.declared.root.Root as roots
-use Rattle.block_tree.specs.Root.{IsRootBlock}
-use Rattle.cyl_map.specs.Entry.{IsEntry}
-use Rattle.cyl_map.specs.declared.state.BlockState.TheVariants.{Free}
-use Rattle.cyl_map.specs.declared.entry.MapEntry.{MapEntry}
-use Rattle.cyl_map.specs.Volume.{entry_in, with_entry}
-use Rattle.cyl_map.proofs.Volumes.{block_at-with_entry, entry_in-with_entry_other, entry_in-with_entry_same}
-use Rattle.cyl_alloc.specs.Enters.{Enters}
-use Rattle.cyl_alloc.specs.Space.{IsLeastFree, Kept, intended}
-use Rattle.ufs_model.specs.declared.object.Object.{Object}
-use Rattle.ufs_model.specs.Graph.{Graph, object_at}
-use Rattle.vol_image.specs.Part.{stands_for}
-use Rattle.vol_image.specs.Sound.{Holds}
-use Rattle.vol_image.proofs.Parts.{IsPlaced, in_image, root_placed, taken_apart}
-use Rattle.vol_image.proofs.Steps.{not_map}
-use Rattle.vol_owners.specs.Account.{HasDrafts, Opened, drafts_of, is_meant_for}
-use Rattle.vol_owners.specs.Owner.{is_meant, is_of}
-use Rattle.intentions.specs.Store.{StoreHas}
-use Rattle.special_files.specs.Store.{Steps}
 use Rattle.special_files.proofs.Amid.{IsAmid, amid_begins, amid_reads, claim_leaves, claimed}
 use Rattle.special_files.proofs.Begun.{begun_accounts, begun_as, begun_draft}
 use Rattle.special_files.proofs.Fresh.{small_image}

@@ -1,35 +1,7 @@
 -- A draft that is begun equals its object.
 use Rattle.std.proofs.Common.{◌≡◌, inl, inr, ℕ, zero, suc, Bool, true, false, List, [], ◌∷◌, length, take, get_or, Option, Some, None, refl, sym, ◌∙◌, ap, subst}
-use Rattle.std.specs.Prelude.{filter}
-use Rattle.std.specs.List.{range_with_len}
-use Rattle.cfs_base.specs.Disk.{Image, block_at}
-use Rattle.cfs_base.specs.declared.identifier.Puid.{Puid}
+use Rattle.special_files.proofs.Words.{Accounts, AreCounts, ChangesOnly, Ghosts, Graph, HasDraft, HasDrafts, HasItsBlocks, Held, Holds, Image, IsBlockOf, IsRootBlock, IsTree, Kept, Object, OnlyReads, Opened, Puid, ReadsAs, StoreHas, Tree, and_parts, begun_at, block_at, both_ways, carries_on, changes_begin, draft_goes_on, drafts_of, entry_in, false_from_ne_true, filter, first_or, fresh_of, had_not_meant, is_meant_for, levels_of, levels_standing, no_shadows, object_at, of_draft, one_root, opened_as, passes, path_to, range_with_len, root_spelling, sight, source, stands_for, tree_in, width}
 use Rattle.block_tree.specs.declared.root.Root as roots
-use Rattle.block_tree.specs.Root.{IsRootBlock, root_spelling}
-use Rattle.block_tree.specs.Tree.{levels_of, path_to, width}
-use Rattle.block_tree.proofs.Spellings.{one_root}
-use Rattle.cyl_map.specs.Volume.{entry_in}
-use Rattle.ufs_model.specs.declared.object.Object.{Object}
-use Rattle.ufs_model.specs.Graph.{Graph, object_at}
-use Rattle.vol_image.specs.Reading.{IsTree}
-use Rattle.vol_image.specs.Seen.{Held, Tree, tree_in}
-use Rattle.vol_image.specs.Sight.{first_or, sight, source}
-use Rattle.vol_image.specs.Sound.{Holds, ReadsAs}
-use Rattle.vol_image.proofs.AtRoot.{no_shadows}
-use Rattle.vol_owners.specs.Account.{Accounts, HasDraft, HasDrafts, HasItsBlocks, Opened, drafts_of, is_meant_for, levels_standing, passes}
-use Rattle.vol_owners.specs.Change.{ChangesOnly, of_draft}
-use Rattle.vol_owners.proofs.Changes.{changes_begin}
-use Rattle.vol_owners.proofs.Steps.{draft_goes_on}
-use Rattle.vol_owners.proofs.Entries.{had_not_meant}
-use Rattle.std.proofs.lemmas.Bool.{and_parts, both_ways, false_from_ne_true}
-use Rattle.vol_image.specs.Frame.{IsBlockOf}
-use Rattle.vol_image.specs.Part.{stands_for}
-use Rattle.cfs_base.specs.Calls.{OnlyReads}
-use Rattle.cfs_base.specs.declared.disk.Disk.{Ghosts}
-use Rattle.cyl_alloc.specs.Space.{AreCounts, Kept}
-use Rattle.vol_image.proofs.Carries.{carries_on}
-use Rattle.intentions.specs.Store.{StoreHas}
-use Rattle.special_files.specs.Drafting.{begun_at, fresh_of, opened_as}
 use Rattle.special_files.proofs.Levels.{none_in}
 use Rattle.special_files.proofs.Lists.{first_created, first_here, first_others, first_there}
 

@@ -1,29 +1,9 @@
 -- The lists of what differs, node after node.
 use Rattle.std.proofs.Common.{◌≡◌, inl, inr, ℕ, zero, suc, ◌+◌, ◌*◌, ◌/◌, ◌%◌, ◌<◌, ◌≤◌, true, false, cond, List, [], ◌∷◌, ◌++◌, length, get_or, Option, Some, refl, sym, ◌∙◌, ap, subst, append_assoc, length-append, arith}
-use Rattle.std.specs.List.{All}
-use Rattle.std.proofs.lemmas.Bool.{cases_lt, or_left, or_right}
-use Rattle.std.proofs.lemmas.List.{append-nil, get_or_past}
-use Rattle.cfs_base.specs.Calls.{OnlyReads}
-use Rattle.cfs_base.specs.Disk.{Image}
-use Rattle.cfs_base.specs.Run.{Tells}
-use Rattle.cfs_base.specs.declared.disk.Disk.{Ghosts}
-use Rattle.cfs_base.specs.declared.identifier.Puid.{Puid}
-use Rattle.cfs_base.proofs.Calls.{reads_then, tells_on}
+use Rattle.special_files.proofs.Words.{All, Drafting, Ghosts, Graph, HasDraft, Image, IsChanged, IsNear, IsOpen, Kept, Object, OnlyReads, Opened, Puid, StoreHas, Tells, all_unlike, append-nil, cases_lt, created_of, drafts_of, get_or_past, has-append, has_number, here, in_node, leaves_at, node_of, object_at, opened_as, option_to_list, or_left, or_right, reads_then, same_puid, table, tells_on, unlike, ◌||◌}
 use Rattle.block_tree.specs.declared.root.Root as roots
-use Rattle.cyl_alloc.specs.Space.{Kept}
-use Rattle.intentions.specs.Store.{StoreHas}
 use Rattle.ufs_model.specs.declared.object.Draft as models
-use Rattle.ufs_model.specs.declared.object.Object.{Object}
-use Rattle.ufs_model.specs.Graph.{Graph, object_at}
-use Rattle.vol_owners.specs.Account.{HasDraft, Opened, created_of, drafts_of}
-use Rattle.vol_owners.proofs.Differ.{has-append}
-use Rattle.vol_image.proofs.Rising.{here}
-use Rattle.ufs_model.specs.Identifier.{same_puid}
-use Rattle.ufs_model.specs.Numbers.{has_number}
-use Rattle.std.specs.Prelude.{◌||◌, option_to_list}
-use Rattle.special_files.specs.Changed.{Adds, IsChanged, all_unlike, in_node, table, unlike}
-use Rattle.special_files.specs.Drafting.{Drafting, IsOpen, node_of, opened_as}
-use Rattle.special_files.specs.Nodes.{IsNear, leaves_at}
+use Rattle.special_files.specs.Changed.{Adds}
 use Rattle.special_files.proofs.ChangedTrees.{in_tree, its_tree, nodes_near, trees_change}
 use Rattle.special_files.proofs.PutStore.{the_draft}
 use Rattle.special_files.proofs.Unlike.{adds_unlike, all_alike, join_unlike, length-unlike, more_unlike, none_unlike}

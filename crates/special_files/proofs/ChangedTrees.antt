@@ -1,30 +1,9 @@
 -- What differs between the tree of an object and that of its draft.
 use Rattle.std.proofs.Common.{◌≡◌, ◌≢◌, inl, inr, ℕ, zero, suc, ◌+◌, ◌*◌, ◌/◌, ◌%◌, ◌<◌, true, false, List, [], ◌∷◌, length, Some, refl, sym, ◌∙◌, ap, subst, arith}
-use Rattle.std.specs.Prelude.{◌==◌}
-use Rattle.std.proofs.lemmas.Bool.{and_left, both_ways, cases_Bool, eqb-false, eqb-true, false_from_ne_true}
-use Rattle.cfs_base.specs.Disk.{Image, block_at}
-use Rattle.cfs_base.specs.declared.identifier.Puid.{Puid}
+use Rattle.special_files.proofs.Words.{AreDropped, AreTaken, Fits, Graph, HasDraft, HasItsBlocks, Holds, Image, IsChanged, IsNear, IsTree, Object, Opened, Puid, StandsIn, all_unlike, and_left, below_is_path, block_at, both_ways, cases_Bool, content_of, entry_in, eqb-false, eqb-true, false_from_ne_true, had_not_meant, has_number, held, held_at, held_block, held_there, in_node, is_had, is_made, is_meant, is_meant_for, is_of, leaves_at, levels_of, meant_differs, node_of, not_meant_is_own, numbers_differ, object_at, one_path, owner_is, root_owner, root_spelling, shadow_apart, stands_some, tree_in, tree_of, ◌==◌}
 use Rattle.block_tree.specs.declared.root.Root as roots
-use Rattle.block_tree.specs.Root.{Fits, root_spelling}
-use Rattle.block_tree.specs.Tree.{levels_of, tree_of}
-use Rattle.cyl_map.specs.Volume.{entry_in}
-use Rattle.ufs_model.specs.declared.object.Object.{Object}
-use Rattle.ufs_model.specs.Graph.{Graph, object_at}
-use Rattle.ufs_model.specs.Numbers.{has_number}
-use Rattle.vol_image.specs.Reading.{IsTree}
-use Rattle.vol_image.specs.Seen.{held_at, tree_in}
-use Rattle.vol_image.specs.Sound.{Holds}
-use Rattle.vol_image.proofs.Paths.{held_there}
-use Rattle.vol_image.proofs.Places.{below_is_path, one_path}
-use Rattle.vol_image.proofs.Views.{held, held_block}
-use Rattle.vol_owners.specs.Account.{HasDraft, HasItsBlocks, Opened, StandsIn, content_of, is_meant_for, numbers_differ}
-use Rattle.vol_owners.specs.Owner.{is_had, is_made, is_meant, is_of}
-use Rattle.vol_owners.proofs.Differing.{meant_differs, not_meant_is_own, own_tree as blocks_of_own, stands_some}
-use Rattle.vol_owners.proofs.Entries.{had_not_meant, owner_is, root_owner, root_placed}
-use Rattle.vol_owners.proofs.Owned.{shadow_apart}
-use Rattle.special_files.specs.Changed.{AreDropped, AreTaken, IsChanged, all_unlike, in_node}
-use Rattle.special_files.specs.Drafting.{node_of}
-use Rattle.special_files.specs.Nodes.{IsNear, leaves_at}
+use Rattle.vol_owners.proofs.Differing.{own_tree as blocks_of_own}
+use Rattle.vol_owners.proofs.Entries.{root_placed}
 use Rattle.special_files.proofs.Begun.{own_tree}
 use Rattle.special_files.proofs.Fresh.{read_leaf_is}
 use Rattle.special_files.proofs.Trees.{node_at, nothing_below}

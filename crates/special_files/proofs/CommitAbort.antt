@@ -1,50 +1,8 @@
 -- A draft whose blocks become Free.
 use Rattle.std.proofs.Common.{◌≡◌, ◌≢◌, inl, inr, ⊎_elim, ℕ, Bool, IsTrue, true, false, List, [], ◌∷◌, ◌++◌, length, Option, Some, None, Ok, Err, refl, sym, ◌∙◌, ap, subst}
-use Rattle.std.specs.Prelude.{OnOk, Result, option_to_list}
-use Rattle.std.specs.List.{list_all}
-use Rattle.std.proofs.lemmas.Bool.{and_from, and_parts, both_ways, cases_Bool, false_from_ne_true}
-use Rattle.std.proofs.lemmas.Option.{same_Some}
-use Rattle.cfs_base.specs.Disk.{Image, IsSameDisk, Nothing}
-use Rattle.cfs_base.specs.Run.{Leaves}
-use Rattle.cfs_base.specs.declared.disk.Disk.{Ghosts}
-use Rattle.cfs_base.specs.declared.identifier.Puid.{Puid}
-use Rattle.cfs_base.specs.declared.kind.Place.TheVariants.{Root, ShadowRoot}
-use Rattle.cfs_base.specs.declared.refusal.Trouble.{Trouble}
-use Rattle.cfs_base.proofs.Runs.{then, wider}
-use Rattle.cyl_map.specs.declared.state.BlockState.{BlockState}
-use Rattle.cyl_map.specs.declared.entry.MapEntry.{MapEntry}
-use Rattle.cyl_map.specs.Volume.{entry_in, is_free_entry, is_free_in}
-use Rattle.cyl_map.proofs.Volumes.{entry_in_table}
-use Rattle.cyl_alloc.specs.Space.{AreCounts, Kept, free_entry}
+use Rattle.special_files.proofs.Words.{AbortEnds, Accounts, AreCounts, AreTaken, BlockState, ChangesOnly, Drafting, Dropped, Flip, Flips, Frame, Ghosts, Graph, HasDraft, HasDrafts, Holds, Image, IsMade, IsOn, IsOpen, IsOpenTo, IsSameDisk, IsTaken, Kept, Leaves, MapEntry, MayFlip, MayPut, Nothing, Object, OnOk, Opened, OwnsNothing, Puid, Result, Root, ShadowRoot, StoreHas, Trouble, Undo, and_from, and_parts, both_ways, carries_framed, carries_on, cases_Bool, changed, changes_begin, content_of, draft_goes_on, drafts_of, entry_in, entry_in_table, false_from_ne_true, flipped, flips, frames_begin, frames_hold, free_entry, free_unowned, given_all, had_not_meant, has_number, is_damage, is_free_entry, is_free_in, is_meant, is_meant_for, is_of, is_placed, is_taken, is_there, keeps_frame, list_all, making_goes_on, may_take_back, no_shadow_stands, not_map, object_at, of_draft, of_drafts, on_ok, opened_as, option_to_list, owner_is, placed_taken, same_Some, shadow_taken, stands_meant, taken_apart, then, undoing, undone, undone_in, undone_stands, undone_valid, wider, without_draft}
 use Rattle.ufs_model.specs.declared.object.Draft as models
-use Rattle.ufs_model.specs.declared.object.Object.{Object}
-use Rattle.ufs_model.specs.Graph.{Graph, is_there, object_at}
-use Rattle.ufs_model.specs.Numbers.{has_number}
-use Rattle.vol_image.specs.Part.{IsTaken}
-use Rattle.vol_image.specs.Sound.{Holds}
-use Rattle.vol_image.proofs.Carries.{carries_on}
-use Rattle.vol_image.proofs.Law.{frames_hold}
-use Rattle.vol_image.proofs.Parts.{shadow_taken, taken_apart}
-use Rattle.vol_image.proofs.Steps.{frames_begin, not_map}
-use Rattle.vol_owners.specs.Account.{Accounts, HasDraft, HasDrafts, IsMade, Opened, content_of, drafts_of, is_meant_for}
-use Rattle.vol_owners.specs.Change.{ChangesOnly, IsOpenTo, OwnsNothing, of_draft, of_drafts}
-use Rattle.vol_owners.specs.Owner.{is_meant, is_of, is_placed, is_taken}
-use Rattle.vol_owners.proofs.Changes.{changes_begin}
-use Rattle.vol_owners.proofs.Entries.{free_unowned, had_not_meant, owner_is, placed_taken, root_placed, stands_meant}
-use Rattle.vol_owners.proofs.Steps.{draft_goes_on, making_goes_on}
-use Rattle.intentions.specs.Course.{Frame, IsOn, MayPut}
-use Rattle.intentions.specs.Entries.{changed, undone, undone_in}
-use Rattle.intentions.specs.declared.change.Change.TheVariants.{Undo}
-use Rattle.intentions.specs.Store.{StoreHas}
-use Rattle.intentions.proofs.Changes.{on_ok}
-use Rattle.intentions.proofs.Courses.{carries_framed, keeps_frame}
-use Rattle.intentions.proofs.Settling.{may_take_back}
-use Rattle.intentions.proofs.Valid.{no_shadow_stands, undone_stands, undone_valid}
-use Rattle.special_files.specs.Changed.{AreTaken}
-use Rattle.special_files.specs.Committing.{AbortEnds, Dropped, Flip, Flips, MayFlip, flipped, flips, given_all, undoing}
-use Rattle.special_files.specs.Drafting.{Drafting, IsOpen, opened_as}
-use Rattle.special_files.specs.Refusal.{is_damage}
-use Rattle.special_files.specs.Store.{without_draft}
+use Rattle.vol_owners.proofs.Entries.{root_placed}
 use Rattle.special_files.proofs.CommitDraft.{without_created, without_here, without_others, without_stay}
 use Rattle.special_files.proofs.CommitEntries.{meant_not_free, undone_free}
 use Rattle.special_files.proofs.CommitFlips.{counts_given_all, flipped_append, flipped_block, flipped_on, flips_entry, if_at, first_number, may_append, may_flips, more_numbers, option_has, option_is, option_once}

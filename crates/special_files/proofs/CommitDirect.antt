@@ -1,43 +1,9 @@
 -- A draft that takes its shadow root with its commit.
-use Rattle.std.proofs.Common.{◌≡◌, ◌≢◌, ℕ, ◌%◌, ◌<◌, ◌≤◌, true, false, IsTrue, List, [], length, length-set, set, Ok, Err, Some, None, refl, sym, ◌∙◌, ap, eq-eqb, arith}
-use Rattle.std.specs.Prelude.{Result, sum}
+use Rattle.std.proofs.Common.{◌≡◌, ◌≢◌, ℕ, ◌%◌, ◌<◌, true, false, IsTrue, List, [], length, length-set, set, Ok, Err, Some, None, refl, sym, ◌∙◌, ap, eq-eqb, arith}
+use Rattle.special_files.proofs.Words.{BlockNo, Drafting, Enters, Free, Ghosts, Graph, Holds, Image, IsChanged, IsEntry, IsLeastFree, IsOpen, IsPlaced, IsReady, IsSameDisk, Kept, Leaves, MapEntry, Object, Opened, Puid, Refused, Result, Root, ShadowRoot, StoreHas, Trouble, Written, block_at, block_at-with_entry, entry_in, entry_in-set, entry_in-with_entry_other, entry_in-with_entry_same, in_image, intended, is_damage, is_damaged, is_meant_for, left_now, length-with_entry, not_map, object_at, opened_as, refused_by, root_placed, root_spelling, same_Some, stands_for, stands_meant, taken_apart, tree_in, with_entry}
 use Rattle.std.proofs.lemmas.List.{get_or-set_other, get_or-set_same}
-use Rattle.std.proofs.lemmas.Option.{same_Some}
-use Rattle.cfs_base.specs.Disk.{Image, IsSameDisk, Written, block_at}
-use Rattle.cfs_base.specs.Refusals.{refused_by}
-use Rattle.cfs_base.specs.Run.{Leaves, left_now}
-use Rattle.cfs_base.specs.declared.disk.Disk.{Ghosts}
-use Rattle.cfs_base.specs.declared.identifier.BlockNo.{BlockNo}
-use Rattle.cfs_base.specs.declared.identifier.Puid.{Puid}
-use Rattle.cfs_base.specs.declared.kind.Place.TheVariants.{Root, ShadowRoot}
-use Rattle.cfs_base.specs.declared.refusal.Refused.{Refused}
-use Rattle.cfs_base.specs.declared.refusal.Refused.TheVariants as refusals
-use Rattle.cfs_base.specs.declared.refusal.Trouble.{Trouble}
 use Rattle.cfs_base.specs.declared.refusal.Trouble.TheVariants as trouble
-use Rattle.block_tree.specs.Root.{root_spelling}
-use Rattle.cyl_map.specs.Entry.{IsEntry}
-use Rattle.cyl_map.specs.declared.state.BlockState.TheVariants.{Free}
-use Rattle.cyl_map.specs.declared.entry.MapEntry.{MapEntry}
-use Rattle.cyl_map.specs.Volume.{entry_in, with_entry}
-use Rattle.cyl_map.proofs.Volumes.{block_at-with_entry, entry_in-set, entry_in-with_entry_other, entry_in-with_entry_same, length-with_entry}
-use Rattle.cyl_alloc.specs.Enters.{Enters}
-use Rattle.cyl_alloc.specs.Refusals.{IsFindRefusal}
-use Rattle.cyl_alloc.specs.Space.{IsLeastFree, Kept, intended}
 use Rattle.ufs_model.specs.declared.object.Draft as models
-use Rattle.ufs_model.specs.declared.object.Object.{Object}
-use Rattle.ufs_model.specs.Graph.{Graph, object_at}
-use Rattle.vol_image.specs.Part.{stands_for}
-use Rattle.vol_image.specs.Seen.{tree_in}
-use Rattle.vol_image.specs.Sound.{Holds}
-use Rattle.vol_image.proofs.Parts.{IsPlaced, in_image, root_placed, taken_apart}
-use Rattle.vol_image.proofs.Steps.{not_map}
-use Rattle.vol_owners.specs.Account.{Opened, is_meant_for}
-use Rattle.vol_owners.proofs.Entries.{stands_meant}
-use Rattle.intentions.specs.Store.{StoreHas}
-use Rattle.special_files.specs.Changed.{IsChanged}
-use Rattle.special_files.specs.Committing.{IsReady}
-use Rattle.special_files.specs.Drafting.{Drafting, IsOpen, opened_as}
-use Rattle.special_files.specs.Refusal.{is_damage, is_damaged, is_full}
 use Rattle.special_files.proofs.Amid.{IsAmid, amid_begins, claim_leaves, claimed, write_leaves, wrote}
 use Rattle.special_files.proofs.Begins.{no_root, shadow_entry}
 use Rattle.special_files.proofs.CommitDraft.{ready_with}
@@ -47,16 +13,6 @@ use Rattle.special_files.proofs.PutCall.{find_sound}
 use Rattle.special_files.proofs.PutStore.{the_draft}
 
 -- ---- the claim refused
-
--- neither for want of a block nor of memory, where a block is Free
-pub claim_real : {D : Type 0} (g : Ghosts D) (old new : D) (kept : Kept) (e : Refused) → 1 ≤ sum kept.free → IsFindRefusal g old new kept e → (is_full e ≡ false) × (e ≢ refusals.Memory)
-claim_real g old new kept (refusals.Full need) some is = absurd (none some is.2)
-  where
-    none : 1 ≤ sum kept.free → sum kept.free ≡ 0 → ⊥
-    none one zero = omega (arith, one, zero)
-claim_real g old new kept (refusals.Disk tried) some is = (refl, λ same. cc)
-claim_real g old new kept (refusals.Damaged damage) some is = (refl, λ same. cc)
-claim_real g old new kept refusals.Memory some is = absurd is
 
 same_damage : (t : Trouble) → is_damaged (refused_by t) ≡ is_damage t
 same_damage (trouble.Disk tried) = refl

@@ -1,45 +1,11 @@
 -- A commit from the release of what is dropped to the end.
-use Rattle.std.proofs.Common.{◌≡◌, inl, inr, ⊎_elim, ℕ, ◌≤◌, true, false, List, [], ◌∷◌, ◌++◌, length, set, Ok, Err, Some, refl, sym, ◌∙◌, ap, subst, arith}
-use Rattle.std.specs.Prelude.{IfErr, OnOk, Option, Result, option_to_list}
-use Rattle.std.specs.Result.{IsErrAnd}
-use Rattle.std.proofs.lemmas.Bool.{false_from_ne_true}
-use Rattle.cfs_base.specs.Calls.{MakesAtMost}
-use Rattle.cfs_base.specs.Disk.{Image, block_at}
-use Rattle.cfs_base.specs.Refusals.{trouble_after_try}
-use Rattle.cfs_base.specs.Run.{IsSettled, Leaves, Tells}
-use Rattle.cfs_base.specs.declared.disk.Disk.{Ghosts}
-use Rattle.cfs_base.specs.declared.identifier.Puid.{Puid}
-use Rattle.cfs_base.specs.declared.refusal.Trouble.{Trouble}
+use Rattle.std.proofs.Common.{◌≡◌, inl, inr, ⊎_elim, ℕ, ◌≤◌, true, false, List, [], ◌∷◌, ◌++◌, length, set, Ok, Err, Some, refl, sym, ◌∙◌, ap, subst, arith, Option}
+use Rattle.special_files.proofs.Words.{AreCounts, CarriedOut, Carries, ChangesBit, ChangesOnly, ClearBit, Course, Fails, Flip, Flips, Frame, Ghosts, Graph, HasItsBlocks, HasStoppedBy, Holds, IfErr, Image, IsCommitted, IsCourse, IsEntered, IsErrAnd, IsMapTrouble, IsOldOrNew, IsOn, IsReady, IsSettled, Keeps, Kept, Leaves, MakesAtMost, MayFlip, Object, OnOk, Puid, Release, Result, SetBit, Tells, Trouble, bit_set, block_at, carries_ended, carries_framed, entry_in, false_from_ne_true, flipped, flips, frames_hold, given_all, in_image, is_damage, is_fixed, is_meant_for, is_of, is_taken, keeps_frame, keeps_settled, named, not_label, not_map, of_owners, on_holds, option_to_list, reserved, root_placed, same_or_not, settling, taken_apart, the_entry, then, tree_in, trouble_after_try, wider, with_bit, with_entry, with_object}
 use Rattle.cfs_base.specs.declared.refusal.Trouble.TheVariants as trouble
-use Rattle.cfs_base.proofs.Runs.{then, wider}
-use Rattle.cyl_map.specs.Volume.{entry_in, with_entry}
-use Rattle.cyl_alloc.specs.Space.{AreCounts, Kept}
-use Rattle.cyl_alloc.specs.Refusals.{IsMapTrouble}
-use Rattle.ufs_model.specs.declared.object.Object.{Object}
-use Rattle.ufs_model.specs.Graph.{Graph, with_object}
-use Rattle.vol_image.specs.Part.{is_fixed, reserved}
-use Rattle.vol_image.specs.Run.{Carries}
-use Rattle.vol_image.specs.Seen.{tree_in}
-use Rattle.vol_image.specs.Sound.{Holds}
-use Rattle.vol_image.proofs.Law.{frames_hold}
-use Rattle.vol_image.proofs.Parts.{in_image, root_placed, taken_apart}
-use Rattle.vol_image.proofs.Steps.{not_label, not_map}
-use Rattle.cyl_map.proofs.Volumes.{same_or_not}
-use Rattle.vol_owners.specs.Account.{HasItsBlocks, is_meant_for}
-use Rattle.vol_owners.specs.Change.{ChangesOnly, of_owners}
-use Rattle.vol_owners.specs.Owner.{is_of, is_taken}
-use Rattle.vol_owners.proofs.Entries.{the_entry}
-use Rattle.intentions.specs.Calls.{ChangesBit, HasStoppedBy}
-use Rattle.intentions.specs.Commit.{IsCommitted}
-use Rattle.intentions.specs.Course.{Course, Frame, IsCourse, IsOn, Keeps}
-use Rattle.intentions.specs.Entries.{with_bit}
-use Rattle.intentions.specs.declared.change.Change.TheVariants.{ClearBit, Release, SetBit}
-use Rattle.intentions.proofs.Courses.{carries_ended, carries_framed, keeps_frame, keeps_settled, on_holds}
-use Rattle.special_files.specs.Committing.{CarriedOut, Fails, Flip, Flips, IsEntered, IsOldOrNew, IsReady, MayFlip, bit_set, flipped, flips, given_all, named, settling}
-use Rattle.special_files.specs.Refusal.{is_damage}
 use Rattle.special_files.proofs.CommitFlips.{flip_is, flipped_append}
 use Rattle.special_files.proofs.CommitRoles.{none_meant, now_has, only_owners}
 use Rattle.special_files.proofs.CommitRuns.{fails_after, no_damage}
+use Rattle.special_files.proofs.CommitAfter as after_it
 use Rattle.special_files.proofs.CommitWhole as whole
 
 -- ---- the copy
@@ -156,17 +122,17 @@ module _ {D : Type 0} (g : Ghosts D) {graph full : Graph} {at word : ℕ} {was o
           carried_out before = record {
             carries = carries_ended g w d3 fits (f.keeps w fits keeps2 may2) settled3;
             settled = settled3;
-            has = subst (λ (i : Image). HasItsBlocks i at) (sym b4_is) (now_has (g.content d0) b4 at created _ ready.has (whole.role ready) (whole.no_bit_now ready) (whole.tree_now ready) (whole.new_taken ready));
-            none_meant = λ m. ap (λ (i : Image). is_meant_for i at m) b4_is ∙ none_meant (g.content d0) b4 at created _ ready.has (whole.role ready) m;
-            made = λ c is. subst (λ (i : Image). IsEntered (g.content d0) i c) (sym b4_is) (whole.made_now ready c is);
+            has = subst (λ (i : Image). HasItsBlocks i at) (sym b4_is) (now_has (g.content d0) b4 at created _ ready.has (after_it.role ready) (after_it.no_bit_now ready) (after_it.tree_now ready) (after_it.new_taken ready));
+            none_meant = λ m. ap (λ (i : Image). is_meant_for i at m) b4_is ∙ none_meant (g.content d0) b4 at created _ ready.has (after_it.role ready) m;
+            made = λ c is. subst (λ (i : Image). IsEntered (g.content d0) i c) (sym b4_is) (after_it.made_now ready c is);
             only = subst (λ (i : Image). ChangesOnly (λ entry. of_owners (at ∷ option_to_list created) entry) (g.content d0) i) (sym b4_is)
-                (only_owners (g.content d0) b4 at created _ ready.has (whole.role ready) (whole.b4_size ready) b4_holds.maps b4_holds.own
-                (whole.b4_other_block ready 1 (λ zero. cc) (λ same. not_label at root_apart (sym same)))
+                (only_owners (g.content d0) b4 at created _ ready.has (after_it.role ready) (after_it.b4_size ready) b4_holds.maps b4_holds.own
+                (after_it.b4_other_block ready 1 (λ zero. cc) (λ same. not_label at root_apart (sym same)))
                 fixed_unowned
-                (λ m loose. ⊎_elim (λ same. inr same) (λ other. inl (whole.b4_other_block ready m (not_map m loose) other)) (same_or_not m at)));
-            tree = ap (λ (i : Image). tree_in i (block_at i at)) b4_is ∙ whole.tree_now ready;
-            left = λ m real other. ap (λ (i : Image). block_at i m) b4_is ∙ whole.b4_other_block ready m real other;
-            counts = λ counts. subst (λ (i : Image). AreCounts i (given_all (given_all before dropped) (s ∷ []))) (sym b4_is) (whole.counts_now ready before counts);
+                (λ m loose. ⊎_elim (λ same. inr same) (λ other. inl (after_it.b4_other_block ready m (not_map m loose) other)) (same_or_not m at)));
+            tree = ap (λ (i : Image). tree_in i (block_at i at)) b4_is ∙ after_it.tree_now ready;
+            left = λ m real other. ap (λ (i : Image). block_at i m) b4_is ∙ after_it.b4_other_block ready m real other;
+            counts = λ counts. subst (λ (i : Image). AreCounts i (given_all (given_all before dropped) (s ∷ []))) (sym b4_is) (after_it.counts_now ready before counts);
           }
 
         pub done_by : (r : Result (Unit {0}) Trouble) → Flips g n t plan d2 d3 r → OnOk r (IsSettled g d3) → (before : Kept) → OnOk r (CarriedOut g full (named at word) o s created d0 d3 before (given_all (given_all before dropped) (s ∷ [])))

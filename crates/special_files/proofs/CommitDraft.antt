@@ -1,55 +1,13 @@
 -- A draft whose root was written to its shadow root, and the drafts of the others.
-use Rattle.std.proofs.Common.{◌≡◌, ◌≢◌, inl, inr, ⊎_elim, ℕ, ◌%◌, ◌<◌, Bool, true, false, cond, IsTrue, List, [], ◌∷◌, ◌++◌, length, length-set, get_or, set, Option, Some, None, Ok, Err, refl, sym, ◌∙◌, ap, subst, arith}
-use Rattle.std.specs.Prelude.{IfErr, Result, is_some, not, option_to_list}
-use Rattle.std.specs.List.{All, list_all}
-use Rattle.std.proofs.lemmas.Bool.{and_from, and_parts, both_ways, false≢true}
-use Rattle.std.proofs.lemmas.Option.{same_Some}
-use Rattle.std.proofs.Math.Path.{fun_ext}
+use Rattle.std.proofs.Common.{◌≡◌, ◌≢◌, inl, inr, ⊎_elim, ℕ, ◌%◌, ◌<◌, Bool, true, false, cond, IsTrue, List, [], ◌∷◌, ◌++◌, length, length-set, get_or, set, Option, Some, None, Ok, Err, refl, sym, ◌∙◌, ap, subst, arith, not}
+use Rattle.special_files.proofs.Words.{All, AreOnDisk, Drafting, Fails, FarRoot, Ghosts, Graph, HasDraft, HasItsBlocks, HasTried, Holds, IfErr, Image, IsChanged, IsOpen, IsPlaced, IsReady, IsRootBlock, IsSameDisk, IsTree, IsTrouble, Kept, Leaves, MakesAtMost, MapEntry, Object, Opened, Puid, Result, Root, SameAt, SameOthers, ShadowRoot, StandsIn, StoreHas, Tells, Tree, Trouble, Written, and_from, and_parts, block_at, both_ways, content_of, created_of, drafts_of, entry_in, entry_in-set, false≢true, far_root, fun_ext, had_not_meant, in_image, is_damage, is_meant, is_meant_for, is_of, is_some, is_there, left_now, levels_of, levels_standing, list_all, not_map, object_at, object_at-with_object, one_root_block, opened_as, option_to_list, part_of, root_placed, root_spelling, same_Some, same_or_not, same_puid, same_puid_is, same_tree, shadow_apart, shadow_taken, stands_for, stands_meant, taken_apart, tree_in, trouble_after_try, with_object, without_draft}
 use Rattle.std.proofs.lemmas.List.{get_or-set_other, get_or-set_same}
-use Rattle.cfs_base.specs.Calls.{HasTried, MakesAtMost}
-use Rattle.cfs_base.specs.Refusals.{trouble_after_try}
-use Rattle.cfs_base.specs.declared.kind.Place.TheVariants.{Root, ShadowRoot}
-use Rattle.cfs_base.specs.declared.refusal.Trouble.{Trouble}
 use Rattle.cfs_base.specs.declared.refusal.Trouble.TheVariants as trouble
-use Rattle.block_tree.specs.Tree.{levels_of}
-use Rattle.special_files.specs.Drafting.{Drafting, IsOpen, opened_as}
-use Rattle.special_files.specs.Refusal.{FarRoot, IsTrouble, is_damage}
 use Rattle.special_files.proofs.Amid.{IsAmid, amid_begins, write_leaves, wrote}
 use Rattle.special_files.proofs.Lists.{replaced_same}
 use Rattle.special_files.proofs.PutStore.{store_goes_on, the_draft}
-use Rattle.cfs_base.specs.Disk.{Image, IsSameDisk, Written, block_at}
-use Rattle.cfs_base.specs.Run.{Leaves, Tells, left_now}
-use Rattle.cfs_base.specs.declared.disk.Disk.{Ghosts}
-use Rattle.cfs_base.specs.declared.identifier.Puid.{Puid}
 use Rattle.block_tree.specs.declared.root.Root as roots
-use Rattle.block_tree.specs.Root.{IsRootBlock, root_spelling}
-use Rattle.cyl_map.specs.declared.entry.MapEntry.{MapEntry}
-use Rattle.cyl_map.specs.Volume.{entry_in}
-use Rattle.cyl_map.proofs.Volumes.{entry_in-set, same_or_not}
-use Rattle.cyl_alloc.specs.Space.{Kept}
 use Rattle.ufs_model.specs.declared.object.Draft as models
-use Rattle.ufs_model.specs.declared.object.Object.{Object}
-use Rattle.ufs_model.specs.Graph.{Graph, is_there, object_at, with_object}
-use Rattle.ufs_model.specs.Identifier.{same_puid}
-use Rattle.vol_image.specs.Part.{SameAt, part_of, stands_for}
-use Rattle.vol_image.specs.Reading.{IsTree}
-use Rattle.vol_image.specs.Seen.{Tree, tree_in}
-use Rattle.vol_image.specs.Sound.{Holds}
-use Rattle.vol_image.proofs.Graphs.{object_at-with_object}
-use Rattle.vol_image.proofs.Parts.{IsPlaced, in_image, root_placed, shadow_taken, taken_apart}
-use Rattle.vol_image.proofs.Reached.{same_puid_is}
-use Rattle.vol_image.proofs.Steps.{not_map}
-use Rattle.vol_image.proofs.Unique.{one_root_block}
-use Rattle.vol_image.proofs.Views.{same_tree}
-use Rattle.vol_owners.specs.Account.{HasDraft, HasItsBlocks, Opened, StandsIn, content_of, created_of, drafts_of, is_meant_for, levels_standing}
-use Rattle.vol_owners.specs.Change.{SameOthers}
-use Rattle.vol_owners.specs.Owner.{is_meant, is_of}
-use Rattle.vol_owners.proofs.Entries.{had_not_meant, stands_meant}
-use Rattle.vol_owners.proofs.Owned.{shadow_apart}
-use Rattle.intentions.specs.Store.{StoreHas}
-use Rattle.special_files.specs.Changed.{AreOnDisk, IsChanged}
-use Rattle.special_files.specs.Committing.{Fails, IsReady, far_root}
-use Rattle.special_files.specs.Store.{without_draft}
 use Rattle.special_files.proofs.Begun.{own_tree}
 use Rattle.special_files.proofs.CommitRuns.{fails_after}
 use Rattle.special_files.proofs.CommitWhole.{IsInner, tree_inner}

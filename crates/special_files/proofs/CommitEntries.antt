@@ -1,16 +1,6 @@
 -- What of a block's entry becomes in a commit.
 use Rattle.std.proofs.Common.{◌≡◌, ◌≢◌, ℕ, Bool, true, false, Option, Some, None, refl, sym, ◌∙◌, ap}
-use Rattle.std.specs.Prelude.{◌&&◌, ◌==◌, is_some}
-use Rattle.std.proofs.lemmas.Bool.{and_parts, false≢true}
-use Rattle.cfs_base.specs.declared.kind.Place.{Place}
-use Rattle.cfs_base.specs.declared.kind.Place.TheVariants.{Root, ShadowRoot, Node, Leaf}
-use Rattle.cyl_map.specs.declared.state.BlockState.{BlockState}
-use Rattle.cyl_map.specs.declared.state.BlockState.TheVariants.{Free, Allocated, IntendAllocate, IntendDeallocate}
-use Rattle.cyl_map.specs.declared.entry.MapEntry.{MapEntry}
-use Rattle.cyl_map.specs.Map.{is_free, is_free_state}
-use Rattle.vol_image.specs.Part.{is_committed, part_in, part_of}
-use Rattle.vol_owners.specs.Owner.{is_had, is_meant, is_of}
-use Rattle.intentions.specs.Entries.{finished, finished_in, released, released_at, released_in, undone, undone_in, with_bit, with_bit_at, without_bit}
+use Rattle.special_files.proofs.Words.{Allocated, BlockState, Free, IntendAllocate, IntendDeallocate, Leaf, MapEntry, Node, Place, Root, ShadowRoot, and_parts, false≢true, finished, finished_in, is_committed, is_free, is_free_state, is_had, is_meant, is_of, is_some, part_in, part_of, released, released_at, released_in, undone, undone_in, with_bit, with_bit_at, without_bit, ◌&&◌, ◌==◌}
 
 -- ---- whether a block is Free
 

@@ -1,22 +1,7 @@
 -- Images with entries changed one after another.
 use Rattle.std.proofs.Common.{◌≡◌, ◌≢◌, inl, inr, ℕ, ◌%◌, Bool, true, false, List, [], ◌∷◌, ◌++◌, length, Option, Some, None, refl, sym, ◌∙◌, ap, subst, arith}
-use Rattle.std.specs.Prelude.{◌==◌, ◌||◌, option_to_list}
-use Rattle.std.proofs.lemmas.Bool.{and_parts, both_ways, cases_Bool, eq-eqb, eqb-false, eqb-true, not-true, or_cases}
-use Rattle.cfs_base.specs.Disk.{Image, block_at}
-use Rattle.cyl_map.specs.Entry.{IsEntry}
-use Rattle.cyl_map.specs.declared.entry.MapEntry.{MapEntry}
-use Rattle.cyl_map.specs.Map.{is_free}
-use Rattle.cyl_map.specs.Volume.{entry_in, with_entry}
-use Rattle.cyl_map.proofs.Volumes.{block_at-with_entry, entry_in-with_entry_other, entry_in-with_entry_same, length-with_entry}
-use Rattle.cyl_alloc.specs.Space.{AreCounts, Kept, after_giving}
-use Rattle.cyl_alloc.proofs.Counted.{counts_given, counts_same}
-use Rattle.ufs_model.specs.Numbers.{has_number}
-use Rattle.vol_owners.specs.Account.{numbers_differ}
-use Rattle.intentions.specs.Course.{Course, Frame, IsCourse, IsOn, MayPut, Settling}
-use Rattle.intentions.specs.Entries.{changed}
-use Rattle.intentions.specs.declared.change.Change.{Change}
-use Rattle.intentions.proofs.Courses.{on_entry}
-use Rattle.special_files.specs.Committing.{Flip, MayFlip, flip, flip_in, flipped, flips, given_all}
+use Rattle.special_files.proofs.Words.{AreCounts, Change, Course, Flip, Frame, Image, IsCourse, IsEntry, IsOn, Kept, MapEntry, MayFlip, MayPut, Settling, after_giving, and_parts, block_at, block_at-with_entry, both_ways, cases_Bool, changed, counts_given, counts_same, entry_in, entry_in-with_entry_other, entry_in-with_entry_same, eqb-false, eqb-true, flip, flip_in, flipped, flips, given_all, has_number, is_free, length-with_entry, not-true, numbers_differ, on_entry, option_to_list, or_cases, with_entry, ◌==◌, ◌||◌}
+use Rattle.std.proofs.lemmas.Bool.{eq-eqb}
 
 -- ---- one
 

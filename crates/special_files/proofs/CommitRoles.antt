@@ -1,23 +1,6 @@
 -- What a commit leaves of the blocks of an object.
 use Rattle.std.proofs.Common.{◌≡◌, ◌≢◌, ◌⊎◌, inl, inr, ⊎_elim, ℕ, Bool, true, false, List, [], ◌∷◌, length, Option, Some, None, refl, sym, ◌∙◌, ap, subst}
-use Rattle.std.specs.Prelude.{option_to_list}
-use Rattle.std.proofs.lemmas.Bool.{and_from, and_parts, both_ways, false_from_ne_true}
-use Rattle.std.proofs.lemmas.Option.{same_Some}
-use Rattle.cfs_base.specs.Disk.{Image, block_at}
-use Rattle.cyl_map.specs.declared.state.BlockState.{BlockState}
-use Rattle.cyl_map.specs.declared.state.BlockState.TheVariants.{Free, Allocated, IntendAllocate, IntendDeallocate}
-use Rattle.cyl_map.specs.declared.entry.MapEntry.{MapEntry}
-use Rattle.cyl_map.specs.Volume.{AreMaps, entry_in, is_free_in}
-use Rattle.ufs_model.specs.Numbers.{has_number}
-use Rattle.vol_image.specs.Frame.{IsBlockOf}
-use Rattle.vol_image.specs.Part.{RootsOwnThemselves, is_committed, is_fixed, part_at}
-use Rattle.vol_image.specs.Seen.{Tree, tree_in}
-use Rattle.vol_image.specs.Sight.{first_or, sight}
-use Rattle.vol_image.proofs.AtRoot.{no_shadows}
-use Rattle.vol_owners.specs.Account.{HasItsBlocks, StandsIn, is_meant_for}
-use Rattle.vol_owners.specs.Change.{ChangesOnly, IsOpenTo, of_owners}
-use Rattle.vol_owners.specs.Owner.{is_had, is_leaving, is_meant, is_of, is_placed, is_taken}
-use Rattle.vol_owners.proofs.Entries.{free_unowned, had_not_meant, had_or_meant, of_taken, owner_is}
+use Rattle.special_files.proofs.Words.{Allocated, AreMaps, BlockState, ChangesOnly, Free, HasItsBlocks, Image, IntendAllocate, IntendDeallocate, IsBlockOf, IsOpenTo, MapEntry, RootsOwnThemselves, StandsIn, Tree, and_from, and_parts, block_at, both_ways, entry_in, false_from_ne_true, first_or, free_unowned, had_not_meant, had_or_meant, has_number, is_committed, is_fixed, is_free_in, is_had, is_leaving, is_meant, is_meant_for, is_of, is_placed, is_taken, no_shadows, of_owners, of_taken, option_to_list, owner_is, part_at, same_Some, sight, tree_in}
 use Rattle.special_files.proofs.CommitFlips.{first_number, more_numbers}
 
 -- the block is the root with this number, or stands in this tree

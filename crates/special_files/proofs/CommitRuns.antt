@@ -1,30 +1,7 @@
 -- Entries changed by one call after another.
-use Rattle.std.proofs.Common.{◌≡◌, inl, ℕ, ◌+◌, ◌≤◌, false, List, [], ◌∷◌, ◌++◌, length, take, drop, get_or, Ok, Err, Some, refl, sym, ◌∙◌, ap, subst, arith}
-use Rattle.std.specs.Result.{IsErrAnd}
-use Rattle.std.specs.Prelude.{IsSome, Option, Result, None, ◌*◌, ◌<◌}
-use Rattle.std.proofs.lemmas.List.{take-append-drop, take_more}
-use Rattle.cfs_base.specs.Calls.{MakesAtMost, OnlyReads}
-use Rattle.cfs_base.specs.Disk.{Image}
-use Rattle.cfs_base.specs.Refusals.{trouble_after_try, trouble_had_tried}
-use Rattle.cfs_base.specs.Run.{Leaves, Tells}
-use Rattle.cfs_base.specs.declared.disk.Disk.{Ghosts}
-use Rattle.cfs_base.specs.declared.refusal.Trouble.{Trouble}
+use Rattle.std.proofs.Common.{◌≡◌, inl, ℕ, ◌+◌, ◌≤◌, false, List, [], ◌∷◌, ◌++◌, length, take, drop, get_or, Ok, Err, Some, refl, sym, ◌∙◌, ap, subst, arith, Option, None, ◌*◌, ◌<◌}
+use Rattle.special_files.proofs.Words.{Change, ChangesBit, ChangesEntry, Course, Fails, Flip, Flips, Ghosts, Image, IsBadMap, IsCourse, IsErrAnd, IsMapTrouble, IsOn, IsSome, Keeps, Kept, Leaves, MakesAtMost, MapEntry, MayFlip, NoMap, OnlyReads, Result, Tells, Trouble, changed, entry_in, flipped, flips, is_damage, makes_then, map_in_image, map_of, on_holds, some_entry, still_tells, take-append-drop, take_more, then, trouble_after_try, trouble_had_tried}
 use Rattle.cfs_base.specs.declared.refusal.Trouble.TheVariants as trouble
-use Rattle.cfs_base.proofs.Calls.{makes_then}
-use Rattle.cfs_base.proofs.Runs.{still_tells, then}
-use Rattle.cyl_map.specs.declared.entry.MapEntry.{MapEntry}
-use Rattle.cyl_map.specs.Volume.{entry_in, map_of}
-use Rattle.cyl_alloc.specs.Refusals.{IsMapTrouble}
-use Rattle.cyl_alloc.specs.Space.{IsBadMap, Kept}
-use Rattle.cyl_map.proofs.Volumes.{map_in_image}
-use Rattle.cyl_alloc.proofs.Entries.{some_entry}
-use Rattle.intentions.specs.Calls.{ChangesBit, ChangesEntry}
-use Rattle.intentions.specs.Course.{Course, IsCourse, IsOn, Keeps}
-use Rattle.intentions.specs.Entries.{changed}
-use Rattle.intentions.specs.declared.change.Change.{Change}
-use Rattle.intentions.proofs.Courses.{on_holds}
-use Rattle.special_files.specs.Committing.{Fails, Flip, Flips, MayFlip, flipped, flips}
-use Rattle.special_files.specs.Refusal.{NoMap, is_damage}
 use Rattle.special_files.proofs.CommitFlips.{flip_is, flipped_append, may_first, may_then}
 use Rattle.special_files.proofs.Refusals.{damage_since}
 

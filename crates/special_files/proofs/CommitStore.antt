@@ -1,49 +1,8 @@
 -- The store once a draft is its object, with what was made.
 use Rattle.std.proofs.Common.{◌≡◌, ◌≢◌, inl, ℕ, ◌%◌, ◌<◌, Bool, true, false, cond, List, [], ◌∷◌, length, Option, Some, None, Err, refl, sym, ◌∙◌, ap, subst}
-use Rattle.std.specs.Prelude.{Result, option_to_list}
-use Rattle.std.specs.List.{list_all}
-use Rattle.std.proofs.lemmas.Bool.{and_from, and_parts, false_from_ne_true}
-use Rattle.std.proofs.lemmas.Option.{same_Some}
-use Rattle.block_tree.specs.Root.{root_spelling}
-use Rattle.cfs_base.specs.Calls.{OnlyReads}
-use Rattle.cfs_base.specs.Disk.{Image, Nothing, block_at}
-use Rattle.cfs_base.specs.Run.{Leaves}
-use Rattle.cfs_base.specs.declared.disk.Disk.{Ghosts}
-use Rattle.cfs_base.specs.declared.identifier.Puid.{Puid}
-use Rattle.cfs_base.specs.declared.refusal.Trouble.{Trouble}
-use Rattle.cfs_base.proofs.Runs.{then, wider}
+use Rattle.special_files.proofs.Words.{AreParts, CarriedOut, ChangesOnly, CommitEnds, Committed, Drafting, Finishes, Ghosts, Graph, HasDrafts, Holds, Image, IsBareRoot, IsLeastFree, IsMade, IsOldOrNew, IsOpen, IsReady, Kept, Leaves, Makes, Making, Nothing, Object, OnlyReads, Opened, Puid, ReadsAs, Result, StoreHas, Tree, Trouble, and_from, and_parts, bare_object, bare_reads, block_at, changes_then, changes_wider, content_of, creation_goes_on, drafts_of, false_from_ne_true, frames_begin, has_number, in_image, is_damage, is_meant, is_placed, is_there, list_all, object_at, object_at-with_object, object_at_put, object_changes_on, object_made, of_draft, of_owners, on_ok, opened_as, option_to_list, owner_of, part_of, placed_taken, rises-with_object, root_of, root_spelling, same_Some, same_puid, same_puid_is, sight, taken_apart, then, tree_in, wider, with_made, with_object, without_draft}
 use Rattle.block_tree.specs.declared.root.Root as roots
-use Rattle.cyl_alloc.specs.Space.{IsLeastFree, Kept}
 use Rattle.ufs_model.specs.declared.object.Draft as models
-use Rattle.ufs_model.specs.declared.object.Object.{Object}
-use Rattle.ufs_model.specs.Graph.{Graph, is_there, object_at, with_object}
-use Rattle.ufs_model.specs.Identifier.{same_puid}
-use Rattle.ufs_model.specs.Numbers.{has_number}
-use Rattle.ufs_model.proofs.Graphs.{rises-with_object}
-use Rattle.vol_image.specs.Part.{part_of}
-use Rattle.vol_image.specs.Reading.{bare_object}
-use Rattle.vol_image.specs.Seen.{Tree, tree_in}
-use Rattle.vol_image.specs.Sight.{sight}
-use Rattle.vol_image.specs.Sound.{Holds, IsBareRoot, ReadsAs}
-use Rattle.vol_image.proofs.AtRoot.{bare_reads}
-use Rattle.vol_image.proofs.Changes.{object_made}
-use Rattle.vol_image.proofs.Graphs.{object_at-with_object}
-use Rattle.vol_image.proofs.Parts.{in_image, taken_apart}
-use Rattle.vol_image.proofs.Reached.{same_puid_is}
-use Rattle.vol_image.proofs.Steps.{frames_begin}
-use Rattle.vol_owners.specs.Account.{HasDrafts, IsMade, Opened, content_of, drafts_of}
-use Rattle.vol_owners.specs.Change.{ChangesOnly, of_draft, of_owners}
-use Rattle.vol_owners.specs.Owner.{is_meant, is_placed, owner_of}
-use Rattle.vol_owners.proofs.Changes.{changes_then, changes_wider}
-use Rattle.vol_owners.proofs.Entries.{placed_taken}
-use Rattle.vol_owners.proofs.Steps.{creation_goes_on, object_changes_on}
-use Rattle.intentions.specs.Store.{StoreHas}
-use Rattle.intentions.proofs.Changes.{on_ok}
-use Rattle.intentions.proofs.Committed.{object_at_put}
-use Rattle.special_files.specs.Committing.{AreParts, CarriedOut, CommitEnds, Committed, Finishes, IsOldOrNew, IsReady, Makes, Making, root_of, with_made}
-use Rattle.special_files.specs.Drafting.{Drafting, IsOpen, opened_as}
-use Rattle.special_files.specs.Refusal.{is_damage}
-use Rattle.special_files.specs.Store.{without_draft}
 use Rattle.special_files.proofs.Amid.{IsAmid}
 use Rattle.special_files.proofs.CommitDraft.{there_still, without_created, without_here, without_others, without_there}
 use Rattle.special_files.proofs.CommitFlips.{first_number, option_is}

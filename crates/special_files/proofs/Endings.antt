@@ -1,29 +1,9 @@
 -- How calls end that are made one after another.
-use Rattle.std.proofs.Common.{◌≡◌, ◌⊎◌, inl, inr, ℕ, zero, suc, ◌+◌, ◌-◌, ◌/◌, ◌≤◌, true, false, IsTrue, Ok, Err, List, [], ◌∷◌, length, get_or, set, refl, sym, ◌∙◌, ap, subst, arith}
-use Rattle.std.specs.Prelude.{Result, sum}
-use Rattle.std.proofs.lemmas.List.Sums.{sum_by-cons}
-use Rattle.cfs_base.specs.Calls.{HasTried, MakesAtMost, OnlyReads}
-use Rattle.cfs_base.specs.Disk.{Image}
-use Rattle.cfs_base.specs.Run.{Tells}
-use Rattle.cfs_base.specs.Refusals.{after_try, had_tried, trouble_after_try}
-use Rattle.cfs_base.specs.declared.disk.Disk.{Ghosts}
-use Rattle.cfs_base.specs.declared.identifier.BlockNo.{BlockNo}
-use Rattle.cfs_base.specs.declared.refusal.Refused.{Refused}
+use Rattle.std.proofs.Common.{◌≡◌, ◌⊎◌, inl, inr, ℕ, zero, suc, ◌+◌, ◌-◌, ◌/◌, ◌≤◌, true, false, IsTrue, Ok, Err, List, [], ◌∷◌, length, get_or, set, refl, sym, ◌∙◌, ap, subst, arith, ◌<◌, Bool, ◌≢◌}
+use Rattle.special_files.proofs.Words.{AreCounts, BlockNo, Claims, Drafting, Ends, Enters, GetsNode, Ghosts, Had, HasTried, Image, IsBadMap, IsDamage, IsFindRefusal, IsRefusal, IsTrouble, Kept, MakesAtMost, MapEntry, Need, NoMap, Node, OnlyReads, OtherCount, Refused, Result, StaysBut, Tells, Trouble, WritesBlock, after_taking, after_try, had_tried, intended, is_damaged, is_fresh_node, is_full, makes_then, one_unless, reads_within, still_tells, stopped_after_try, sum, sum_by-cons, told_after, trouble_after_try}
 use Rattle.cfs_base.specs.declared.refusal.Refused.TheVariants as refusals
-use Rattle.cfs_base.specs.declared.refusal.Trouble.{Trouble}
 use Rattle.cfs_base.specs.declared.refusal.Trouble.TheVariants as trouble
-use Rattle.cfs_base.proofs.Calls.{makes_then, reads_within, stopped_after_try}
-use Rattle.cfs_base.proofs.Runs.{still_tells}
-use Rattle.cyl_map.specs.declared.entry.MapEntry.{MapEntry}
-use Rattle.cyl_alloc.specs.Enters.{Enters}
-use Rattle.cyl_alloc.specs.Refusals.{IsFindRefusal}
-use Rattle.cfs_base.specs.declared.kind.Place.TheVariants.{Node}
-use Rattle.cyl_alloc.specs.Space.{AreCounts, IsBadMap, Kept, after_taking, intended}
-use Rattle.special_files.specs.Calls.{Claims, GetsNode, Had, WritesBlock}
-use Rattle.special_files.specs.Drafting.{Drafting, is_fresh_node, one_unless}
-use Rattle.special_files.specs.Ends.{Ends}
-use Rattle.special_files.specs.Refusal.{IsDamage, IsRefusal, IsTrouble, NoMap, OtherCount}
-use Rattle.special_files.proofs.Refusals.{damage_since}
+use Rattle.special_files.proofs.Refusals.{damage_since, if_err}
 
 -- ---- after a call that tried something
 
@@ -119,6 +99,18 @@ enters_ends g at floor old new before after e (Err x) is = record {
         by (inr (code, other)) = OtherCount code (λ tells. subst (λ (k : Kept). ¬ AreCounts (g.content new) k) (sym same) (subst (λ (c : Image). ¬ AreCounts c before) (sym content) (other tells)))
     why refusals.Memory is only same = absurd is
 
+pub no_reads : {D : Type 0} (g : Ghosts D) (d : D) (n : ℕ) → OnlyReads g n d d
+no_reads g d n = record {
+  content = refl;
+  told = λ b is. is;
+  images = record { later = omega arith; since = λ t c le h. inl h; now = λ c h. inl h };
+  keeps = λ t c before is. is;
+  same = record { size = refl; honesty = refl; telling = refl };
+  tries = refl;
+  faults = omega arith;
+  calls = omega arith;
+}
+
 pub makes_none : {D : Type 0} (g : Ghosts D) (d : D) (n t : ℕ) → MakesAtMost g n t d d
 makes_none g d n t = record { later = omega arith; keeps = λ at c before was. was; same = record { size = refl; honesty = refl; telling = refl }; faults = omega arith; calls = omega arith; tries = omega arith; no_fewer = omega arith }
 
@@ -145,3 +137,69 @@ module _ {D : Type 0} (g : Ghosts D) (at floor : ℕ) (old new : D) (kept : Kept
   pub write_ends : (result : Result (Unit {0}) Refused) → WritesBlock g n block old new result → Ends g at floor 1 1 0 old new kept kept result
   write_ends (Ok x) is = write_done is
   write_ends (Err e) is = record { told = tt; refused = subst (IsRefusal g at floor old new kept) (sym is.refused) is.stopped; untried = λ same. (let no : refusals.Disk true ≡ refusals.Disk false = sym is.refused ∙ same in cc); cylinders = refl; takes = omega arith; calls = is.calls }
+
+-- ---- what stays
+
+pub stays_itself : (was : Drafting) → StaysBut was was
+stays_itself was = record { at = refl; shadow = refl; own = refl; created = refl; word = refl; root = record { kind = refl; fill = refl; size = refl } }
+
+-- ---- with other bounds
+
+under_floor : {D : Type 0} (g : Ghosts D) (at floor : ℕ) (d0 d1 : D) (kept : Kept) (e : Refused) → IsRefusal g at 0 d0 d1 kept e → IsRefusal g at floor d0 d1 kept e
+under_floor g at floor d0 d1 kept (refusals.Full need) is = omega (arith, is)
+under_floor g at floor d0 d1 kept (refusals.Disk was) is = is
+under_floor g at floor d0 d1 kept (refusals.Damaged damage) is = is
+under_floor g at floor d0 d1 kept refusals.Memory is = is
+
+-- with a floor, more calls and more blocks; no more can be taken than is there
+pub ends_wider : {D A : Type 0} {g : Ghosts D} {at n t k : ℕ} {d0 d1 : D} {k0 k1 : Kept} {r : Result A Refused} (floor most tries blocks : ℕ) → Ends g at 0 n t k d0 d1 k0 k1 r → n ≤ most → t ≤ tries → sum k0.free ≤ sum k1.free + blocks → Ends g at floor most tries blocks d0 d1 k0 k1 r
+ends_wider {g = g} {at} {n} {t} {d0 = d0} {d1} {k1 = k1} {r} floor most tries blocks is le lt takes = record {
+  told = is.told;
+  refused = if_err r (λ e why. under_floor g at floor d0 d1 k1 e why) is.refused;
+  untried = if_err r (λ e why same. ((why same).0, reads_within g d0 d1 n most le (why same).1)) is.untried;
+  cylinders = is.cylinders;
+  takes = takes;
+  calls = makes_then g d0 d0 d1 0 n most 0 t tries (makes_none g d0 0 0) is.calls (omega (arith, le)) (omega (arith, lt));
+}
+
+-- refused before any call
+pub full_ends : {D A : Type 0} (g : Ghosts D) (at floor n t k : ℕ) (d : D) (kept : Kept) (need : Need) → need.free < need.need + floor → Ends {A = A} g at floor n t k d d kept kept (Err (refusals.Full need))
+full_ends g at floor n t k d kept need less = record { told = tt; refused = less; untried = λ same. cc; cylinders = refl; takes = omega arith; calls = makes_none g d n t }
+
+-- ---- refusals told after others
+
+pub still_sound : (tried : Bool) (e : Refused) → is_damaged e ≡ false → is_damaged (told_after tried e) ≡ false
+still_sound false e is = is
+still_sound true (refusals.Full need) is = refl
+still_sound true (refusals.Disk was) is = refl
+still_sound true (refusals.Damaged damage) is = is
+still_sound true refusals.Memory is = refl
+
+pub still_room : (tried : Bool) (e : Refused) → is_full e ≡ false → is_full (told_after tried e) ≡ false
+still_room false e is = is
+still_room true (refusals.Full need) is = is
+still_room true (refusals.Disk was) is = refl
+still_room true (refusals.Damaged damage) is = refl
+still_room true refusals.Memory is = refl
+
+-- neither for want of a block nor of memory, where a block is Free
+pub claim_real : {D : Type 0} (g : Ghosts D) (old new : D) (kept : Kept) (e : Refused) → 1 ≤ sum kept.free → IsFindRefusal g old new kept e → (is_full e ≡ false) × (e ≢ refusals.Memory)
+claim_real g old new kept (refusals.Full need) some is = absurd (none some is.2)
+  where
+    none : 1 ≤ sum kept.free → sum kept.free ≡ 0 → ⊥
+    none one nothing = omega (arith, one, nothing)
+claim_real g old new kept (refusals.Disk tried) some is = (refl, λ same. cc)
+claim_real g old new kept (refusals.Damaged damage) some is = (refl, λ same. cc)
+claim_real g old new kept refusals.Memory some is = absurd is
+
+-- ---- drafts and results, one after another
+
+pub stays_then : (was mid now : Drafting) → StaysBut was mid → StaysBut mid now → StaysBut was now
+stays_then was mid now first then = record {
+  at = then.at ∙ first.at;
+  shadow = then.shadow ∙ first.shadow;
+  own = then.own ∙ first.own;
+  created = then.created ∙ first.created;
+  word = then.word ∙ first.word;
+  root = record { kind = then.root.kind ∙ first.root.kind; fill = then.root.fill ∙ first.root.fill; size = then.root.size ∙ first.root.size };
+}

@@ -1,59 +1,14 @@
 -- A slot of an index in a draft, filled or emptied.
 use Rattle.std.proofs.Common.{◌≡◌, ◌⊎◌, inl, inr, ℕ, ◌+◌, ◌-◌, ◌*◌, ◌/◌, ◌%◌, ◌<◌, ◌≤◌, Bool, true, false, cond, List, [], ◌∷◌, length, get_or, set, replicate, Option, Some, None, Ok, Err, refl, sym, ◌∙◌, ap, subst, arith}
-use Rattle.std.specs.Prelude.{◌==◌, ◌&&◌, is_none, is_some, Result}
-use Rattle.std.specs.List.{range_with_len}
-use Rattle.std.specs.Result.{IsErrAnd}
-use Rattle.std.proofs.lemmas.Bool.{eq-eqb, ne_eqb}
-use Rattle.std.proofs.lemmas.List.{get_or-replicate}
-use Rattle.cfs_base.specs.Calls.{MakesAtMost, OnlyReads}
-use Rattle.cfs_base.specs.Disk.{Image, Nothing}
-use Rattle.cfs_base.specs.Run.{Leaves}
-use Rattle.cfs_base.specs.declared.disk.Disk.{Ghosts}
-use Rattle.cfs_base.specs.declared.identifier.Puid.{Puid}
-use Rattle.cfs_base.specs.declared.refusal.Refused.{Refused}
-use Rattle.cfs_base.specs.declared.refusal.Trouble.{Trouble}
-use Rattle.cfs_base.specs.declared.refusal.Trouble.TheVariants as trouble
-use Rattle.cfs_base.specs.Refusals.{refused_by}
-use Rattle.cfs_base.proofs.Runs.{wider}
-use Rattle.cfs_base.proofs.Calls.{makes_then, reads_make, reads_then, reads_within}
+use Rattle.special_files.proofs.Words.{Becomes, Draft, Drafting, Ends, Fill, FillsSlot, Fits, FitsLeaf, Ghosts, GivesIndex, HasDraft, Held, Image, Index, IsErrAnd, IsOpen, IsSlot, Kept, LeavesFit, NodeRead, Object, OnlyReads, Opened, Overwrite, Puid, PutsLeaf, Refused, Result, SetsFresh, StaysBut, Trouble, View, branches, bytes_held, changed_object, draft_in, drafts_with, empty_stays, filled, filled_draft, fresh_after, fresh_of, get_or-replicate, held_levels, index_to_leaves, is_empty_already, is_none, is_some, leaf_content, leaves_in, leaves_of, merged, ne_eqb, opened_as, range_with_len, refused_by, same_object, same_slot, slot_fit, slot_in, slot_object, slot_of, touched, with_slot, within, ◌&&◌, ◌==◌}
+use Rattle.std.proofs.lemmas.Bool.{eq-eqb}
 use Rattle.block_tree.specs.declared.root.Root as roots
-use Rattle.block_tree.specs.Root.{Fits}
-use Rattle.cyl_alloc.specs.Space.{Kept}
-use Rattle.leaf_changes.specs.Bytes.{IsSlot, with_slot}
-use Rattle.leaf_changes.specs.Gives.{GivesIndex}
-use Rattle.leaf_changes.specs.Leaves.{LeavesFit, FillsSlot, bytes_held}
-use Rattle.leaf_changes.proofs.Fits.{same_object}
-use Rattle.leaf_changes.proofs.Given.{index_to_leaves}
-use Rattle.leaf_changes.proofs.SlotBytes.{same_slot}
-use Rattle.leaf_changes.proofs.Slotted.{empty_stays, slot_fit, slot_object}
-use Rattle.ufs_model.specs.declared.change.Change.TheVariants.{Fill, Overwrite}
-use Rattle.ufs_model.specs.declared.object.Draft.{Draft}
-use Rattle.ufs_model.specs.declared.object.Index.{Index}
 use Rattle.ufs_model.specs.declared.object.Object.TheVariants as objects
-use Rattle.ufs_model.specs.declared.object.Object.{Object}
-use Rattle.ufs_model.specs.Graph.{Graph, object_at}
-use Rattle.ufs_model.specs.Numbers.{branches, merged, within}
-use Rattle.ufs_model.specs.Object.{changed_object, filled, fresh_after, held_levels, leaves_in, slot_of, touched}
-use Rattle.vol_image.specs.Reading.{leaf_content, slot_in}
-use Rattle.vol_image.specs.Seen.{Held}
-use Rattle.vol_image.specs.Sound.{Holds}
-use Rattle.vol_owners.specs.Account.{HasDraft, Opened}
-use Rattle.vol_owners.specs.Change.{ChangesOnly, of_draft}
-use Rattle.intentions.specs.Store.{StoreHas}
-use Rattle.special_files.specs.Becomes.{Becomes}
-use Rattle.special_files.specs.Calls.{SetsFresh}
-use Rattle.special_files.specs.Drafting.{Drafting, IsOpen, fresh_of, opened_as}
-use Rattle.special_files.specs.Ends.{Ends}
-use Rattle.special_files.specs.Fills.{filled_draft, is_empty_already}
-use Rattle.special_files.specs.Leaves.{draft_in, leaves_of}
-use Rattle.special_files.specs.Puts.{FitsLeaf, PutsLeaf, StaysBut, drafts_with}
-use Rattle.special_files.specs.Refusal.{IsTrouble, is_full}
-use Rattle.special_files.specs.declared.node.NodeRead.{NodeRead}
-use Rattle.special_files.proofs.Begun.{store_reads}
 use Rattle.special_files.proofs.Lists.{first_here}
 use Rattle.special_files.proofs.Marks.{Marks, fresh_written, marks_begin, marks_more}
 use Rattle.special_files.proofs.PutStore.{the_draft}
-use Rattle.special_files.proofs.Refusals.{refusal_after_reads, refusal_of}
+use Rattle.special_files.proofs.View.{draft_of, view_reads}
+use Rattle.special_files.proofs.WriteLeaf.{becomes_since}
 use Rattle.special_files.proofs.Writes.{becomes_as, becomes_begin}
 
 -- ---- a leaf of a slot
@@ -140,13 +95,18 @@ pub none_is : (p : Option Puid) → is_none p ≡ true → p ≡ None
 none_is None h = refl
 none_is (Some x) h = cc
 
-module _ {D : Type 0} (g : Ghosts D) (graph : Graph) (ds : List Opened) (id : Puid) (o : Object) (d0 d1 : D) (k0 : Kept) (was : Drafting) (d : Draft) (i : Index) (store : StoreHas g graph ds d0 k0) (at : object_at graph id ≡ Some o) (opened : IsOpen ds id was d)
-    (index : d.object ≡ objects.Index i) (n : ℕ) (reads : OnlyReads g n d0 d1) (slot : ℕ) (what : Option Puid) (inside : 8 * slot + 8 ≤ was.root.size) where
+pub put_fits : {D : Type 0} {g : Ghosts D} {d0 : D} {k0 : Kept} {was : Drafting} (v : View g d0 k0 was) (slot : ℕ) (what : Option Puid) → 8 * slot + 8 ≤ was.root.size → (content : List ℕ) → content ≡ leaf_content was.root.fill (leaves_of (g.content d0) was.root (slot / 64))
+    → FitsLeaf was.root (slot / 64) (with_slot (slot % 64) what content)
+put_fits {g = g} {d0} {was = was} v slot what inside content same =
+    subst (λ (c : List ℕ). FitsLeaf was.root (slot / 64) (with_slot (slot % 64) what c)) (sym same)
+    (slot_fits was.root (leaves_of (g.content d0) was.root) slot what (record { within = (draft_of v).tree.within; filled = (draft_of v).tree.filled }) inside)
+
+module _ {D : Type 0} {g : Ghosts D} {d0 d1 : D} {k0 : Kept} {was : Drafting} {n : ℕ} (v : View g d0 k0 was) (i : Index) (index : v.draft.object ≡ objects.Index i) (reads : OnlyReads g n d0 d1) (slot : ℕ) (what : Option Puid) (inside : 8 * slot + 8 ≤ was.root.size) where
   abbrev a : Image
   a = g.content d0
 
-  before : HasDraft a id (opened_as id was d)
-  before = the_draft a ds id was d opened (store.account.drafts id o at)
+  before : HasDraft a v.id (opened_as v.id was v.draft)
+  before = draft_of v
 
   abbrev old : ℕ → Option Held
   old = leaves_of a was.root
@@ -157,49 +117,35 @@ module _ {D : Type 0} (g : Ghosts D) (graph : Graph) (ds : List Opened) (id : Pu
   gives : GivesIndex was.root old i
   gives = index_to_leaves was.root old i (before.tree.object ∙ index)
 
-  pub root_fits : Fits was.root
+  root_fits : Fits was.root
   root_fits = before.tree.spelled.good.0
 
   -- what the leaf has in the slot
   slot_is : slot_of i slot ≡ slot_in (leaf_content was.root.fill (old (slot / 64))) (slot % 64)
   slot_is = gives.slots slot (omega (arith, inside))
 
-  store1 : StoreHas g graph ds d1 k0
-  store1 = store_reads g graph ds d0 d1 k0 n store reads
-
-  since : (e : Draft) (d2 : D) (k2 : Kept) (now : Drafting) → Becomes g graph ds id e d1 d2 k2 now → Becomes g graph ds id e d0 d2 k2 now
-  since e d2 k2 now is = record {
-    steps = record { store = is.steps.store; only = subst (λ (im : Image). ChangesOnly (λ entry. of_draft id.block entry) im (g.content d2)) reads.content is.steps.only };
-    is_open = is.is_open;
-  }
-
   module _ (content : List ℕ) (same : content ≡ leaf_content was.root.fill (old (slot / 64))) where
     empty_is : (b : Bool) → b ≡ (is_none what && is_none (slot_in content (slot % 64))) → is_empty_already i slot what ≡ b
     empty_is b is = ap (λ (p : Option Puid). is_none what && is_none p) (slot_is ∙ ap (λ (c : List ℕ). slot_in c (slot % 64)) (sym same)) ∙ sym is
 
-    pub put_fits : FitsLeaf was.root (slot / 64) (with_slot (slot % 64) what content)
-    put_fits = subst (λ (c : List ℕ). FitsLeaf was.root (slot / 64) (with_slot (slot % 64) what c)) (sym same) (slot_fits was.root old slot what fit inside)
-
     -- an empty slot that is emptied stays as it is
-    pub stays_empty : (b : Bool) → b ≡ (is_none what && is_none (slot_in content (slot % 64))) → b ≡ true → Becomes g graph ds id (filled_draft i slot what d) d0 d1 k0 was
+    pub stays_empty : (b : Bool) → b ≡ (is_none what && is_none (slot_in content (slot % 64))) → b ≡ true → Becomes g v.graph v.ds v.id (filled_draft i slot what v.draft) d0 d1 k0 was
     stays_empty b is true_now =
         let already = empty_is b is ∙ true_now in
-        since (filled_draft i slot what d) d1 k0 was
-        (becomes_as g graph ds id o at d1 d1 k0 was d (filled_draft i slot what d) (becomes_begin g graph ds id o at d1 k0 was d store1 opened)
-        (emptied what already) (λ k. ap (λ (c : Bool). get_or (cond c d.fresh (fresh_after (Fill slot what) d.object d.fresh)) k []) already))
+        becomes_since reads (becomes_as g v.graph v.ds v.id v.object v.at d1 d1 k0 was v.draft (filled_draft i slot what v.draft) (becomes_begin g v.graph v.ds v.id v.object v.at d1 k0 was v.draft (view_reads v reads).store v.opened)
+        (emptied what already) (λ k. ap (λ (c : Bool). get_or (cond c v.draft.fresh (fresh_after (Fill slot what) v.draft.object v.draft.fresh)) k []) already))
       where
-        emptied : (w : Option Puid) → is_empty_already i slot w ≡ true → changed_object (Fill slot w) d.object ≡ d.object
+        emptied : (w : Option Puid) → is_empty_already i slot w ≡ true → changed_object (Fill slot w) v.draft.object ≡ v.draft.object
         emptied (Some x) none = cc
         emptied None none = ap (changed_object (Fill slot None)) (sym before.tree.object)
             ∙ sym (empty_stays was.root old slot gives.kind (omega (arith, inside)) (sym slot_is ∙ none_is (slot_of i slot) none)) ∙ before.tree.object
 
     -- the leaf was put with the slot in it
     pub slot_put : (b : Bool) → b ≡ (is_none what && is_none (slot_in content (slot % 64))) → b ≡ false → IsSlot what → (d2 : D) (k2 : Kept) (now : Drafting) (next : NodeRead) (bytes : List ℕ) → bytes ≡ with_slot (slot % 64) what content → StaysBut was now
-        → PutsLeaf g graph ds id (slot / 64) bytes d1 d2 k2 was now next → Becomes g graph ds id (filled_draft i slot what d) d0 d2 k2 now
+        → PutsLeaf g v.graph v.ds v.id (slot / 64) bytes d1 d2 k2 was now next → Becomes g v.graph v.ds v.id (filled_draft i slot what v.draft) d0 d2 k2 now
     slot_put b is other good d2 k2 now after_read bytes spelled stays puts =
-        since (filled_draft i slot what d) d2 k2 now
-        (becomes_as g graph ds id o at d1 d2 k2 now later (filled_draft i slot what d) (record { steps = puts.steps; is_open = puts.is_open }) object
-        (λ k. ap (λ (c : Bool). get_or (cond c d.fresh (fresh_after (Fill slot what) d.object d.fresh)) k []) (empty_is b is ∙ other) ∙ fresh_filled (g.content d2) id es was now d later ds opened puts.is_open after slot small puts.sets what (filled_index.0) (sym object ∙ filled_index.1) object k))
+        becomes_since reads (becomes_as g v.graph v.ds v.id v.object v.at d1 d2 k2 now later (filled_draft i slot what v.draft) (record { steps = puts.steps; is_open = puts.is_open }) object
+        (λ k. ap (λ (c : Bool). get_or (cond c v.draft.fresh (fresh_after (Fill slot what) v.draft.object v.draft.fresh)) k []) (empty_is b is ∙ other) ∙ fresh_filled (g.content d2) v.id es was now v.draft later v.ds v.opened puts.is_open after slot small puts.sets what (filled_index.0) (sym object ∙ filled_index.1) object k))
       where
         small : slot / 64 < 15360
         small = omega (arith, inside, before.tree.spelled.good.1.size.limit)
@@ -208,10 +154,10 @@ module _ {D : Type 0} (g : Ghosts D) (graph : Graph) (ds : List Opened) (id : Pu
         later = draft_in (g.content d2) now
 
         es : List Opened
-        es = drafts_with (g.content d2) ds id now
+        es = drafts_with (g.content d2) v.ds v.id now
 
-        after : HasDraft (g.content d2) id (opened_as id now later)
-        after = the_draft (g.content d2) es id now later puts.is_open (puts.steps.store.account.drafts id o at)
+        after : HasDraft (g.content d2) v.id (opened_as v.id now later)
+        after = the_draft (g.content d2) es v.id now later puts.is_open (puts.steps.store.account.drafts v.id v.object v.at)
 
         old1 : leaves_of (g.content d1) was.root ≡ old
         old1 = ap (λ (im : Image). leaves_of im was.root) reads.content
@@ -230,63 +176,18 @@ module _ {D : Type 0} (g : Ghosts D) (graph : Graph) (ds : List Opened) (id : Pu
             let none = ap (λ (f : ℕ). slot_in (replicate 512 f) (slot % 64)) zero_fill ∙ absent_slot (slot % 64) (omega arith) in
             let is_empty = ap is_none none in cc
 
-        object : changed_object (Fill slot what) d.object ≡ later.object
+        object : changed_object (Fill slot what) v.draft.object ≡ later.object
         object = ap (changed_object (Fill slot what)) (sym before.tree.object)
             ∙ sym (same_object was.root.size was.root now.root stays.root (leaves_of (g.content d2) now.root)
             ∙ slot_object was.root old (leaves_of (g.content d2) now.root) slot what fit fills (omega (arith, inside)) good
             (held what (old (slot / 64)) (ap (λ (c : List ℕ). is_none what && is_none (slot_in c (slot % 64))) (sym same) ∙ sym is ∙ other)) gives.kind)
 
-        filled_index : (j : Index) × (changed_object (Fill slot what) d.object ≡ objects.Index j)
+        filled_index : (j : Index) × (changed_object (Fill slot what) v.draft.object ≡ objects.Index j)
         filled_index = (filled i slot what, ap (changed_object (Fill slot what)) index)
 
 -- ---- how the call ends
 
--- reads leave nothing more
-pub leaves_read : {D : Type 0} (g : Ghosts D) (graph : Graph) (n : ℕ) (d0 d1 : D) → OnlyReads g n d0 d1 → Leaves g d0 d1 (λ c. Holds c graph)
-leaves_read g graph n d0 d1 reads = wider g d0 d1 Nothing (λ c. Holds c graph) reads.images (λ c none. absurd none)
-
--- a refusal that was a trouble is neither Full nor damage, where the trouble is none
-pub not_full : (t : Trouble) → is_full (refused_by t) ≡ false
-not_full (trouble.Disk tried) = refl
-not_full (trouble.Damaged damage) = refl
-
-made : {D : Type 0} (g : Ghosts D) (m : ℕ) (d0 d1 : D) → OnlyReads g m d0 d1 → (most t : ℕ) → m ≤ most → MakesAtMost g most t d0 d1
-made g m d0 d1 reads most t le = let is = reads_make g d0 d1 m reads in record { later = is.later; keeps = is.keeps; same = is.same; faults = is.faults; calls = omega (arith, is.calls, le); tries = omega (arith, is.tries); no_fewer = is.no_fewer }
-
-module _ {D A : Type 0} (g : Ghosts D) (at floor m : ℕ) (d0 d1 : D) (k0 : Kept) (reads : OnlyReads g m d0 d1) where
-  -- a call that only read
-  pub ends_read : (t k most : ℕ) (x : A) → m ≤ most → Ends g at floor most t k d0 d1 k0 k0 (Ok x)
-  ends_read t k most x le = record { told = reads.told; refused = tt; untried = tt; cylinders = refl; takes = omega arith; calls = made g m d0 d1 reads most t le }
-
-  pub ends_stopped : (t k most : ℕ) (e : Trouble) → m ≤ most → IsTrouble g at d0 d1 k0 e → Ends {A = A} g at floor most t k d0 d1 k0 k0 (Err (refused_by e))
-  ends_stopped t k most e le why = record {
-    told = tt;
-    refused = refusal_of g at floor d0 d1 k0 e why;
-    untried = λ same. (refl, reads_within g d0 d1 m most le reads);
-    cylinders = refl;
-    takes = omega arith;
-    calls = made g m d0 d1 reads most t le;
-  }
-
-  -- the same of a result that a `?` made of a trouble
-  pub ended_by : (d2 : D) (k2 : Kept) (n t k : ℕ) (result : Result A Refused) (e : Trouble) → IsErrAnd result (λ x. x ≡ refused_by e) → Ends {A = A} g at floor n t k d0 d2 k0 k2 (Err (refused_by e)) → Ends g at floor n t k d0 d2 k0 k2 result
-  ended_by d2 k2 n t k (Ok x) e is ends = absurd is
-  ended_by d2 k2 n t k (Err x) e is ends = subst (λ (y : Refused). Ends {A = A} g at floor n t k d0 d2 k0 k2 (Err y)) (sym is) ends
-
-makes : {D : Type 0} (g : Ghosts D) (m n t most : ℕ) (d0 d1 d2 : D) → OnlyReads g m d0 d1 → m + n ≤ most → MakesAtMost g n t d1 d2 → MakesAtMost g most t d0 d2
-makes g m n t most d0 d1 d2 reads le calls = makes_then g d0 d1 d2 m n most 0 t t (reads_make g d0 d1 m reads) calls le (omega arith)
-
--- a call made after some that only read
-module _ {D A B : Type 0} (g : Ghosts D) (at floor m n t k most : ℕ) (d0 d1 d2 : D) (k0 k2 : Kept) (reads : OnlyReads g m d0 d1) (le : m + n ≤ most) where
-  pub done_after_reads : (x : A) (y : B) → Ends g at floor n t k d1 d2 k0 k2 (Ok x) → Ends g at floor most t k d0 d2 k0 k2 (Ok y)
-  done_after_reads x y ends = record { told = λ b was. ends.told b (reads.told b was); refused = tt; untried = tt; cylinders = ends.cylinders; takes = ends.takes; calls = makes g m n t most d0 d1 d2 reads le ends.calls }
-
-  pub refused_after_reads : (e : Refused) → Ends {A = A} g at floor n t k d1 d2 k0 k2 (Err e) → Ends {A = B} g at floor most t k d0 d2 k0 k2 (Err e)
-  refused_after_reads e ends = record {
-    told = tt;
-    refused = refusal_after_reads g at d0 d1 d2 k2 floor m e reads ends.refused;
-    untried = λ same. let two = ends.untried same in (two.0, reads_then g d0 d1 d2 m n most reads two.1 le);
-    cylinders = ends.cylinders;
-    takes = ends.takes;
-    calls = makes g m n t most d0 d1 d2 reads le ends.calls;
-  }
+-- the result that a `?` made of a trouble
+pub ended_by : {D A : Type 0} (g : Ghosts D) (at n t k : ℕ) (d0 d2 : D) (k0 k2 : Kept) (result : Result A Refused) (e : Trouble) → IsErrAnd result (λ x. x ≡ refused_by e) → ((x : Refused) → x ≡ refused_by e → Ends {A = A} g at 0 n t k d0 d2 k0 k2 (Err x)) → Ends g at 0 n t k d0 d2 k0 k2 result
+ended_by g at n t k d0 d2 k0 k2 (Ok x) e is ends = absurd is
+ended_by g at n t k d0 d2 k0 k2 (Err x) e is ends = ends x is

@@ -1,25 +1,7 @@
 -- What is fresh in a draft's tree is meant for the object, and stands below what is fresh.
-use Rattle.std.proofs.Common.{◌≡◌, ◌≢◌, ℕ, zero, suc, ◌+◌, ◌<◌, ◌≤◌, Bool, true, false, List, [], ◌∷◌, length, get_or, inl, inr, Some, refl, sym, ◌∙◌, ap, arith}
-use Rattle.std.specs.Prelude.{not, slice_index, replicate}
-use Rattle.std.proofs.lemmas.Bool.{cases_Bool, cases_lt}
-use Rattle.std.proofs.lemmas.List.{get_or-replicate, get_or_past, length-replicate}
-use Rattle.cfs_base.specs.Disk.{Image, block_at}
-use Rattle.cfs_base.specs.declared.identifier.Puid.{Puid}
+use Rattle.std.proofs.Common.{◌≡◌, ◌≢◌, ℕ, zero, suc, ◌+◌, ◌<◌, ◌≤◌, Bool, true, false, List, [], ◌∷◌, length, get_or, inl, inr, Some, refl, sym, ◌∙◌, ap, arith, not, replicate}
+use Rattle.special_files.proofs.Words.{Fits, Graph, HasDraft, HasItsBlocks, Holds, Image, Object, Opened, Puid, block_at, cases_Bool, cases_lt, content_of, get_or-replicate, get_or_past, held, held_at, is_meant, is_meant_for, is_of, leaf_pointers, leaves_at, length-map-range_with_len, length-replicate, meant_differs, node_of, not_meant_is_own, number_at, object_at, passes, pointers_of, root_spelling, slice_index, tree_in, tree_of}
 use Rattle.block_tree.specs.declared.root.Root as roots
-use Rattle.std.proofs.lemmas.List.FromFn.{length-map-range_with_len}
-use Rattle.block_tree.specs.Pointers.{leaf_pointers, number_at, pointers_of}
-use Rattle.block_tree.specs.Root.{Fits, root_spelling}
-use Rattle.block_tree.specs.Tree.{tree_of}
-use Rattle.ufs_model.specs.declared.object.Object.{Object}
-use Rattle.ufs_model.specs.Graph.{Graph, object_at}
-use Rattle.vol_image.specs.Seen.{held_at, tree_in}
-use Rattle.vol_image.proofs.Views.{held}
-use Rattle.vol_image.specs.Sound.{Holds}
-use Rattle.vol_owners.specs.Account.{HasDraft, HasItsBlocks, Opened, content_of, is_meant_for, passes}
-use Rattle.vol_owners.specs.Owner.{is_meant, is_of}
-use Rattle.vol_owners.proofs.Differing.{meant_differs, not_meant_is_own}
-use Rattle.special_files.specs.Drafting.{node_of}
-use Rattle.special_files.specs.Nodes.{leaves_at}
 use Rattle.special_files.proofs.Trees.{leaf_at, leaf_from, node_at}
 
 pub zeros : (n k : ℕ) → get_or (replicate {A = ℕ} n 0) k 0 ≡ 0

@@ -1,25 +1,6 @@
 -- The fresh blocks of a draft, level by level, and the flags that tell them.
 use Rattle.std.proofs.Common.{◌≡◌, ◌≢◌, ◌⊎◌, inl, inr, ℕ, zero, suc, ◌+◌, ◌-◌, ◌/◌, ◌%◌, ◌<◌, ◌≤◌, Bool, true, false, not, cond, List, [], ◌∷◌, length, get_or, replicate, set, refl, sym, ◌∙◌, ap, subst, get_or-set_other, get_or-set_same, arith}
-use Rattle.std.specs.Prelude.{◌==◌, filter}
-use Rattle.std.proofs.lemmas.Bool.{both_ways, cases_Bool, cases_lt, eqb-false, eqb-true}
-use Rattle.std.proofs.lemmas.List.{get_or-replicate, get_or_past, length-replicate}
-use Rattle.std.proofs.Math.Nat.{div-one}
-use Rattle.std.proofs.Math.Path.{fun_ext}
-use Rattle.block_tree.specs.Tree.{levels_of, path_to}
-use Rattle.block_tree.proofs.Trees.{path_is}
-use Rattle.ufs_model.specs.Numbers.{has_number}
-use Rattle.vol_image.specs.Seen.{Tree}
-use Rattle.vol_image.proofs.Rising.{in_filter, to_filter, to_numbers}
-use Rattle.vol_owners.specs.Account.{levels_standing, passes, standing_at}
-use Rattle.special_files.specs.Calls.{SetsFresh}
-use Rattle.special_files.specs.Drafting.{Drafting, IsOpen, fresh_of, none_of, one_unless, set_in, unset_in}
-use Rattle.std.specs.List.{count_by, sum_by, range_with_len}
-use Rattle.std.proofs.lemmas.List.Recursion.{is_count_by}
-use Rattle.std.proofs.lemmas.List.Sums.{sum_by-cons}
-use Rattle.cfs_base.specs.declared.identifier.Puid.{Puid}
-use Rattle.ufs_model.specs.declared.object.Draft.{Draft}
-use Rattle.vol_owners.specs.Account.{Opened}
-use Rattle.vol_owners.proofs.Owned.{same_sums}
+use Rattle.special_files.proofs.Words.{Draft, Drafting, IsOpen, Opened, Puid, SetsFresh, Tree, both_ways, cases_Bool, cases_lt, count_by, div-one, eqb-false, eqb-true, filter, fresh_of, fun_ext, get_or-replicate, get_or_past, has_number, in_filter, is_count_by, length-replicate, levels_of, levels_standing, none_of, one_unless, passes, path_is, path_to, range_with_len, same_sums, set_in, standing_at, sum_by, sum_by-cons, to_filter, to_numbers, unset_in, ◌==◌}
 
 -- ---- numbers that pass
 

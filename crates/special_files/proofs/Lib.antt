@@ -4,6 +4,7 @@ pub mod Begun
 pub mod ChangedRun
 pub mod ChangedTrees
 pub mod CommitAbort
+pub mod CommitAfter
 pub mod CommitDirect
 pub mod CommitDone
 pub mod CommitDraft
@@ -44,6 +45,8 @@ pub mod Sized
 pub mod Swapped
 pub mod Trees
 pub mod Unlike
+pub mod View
 pub mod WriteLeaf
 pub mod WriteRuns
 pub mod Writes
+pub mod Words

@@ -1,16 +1,6 @@
 -- Lists of drafts, one of which is begun, replaced or left out.
 use Rattle.std.proofs.Common.{◌≡◌, inl, inr, ℕ, zero, suc, length, Bool, true, false, cond, List, [], ◌∷◌, ◌++◌, Option, Some, None, refl, sym, ◌∙◌, ap}
-use Rattle.std.specs.List.{list_all}
-use Rattle.std.specs.Prelude.{is_some, option_to_list}
-use Rattle.std.proofs.lemmas.Bool.{and_from, and_parts, both_ways, cases_Bool}
-use Rattle.cfs_base.specs.declared.identifier.Puid.{Puid}
-use Rattle.ufs_model.specs.declared.object.Object.{Object}
-use Rattle.ufs_model.specs.Graph.{Graph, is_there, object_at}
-use Rattle.ufs_model.specs.Identifier.{same_puid}
-use Rattle.vol_image.proofs.Reached.{same_puid_is, same_puid_itself}
-use Rattle.vol_owners.specs.Account.{Opened, created_of, drafts_of}
-use Rattle.vol_owners.specs.Change.{SameOthers}
-use Rattle.special_files.specs.Store.{replaced}
+use Rattle.special_files.proofs.Words.{Graph, Object, Opened, Puid, SameOthers, and_from, and_parts, both_ways, cases_Bool, created_of, drafts_of, is_some, is_there, list_all, object_at, option_to_list, replaced, same_puid, same_puid_is, same_puid_itself}
 
 pub differs : (x y : Puid) → same_puid x y ≡ false → same_puid y x ≡ false
 differs x y not = elim (cases_Bool (same_puid y x)) [

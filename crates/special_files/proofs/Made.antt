@@ -1,29 +1,8 @@
 -- The root of an object that is made with a commit.
 use Rattle.std.proofs.Common.{◌≡◌, ◌≢◌, inl, inr, ⊎_elim, ℕ, true, false, List, Option, Some, None, refl, sym, ◌∙◌, ap, subst, eq-eqb}
-use Rattle.std.proofs.lemmas.Bool.{and_from, and_parts, both_ways, false_from_ne_true}
-use Rattle.std.proofs.lemmas.Option.{none-some, same_Some}
-use Rattle.cfs_base.specs.Disk.{Image, block_at}
-use Rattle.cfs_base.specs.declared.identifier.Puid.{Puid}
-use Rattle.cfs_base.specs.declared.kind.Place.{Place}
-use Rattle.cfs_base.specs.declared.kind.Place.TheVariants.{Root, ShadowRoot, Node, Leaf}
-use Rattle.block_tree.specs.Pointers.{node_pointers, pointers_of}
-use Rattle.block_tree.specs.Root.{IsRootBlock}
+use Rattle.special_files.proofs.Words.{Accounts, ChangesOnly, Graph, HasItsBlocks, Image, IntendAllocate, IsBareRoot, IsEntered, IsMade, IsOpenTo, IsPlaced, IsRootBlock, Leaf, MapEntry, Node, Opened, Place, Puid, Root, RootsOwnThemselves, SameAt, ShadowRoot, and_from, and_parts, below_none, block_at, both_ways, entry_in, false_from_ne_true, free_unowned, had_not_meant, has_block, ids_of, is_committed, is_fixed, is_had, is_leaving, is_made, is_meant, is_meant_for, is_of, is_placed, is_root_place, is_taken, node_pointers, none-some, object_of_block, of_draft, of_taken, owner_is, owner_of, part_at, pointers_of, rises, root_owner, same_Some}
 use Rattle.block_tree.specs.declared.root.Root as roots
-use Rattle.cyl_map.specs.declared.state.BlockState.TheVariants.{IntendAllocate}
-use Rattle.cyl_map.specs.declared.entry.MapEntry.{MapEntry}
-use Rattle.cyl_map.specs.Volume.{entry_in}
-use Rattle.ufs_model.specs.Graph.{Graph, has_block, ids_of}
-use Rattle.ufs_model.specs.Identifier.{rises}
-use Rattle.vol_image.specs.Part.{RootsOwnThemselves, SameAt, is_committed, is_fixed, part_at}
-use Rattle.vol_image.specs.Sound.{IsBareRoot}
-use Rattle.vol_image.proofs.AtRoot.{below_none}
-use Rattle.vol_image.proofs.Parts.{IsPlaced}
-use Rattle.vol_owners.specs.Account.{Accounts, HasItsBlocks, IsMade, Opened, is_meant_for}
-use Rattle.vol_owners.specs.Change.{ChangesOnly, IsOpenTo, of_draft}
-use Rattle.vol_owners.specs.Owner.{is_had, is_leaving, is_made, is_meant, is_of, is_placed, is_root_place, is_taken, owner_of}
-use Rattle.vol_owners.proofs.Keys.{object_of_block}
-use Rattle.vol_owners.proofs.Entries.{free_unowned, had_not_meant, of_taken, owner_is, root_owner, root_placed}
-use Rattle.special_files.specs.Committing.{IsEntered}
+use Rattle.vol_owners.proofs.Entries.{root_placed}
 use Rattle.special_files.proofs.CommitFlips.{option_is}
 use Rattle.special_files.proofs.CommitRoles.{block_stands, had_not_leaving}
 use Rattle.special_files.proofs.Meant.{meant_is}

@@ -1,13 +1,7 @@
 -- The drafts without the one that is committed or dropped, which made an object or none.
-use Rattle.std.proofs.Common.{◌≡◌, ℕ, Bool, true, false, cond, List, [], ◌∷◌, ◌++◌, Option, Some, None, refl, sym, ◌∙◌, ap, subst}
-use Rattle.std.specs.Prelude.{◌==◌, ◌||◌, not, option_to_list}
-use Rattle.std.proofs.lemmas.Bool.{and_parts, both_ways, eq-eqb, ne_eqb, not-true, or_right}
-use Rattle.cfs_base.specs.declared.identifier.Puid.{Puid}
-use Rattle.ufs_model.specs.Identifier.{same_puid}
-use Rattle.ufs_model.specs.Numbers.{has_number}
-use Rattle.vol_owners.specs.Account.{Opened, created_of, drafts_of, numbers_differ}
-use Rattle.vol_owners.specs.Change.{SameBut}
-use Rattle.special_files.specs.Store.{without_draft}
+use Rattle.std.proofs.Common.{◌≡◌, ℕ, Bool, true, false, cond, List, [], ◌∷◌, ◌++◌, Option, Some, None, refl, sym, ◌∙◌, ap, subst, not}
+use Rattle.special_files.proofs.Words.{Opened, Puid, SameBut, and_parts, both_ways, created_of, drafts_of, has_number, ne_eqb, not-true, numbers_differ, option_to_list, or_right, same_puid, without_draft, ◌==◌, ◌||◌}
+use Rattle.std.proofs.lemmas.Bool.{eq-eqb}
 use Rattle.special_files.proofs.CommitDraft.{without_none}
 use Rattle.special_files.proofs.CommitFlips.{first_number}
 

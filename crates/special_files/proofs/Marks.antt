@@ -1,30 +1,8 @@
 -- Flags that are set one after another, and what they make of the model's fresh blocks.
 use Rattle.std.proofs.Common.{◌≡◌, ◌⊎◌, inl, inr, ℕ, zero, suc, ◌+◌, ◌/◌, ◌%◌, ◌<◌, ◌≤◌, Bool, true, false, List, [], ◌∷◌, length, get_or, set, Option, Some, None, refl, sym, ◌∙◌, ap, subst, get_or-set_other, get_or-set_same, arith}
-use Rattle.std.specs.Prelude.{◌==◌, is_some, map}
-use Rattle.std.specs.List.{range_with_len}
-use Rattle.std.proofs.lemmas.Bool.{both_ways, cases_Bool, cases_lt, eqb-false, eqb-true}
-use Rattle.std.proofs.lemmas.List.{get_or_past}
-use Rattle.std.proofs.Math.Nat.{div-one}
-use Rattle.cfs_base.specs.Disk.{Image}
-use Rattle.cfs_base.specs.declared.identifier.Puid.{Puid}
-use Rattle.block_tree.specs.Root.{root_spelling}
-use Rattle.block_tree.specs.Tree.{levels_of, path_to}
-use Rattle.block_tree.proofs.Trees.{path_is}
-use Rattle.ufs_model.specs.declared.change.Change.TheVariants.{Overwrite}
-use Rattle.ufs_model.specs.declared.object.Draft.{Draft}
-use Rattle.ufs_model.specs.declared.object.Object.{Object}
-use Rattle.ufs_model.specs.Numbers.{first_level, has_number, next_levels, numbers_rise, parents, shared, with_numbers, within}
-use Rattle.ufs_model.specs.Object.{changed_object, fresh_after, held_leaves, held_levels, held_nodes, leaves_in, touched}
-use Rattle.vol_image.specs.Count.{held_at_depth, levels_held}
-use Rattle.vol_image.specs.Seen.{Held, Tree, tree_in}
-use Rattle.vol_image.proofs.Counts.{blocks_counted}
-use Rattle.vol_image.proofs.Rising.{filter-rises, in_filter, in_map, in_withs, numbers-rise, same_numbers, to_filter, to_map, to_numbers, to_withs}
-use Rattle.vol_owners.specs.Account.{HasDraft, is_meant_for, passes}
-use Rattle.leaf_changes.proofs.HeldNumbers.{all-rise, in_all, in_touched, to_all, to_touched}
-use Rattle.special_files.specs.Drafting.{Drafting, IsOpen, fresh_of, opened_as, set_in}
+use Rattle.special_files.proofs.Words.{Draft, Drafting, HasDraft, Held, Image, IsOpen, Object, Opened, Overwrite, Puid, Tree, all-rise, blocks_counted, both_ways, cases_Bool, cases_lt, changed_object, div-one, eqb-false, eqb-true, filter-rises, first_level, fresh_after, fresh_of, get_or_past, has_number, held_at_depth, held_leaves, held_levels, held_nodes, in_all, in_filter, in_map, in_touched, in_withs, is_meant_for, is_some, leaves_in, levels_held, levels_of, map, next_levels, numbers-rise, numbers_rise, opened_as, parents, passes, path_is, path_to, range_with_len, root_spelling, same_numbers, set_in, shared, to_all, to_filter, to_map, to_numbers, to_touched, to_withs, touched, tree_in, with_numbers, within, ◌==◌}
 use Rattle.special_files.proofs.Levels.{Tell, set_is}
 use Rattle.special_files.proofs.PutStore.{flags_of}
-use Rattle.vol_owners.specs.Account.{Opened}
 
 -- ---- flags
 

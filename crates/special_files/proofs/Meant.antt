@@ -1,40 +1,8 @@
 -- What the entry of a block says that is meant for an object, and what may be written there.
 use Rattle.std.proofs.Common.{◌≡◌, ◌≢◌, inl, inr, ℕ, ◌*◌, ◌%◌, Bool, true, List, [], ◌∷◌, set, Option, Some, None, refl, sym, ◌∙◌, ap, subst}
-use Rattle.std.specs.Prelude.{◌&&◌, ◌==◌, count_by, is_some}
-use Rattle.std.specs.List.{range_with_len}
-use Rattle.std.proofs.lemmas.Bool.{and_from, and_parts, both_ways, eqb-true}
+use Rattle.special_files.proofs.Words.{Accounts, Allocated, AreCounts, BlockState, ChangesOnly, Frames, Free, Graph, HasItsBlocks, Holds, Image, IntendAllocate, IntendDeallocate, IsEntry, IsLoose, IsOpenTo, IsTaken, Kept, MapEntry, Object, Opened, Place, Puid, Root, StandsForNone, and_from, and_parts, at_rest, blocks_kept, both_ways, changes_content, changes_entry, drafts_miss, entry_in, entry_in-set, eqb-true, frames_begin, frames_content, free_in_cylinder, free_is_loose, fun_ext, has_number, here, is_free_entry, is_free_in, is_had, is_leaving, is_meant, is_meant_for, is_of, is_some, is_taken, loose_entry, object_at, of_draft, range_with_len, rest_loose, taken_apart, the_entry, with_entry, ◌&&◌, ◌==◌}
+use Rattle.std.specs.Prelude.{count_by}
 use Rattle.std.proofs.Math.ListN.{length-set}
-use Rattle.std.proofs.Math.Path.{fun_ext}
-use Rattle.cfs_base.specs.Disk.{Image}
-use Rattle.cfs_base.specs.declared.identifier.Puid.{Puid}
-use Rattle.cfs_base.specs.declared.kind.Place.{Place}
-use Rattle.cfs_base.specs.declared.kind.Place.TheVariants.{Root}
-use Rattle.cyl_map.specs.Entry.{IsEntry}
-use Rattle.cyl_map.specs.declared.entry.MapEntry.{MapEntry}
-use Rattle.cyl_map.specs.declared.state.BlockState.{BlockState}
-use Rattle.cyl_map.specs.declared.state.BlockState.TheVariants.{Allocated, Free, IntendAllocate, IntendDeallocate}
-use Rattle.cyl_map.specs.Volume.{entry_in, is_free_entry, is_free_in, with_entry}
-use Rattle.cyl_map.proofs.Volumes.{entry_in-set}
-use Rattle.cyl_alloc.specs.Space.{AreCounts, Kept, free_in_cylinder}
-use Rattle.ufs_model.specs.declared.object.Object.{Object}
-use Rattle.ufs_model.specs.Graph.{Graph, object_at}
-use Rattle.ufs_model.specs.Numbers.{has_number}
-use Rattle.vol_image.specs.Part.{IsTaken}
-use Rattle.vol_image.specs.Frame.{Frames, IsLoose, StandsForNone}
-use Rattle.vol_image.specs.Sound.{Holds}
-use Rattle.vol_image.proofs.AtRest.{rest_loose}
-use Rattle.vol_image.proofs.Claims.{loose_entry}
-use Rattle.vol_image.proofs.Parts.{free_is_loose, taken_apart}
-use Rattle.vol_image.proofs.Rising.{here}
-use Rattle.vol_image.proofs.Steps.{frames_begin, frames_content}
-use Rattle.vol_owners.specs.Account.{Accounts, HasItsBlocks, Opened, is_meant_for}
-use Rattle.vol_owners.specs.Change.{ChangesOnly, IsOpenTo, of_draft}
-use Rattle.vol_owners.specs.Owner.{is_had, is_leaving, is_meant, is_of, is_taken}
-use Rattle.vol_owners.proofs.Changes.{changes_content, changes_entry}
-use Rattle.vol_owners.proofs.Differing.{at_rest}
-use Rattle.vol_owners.proofs.Entries.{the_entry}
-use Rattle.vol_owners.proofs.Kept.{blocks_kept, frames_others}
-use Rattle.vol_owners.proofs.Owners.{drafts_miss}
 
 -- ---- entries
 
@@ -97,9 +65,6 @@ counts_content image kept n block no_map counts =
 module _ (a b : Image) (g : Graph) (ds : List Opened) (id : Puid) (o : Object) (had : Accounts a g ds) (at : object_at g id ≡ Some o) (only : ChangesOnly (λ e. of_draft id.block e) a b) where
   pub still_has : (x : Puid) (p : Object) → object_at g x ≡ Some p → HasItsBlocks b x.block
   still_has x p there = blocks_kept (λ e. of_draft id.block e) a b g ds had only x p there (drafts_miss is_had refl (id.block ∷ []) x.block) (drafts_miss is_leaving refl (id.block ∷ []) x.block)
-
-  pub still_framed : Frames a g b
-  still_framed = frames_others (λ e. of_draft id.block e) a b g ds had only g (λ x p there. (there, drafts_miss is_had refl (id.block ∷ []) x.block))
 
   -- no commit bit stands, so no shadow root is looked at
   pub no_shadow : (e : MapEntry) → StandsForNone b g e

@@ -1,17 +1,6 @@
 -- How many blocks a write takes: as the flags have it, and as the model does.
-use Rattle.std.proofs.Common.{◌≡◌, inl, inr, ℕ, ◌+◌, ◌-◌, ◌*◌, ◌/◌, ◌<◌, ◌≤◌, Bool, true, false, not, List, length, get_or, set, refl, sym, ◌∙◌, ap, subst, get_or-set_other, get_or-set_same, arith}
-use Rattle.std.specs.Prelude.{filter, if◌then◌else◌, map}
-use Rattle.std.specs.List.{range_with_len}
-use Rattle.std.proofs.lemmas.Bool.{both_ways, cases_Bool, cases_lt}
-use Rattle.cfs_base.specs.declared.identifier.Puid.{Puid}
-use Rattle.ufs_model.specs.declared.change.Change.TheVariants.{Overwrite}
-use Rattle.ufs_model.specs.declared.object.Draft.{Draft}
-use Rattle.ufs_model.specs.Numbers.{first_level, has_number, lacking, missing, next_levels, parents}
-use Rattle.ufs_model.specs.Object.{leaves_in, touched, written_anew}
-use Rattle.vol_image.proofs.Rising.{in_map, in_withs, in_numbers, numbers-rise, same_numbers, to_map, to_numbers, to_withs, with_numbers-rise}
-use Rattle.vol_owners.specs.Account.{Opened}
-use Rattle.special_files.specs.Calls.{SetsFlags}
-use Rattle.special_files.specs.Drafting.{Drafting, IsOpen, is_fresh_leaf, is_fresh_node, leaf_takes, leaves_take, one_unless, set_in, unset_in}
+use Rattle.std.proofs.Common.{◌≡◌, inl, inr, ℕ, ◌+◌, ◌-◌, ◌*◌, ◌/◌, ◌<◌, ◌≤◌, Bool, true, false, not, List, length, get_or, set, refl, sym, ◌∙◌, ap, subst, get_or-set_other, get_or-set_same, arith, if◌then◌else◌}
+use Rattle.special_files.proofs.Words.{Draft, Drafting, IsOpen, Opened, Overwrite, Puid, SetsFlags, both_ways, cases_Bool, cases_lt, filter, first_level, has_number, in_map, in_numbers, in_withs, is_fresh_leaf, is_fresh_node, lacking, leaf_takes, leaves_in, leaves_take, map, missing, next_levels, numbers-rise, one_unless, parents, range_with_len, same_numbers, set_in, to_map, to_numbers, to_withs, touched, unset_in, with_numbers-rise, written_anew}
 use Rattle.special_files.proofs.Levels.{filter_same, unset_first}
 use Rattle.special_files.proofs.Marks.{first_is, in_set, next_is, to_set}
 

@@ -1,37 +1,8 @@
 -- A leaf is put: over the draft's own, or into blocks that were claimed.
 use Rattle.std.proofs.Common.{◌≡◌, ◌≢◌, ◌⊎◌, inl, inr, ℕ, ◌/◌, ◌%◌, ◌^◌, ◌<◌, true, false, List, [], ◌∷◌, length, get_or, set, Some, refl, sym, ◌∙◌, ap, subst, get_or-set_other, get_or-set_same, eq-eqb, arith}
-use Rattle.std.specs.Prelude.{slice_index}
-use Rattle.std.proofs.lemmas.Bool.{both_ways, le-leb, lt-ltb}
-use Rattle.std.proofs.lemmas.List.{set-get_or}
+use Rattle.special_files.proofs.Words.{BelongsTo, Drafting, Free, Graph, HasDraft, HasItsBlocks, Holds, Image, IsEntry, Leaf, MapEntry, Node, Object, Place, Puid, block_at, block_at-with_entry, both_ways, entry_in, entry_in-set, entry_in-with_entry_other, entry_in-with_entry_same, free_is_loose, held, held_at, held_there, in_image, intended, is_free_entry, is_free_in, is_fresh_leaf, is_fresh_node, is_meant, is_meant_for, is_of, le-leb, leaf_pointers, leaves_at, length-with_entry, lt-ltb, node_of, not_map, object_at, one_path, opened_as, part_at, part_of, passes, pointer, pointers_of, root_spelling, set-get_or, slice_index, taken_apart, tree_in, tree_of, tree_placed, with_entry}
 use Rattle.std.proofs.Math.ListN.{length-set}
-use Rattle.cfs_base.specs.Disk.{Image, block_at}
-use Rattle.cfs_base.specs.declared.identifier.Puid.{Puid}
-use Rattle.cfs_base.specs.declared.kind.Place.{Place}
-use Rattle.cfs_base.specs.declared.kind.Place.TheVariants.{Leaf, Node}
-use Rattle.block_tree.specs.Pointers.{leaf_pointers, pointers_of}
-use Rattle.block_tree.specs.Root.{root_spelling}
-use Rattle.block_tree.specs.Tree.{pointer, tree_of}
-use Rattle.cyl_map.specs.Entry.{IsEntry}
-use Rattle.cyl_map.specs.declared.entry.MapEntry.{MapEntry}
-use Rattle.cyl_map.specs.declared.state.BlockState.TheVariants.{Free}
-use Rattle.cyl_map.specs.Volume.{entry_in, is_free_entry, is_free_in, with_entry}
-use Rattle.cyl_map.proofs.Volumes.{block_at-with_entry, entry_in-set, entry_in-with_entry_other, entry_in-with_entry_same, length-with_entry}
-use Rattle.cyl_alloc.specs.Space.{intended}
 use Rattle.ufs_model.specs.declared.object.Draft as models
-use Rattle.ufs_model.specs.declared.object.Object.{Object}
-use Rattle.ufs_model.specs.Graph.{Graph, object_at}
-use Rattle.vol_image.specs.Part.{BelongsTo, part_at, part_of}
-use Rattle.vol_image.specs.Seen.{held_at, tree_in}
-use Rattle.vol_image.specs.Sound.{Holds}
-use Rattle.vol_image.proofs.Parts.{free_is_loose, in_image, taken_apart, tree_placed}
-use Rattle.vol_image.proofs.Steps.{not_map}
-use Rattle.vol_image.proofs.Paths.{held_there}
-use Rattle.vol_image.proofs.Places.{one_path}
-use Rattle.vol_image.proofs.Views.{held}
-use Rattle.vol_owners.specs.Account.{HasDraft, HasItsBlocks, is_meant_for, passes}
-use Rattle.vol_owners.specs.Owner.{is_meant, is_of}
-use Rattle.special_files.specs.Drafting.{Drafting, is_fresh_leaf, is_fresh_node, node_of, opened_as}
-use Rattle.special_files.specs.Nodes.{leaves_at}
 use Rattle.special_files.proofs.Fresh.{fresh_there, leaves_there, node_of_fresh, small_image, read_leaf_is, unfresh}
 use Rattle.special_files.proofs.Meant.{free_is, meant_is}
 use Rattle.special_files.proofs.Puts.{LeafPut, taken_not_free}

@@ -1,38 +1,7 @@
 -- One leaf of a draft is put into a block of its own, below a node in a block of its own.
-use Rattle.std.proofs.Common.{◌≡◌, ◌≢◌, ◌⊎◌, inl, inr, ℕ, zero, suc, ◌+◌, ◌*◌, ◌/◌, ◌%◌, ◌^◌, ◌<◌, ◌≤◌, true, List, [], ◌∷◌, ◌++◌, length, get_or, set, Option, Some, None, refl, sym, ◌∙◌, ap, subst, get_or-set_other, get_or-set_same, arith}
-use Rattle.std.specs.Prelude.{◌==◌, IsTrue, is_some, slice_index}
-use Rattle.std.proofs.lemmas.Bool.{cases_Bool, eqb-false, eqb-true}
-use Rattle.std.proofs.lemmas.Option.{same_Some}
-use Rattle.cfs_base.specs.Disk.{Image, block_at}
-use Rattle.cfs_base.specs.declared.identifier.Puid.{Puid}
-use Rattle.cfs_base.specs.declared.kind.Place.TheVariants.{Leaf, Node, Root}
+use Rattle.std.proofs.Common.{◌≡◌, ◌≢◌, ◌⊎◌, inl, inr, ℕ, zero, suc, ◌+◌, ◌*◌, ◌/◌, ◌%◌, ◌^◌, ◌<◌, ◌≤◌, true, List, [], ◌∷◌, ◌++◌, length, get_or, set, Option, Some, None, refl, sym, ◌∙◌, ap, subst, get_or-set_other, get_or-set_same, arith, IsTrue}
+use Rattle.special_files.proofs.Words.{Allocated, BelongsTo, BlockState, Fits, Free, Graph, HasDraft, Held, Holds, Image, IntendAllocate, IntendDeallocate, IsGoodRoot, IsPlaced, IsRootBlock, IsTaken, IsTree, Leaf, LeavesFit, MapEntry, Node, Object, Opened, Puid, PutsAt, Root, SameAt, SameBeside, StandsIn, below_apart, block_at, bytes_held, cases_Bool, content_of, end_is, entry_in, eqb-false, eqb-true, held, held_at, held_block, held_there, is_free_entry, is_free_in, is_free_state, is_meant, is_meant_for, is_of, is_some, leaf_pointers, leaves_in, leaves_of, levels_of, levels_standing, not_map, object_at, object_of, one_path, part_at, part_of, passes, path_is, place_at, pointer, root_placed, root_spelling, same_Some, same_levels, shadow_apart, shadow_taken, slice_index, stands_for, taken_apart, tree_in, tree_of, tree_placed, ◌==◌}
 use Rattle.block_tree.specs.declared.root.Root as roots
-use Rattle.block_tree.specs.Pointers.{leaf_pointers}
-use Rattle.block_tree.specs.Root.{Fits, IsGoodRoot, IsRootBlock, root_spelling}
-use Rattle.block_tree.specs.Tree.{levels_of, pointer, tree_of}
-use Rattle.block_tree.proofs.Trees.{end_is, path_is}
-use Rattle.cyl_map.specs.declared.entry.MapEntry.{MapEntry}
-use Rattle.cyl_map.specs.declared.state.BlockState.{BlockState}
-use Rattle.cyl_map.specs.declared.state.BlockState.TheVariants.{Allocated, Free, IntendAllocate, IntendDeallocate}
-use Rattle.cyl_map.specs.Map.{is_free_state}
-use Rattle.cyl_map.specs.Volume.{entry_in, is_free_entry, is_free_in}
-use Rattle.ufs_model.specs.declared.object.Object.{Object}
-use Rattle.ufs_model.specs.Graph.{Graph, object_at}
-use Rattle.ufs_model.specs.Object.{leaves_in}
-use Rattle.vol_image.specs.Part.{BelongsTo, IsTaken, SameAt, part_at, part_of, stands_for}
-use Rattle.vol_image.specs.Reading.{IsTree}
-use Rattle.vol_image.specs.Seen.{Held, held_at, place_at, tree_in}
-use Rattle.vol_image.specs.Sound.{Holds}
-use Rattle.vol_image.proofs.Parts.{IsPlaced, below_apart, root_placed, shadow_taken, taken_apart, tree_placed}
-use Rattle.vol_image.proofs.Steps.{not_map}
-use Rattle.vol_image.proofs.Places.{one_path, same_levels}
-use Rattle.vol_image.proofs.Views.{held, held_block}
-use Rattle.vol_image.proofs.Paths.{held_there}
-use Rattle.vol_owners.specs.Account.{HasDraft, Opened, StandsIn, content_of, is_meant_for, levels_standing, passes}
-use Rattle.leaf_changes.specs.Leaves.{LeavesFit, bytes_held}
-use Rattle.vol_owners.specs.Owner.{is_meant, is_of}
-use Rattle.vol_owners.proofs.Owned.{shadow_apart}
-use Rattle.special_files.specs.Leaves.{PutsAt, SameBeside, leaves_of, object_of}
 use Rattle.special_files.proofs.Levels.{fresh_leaf, fresh_node}
 use Rattle.special_files.proofs.Trees.{fits_with, good_with, leaf_at, leaf_from, leaf_place, node_at, node_place, nothing_below, two_levels}
 

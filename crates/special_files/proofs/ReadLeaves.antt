@@ -1,40 +1,11 @@
 -- What is read of a draft's leaves.
-use Rattle.std.proofs.Common.{◌≡◌, ℕ, zero, suc, Ok, Err, ◌+◌, ◌-◌, ◌*◌, ◌/◌, ◌%◌, ◌<◌, ◌≤◌, List, [], ◌∷◌, length, Some, refl, sym, ◌∙◌, ap, subst, arith}
-use Rattle.std.specs.Prelude.{IfOk, Result, slice_index, slice_range}
-use Rattle.cfs_base.specs.Calls.{OnlyReads}
-use Rattle.cfs_base.proofs.Calls.{reads_then, tells_on}
-use Rattle.leaf_changes.specs.Bytes.{with_leaf}
-use Rattle.leaf_changes.specs.Leaves.{IsReadTo}
-use Rattle.leaf_changes.proofs.Given.{file_to_leaves}
-use Rattle.leaf_changes.proofs.Overlays.{length-overlaid}
-use Rattle.leaf_changes.proofs.ReadParts.{read_all, read_more}
-use Rattle.ufs_model.specs.Object.{leaves_in}
-use Rattle.ufs_model.specs.declared.object.File.{File}
+use Rattle.std.proofs.Common.{◌≡◌, ℕ, zero, suc, Ok, Err, ◌+◌, ◌-◌, ◌*◌, ◌/◌, ◌%◌, ◌<◌, ◌≤◌, List, [], ◌∷◌, length, refl, sym, ◌∙◌, ap, subst, arith, slice_range}
+use Rattle.special_files.proofs.Words.{AreBlocks, Drafting, File, Fits, Ghosts, HasDraft, IfOk, Image, IsNear, IsRead, IsReadTo, IsSafe, IsTree, Kept, NodeRead, Object, OnlyReads, Puid, Result, Tells, View, block_at, bytes_in, content_is, file_to_leaves, held, held_at, leaf_content, leaves_at, leaves_in, leaves_of, length-overlaid, node_of, opened_as, path_is, read_all, read_more, reads_then, root_spelling, slice_index, tree_in, tree_of, with_leaf}
 use Rattle.ufs_model.specs.declared.object.Object.TheVariants as objects
-use Rattle.cfs_base.specs.Disk.{AreBlocks, Image, block_at}
-use Rattle.cfs_base.specs.Run.{Tells}
-use Rattle.cfs_base.specs.declared.disk.Disk.{Ghosts}
-use Rattle.cfs_base.specs.declared.identifier.Puid.{Puid}
 use Rattle.block_tree.specs.declared.root.Root as roots
-use Rattle.block_tree.specs.Root.{Fits, root_spelling}
-use Rattle.block_tree.specs.Tree.{bytes_in, tree_of}
-use Rattle.block_tree.proofs.Trees.{path_is}
-use Rattle.cyl_alloc.specs.Space.{Kept}
 use Rattle.ufs_model.specs.declared.object.Draft as models
-use Rattle.ufs_model.specs.declared.object.Object.{Object}
-use Rattle.ufs_model.specs.Graph.{Graph, object_at}
-use Rattle.vol_image.specs.Reading.{IsTree, leaf_content}
-use Rattle.vol_image.specs.Seen.{held_at, tree_in}
-use Rattle.vol_image.proofs.Views.{held}
-use Rattle.vol_owners.specs.Account.{HasDraft, Opened}
-use Rattle.leaf_changes.proofs.Contents.{content_is}
-use Rattle.intentions.specs.Store.{StoreHas}
-use Rattle.special_files.specs.Drafting.{Drafting, IsOpen, node_of, opened_as}
-use Rattle.special_files.specs.Leaves.{leaves_of}
-use Rattle.special_files.specs.Nodes.{IsNear, IsRead, IsSafe, leaves_at}
-use Rattle.special_files.specs.declared.node.NodeRead.{NodeRead}
 use Rattle.special_files.proofs.Fresh.{length-leaves, read_leaf_is}
-use Rattle.special_files.proofs.PutStore.{the_draft}
+use Rattle.special_files.proofs.View.{view_reads, draft_of}
 use Rattle.special_files.proofs.Trees.{node_at}
 
 -- what a pointer leads to, read
@@ -71,41 +42,35 @@ pub record ReadTo {D : Type 0} (g : Ghosts D) (drafting : Drafting) (offset leaf
   pub reads : OnlyReads g (2 * (leaf - offset / 512)) old now
   pub long : length part ≡ length initial
   pub safe : IsSafe (g.blocks now) drafting read
-  pub told : Tells g old → Fits drafting.root → IsRead (g.content old) drafting read × IsReadTo leaf drafting.root.fill (leaves_of (g.content old) drafting.root) offset part
+  pub told : (kept : Kept) → View g old kept drafting → IsRead (g.content old) drafting read × IsReadTo leaf drafting.root.fill (leaves_of (g.content old) drafting.root) offset part
 
 module _ {D : Type 0} (g : Ghosts D) (drafting : Drafting) (offset leaf : ℕ) (initial : List ℕ) (d0 d1 : D) (read : NodeRead) (part : List ℕ) (to : ReadTo g drafting offset leaf initial d0 d1 read part) where
-  pub tells_still : Tells g d0 → Tells g d1
-  tells_still tells = tells_on g d0 d1 d1 (2 * (leaf - offset / 512)) to.reads tells
-
   pub read_then : (d2 : D) (next : NodeRead) (content after : List ℕ) → OnlyReads g 2 d1 d2 → IsSafe (g.blocks d1) drafting next
-      → (Tells g d1 → Fits drafting.root → IsRead (g.content d1) drafting read → content ≡ leaf_content drafting.root.fill (leaves_of (g.content d1) drafting.root leaf))
+      → ((kept : Kept) (v : View g d1 kept drafting) → IsRead (g.content d1) drafting read → content ≡ leaf_content drafting.root.fill (leaves_of (g.content d1) drafting.root leaf))
       → (Tells g d1 → IsRead (g.content d1) drafting read → IsRead (g.content d1) drafting next) → after ≡ with_leaf leaf content offset part → ReadTo g drafting offset (leaf + 1) initial d0 d2 next after
   read_then d2 next content after reads safe bytes node same = record {
     from = omega (arith, to.from);
     reads = reads_then g d0 d1 d2 (2 * (leaf - offset / 512)) 2 (2 * (leaf + 1 - offset / 512)) to.reads reads (omega (arith, to.from));
     long = ap (length {A = ℕ}) same ∙ length-overlaid offset part (512 * leaf) content ∙ to.long;
     safe = subst (λ (size : ℕ). IsSafe size drafting next) (sym reads.same.size) safe;
-    told = λ tells fits.
-        let before = to.told tells fits in
-        let now = tells_still tells in
+    told = λ kept v.
+        let before = to.told kept v in
+        let w = view_reads v to.reads in
         let is = subst (λ (i : Image). IsRead i drafting read) (sym to.reads.content) before.0 in
-        let there : content ≡ leaf_content drafting.root.fill (leaves_of (g.content d0) drafting.root leaf) = bytes now fits is ∙ ap (λ (i : Image). leaf_content drafting.root.fill (leaves_of i drafting.root leaf)) to.reads.content in (
-          subst (λ (i : Image). IsRead i drafting next) to.reads.content (node now is),
+        let there : content ≡ leaf_content drafting.root.fill (leaves_of (g.content d0) drafting.root leaf) = bytes kept w is ∙ ap (λ (i : Image). leaf_content drafting.root.fill (leaves_of i drafting.root leaf)) to.reads.content in (
+          subst (λ (i : Image). IsRead i drafting next) to.reads.content (node w.store.carries.tells is),
           subst (IsReadTo (leaf + 1) drafting.root.fill (leaves_of (g.content d0) drafting.root) offset) (sym (same ∙ ap (λ (c : List ℕ). with_leaf leaf c offset part) there))
               (read_more drafting.root.fill (leaves_of (g.content d0) drafting.root) offset part leaf before.1),
         );
   }
 
 -- the whole part
-pub read_whole : {D : Type 0} (g : Ghosts D) (graph : Graph) (ds : List Opened) (space : Kept) (id : Puid) (o : Object) (d : models.Draft) (f : File) (drafting : Drafting) (offset leaf : ℕ) (initial : List ℕ) (d0 d1 : D) (read : NodeRead) (part : List ℕ)
-    → StoreHas g graph ds d0 space → object_at graph id ≡ Some o → IsOpen ds id drafting d → d.object ≡ objects.File f → ReadTo g drafting offset leaf initial d0 d1 read part → leaves_in (offset + length initial) ≤ leaf
-    → offset + length initial ≤ drafting.root.size → part ≡ slice_range f.bytes offset (offset + length initial)
-read_whole g graph ds space id o d f drafting offset leaf initial d0 d1 read part store at opened file to all within =
-    let draft = the_draft (g.content d0) ds id drafting d opened (store.account.drafts id o at) in
-    let told = to.told store.carries.tells draft.tree.spelled.good.0 in
-    let gives = file_to_leaves drafting.root (leaves_of (g.content d0) drafting.root) f (draft.tree.object ∙ file) in
+pub read_whole : {D : Type 0} {g : Ghosts D} {d0 : D} {kept : Kept} {drafting : Drafting} (v : View g d0 kept drafting) (f : File) (offset leaf : ℕ) (initial : List ℕ) (d1 : D) (read : NodeRead) (part : List ℕ) → v.draft.object ≡ objects.File f
+    → ReadTo g drafting offset leaf initial d0 d1 read part → leaves_in (offset + length initial) ≤ leaf → offset + length initial ≤ drafting.root.size → part ≡ slice_range f.bytes offset (offset + length initial)
+read_whole {g = g} {d0} {kept} {drafting} v f offset leaf initial d1 read part file to all within =
+    let gives = file_to_leaves drafting.root (leaves_of (g.content d0) drafting.root) f ((draft_of v).tree.object ∙ file) in
     subst (λ (n : ℕ). part ≡ slice_range f.bytes offset (offset + n)) to.long (read_all drafting.root (leaves_of (g.content d0) drafting.root) f offset part gives (omega (arith, within, to.long))
-    (λ k inside early. told.1 k inside (omega (arith, early, all, ap (λ (n : ℕ). leaves_in (offset + n)) to.long))))
+    (λ k inside early. (to.told kept v).1 k inside (omega (arith, early, all, ap (λ (n : ℕ). leaves_in (offset + n)) to.long))))
 
 -- ---- a draft's nodes are near
 

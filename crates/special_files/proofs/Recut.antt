@@ -1,29 +1,7 @@
 -- A resize to less, as the model has it: which blocks it writes anew, and what it takes.
-use Rattle.std.proofs.Common.{◌≡◌, ◌≢◌, ◌⊎◌, inl, inr, ℕ, ◌+◌, ◌-◌, ◌*◌, ◌/◌, ◌%◌, ◌<◌, ◌≤◌, Bool, true, false, List, [], ◌∷◌, length, get_or, Option, Some, None, refl, sym, ◌∙◌, ap, subst, arith}
-use Rattle.std.specs.Prelude.{◌==◌, ◌&&◌, ◌||◌, ◌++◌, not, filter, if◌then◌else◌, is_some, map, nat_le, nat_lt, slice_index}
-use Rattle.std.proofs.lemmas.Bool.{both_ways, cases_Bool, cases_lt, eq-eqb, eqb-false, eqb-true, le-leb, leb-true, lt-ltb, ltb-true}
-use Rattle.cfs_base.specs.Disk.{Image}
-use Rattle.cfs_base.specs.declared.identifier.Puid.{Puid}
-use Rattle.block_tree.specs.Root.{root_spelling}
-use Rattle.block_tree.specs.Tree.{tree_of}
-use Rattle.block_tree.proofs.Trees.{path_is}
-use Rattle.cfs_base.specs.declared.kind.Place.TheVariants.{Leaf, Node}
-use Rattle.cyl_alloc.specs.Space.{intended}
-use Rattle.ufs_model.specs.declared.change.Change.TheVariants.{SetSize}
-use Rattle.ufs_model.specs.declared.object.Draft.{Draft}
-use Rattle.ufs_model.specs.Numbers.{first_level, has_number, lacking, missing, next_levels, numbers_rise, parents, shared, with_numbers}
-use Rattle.ufs_model.specs.Object.{cut_leaf, held_leaves, leaves_in, resize_anew, size_of, written_anew}
-use Rattle.vol_image.specs.Reading.{held_in}
-use Rattle.vol_image.specs.Seen.{Held, held_at}
-use Rattle.vol_image.proofs.Paths.{held_there}
-use Rattle.vol_image.proofs.Rising.{here, in_cons, in_filter, in_map, in_withs, filter-rises, same_numbers, to_filter, to_map, to_withs, with_numbers-rise}
-use Rattle.vol_owners.specs.Account.{HasDraft, Opened}
-use Rattle.leaf_changes.proofs.HeldNumbers.{held_of, in_all, in_held, to_all, to_held}
-use Rattle.special_files.specs.Drafting.{Drafting, IsOpen, is_fresh_leaf, is_fresh_node, need_beside, node_of, one_unless, opened_as, set_in, shadow_need}
-use Rattle.special_files.specs.Leaves.{leaves_of}
-use Rattle.special_files.specs.Nodes.{leaves_at}
-use Rattle.special_files.specs.Order.{claims_anew}
-use Rattle.special_files.specs.Shed.{IsBorder, IsCutHere, is_stale_cut, shrink_takes}
+use Rattle.std.proofs.Common.{◌≡◌, ◌≢◌, ◌⊎◌, inl, inr, ℕ, ◌+◌, ◌-◌, ◌*◌, ◌/◌, ◌%◌, ◌<◌, ◌≤◌, Bool, true, false, List, [], ◌∷◌, length, get_or, Option, Some, None, refl, sym, ◌∙◌, ap, subst, arith, ◌++◌, not, if◌then◌else◌}
+use Rattle.special_files.proofs.Words.{Draft, Drafting, HasDraft, Held, Image, IsBorder, IsCutHere, IsOpen, Leaf, Node, Opened, Puid, SetSize, both_ways, cases_Bool, cases_lt, claims_anew, cut_leaf, eqb-false, eqb-true, filter, filter-rises, first_level, has_number, held_at, held_in, held_leaves, held_of, held_there, here, in_all, in_cons, in_filter, in_held, in_map, in_withs, intended, is_fresh_leaf, is_fresh_node, is_some, is_stale_cut, lacking, le-leb, leaves_at, leaves_in, leaves_of, leb-true, lt-ltb, ltb-true, map, missing, nat_le, nat_lt, need_beside, next_levels, node_of, numbers_rise, one_unless, opened_as, parents, path_is, resize_anew, root_spelling, same_numbers, set_in, shadow_need, shared, shrink_takes, size_of, slice_index, to_all, to_filter, to_held, to_map, to_withs, tree_of, with_numbers, with_numbers-rise, written_anew, ◌&&◌, ◌==◌, ◌||◌}
+use Rattle.std.proofs.lemmas.Bool.{eq-eqb}
 use Rattle.special_files.proofs.Fresh.{read_leaf_is}
 use Rattle.special_files.proofs.Marks.{first_is, next_is}
 use Rattle.special_files.proofs.Needs.{has_is}

@@ -1,19 +1,16 @@
 -- One refusal told as another.
 use Rattle.std.proofs.Common.{◌≡◌, ℕ, Ok, Err, false, refl, sym, subst}
-use Rattle.std.specs.Prelude.{IfErr, Result}
-use Rattle.std.specs.Result.{IsErrAnd}
-use Rattle.cfs_base.specs.Refusals.{refused_by}
-use Rattle.cfs_base.specs.Calls.{OnlyReads}
-use Rattle.cfs_base.specs.Run.{Tells}
-use Rattle.cfs_base.proofs.Calls.{stopped_after_reads, tells_on}
-use Rattle.cfs_base.specs.declared.disk.Disk.{Ghosts}
-use Rattle.cfs_base.specs.declared.refusal.Damage.{Damage}
+use Rattle.special_files.proofs.Words.{Damage, FarNode, FarRoot, Ghosts, IfErr, IsDamage, IsErrAnd, IsRefusal, IsRefusalOrMemory, IsTrouble, Kept, NoMap, NoRoot, OnOk, OnlyReads, OpenMap, OtherCount, Refused, Result, Tells, Trouble, is_damage, is_damaged, refused_by, stopped_after_reads, tells_on}
 use Rattle.cfs_base.specs.declared.refusal.Refused.TheVariants as refused
-use Rattle.cfs_base.specs.declared.refusal.Refused.{Refused}
-use Rattle.cfs_base.specs.declared.refusal.Trouble.{Trouble}
 use Rattle.cfs_base.specs.declared.refusal.Trouble.TheVariants as trouble
-use Rattle.cyl_alloc.specs.Space.{Kept}
-use Rattle.special_files.specs.Refusal.{IsDamage, NoMap, OpenMap, OtherCount, NoRoot, FarNode, FarRoot, IsRefusal, IsRefusalOrMemory, IsTrouble, is_damage, is_damaged}
+
+pub on_ok : {A E : Type 0} (r : Result A E) {P Q : Type 0} → (P → Q) → OnOk r P → OnOk r Q
+on_ok (Ok x) f p = f p
+on_ok (Err e) f p = tt
+
+pub if_err : {A E : Type 0} (r : Result A E) {P Q : E → Type 0} → ((e : E) → P e → Q e) → IfErr r P → IfErr r Q
+if_err (Ok x) f p = tt
+if_err (Err e) f p = f e p
 
 -- what a `?` makes of a trouble: a refusal, or the same trouble
 pub told : {A : Type 0} (P : Refused → Type 0) (r : Result A Refused) (t : Trouble) → IsErrAnd r (λ e. e ≡ refused_by t) → P (refused_by t) → IfErr r P

@@ -1,35 +1,8 @@
 -- A draft whose leaves from one on are dropped: what was its own of them is meant for no one then. Where the first lies within a
 -- node, this node is written anew.
 use Rattle.std.proofs.Common.{◌≡◌, ◌≢◌, ◌⊎◌, inl, inr, ℕ, zero, suc, ◌+◌, ◌*◌, ◌/◌, ◌%◌, ◌<◌, ◌≤◌, true, false, IsTrue, List, [], ◌∷◌, ◌++◌, length, get_or, Option, Some, None, refl, sym, ◌∙◌, ap, subst, arith}
-use Rattle.std.specs.Prelude.{◌==◌, is_some, slice_index}
-use Rattle.std.proofs.lemmas.Bool.{both_ways, cases_Bool, cases_lt, eqb-false, eqb-true}
-use Rattle.std.proofs.lemmas.Option.{same_Some}
-use Rattle.cfs_base.specs.Disk.{Image, block_at}
-use Rattle.cfs_base.specs.declared.identifier.Puid.{Puid}
-use Rattle.cfs_base.specs.declared.kind.Place.TheVariants.{Node, Root}
+use Rattle.special_files.proofs.Words.{BelongsTo, Drafting, Fits, Forgets, Graph, HasDraft, Held, Holds, Image, IsPast, IsPlaced, IsRootBlock, IsShed, IsTaken, IsTree, Node, Object, Opened, Puid, Root, SameAt, StandsIn, below_apart, block_at, both_ways, cases_Bool, cases_lt, content_of, end_is, entry_in, eqb-false, eqb-true, held, held_at, held_block, held_there, is_free_in, is_meant, is_meant_for, is_of, is_some, leaf_pointers, leaves_of, levels_of, levels_standing, not_map, object_at, object_of, one_path, part_at, part_of, passes, path_is, place_at, pointer, root_placed, root_spelling, same_Some, same_levels, shadow_apart, shadow_taken, slice_index, stands_for, taken_apart, tree_in, tree_of, tree_placed, ◌==◌}
 use Rattle.block_tree.specs.declared.root.Root as roots
-use Rattle.block_tree.specs.Pointers.{leaf_pointers}
-use Rattle.block_tree.specs.Root.{Fits, IsRootBlock, root_spelling}
-use Rattle.block_tree.specs.Tree.{levels_of, pointer, tree_of}
-use Rattle.block_tree.proofs.Trees.{end_is, path_is}
-use Rattle.cyl_map.specs.Volume.{entry_in, is_free_in}
-use Rattle.ufs_model.specs.declared.object.Object.{Object}
-use Rattle.ufs_model.specs.Graph.{Graph, object_at}
-use Rattle.vol_image.specs.Part.{BelongsTo, IsTaken, SameAt, part_at, part_of, stands_for}
-use Rattle.vol_image.specs.Reading.{IsTree}
-use Rattle.vol_image.specs.Seen.{Held, held_at, place_at, tree_in}
-use Rattle.vol_image.specs.Sound.{Holds}
-use Rattle.vol_image.proofs.Parts.{IsPlaced, below_apart, root_placed, shadow_taken, taken_apart, tree_placed}
-use Rattle.vol_image.proofs.Paths.{held_there}
-use Rattle.vol_image.proofs.Places.{one_path, same_levels}
-use Rattle.vol_image.proofs.Steps.{not_map}
-use Rattle.vol_image.proofs.Views.{held, held_block}
-use Rattle.vol_owners.specs.Account.{HasDraft, Opened, StandsIn, content_of, is_meant_for, levels_standing, passes}
-use Rattle.vol_owners.specs.Owner.{is_meant, is_of}
-use Rattle.vol_owners.proofs.Owned.{shadow_apart}
-use Rattle.special_files.specs.Drafting.{Drafting}
-use Rattle.special_files.specs.Leaves.{leaves_of, object_of}
-use Rattle.special_files.specs.Shed.{Forgets, IsPast, IsShed}
 use Rattle.special_files.proofs.Levels.{Tell, fresh_node}
 use Rattle.special_files.proofs.Meant.{meant_is}
 use Rattle.special_files.proofs.Puts.{taken_not_free}

@@ -1,30 +1,7 @@
 -- The blocks of a draft's own at paths that are dropped, listed one after another.
 use Rattle.std.proofs.Common.{◌≡◌, ◌≢◌, ◌⊎◌, inl, inr, ℕ, zero, suc, ◌+◌, ◌-◌, ◌*◌, ◌/◌, ◌%◌, ◌<◌, ◌≤◌, Bool, true, false, List, [], ◌∷◌, ◌++◌, length, get_or, Some, refl, sym, ◌∙◌, ap, subst, append_assoc, length-append, arith}
-use Rattle.std.specs.Prelude.{◌==◌, slice_index}
-use Rattle.std.specs.List.{All}
-use Rattle.std.proofs.lemmas.Bool.{both_ways, cases_Bool, cases_lt, eqb-false, eqb-true, or_cases, or_left, or_right}
-use Rattle.std.proofs.lemmas.List.{append-nil, get_or_past}
-use Rattle.std.proofs.lemmas.List.Elements.{All-append, All-cons, All-nil}
-use Rattle.cfs_base.specs.Disk.{Image}
-use Rattle.cfs_base.specs.declared.identifier.Puid.{Puid}
-use Rattle.block_tree.specs.Tree.{tree_of}
-use Rattle.ufs_model.specs.Graph.{Graph, object_at}
-use Rattle.ufs_model.specs.Numbers.{has_number}
+use Rattle.special_files.proofs.Words.{All, All-append, All-cons, All-nil, AreShed, Differ, Drafting, Graph, HasDraft, HasItsBlocks, Holds, Image, IsPast, Object, Opened, Puid, append-nil, append_differ, both_ways, cases_Bool, cases_lt, content_of, eqb-false, eqb-true, fresh_in, get_or_past, has-append, has_number, held, held_at, held_there, here, is_fresh_node, is_meant_for, leaves_at, node_of, not_map, object_at, one_if, one_path, opened_as, or_cases, or_left, or_right, passes, slice_index, taken_apart, tree_in, tree_of, ◌==◌}
 use Rattle.ufs_model.specs.declared.object.Draft as models
-use Rattle.ufs_model.specs.declared.object.Object.{Object}
-use Rattle.vol_image.specs.Seen.{held_at, tree_in}
-use Rattle.vol_image.specs.Sound.{Holds}
-use Rattle.vol_image.proofs.Paths.{held_there}
-use Rattle.vol_image.proofs.Places.{one_path}
-use Rattle.vol_image.proofs.Parts.{taken_apart}
-use Rattle.vol_image.proofs.Rising.{here}
-use Rattle.vol_image.proofs.Steps.{not_map}
-use Rattle.vol_image.proofs.Views.{held}
-use Rattle.vol_owners.specs.Account.{HasDraft, HasItsBlocks, Opened, content_of, is_meant_for, passes}
-use Rattle.vol_owners.proofs.Differ.{Differ, append_differ, has-append}
-use Rattle.special_files.specs.Drafting.{Drafting, is_fresh_node, node_of, opened_as}
-use Rattle.special_files.specs.Nodes.{leaves_at}
-use Rattle.special_files.specs.Shed.{AreShed, IsPast, fresh_in, one_if}
 use Rattle.special_files.proofs.Fresh.{fresh_there, length-leaves, node_of_fresh, read_leaf_is, unfresh}
 use Rattle.special_files.proofs.Levels.{Tell}
 use Rattle.special_files.proofs.Meant.{meant_is}
@@ -119,9 +96,6 @@ module _ (a : Image) (g : Graph) (holds : Holds a g) (id : Puid) (o : Object) (a
     pub all : (p : List ℕ) → done p → Meant (tree p) → has_number (tree p) ns ≡ true
     pub once : Differ ns
 
-  pub lists_none : (done : List ℕ → Type 0) → ((p : List ℕ) → done p → ⊥) → Lists done []
-  lists_none done none = record { each = λ v never. cc; all = λ p is meant. absurd (none p is); once = tt }
-
   -- a path more, which is listed where it is to be
   lists_add : (done next : List ℕ → Type 0) (ns : List ℕ) (p : List ℕ) (b : Bool) → Lists done ns → (done p → ⊥) → (b ≡ true → Meant (tree p)) → (b ≡ false → Meant (tree p) → ⊥)
       → ((r : List ℕ) → done r → next r) → next p → ((r : List ℕ) → next r → Meant (tree r) → done r ⊎ (r ≡ p)) → Lists next (ns ++ one_if b (tree p))
@@ -195,15 +169,6 @@ module _ (a : Image) (g : Graph) (holds : Holds a g) (id : Puid) (o : Object) (a
       ]
     ]
     within n (k ∷ j ∷ i ∷ q) is = absurd is.0
-
-    pub upto_none : (n : ℕ) → n ≡ f / 128 → Lists (Upto f n) []
-    upto_none n is = lists_none (Upto f n) none
-      where
-        none : (p : List ℕ) → Upto f n p → ⊥
-        none [] r = r.0
-        none (k ∷ []) r = r.1 (omega (arith, r.0, is))
-        none (k ∷ j ∷ []) r = r.1 (elim r.0 [ inl past ↦ inl (omega (arith, past, is)) | inr past ↦ inr (omega (arith, past.0, is), omega arith) ])
-        none (k ∷ j ∷ i ∷ q) r = r.0
 
     -- a node that isn't fresh has no fresh leaf
     pub node_skipped : (n : ℕ) (ns : List ℕ) → n < 120 → is_fresh_node was n ≡ false → Lists (Upto f n) ns → Lists (Upto f (n + 1)) ns

@@ -1,58 +1,7 @@
 -- The device calls that drop leaves from a draft: the node of the first is written without them, and claims are taken back.
 use Rattle.std.proofs.Common.{◌≡◌, ◌≢◌, ◌⊎◌, inl, inr, ℕ, ◌/◌, ◌%◌, ◌^◌, ◌<◌, ◌≤◌, Bool, true, false, List, [], ◌∷◌, length, Ok, Some, refl, sym, ◌∙◌, ap, subst, get_or-set_other, get_or-set_same, arith}
-use Rattle.std.specs.Prelude.{IfErr, Result, slice_index}
+use Rattle.special_files.proofs.Words.{AreClaimed, AreCounts, AreShed, BelongsTo, BlockNo, ChangesOnly, Claims, ClaimsAndDrops, Course, Drafting, Flips, Frame, GetsNode, Ghosts, Graph, Had, HasDraft, Holds, IfErr, Image, IsOn, IsPast, IsShed, Kept, Leaves, MapEntry, MayFlip, Node, Object, Opened, Puid, Refused, Result, Root, StoreHas, Trouble, Undo, View, WritesBlock, block_at, block_at-with_entry, both_ways, carries_framed, cases_Bool, changes_then, claimed_by, content_of, entry_in, entry_in-set, entry_in-with_entry_other, entry_in-with_entry_same, entry_in_table, false_from_ne_true, flipped, flips, frames_begin, frames_hold, free_is_loose, free_unowned, given_all, has_number, held, held_at, held_there, in_image, intended, is_damage, is_free_entry, is_free_in, is_meant, is_meant_for, is_of, keeps_frame, leaf_pointers, leaves_at, length-with_entry, may_take_back, node_claims, node_of, not_map, numbers_differ, object_at, of_draft, one_path, opened_as, part_at, part_of, pointer, root_spelling, same_Some, slice_index, taken_apart, tree_in, tree_of, tree_placed, undone, wider}
 use Rattle.std.proofs.Math.ListN.{length-set}
-use Rattle.std.proofs.lemmas.Bool.{both_ways, cases_Bool, false_from_ne_true}
-use Rattle.std.proofs.lemmas.Option.{same_Some}
-use Rattle.cfs_base.specs.Disk.{Image, block_at}
-use Rattle.cfs_base.specs.Run.{Leaves}
-use Rattle.cfs_base.specs.declared.disk.Disk.{Ghosts}
-use Rattle.cfs_base.specs.declared.identifier.BlockNo.{BlockNo}
-use Rattle.cfs_base.specs.declared.identifier.Puid.{Puid}
-use Rattle.cfs_base.specs.declared.kind.Place.TheVariants.{Node, Root}
-use Rattle.cfs_base.specs.declared.refusal.Refused.{Refused}
-use Rattle.cfs_base.specs.declared.refusal.Trouble.{Trouble}
-use Rattle.cfs_base.proofs.Runs.{wider}
-use Rattle.block_tree.specs.Pointers.{leaf_pointers}
-use Rattle.block_tree.specs.Root.{root_spelling}
-use Rattle.block_tree.specs.Tree.{pointer, tree_of}
-use Rattle.cyl_map.specs.declared.entry.MapEntry.{MapEntry}
-use Rattle.cyl_map.specs.Volume.{entry_in, is_free_entry, is_free_in}
-use Rattle.cyl_map.proofs.Volumes.{block_at-with_entry, entry_in-set, entry_in-with_entry_other, entry_in-with_entry_same, entry_in_table, length-with_entry}
-use Rattle.cyl_alloc.specs.Space.{AreCounts, Kept, intended}
-use Rattle.ufs_model.specs.declared.object.Draft as models
-use Rattle.ufs_model.specs.declared.object.Object.{Object}
-use Rattle.ufs_model.specs.Graph.{Graph, object_at}
-use Rattle.ufs_model.specs.Numbers.{has_number}
-use Rattle.vol_image.specs.Part.{BelongsTo, part_at, part_of}
-use Rattle.vol_image.specs.Seen.{held_at, tree_in}
-use Rattle.vol_image.specs.Sound.{Holds}
-use Rattle.vol_image.proofs.Law.{frames_hold}
-use Rattle.vol_image.proofs.Parts.{free_is_loose, in_image, taken_apart, tree_placed}
-use Rattle.vol_image.proofs.Paths.{held_there}
-use Rattle.vol_image.proofs.Places.{one_path}
-use Rattle.vol_image.proofs.Steps.{frames_begin, not_map}
-use Rattle.vol_image.proofs.Views.{held}
-use Rattle.vol_owners.specs.Account.{HasDraft, Opened, content_of, is_meant_for, numbers_differ}
-use Rattle.vol_owners.specs.Change.{ChangesOnly, of_draft}
-use Rattle.vol_owners.specs.Owner.{is_meant, is_of}
-use Rattle.vol_owners.proofs.Changes.{changes_then}
-use Rattle.vol_owners.proofs.Entries.{free_unowned}
-use Rattle.claims.specs.Claims.{AreClaimed}
-use Rattle.claims.proofs.Claims.{claimed_by}
-use Rattle.intentions.specs.Course.{Course, Frame, IsOn}
-use Rattle.intentions.specs.Entries.{undone}
-use Rattle.intentions.specs.declared.change.Change.TheVariants.{Undo}
-use Rattle.intentions.specs.Store.{StoreHas}
-use Rattle.intentions.proofs.Courses.{carries_framed, keeps_frame}
-use Rattle.intentions.proofs.Settling.{may_take_back}
-use Rattle.special_files.specs.Calls.{Claims, GetsNode, Had, WritesBlock}
-use Rattle.special_files.specs.Committing.{Flips, MayFlip, flipped, flips, given_all}
-use Rattle.special_files.specs.Drafting.{Drafting, IsOpen, node_of, opened_as}
-use Rattle.special_files.specs.Nodes.{leaves_at}
-use Rattle.special_files.specs.Order.{ClaimsAndDrops, node_claims}
-use Rattle.special_files.specs.Refusal.{is_damage}
-use Rattle.special_files.specs.Shed.{AreShed, IsPast, IsShed}
 use Rattle.special_files.proofs.Amid.{IsAmid, amid_leaves, claim_leaves, claimed, write_leaves, wrote}
 use Rattle.special_files.proofs.CommitEntries.{meant_not_free, undone_free}
 use Rattle.special_files.proofs.CommitFlips.{counts_given_all, flipped_block, flipped_on, flips_entry, if_at, length-flipped, may_flips}
@@ -150,8 +99,7 @@ pub record IsPut (a b : Image) (id : Puid) (d : Opened) (f y : ℕ) : Type 0 whe
 pub put_none : (a : Image) (id : Puid) (d : Opened) (f y : ℕ) → f % 128 ≡ 0 → IsPut a a id d f y
 put_none a id d f y whole = record { size = refl; entries = λ v apart. refl; contents = λ v real apart. refl; node = λ within. absurd (within whole) }
 
-module _ {D : Type 0} (g : Ghosts D) (graph : Graph) (ds : List Opened) (id : Puid) (o : Object) (d0 d1 : D) (k0 k1 : Kept) (was : Drafting) (m : models.Draft) (leaves : List ℕ) (f : ℕ)
-    (store : StoreHas g graph ds d0 k0) (at : object_at graph id ≡ Some o) (opened : IsOpen ds id was m) (most : f < 15360) where
+module _ {D : Type 0} {g : Ghosts D} {d0 : D} {k0 : Kept} {was : Drafting} (u : View g d0 k0 was) (d1 : D) (k1 : Kept) (leaves : List ℕ) (f : ℕ) (most : f < 15360) where
   abbrev a : Image
   a = g.content d0
 
@@ -162,20 +110,20 @@ module _ {D : Type 0} (g : Ghosts D) (graph : Graph) (ds : List Opened) (id : Pu
   n = f / 128
 
   abbrev d : Opened
-  d = opened_as id was m
+  d = opened_as u.id was u.draft
 
-  draft : HasDraft a id d
-  draft = the_draft a ds id was m opened (store.account.drafts id o at)
+  draft : HasDraft a u.id d
+  draft = the_draft a u.ds u.id was u.draft u.opened (u.store.account.drafts u.id u.object u.at)
 
-  tell : Tell (is_meant_for a id.block) (tree_in a old) was.leaves was.nodes
-  tell = flags_of a ds id was m opened draft
+  tell : Tell (is_meant_for a u.id.block) (tree_in a old) was.leaves was.nodes
+  tell = flags_of a u.ds u.id was u.draft u.opened draft
 
-  start : IsAmid g graph id d0 d0 k0
-  start = amid0 g graph ds id o d0 d1 d1 k0 k1 k1 was m leaves f store at opened most
+  start : IsAmid g u.graph u.id d0 d0 k0
+  start = amid0 u d1 d1 k1 k1 leaves f most
 
-  pub get_leaves : (result : Result BlockNo Refused) → GetsNode g n d0 d1 k0 k1 was result → Leaves g d0 d1 (λ c. Holds c graph)
-  get_leaves result (Had fresh same kept is) = subst (λ (e : D). Leaves g d0 e (λ c. Holds c graph)) (sym same) start.leaves
-  get_leaves result (Claims stale gets) = claim_leaves g graph ds id o d0 k0 store at d0 d1 k0 k1 (intended (Node n) was.at) result start gets (node_is g graph ds id o d0 d1 d1 k0 k1 k1 was m leaves f store at opened most) (not_root_node n)
+  pub get_leaves : (result : Result BlockNo Refused) → GetsNode g n d0 d1 k0 k1 was result → Leaves g d0 d1 (λ c. Holds c u.graph)
+  get_leaves result (Had fresh same kept is) = subst (λ (e : D). Leaves g d0 e (λ c. Holds c u.graph)) (sym same) start.leaves
+  get_leaves result (Claims stale gets) = claim_leaves g u.graph u.ds u.id u.object d0 k0 u.store u.at d0 d1 k0 k1 (intended (Node n) was.at) result start gets (node_is u d1 d1 k1 k1 leaves f most) (not_root_node n)
 
   -- the node has a block that is meant for it
   record Got (b : Image) (y : ℕ) : Type 0 where
@@ -184,40 +132,40 @@ module _ {D : Type 0} (g : Ghosts D) (graph : Graph) (ds : List Opened) (id : Pu
     contents : (v : ℕ) → v % 64 ≢ 0 → block_at b v ≡ block_at a v
     map : y % 64 ≢ 0
     below : y < length a
-    meant : is_meant_for b id.block y ≡ true
-    part : BelongsTo id.block (Node n) (part_at b y)
+    meant : is_meant_for b u.id.block y ≡ true
+    part : BelongsTo u.id.block (Node n) (part_at b y)
     was_there : (is_free_in a y ≡ true) ⊎ (tree_of a old (n ∷ []) ≡ y)
-    stays : is_meant_for a id.block (tree_of a old (n ∷ [])) ≡ true → tree_of a old (n ∷ []) ≡ y
+    stays : is_meant_for a u.id.block (tree_of a old (n ∷ [])) ≡ true → tree_of a old (n ∷ []) ≡ y
 
-  got : (y : BlockNo) → GetsNode g n d0 d1 k0 k1 was (Ok y) → IsAmid g graph id d0 d1 k1 × Got (g.content d1) y.0
+  got : (y : BlockNo) → GetsNode g n d0 d1 k0 k1 was (Ok y) → IsAmid g u.graph u.id d0 d1 k1 × Got (g.content d1) y.0
   got y (Had fresh same kept is) =
       let y_is : y.0 ≡ node_of was.root n = (let e : y ≡ record { 0 = node_of was.root n } = cc in ap (λ (b : BlockNo). b.0) e) in
-      let two = fresh_there a graph store.account.holds id o at (store.account.objects id o at) d draft (n ∷ []) (sym (tell.node n (omega (arith, most))) ∙ fresh) in
+      let two = fresh_there a u.graph u.store.account.holds u.id u.object u.at (u.store.account.objects u.id u.object u.at) d draft (n ∷ []) (sym (tell.node n (omega (arith, most))) ∙ fresh) in
       let there : tree_of a old (n ∷ []) ≡ y.0 = node_at a was.root draft.tree.spelled.good.0 n ∙ sym y_is in
       let real : y.0 ≢ 0 = λ none. two.0 (there ∙ none) in
       let here = ap (held_at a) there ∙ held_there a y.0 real in
-      let placed = tree_placed a (length a) id.block old was.root m.object draft.tree (n ∷ []) (held a y.0) here in (
-        subst (λ (e : D). IsAmid g graph id d0 e k1) (sym same) (subst (IsAmid g graph id d0 d0) (sym kept) start),
+      let placed = tree_placed a (length a) u.id.block old was.root u.draft.object draft.tree (n ∷ []) (held a y.0) here in (
+        subst (λ (e : D). IsAmid g u.graph u.id d0 e k1) (sym same) (subst (IsAmid g u.graph u.id d0 d0) (sym kept) start),
         subst (λ (e : D). Got (g.content e) y.0) (sym same) (record {
           size = refl;
           entries = λ v apart. refl;
           contents = λ v real. refl;
-          map = not_map y.0 (taken_apart a graph store.account.holds y.0 id.block placed.taken);
-          below = in_image a graph store.account.holds y.0 placed.taken.is placed.taken.here;
-          meant = ap (is_meant_for a id.block) (sym there) ∙ two.1;
-          part = subst (λ pl. BelongsTo id.block pl (part_at a y.0)) (node_place old n) (draft.tree.owned (n ∷ []) (held a y.0) here);
+          map = not_map y.0 (taken_apart a u.graph u.store.account.holds y.0 u.id.block placed.taken);
+          below = in_image a u.graph u.store.account.holds y.0 placed.taken.is placed.taken.here;
+          meant = ap (is_meant_for a u.id.block) (sym there) ∙ two.1;
+          part = subst (λ pl. BelongsTo u.id.block pl (part_at a y.0)) (node_place old n) (draft.tree.owned (n ∷ []) (held a y.0) here);
           was_there = inr there;
           stays = λ meant. there;
         }),
       )
   got y (Claims stale enters) =
-      let is = node_is g graph ds id o d0 d1 d1 k0 k1 k1 was m leaves f store at opened most in
-      let claim = claimed g graph ds id o d0 k0 store at d0 d1 k0 k1 (intended (Node n) was.at) (Ok y) start enters is (not_root_node n) y refl (mine g graph ds id o d0 d1 d1 k0 k1 k1 was m leaves f store at opened most (Node n)) in
+      let is = node_is u d1 d1 k1 k1 leaves f most in
+      let claim = claimed g u.graph u.ds u.id u.object d0 k0 u.store u.at d0 d1 k0 k1 (intended (Node n) was.at) (Ok y) start enters is (not_root_node n) y refl (mine u d1 d1 k1 k1 leaves f most (Node n)) in
       let free = claim.1.free in
       let was_free = free_is a y.0 free in
-      let there : entry_in (g.content d1) y.0 ≡ Some (intended (Node n) id.block) = ap (λ (i : Image). entry_in i y.0) claim.2 ∙ entry_in-with_entry_same a y.0 (intended (Node n) was.at) was_free.0 was_free.1 is ∙ ap (λ (r : ℕ). Some (intended (Node n) r)) (sym opened.at) in
-      let map : y.0 % 64 ≢ 0 = not_map y.0 (free_is_loose a graph store.account.holds y.0 was_free.0 was_free.1 was_free.2).apart in
-      let below : y.0 < length a = in_image a graph store.account.holds y.0 was_free.0 was_free.1 in (
+      let there : entry_in (g.content d1) y.0 ≡ Some (intended (Node n) u.id.block) = ap (λ (i : Image). entry_in i y.0) claim.2 ∙ entry_in-with_entry_same a y.0 (intended (Node n) was.at) was_free.0 was_free.1 is ∙ ap (λ (r : ℕ). Some (intended (Node n) r)) (sym u.opened.at) in
+      let map : y.0 % 64 ≢ 0 = not_map y.0 (free_is_loose a u.graph u.store.account.holds y.0 was_free.0 was_free.1 was_free.2).apart in
+      let below : y.0 < length a = in_image a u.graph u.store.account.holds y.0 was_free.0 was_free.1 in (
         claim.0,
         record {
           size = ap (length {A = List ℕ}) claim.2 ∙ length-with_entry a y.0 (intended (Node n) was.at);
@@ -225,10 +173,10 @@ module _ {D : Type 0} (g : Ghosts D) (graph : Graph) (ds : List Opened) (id : Pu
           contents = λ v real. ap (λ (i : Image). block_at i v) claim.2 ∙ block_at-with_entry a y.0 (intended (Node n) was.at) v (λ e. real (omega (arith, e)));
           map = map;
           below = below;
-          meant = intended_meant (g.content d1) y.0 id.block (Node n) there;
-          part = intended_part (g.content d1) y.0 id.block (Node n) there;
+          meant = intended_meant (g.content d1) y.0 u.id.block (Node n) there;
+          part = intended_part (g.content d1) y.0 u.id.block (Node n) there;
           was_there = inl free;
-          stays = λ meant. absurd (both_ways _ (unfresh a graph store.account.holds id o at (store.account.objects id o at) d draft (omega (arith, below)) (n ∷ []) (sym (tell.node n (omega (arith, most))) ∙ stale)) meant);
+          stays = λ meant. absurd (both_ways _ (unfresh a u.graph u.store.account.holds u.id u.object u.at (u.store.account.objects u.id u.object u.at) d draft (omega (arith, below)) (n ∷ []) (sym (tell.node n (omega (arith, most))) ∙ stale)) meant);
         },
       )
 
@@ -236,15 +184,15 @@ module _ {D : Type 0} (g : Ghosts D) (graph : Graph) (ds : List Opened) (id : Pu
     y_below : y.0 < length (g.content d1)
     y_below = let is = (got y gets).1 in omega (arith, is.below, is.size)
 
-    pub put_leaves : (result : Result (Unit {0}) Refused) → WritesBlock g y.0 node d1 d2 result → Leaves g d0 d2 (λ c. Holds c graph)
-    put_leaves result writes = write_leaves g graph ds id o d0 k0 store at d1 d2 k1 y.0 node (got y gets).0 (got y gets).1.meant y_below writes.images
+    pub put_leaves : (result : Result (Unit {0}) Refused) → WritesBlock g y.0 node d1 d2 result → Leaves g d0 d2 (λ c. Holds c u.graph)
+    put_leaves result writes = write_leaves g u.graph u.ds u.id u.object d0 k0 u.store u.at d1 d2 k1 y.0 node (got y gets).0 (got y gets).1.meant y_below writes.images
 
     module _ (writes : WritesBlock g y.0 node d1 d2 (Ok (tt {0}))) where
-      pub put_amid : IsAmid g graph id d0 d2 k1
-      put_amid = wrote g graph ds id o d0 k0 store at d1 d2 k1 y.0 node (got y gets).0 (got y gets).1.meant y_below writes.images writes.written writes.told writes.calls.same
+      pub put_amid : IsAmid g u.graph u.id d0 d2 k1
+      put_amid = wrote g u.graph u.ds u.id u.object d0 k0 u.store u.at d1 d2 k1 y.0 node (got y gets).0 (got y gets).1.meant y_below writes.images writes.written writes.told writes.calls.same
 
       pub put_small : y.0 < 2 ^ 32
-      put_small = omega (arith, (got y gets).1.below, small_image a graph store.account.holds)
+      put_small = omega (arith, (got y gets).1.below, small_image a u.graph u.store.account.holds)
 
       entry : (v : ℕ) → entry_in (g.content d2) v ≡ entry_in (g.content d1) v
       entry v = ap (λ (i : Image). entry_in i v) writes.written ∙ entry_in-set (g.content d1) y.0 node v (got y gets).1.map
@@ -255,12 +203,12 @@ module _ {D : Type 0} (g : Ghosts D) (graph : Graph) (ds : List Opened) (id : Pu
       pub put_claims : GetsNode g n d0 d1 k0 k1 was (Ok y) → AreClaimed (node_claims was.at was.nodes n) a (g.content d2)
       put_claims (Had fresh same kept is) = rw fresh (λ v. entry v ∙ ap (λ (d : D). entry_in (g.content d) v) same)
       put_claims (Claims stale enters) =
-          let is = node_is g graph ds id o d0 d1 d1 k0 k1 k1 was m leaves f store at opened most in
-          let claim = claimed g graph ds id o d0 k0 store at d0 d1 k0 k1 (intended (Node n) was.at) (Ok y) start enters is (not_root_node n) y refl (mine g graph ds id o d0 d1 d1 k0 k1 k1 was m leaves f store at opened most (Node n)) in
+          let is = node_is u d1 d1 k1 k1 leaves f most in
+          let claim = claimed g u.graph u.ds u.id u.object d0 k0 u.store u.at d0 d1 k0 k1 (intended (Node n) was.at) (Ok y) start enters is (not_root_node n) y refl (mine u d1 d1 k1 k1 leaves f most (Node n)) in
           rw stale (g.content d1, claimed_by _ a (g.content d1) y.0 is claim.1 claim.2, entry)
 
       pub put_is : f % 128 ≢ 0 → leaves ≡ leaves_at a (node_of was.root n) → ((j : ℕ) → j < f % 128 → pointer leaf_pointers node j ≡ slice_index leaves j) → ((j : ℕ) → f % 128 ≤ j → pointer leaf_pointers node j ≡ 0)
-          → (j : ℕ) × (j < f % 128) × (slice_index leaves j ≢ 0) → IsPut a (g.content d2) id d f y.0
+          → (j : ℕ) × (j < f % 128) × (slice_index leaves j ≢ 0) → IsPut a (g.content d2) u.id d f y.0
       put_is within read kept past one =
           let is = (got y gets).1 in
           let long : length (g.content d2) ≡ length (g.content d1) = ap (length {A = List ℕ}) writes.written ∙ length-set (g.content d1) y.0 node in
@@ -272,8 +220,8 @@ module _ {D : Type 0} (g : Ghosts D) (graph : Graph) (ds : List Opened) (id : Pu
             node = λ w. record {
               some = λ none. is.map (omega (arith, none));
               below = omega (arith, y_below, long);
-              meant = ap (is_of is_meant id.block) (entry y.0) ∙ is.meant;
-              part = subst (BelongsTo id.block (Node n)) (ap part_of (sym (entry y.0))) is.part;
+              meant = ap (is_of is_meant u.id.block) (entry y.0) ∙ is.meant;
+              part = subst (BelongsTo u.id.block (Node n)) (ap part_of (sym (entry y.0))) is.part;
               was = is.was_there;
               stays = is.stays;
               kept = λ j early. ap (λ (c : List ℕ). pointer leaf_pointers c j) content ∙ kept j early ∙ sym (leaf j);
@@ -284,9 +232,8 @@ module _ {D : Type 0} (g : Ghosts D) (graph : Graph) (ds : List Opened) (id : Pu
 
 -- ---- and then the claims taken back
 
-module _ {D : Type 0} (g : Ghosts D) (graph : Graph) (ds : List Opened) (id : Puid) (o : Object) (d0 d2 d3 : D) (k0 k2 : Kept) (was : Drafting) (m : models.Draft) (f y : ℕ) (ns : List ℕ)
-    (store : StoreHas g graph ds d0 k0) (at : object_at graph id ≡ Some o) (opened : IsOpen ds id was m) (amid : IsAmid g graph id d0 d2 k2) (put : IsPut (g.content d0) (g.content d2) id (opened_as id was m) f y)
-    (shed : AreShed (g.content d0) id (opened_as id was m) f ns) (n t : ℕ) where
+module _ {D : Type 0} {g : Ghosts D} {d0 d2 : D} {k0 k2 : Kept} {was : Drafting} {f y : ℕ} {ns : List ℕ} (u : View g d0 k0 was) (amid : IsAmid g u.graph u.id d0 d2 k2)
+    (put : IsPut (g.content d0) (g.content d2) u.id (opened_as u.id was u.draft) f y) (shed : AreShed (g.content d0) u.id (opened_as u.id was u.draft) f ns) (d3 : D) (n t : ℕ) where
   abbrev base : Image
   base = g.content d0
 
@@ -294,50 +241,50 @@ module _ {D : Type 0} (g : Ghosts D) (graph : Graph) (ds : List Opened) (id : Pu
   b = g.content d2
 
   abbrev mine_d : Opened
-  mine_d = opened_as id was m
+  mine_d = opened_as u.id was u.draft
 
-  base_draft : HasDraft base id mine_d
-  base_draft = the_draft base ds id was m opened (store.account.drafts id o at)
+  base_draft : HasDraft base u.id mine_d
+  base_draft = the_draft base u.ds u.id was u.draft u.opened (u.store.account.drafts u.id u.object u.at)
 
   -- the node's block is none of them
-  not_y : (v : ℕ) → IsShed base id mine_d f v → f % 128 ≢ 0 → v ≢ y
+  not_y : (v : ℕ) → IsShed base u.id mine_d f v → f % 128 ≢ 0 → v ≢ y
   not_y v is within same =
       let node = put.node within in
       elim node.was [
-        | inl free ↦ taken_not_free base v id.block (meant_is base id.block v is.meant).taken (subst (λ (k : ℕ). is_free_in base k ≡ true) (sym same) free)
+        | inl free ↦ taken_not_free base v u.id.block (meant_is base u.id.block v is.meant).taken (subst (λ (k : ℕ). is_free_in base k ≡ true) (sym same) free)
         | inr there ↦
-            let path : is.path ≡ f / 128 ∷ [] = one_path base (length base) id.block (content_of mine_d) was.root m.object base_draft.tree is.path (f / 128 ∷ []) (held base y) (held base y) (ap (held_at base) (is.there ∙ same) ∙ held_there base y node.some) (ap (held_at base) there ∙ held_there base y node.some) refl in
+            let path : is.path ≡ f / 128 ∷ [] = one_path base (length base) u.id.block (content_of mine_d) was.root u.draft.object base_draft.tree is.path (f / 128 ∷ []) (held base y) (held base y) (ap (held_at base) (is.there ∙ same) ∙ held_there base y node.some) (ap (held_at base) there ∙ held_there base y node.some) refl in
             omega (arith, within, subst (IsPast f) path is.past)
       ]
 
-  same_entry : (v : ℕ) → IsShed base id mine_d f v → entry_in b v ≡ entry_in base v
+  same_entry : (v : ℕ) → IsShed base u.id mine_d f v → entry_in b v ≡ entry_in base v
   same_entry v is = put.entries v (not_y v is)
 
-  meant : (v : ℕ) → has_number v ns ≡ true → is_meant_for b id.block v ≡ true
-  meant v has = let is = shed.each v has in ap (is_of is_meant id.block) (same_entry v is) ∙ is.meant
+  meant : (v : ℕ) → has_number v ns ≡ true → is_meant_for b u.id.block v ≡ true
+  meant v has = let is = shed.each v has in ap (is_of is_meant u.id.block) (same_entry v is) ∙ is.meant
 
   no_root : (v : ℕ) → has_number v ns ≡ true → (e : MapEntry) → entry_in b v ≡ Some e → e.place ≢ Some Root
   no_root v has e here root =
       let is = shed.each v has in
-      let real : v ≢ 0 = λ none. not_map v (taken_apart base graph store.account.holds v id.block (meant_is base id.block v is.meant).taken) (omega (arith, none)) in
-      let inner = tree_inner base (length base) id.block (content_of mine_d) was.root m.object base_draft.tree v (record { path = is.path; held = held base v; there = ap (held_at base) is.there ∙ held_there base v real; is = refl }) in
+      let real : v ≢ 0 = λ none. not_map v (taken_apart base u.graph u.store.account.holds v u.id.block (meant_is base u.id.block v is.meant).taken) (omega (arith, none)) in
+      let inner = tree_inner base (length base) u.id.block (content_of mine_d) was.root u.draft.object base_draft.tree v (record { path = is.path; held = held base v; there = ap (held_at base) is.there ∙ held_there base v real; is = refl }) in
       inner.no_root (ap (λ (x : MapEntry). x.place) (same_Some _ _ (sym inner.taken.here ∙ sym (same_entry v is) ∙ here)) ∙ root)
 
-  pub shed_leaves : (r : Result (Unit {0}) Trouble) → Flips g n t (flips Undo ns) d2 d3 r → Leaves g d0 d3 (λ c. Holds c graph)
-  shed_leaves r f = undo_leaves g graph ds id o d0 k0 store at d2 d3 k2 ns amid shed.once meant no_root n t r f
+  pub shed_leaves : (r : Result (Unit {0}) Trouble) → Flips g n t (flips Undo ns) d2 d3 r → Leaves g d0 d3 (λ c. Holds c u.graph)
+  shed_leaves r f = undo_leaves g u.graph u.ds u.id u.object d0 k0 u.store u.at d2 d3 k2 ns amid shed.once meant no_root n t r f
 
   pub shed_sound : (r : Result (Unit {0}) Trouble) → Flips g n t (flips Undo ns) d2 d3 r → IfErr r (λ e. is_damage e ≡ false)
-  shed_sound r f = undo_sound g graph ds id o d0 k0 store at d2 d3 k2 ns amid shed.once meant no_root n t r f
+  shed_sound r f = undo_sound g u.graph u.ds u.id u.object d0 k0 u.store u.at d2 d3 k2 ns amid shed.once meant no_root n t r f
 
   module _ (flips_done : Flips g n t (flips Undo ns) d2 d3 (Ok tt)) where
-    pub shed_amid : IsAmid g graph id d0 d3 (given_all k2 ns)
-    shed_amid = undone_amid g graph ds id o d0 k0 store at d2 d3 k2 ns amid shed.once meant no_root n t flips_done
+    pub shed_amid : IsAmid g u.graph u.id d0 d3 (given_all k2 ns)
+    shed_amid = undone_amid g u.graph u.ds u.id u.object d0 k0 u.store u.at d2 d3 k2 ns amid shed.once meant no_root n t flips_done
 
     at_end : g.content d3 ≡ flipped b (flips Undo ns)
     at_end = flips_done.put amid.carries.tells
 
     entry_end : (v : ℕ) → entry_in (g.content d3) v ≡ if_at (has_number v ns) Undo (entry_in b v)
-    entry_end v = ap (λ (i : Image). entry_in i v) at_end ∙ undone_entry g graph ds id o d0 k0 store at d2 d3 k2 ns amid shed.once meant no_root v
+    entry_end v = ap (λ (i : Image). entry_in i v) at_end ∙ undone_entry g u.graph u.ds u.id u.object d0 k0 u.store u.at d2 d3 k2 ns amid shed.once meant no_root v
 
     block_end : (v : ℕ) → v % 64 ≢ 0 → block_at (g.content d3) v ≡ block_at b v
     block_end v real = ap (λ (i : Image). block_at i v) at_end ∙ flipped_block (flips Undo ns) b v real
@@ -348,36 +295,36 @@ module _ {D : Type 0} (g : Ghosts D) (graph : Graph) (ds : List Opened) (id : Pu
     long_end : length (g.content d3) ≡ length b
     long_end = ap (length {A = List ℕ}) at_end ∙ length-flipped (flips Undo ns) b
 
-    pub shed_order : (es : List MapEntry) → AreClaimed es base b → ClaimsAndDrops id.block es base (g.content d3)
+    pub shed_order : (es : List MapEntry) → AreClaimed es base b → ClaimsAndDrops u.id.block es base (g.content d3)
     shed_order es claims = record {
       mid = b;
       claimed = claims;
       left = λ v. elim (cases_Bool (has_number v ns)) [
-        | inl has ↦ inr (meant v has, ap (λ (i : Image). is_free_in i v) at_end ∙ now_free g graph ds id o d0 k0 store at d2 d3 k2 ns amid shed.once meant no_root v has)
+        | inl has ↦ inr (meant v has, ap (λ (i : Image). is_free_in i v) at_end ∙ now_free g u.graph u.ds u.id u.object d0 k0 u.store u.at d2 d3 k2 ns amid shed.once meant no_root v has)
         | inr not ↦ inl (entry_left v not)
       ];
     }
 
-    pub shed_short : IsShort base (g.content d3) id mine_d f y
+    pub shed_short : IsShort base (g.content d3) u.id mine_d f y
     shed_short = record {
       size = long_end ∙ put.size;
       each = λ v apart. elim (cases_Bool (has_number v ns)) [
         | inl has ↦ inl (shed.each v has)
         | inr not ↦ inr (entry_left v not ∙ put.entries v apart)
       ];
-      freed = λ v is. free_unowned is_meant refl id.block (entry_in (g.content d3) v)
-          (ap (λ (i : Image). is_free_in i v) at_end ∙ now_free g graph ds id o d0 k0 store at d2 d3 k2 ns amid shed.once meant no_root v (shed.all v is));
+      freed = λ v is. free_unowned is_meant refl u.id.block (entry_in (g.content d3) v)
+          (ap (λ (i : Image). is_free_in i v) at_end ∙ now_free g u.graph u.ds u.id u.object d0 k0 u.store u.at d2 d3 k2 ns amid shed.once meant no_root v (shed.all v is));
       contents = λ v real apart. block_end v real ∙ put.contents v real apart;
       node = λ within.
           let node = put.node within in
           let mine_not : has_number y ns ≡ false = false_from_ne_true _ (λ has. not_y y (shed.each y has) within refl) in
           let here : entry_in (g.content d3) y ≡ entry_in b y = entry_left y mine_not in
-          let real : y % 64 ≢ 0 = not_map y (taken_apart b graph amid.carries.holds y id.block (meant_is b id.block y node.meant).taken) in
+          let real : y % 64 ≢ 0 = not_map y (taken_apart b u.graph amid.carries.holds y u.id.block (meant_is b u.id.block y node.meant).taken) in
           record {
             some = node.some;
             below = omega (arith, node.below, long_end);
-            meant = ap (is_of is_meant id.block) here ∙ node.meant;
-            part = subst (BelongsTo id.block (Node (f / 128))) (ap part_of (sym here)) node.part;
+            meant = ap (is_of is_meant u.id.block) here ∙ node.meant;
+            part = subst (BelongsTo u.id.block (Node (f / 128))) (ap part_of (sym here)) node.part;
             was = node.was;
             stays = node.stays;
             kept = λ j early. ap (λ (c : List ℕ). pointer leaf_pointers c j) (block_end y real) ∙ node.kept j early;

@@ -1,48 +1,16 @@
 -- The size of a draft set to less: the model's need, and the model's draft, of the call as it is made.
-use Rattle.std.proofs.Common.{◌≡◌, inl, inr, ℕ, ◌+◌, ◌-◌, ◌/◌, ◌%◌, ◌<◌, ◌≤◌, Bool, true, false, List, [], ◌∷◌, Ok, Some, refl, sym, ◌∙◌, ap, subst, arith}
-use Rattle.std.specs.Prelude.{◌==◌, ◌&&◌, ◌||◌, ◌++◌, Result, if◌then◌else◌, map, not}
-use Rattle.std.proofs.lemmas.Bool.{and_parts, cases_Bool, eqb-false}
-use Rattle.cfs_base.specs.Calls.{OnlyReads}
-use Rattle.cfs_base.specs.Run.{Leaves}
-use Rattle.cfs_base.specs.declared.disk.Disk.{Ghosts}
-use Rattle.cfs_base.specs.declared.identifier.Puid.{Puid}
-use Rattle.cfs_base.specs.declared.refusal.Refused.{Refused}
-use Rattle.cfs_base.proofs.Runs.{then}
-use Rattle.cfs_base.specs.Disk.{Image}
-use Rattle.cfs_base.specs.declared.kind.Place.TheVariants.{Leaf, Node}
-use Rattle.claims.specs.Claims.{AreClaimed}
-use Rattle.claims.proofs.Claims.{claims_then}
-use Rattle.cyl_map.specs.declared.entry.MapEntry.{MapEntry}
-use Rattle.cyl_alloc.specs.Space.{Kept, intended}
-use Rattle.leaf_changes.specs.Bytes as changes
-use Rattle.leaf_changes.proofs.Given.{file_to_leaves}
-use Rattle.ufs_model.specs.declared.change.Change.TheVariants.{SetSize}
-use Rattle.ufs_model.specs.declared.object.Draft.{Draft}
-use Rattle.ufs_model.specs.declared.object.File.{File}
+use Rattle.std.proofs.Common.{◌≡◌, inl, inr, ℕ, ◌+◌, ◌/◌, ◌%◌, ◌<◌, ◌≤◌, Bool, true, false, List, [], ◌∷◌, Ok, refl, sym, ◌∙◌, ap, subst, arith, Err, ◌≢◌, ◌++◌, if◌then◌else◌, not}
+use Rattle.special_files.proofs.Words.{AreClaimed, ClaimsAndDrops, Cuts, CutsIf, Drafting, DropCall, DropsFrom, Ends, File, Ghosts, Goes, Holds, IfErr, Image, IsFullFor, IsPlan, IsRead, IsTrouble, KeepsOne, Kept, Leaf, Leaves, MapEntry, Node, NodeRead, OnlyReads, Plan, Refused, ResizeCall, Resized, Result, SetSize, Spares, Trouble, View, and_parts, border_claims, both_ways, cases_Bool, claims_anew, claims_then, cut_takes, eqb-false, file_to_leaves, intended, is_damaged, is_fresh_leaf, is_fresh_node, is_full, last_node, leaf_claims, leaf_takes, leaves_at, leaves_of, map, need_beside, node_claims, node_of, opened_as, plan_needs, refused_by, size_of, sized, sum, then, told_after, written_anew, ◌&&◌, ◌==◌, ◌||◌}
 use Rattle.ufs_model.specs.declared.object.Object.TheVariants as objects
-use Rattle.ufs_model.specs.declared.object.Object.{Object}
-use Rattle.ufs_model.specs.Graph.{Graph, object_at}
-use Rattle.ufs_model.specs.Object.{leaves_in, size_of, written_anew}
-use Rattle.ufs_model.specs.State.{changed_draft}
-use Rattle.vol_image.specs.Reading.{leaf_content}
-use Rattle.vol_image.specs.Sound.{Holds}
-use Rattle.vol_owners.specs.Account.{HasDraft, Opened}
-use Rattle.intentions.specs.Store.{StoreHas}
-use Rattle.special_files.specs.Becomes.{Becomes}
-use Rattle.special_files.specs.Drafting.{Drafting, IsOpen, is_fresh_leaf, is_fresh_node, need_beside, opened_as, shadow_need}
-use Rattle.special_files.specs.Leaves.{leaves_of}
-use Rattle.special_files.specs.Nodes.{IsRead}
-use Rattle.special_files.specs.Order.{ClaimsAndDrops, claims_anew, leaf_claims, node_claims}
-use Rattle.special_files.specs.Puts.{PutsLeaf, StaysBut}
-use Rattle.special_files.specs.Shed.{Drops, IsBorder, IsCutHere, KeepsOne, border_claims, shrink_takes, sized}
-use Rattle.special_files.specs.Store.{replaced}
-use Rattle.special_files.specs.declared.node.NodeRead.{NodeRead}
 use Rattle.special_files.proofs.Fresh.{node_of_fresh}
-use Rattle.special_files.proofs.PutStore.{flags_of, the_draft}
+use Rattle.special_files.proofs.PutStore.{flags_of}
 use Rattle.special_files.proofs.Recut.{only_if, recut_claims, recut_need}
-use Rattle.special_files.proofs.ShrinkRun.{becomes_since, cut_to, keeps_one, node_is}
-use Rattle.special_files.proofs.Shrunk.{CutTo, shrunk_becomes, stays_itself}
-use Rattle.special_files.proofs.WriteLeaf.{images_since, read_since, store_now}
+use Rattle.special_files.proofs.ShrinkRun.{cut_to, keeps_one, CutDone, both_take, cut_done, cut_images, cut_less, node_read, told_by_nodes}
+use Rattle.special_files.proofs.Shrunk.{CutTo, shrunk_becomes}
+use Rattle.special_files.proofs.Endings.{stays_itself, ends_then_err, ends_then_ok, ends_wider, not_untried, stays_then, still_room, still_sound}
+use Rattle.special_files.proofs.View.{draft_of, view, view_reads}
+use Rattle.cfs_base.specs.declared.refusal.Refused.TheVariants as refusals
+use Rattle.special_files.proofs.WriteLeaf.{images_since, read_since, becomes_since, ends_since, ends_trouble, not_full}
 
 -- a leaf that is cut, and then the node that loses leaves, take no block twice
 one_after_other : (c l w f m : Bool) (e n at : ℕ) → ((c && not l) ≡ true → m ≡ true) → ((c && not l) ≡ false → m ≡ f)
@@ -60,105 +28,226 @@ one_after_other false l true f m e n at stale same = refl
 one_after_other false l false true m e n at stale same = ap (λ (b : Bool). if b then [] else intended (Node n) at ∷ []) (same refl)
 one_after_other false l false false m e n at stale same = ap (λ (b : Bool). if b then [] else intended (Node n) at ∷ []) (same refl)
 
-module _ {D : Type 0} (g : Ghosts D) (graph : Graph) (ds : List Opened) (id : Puid) (o : Object) (at : object_at graph id ≡ Some o) (d0 d1 : D) (k0 : Kept) (was : Drafting) (d : Draft) (store : StoreHas g graph ds d0 k0) (opened : IsOpen ds id was d)
-    (reads : OnlyReads g 1 d0 d1) (size : ℕ) (less : size < was.root.size) (limit : was.root.size ≤ 7864320) (to number from : ℕ) (cut : Bool) (read : NodeRead) (to_is : to ≡ leaves_in size) (number_is : number ≡ (leaves_in size - 1) / 128)
-    (numbered : read.number ≡ number) (is : IsRead (g.content d0) was read) (border : IsBorder read.node.leaves number to from) (cuts : IsCutHere size read.node.leaves cut) where
-  store1 : StoreHas g graph ds d1 k0
-  store1 = store_now g graph ds id o d0 d1 k0 was d 1 store at opened reads
+-- ---- refused before anything was tried
 
-  is1 : IsRead (g.content d1) was read
-  is1 = read_since g d0 d1 1 reads was read is
+pub resize_stopped : {D : Type 0} {g : Ghosts D} {d0 d1 : D} (reads : OnlyReads g 1 d0 d1) (size floor : ℕ) (was : Drafting) (k0 : Kept) (t : Trouble) (e : Refused) → e ≡ refused_by t → IsTrouble g was.at d0 d1 k0 t → ResizeCall g size floor d0 d1 k0 k0 was was (Err e)
+resize_stopped reads size floor was k0 t e is why = record {
+  stays = stays_itself was;
+  spared = λ full. absurd (both_ways _ (ap is_full is ∙ not_full t) full);
+  told = λ none. tt;
+  ends = ends_trouble reads 15486 (sum k0.free) 31092 t e is (omega arith) why;
+  kept = λ untried. refl;
+}
 
-  border1 : IsBorder read.node.leaves ((leaves_in size - 1) / 128) (leaves_in size) from
-  border1 = subst (λ (n : ℕ). IsBorder read.node.leaves n (leaves_in size) from) number_is (subst (λ (t : ℕ). IsBorder read.node.leaves number t from) to_is border)
+module _ {D : Type 0} {g : Ghosts D} {size : ℕ} {d0 d1 : D} {was : Drafting} {plan : Plan} (p : IsPlan g size was d0 d1 plan) where
+  abbrev cut : Bool
+  cut = plan.cut
 
-  draft : HasDraft (g.content d1) id (opened_as id was d)
-  draft = the_draft (g.content d1) ds id was d opened (store1.account.drafts id o at)
+  abbrev from : ℕ
+  from = plan.from
 
-  pub call_need : (f : File) → d.object ≡ objects.File f → need_beside (SetSize size) d was ≡ shrink_takes was cut from (size / 512) number + shadow_need was
-  call_need f file =
-      let whole : size_of d.object ≡ was.root.size = ap size_of file ∙ (file_to_leaves was.root (leaves_of (g.content d1) was.root) f (draft.tree.object ∙ file)).size in
-      recut_need (g.content d1) ds id was d opened draft size less read.node.leaves (node_is g graph ds id o at d1 k0 was d store1 opened size less limit cut read is1 (numbered ∙ number_is) d1 k0 was read (stays_itself was)) from border1 cut cuts whole
-      ∙ ap (λ (n : ℕ). shrink_takes was cut from (size / 512) n + shadow_need was) (sym number_is)
+  abbrev read : NodeRead
+  read = plan.read
 
-  module _ (d2 : D) (k2 : Kept) (mid : Drafting) (next : NodeRead) (stays : StaysBut was mid) (next_number : cut ≡ true → next.number ≡ size / 512 / 128)
-      (puts : (graph : Graph) (ds : List Opened) (id : Puid) (o : Object) (d : Draft) → StoreHas g graph ds d1 k0 → object_at graph id ≡ Some o → IsOpen ds id was d → IsRead (g.content d1) was read → size < was.root.size → cut ≡ true
-      → PutsLeaf g graph ds id (size / 512) (changes.cut size was.root.fill (leaf_content was.root.fill (leaves_of (g.content d1) was.root (size / 512)))) d1 d2 k2 was mid next)
-      (none : cut ≡ false → (d2 ≡ d1) × (k2 ≡ k0) × (mid ≡ was) × (next ≡ read))
-      (images : (graph : Graph) (ds : List Opened) (id : Puid) (o : Object) (d : Draft) → StoreHas g graph ds d1 k0 → object_at graph id ≡ Some o → IsOpen ds id was d → IsRead (g.content d1) was read → Leaves g d1 d2 (λ c. Holds c graph))
-      (d3 : D) (k3 : Kept) (now : Drafting) (r : Result (Unit {0}) Refused)
-      (drop : (graph : Graph) (ds : List Opened) (id : Puid) (o : Object) (d : Draft) → StoreHas g graph ds d2 k2 → object_at graph id ≡ Some o → IsOpen ds id mid d → IsRead (g.content d2) mid next → KeepsOne from next → Drops g graph ds id from d2 d3 k3 mid now r) where
-    pub done : CutTo g graph ds id size cut d1 d2 k2 was mid next
-    done = cut_to g graph ds id o at d1 k0 was d store1 opened size less limit cut read is1 (numbered ∙ number_is) d2 k2 mid next stays (λ is_cut. puts graph ds id o d store1 at opened is1 less is_cut) none
+  abbrev e : ℕ
+  e = size / 512
 
-    next_is : next.number ≡ (leaves_in size - 1) / 128
-    next_is = elim (cases_Bool cut) [
-      | inl is_cut ↦ let within = (cuts.is is_cut).0 in omega (arith, next_number is_cut, within)
-      | inr whole ↦ ap (λ (n : NodeRead). n.number) (none whole).3 ∙ numbered ∙ number_is
-    ]
+  abbrev n : ℕ
+  n = last_node size
 
-    pub call_drops : Drops g graph (replaced (opened_as id mid done.draft) ds) id from d2 d3 k3 mid now r
-    call_drops = drop graph _ id o done.draft done.becomes.steps.store at done.becomes.is_open done.read_is
-        (keeps_one g graph ds id o at d1 k0 was d store1 opened size less limit cut read is1 (numbered ∙ number_is) d2 k2 mid next stays from border1 cuts done next_is)
+  at_leaf : cut ≡ true → e / 128 ≡ n
+  at_leaf is = let within = (p.cuts.is is).0 in omega (arith, within)
 
-    pub call_images : Leaves g d0 d3 (λ c. Holds c graph)
-    call_images = images_since g d0 d1 d3 1 reads _ ((then) g d1 d2 d3 _ _ (images graph ds id o d store1 at opened is1) call_drops.leaves (λ c h. h))
+  at_border : from % 128 ≢ 0 → from / 128 ≡ n
+  at_border within = omega (arith, within, p.border.low, p.border.high)
 
-    pub call_done : r ≡ Ok tt → (f : File) → d.object ≡ objects.File f → Becomes g graph ds id (changed_draft (SetSize size) d) d0 d3 k3 (sized now size)
-    call_done ok f file =
-        let drops = subst (λ (r : Result (Unit {0}) Refused). Drops g graph (replaced (opened_as id mid done.draft) ds) id from d2 d3 k3 mid now r) ok call_drops in
-        becomes_since g graph ds id (changed_draft (SetSize size) d) 1 d0 d1 d3 k3 (sized now size) reads
-        (shrunk_becomes g graph ds id o at d1 k0 was d store1 opened f file size less limit read.node.leaves (node_is g graph ds id o at d1 k0 was d store1 opened size less limit cut read is1 (numbered ∙ number_is) d2 k2 mid next stays)
-        from border1 cut cuts d2 d3 k2 k3 mid now next done drops.done)
+  -- ---- the model's need
 
-    -- ---- the claims in their order
+  module _ {k0 : Kept} (v : View g d0 k0 was) where
+    abbrev u : View g d1 k0 was
+    u = view_reads v p.reads
 
-    abbrev e : ℕ
-    e = size / 512
+    read1 : IsRead (g.content d1) was read
+    read1 = read_since p.reads was read (p.read_is v.store.carries.tells)
 
-    abbrev n : ℕ
-    n = (leaves_in size - 1) / 128
+    node1 : read.node.leaves ≡ leaves_at (g.content d1) (node_of was.root n)
+    node1 = node_read u read read1 p.less p.limit p.number
 
-    at_leaf : cut ≡ true → e / 128 ≡ n
-    at_leaf is = omega (arith, (cuts.is is).0)
+    whole_size : (f : File) → v.draft.object ≡ objects.File f → size_of v.draft.object ≡ was.root.size
+    whole_size f file = ap size_of file ∙ (file_to_leaves was.root (leaves_of (g.content d1) was.root) f ((draft_of u).tree.object ∙ file)).size
 
-    marked : cut ≡ true → is_fresh_node mid n ≡ true
-    marked is = subst (λ (k : ℕ). is_fresh_node mid k ≡ true) (at_leaf is) (done.node_marks.new e (omega arith) (rw is (omega arith)))
+    pub call_need : (f : File) → v.draft.object ≡ objects.File f → need_beside (SetSize size) v.draft was ≡ plan_needs size was plan
+    call_need f file = recut_need (g.content d1) u.ds u.id was u.draft u.opened (draft_of u) size p.less read.node.leaves node1 from p.border cut p.cuts (whole_size f file)
 
-    -- a leaf that was fresh has a fresh node
-    above : cut ≡ true → is_fresh_leaf was e ≡ true → is_fresh_node was n ≡ true
-    above is fresh =
-        let tell = flags_of (g.content d1) ds id was d opened draft in
-        subst (λ (k : ℕ). is_fresh_node was k ≡ true) (at_leaf is) (tell.node (e / 128) (omega (arith, less, limit))
-        ∙ node_of_fresh (g.content d1) graph store1.account.holds id o at (store1.account.objects id o at) (opened_as id was d) draft (e / 128) (e % 128) (sym (tell.leaf e (omega (arith, less, limit))) ∙ fresh))
+    pub call_full : (floor need : ℕ) (x : Refused) → need ≡ plan_needs size was plan → x ≡ refusals.Full (record { free = sum k0.free; need = need }) → sum k0.free < need + floor → (f : File) → v.draft.object ≡ objects.File f → IsFullFor size floor v.draft k0 was x
+    call_full floor need x same is less f file =
+        let all = same ∙ sym (call_need f file) in
+        record { is = is ∙ ap (λ (k : ℕ). refusals.Full (record { free = sum k0.free; need = k })) all; less = omega (arith, less, all) }
 
-    still : (b l : Bool) → cut ≡ b → is_fresh_leaf was e ≡ l → (b && not l) ≡ false → is_fresh_node mid n ≡ is_fresh_node was n
-    still true true is fresh not_stale = marked is ∙ sym (above is fresh)
-    still true false is stale not_stale = cc
-    still false l whole any not_stale = ap (λ (w : Drafting). is_fresh_node w n) (none whole).2
+  -- ---- the cut
 
-    first : (b : Bool) → cut ≡ b → (if cut then leaf_claims was.at was.leaves was.nodes e else []) ≡ (if cut then (if is_fresh_leaf was e then [] else intended (Leaf e) was.at ∷ node_claims was.at was.nodes n) else [])
-    first true is = ap (λ (k : ℕ). if cut then (if is_fresh_leaf was e then [] else intended (Leaf e) was.at ∷ node_claims was.at was.nodes k) else []) (at_leaf is)
-    first false is = rw is refl
+  module _ (floor : ℕ) (k0 : Kept) (room : plan_needs size was plan + floor ≤ sum k0.free) where
+    after_read : {d3 : D} {k3 : Kept} {n t k : ℕ} {r : Result (Unit {0}) Refused} → Ends g was.at 0 n t k d1 d3 k0 k3 r → n ≤ 31091 → t ≤ 15486 → Ends g was.at floor 31092 15486 (sum k0.free) d0 d3 k0 k3 r
+    after_read ends le lt = ends_since p.reads 31092 (ends_wider floor 31091 15486 (sum k0.free) ends le lt (omega arith)) (omega arith)
 
-    then_node : (b : Bool) → (from % 128 == 0) ≡ b → border_claims mid from ≡ (if from % 128 == 0 then [] else node_claims was.at mid.nodes n)
-    then_node true is = rw is refl
-    then_node false is =
-        let k : from / 128 ≡ n = omega (arith, border1.low, border1.high, eqb-false (from % 128) 0 is) in
-        (λ i. if from % 128 == 0 then [] else node_claims (stays.at i) mid.nodes (k i))
+    enough : cut_takes was cut e ≤ sum k0.free
+    enough = omega (arith, cut_less was cut from e n at_leaf, room)
 
-    pub call_order : r ≡ Ok tt → (f : File) → d.object ≡ objects.File f
-        → ClaimsAndDrops id.block (claims_anew was.at (written_anew (SetSize size) d.object d.fresh) d.fresh) (g.content d0) (g.content d3)
-    call_order ok f file =
-        let drops = subst (λ (r : Result (Unit {0}) Refused). Drops g graph (replaced (opened_as id mid done.draft) ds) id from d2 d3 k3 mid now r) ok call_drops in
-        let order = drops.done.order in
-        let whole : size_of d.object ≡ was.root.size = ap size_of file ∙ (file_to_leaves was.root (leaves_of (g.content d1) was.root) f (draft.tree.object ∙ file)).size in
-        let same = (λ i. first cut refl i ++ then_node (from % 128 == 0) refl i)
-        ∙ one_after_other cut (is_fresh_leaf was e) (from % 128 == 0) (is_fresh_node was n) (is_fresh_node mid n) e n was.at
-        (λ stale. marked (and_parts cut (not (is_fresh_leaf was e)) stale).0) (still cut (is_fresh_leaf was e) refl refl)
-        ∙ sym (recut_claims (g.content d1) ds id was d opened draft size less read.node.leaves (node_is g graph ds id o at d1 k0 was d store1 opened size less limit cut read is1 (numbered ∙ number_is) d1 k0 was read (stays_itself was)) from border1 cut cuts whole) in
-        subst (λ (i : Image). ClaimsAndDrops id.block (claims_anew was.at (written_anew (SetSize size) d.object d.fresh) d.fresh) i (g.content d3)) reads.content (record {
-          mid = order.mid;
-          claimed = subst (λ (es : List MapEntry). AreClaimed es (g.content d1) order.mid) same (claims_then _ _ (g.content d1) (g.content d2) order.mid done.order order.claimed);
-          left = order.left;
-        })
+    module _ {d2 : D} {k2 : Kept} {mid : Drafting} {next : NodeRead} where
+      cut_room : (x : Refused) → CutsIf g size cut d1 d2 k0 k2 was mid read next (Err x) → is_full x ≡ false
+      cut_room x (Spares not ok same kept still again) = cc
+      cut_room x (Cuts is goes calls) = calls.room (omega (arith, enough, ap (λ (b : Bool). if b then leaf_takes was e else 0) is))
+
+      pub cut_err_call : (x : Refused) → CutsIf g size cut d1 d2 k0 k2 was mid read next (Err x) → ResizeCall g size floor d0 d2 k0 k2 was mid (Err x)
+      cut_err_call x cuts = by cuts
+        where
+          by : CutsIf g size cut d1 d2 k0 k2 was mid read next (Err x) → ResizeCall g size floor d0 d2 k0 k2 was mid (Err x)
+          by (Spares not ok same kept still again) = cc
+          by (Cuts is goes calls) = record {
+            stays = calls.stays;
+            spared = λ full. absurd (both_ways _ (cut_room x cuts) full);
+            told = λ none. tt;
+            ends = after_read calls.ends (omega arith) (omega arith);
+            kept = calls.kept;
+          }
+
+      pub cut_err_goes : {P : Type 0} (v : View g d0 k0 was) (x : Refused) → CutsIf g size cut d1 d2 k0 k2 was mid read next (Err x) → Goes {A = Unit {0}} g v.graph P d0 d2 (Err x)
+      cut_err_goes v x cuts = record { done = tt; leaves = images_since p.reads d2 _ (cut_images (u v) (read1 v) p.less p.limit (Err x) cuts); sound = by cuts }
+        where
+          by : CutsIf g size cut d1 d2 k0 k2 was mid read next (Err x) → is_damaged x ≡ false
+          by (Spares not ok same kept still again) = cc
+          by (Cuts is goes calls) = (goes (u v) (read1 v) p.less).sound
+
+      pub cut_err_full : {A : Type 0} (x : Refused) → CutsIf g size cut d1 d2 k0 k2 was mid read next (Err x) → is_full x ≡ true → A
+      cut_err_full x cuts full = absurd (both_ways _ (cut_room x cuts) full)
+
+      -- ---- the leaves dropped
+
+      module _ (cuts : CutsIf g size cut d1 d2 k0 k2 was mid read next (Ok (tt {0}))) where
+        abbrev cd : CutDone g size cut d1 d2 k0 k2 was mid read next
+        cd = cut_done cuts
+
+        abbrev done : (v : View g d0 k0 was) → CutTo g v.graph v.ds v.id size cut d1 d2 k2 was mid next
+        done v = cut_to (u v) (read1 v) p.less p.limit cuts
+
+        next_is : next.number ≡ n
+        next_is = elim (cases_Bool cut) [
+          | inl is ↦ let within = (p.cuts.is is).0 in omega (arith, cd.number is, within)
+          | inr whole ↦ ap (λ (r : NodeRead). r.number) (cd.whole whole).3 ∙ p.number
+        ]
+
+        abbrev there : (v : View g d0 k0 was) → View g d2 k2 mid
+        there v = view (done v).becomes.steps.store v.at (done v).becomes.is_open
+
+        module _ (d3 : D) (k3 : Kept) (now : Drafting) where
+          abbrev DropsSo : Result (Unit {0}) Refused → Type 0
+          DropsSo r = (w : View g d2 k2 mid) → IsRead (g.content d2) mid next → KeepsOne from next → Goes g w.graph (DropsFrom g w.graph w.ds w.id from d2 d3 k3 mid now) d2 d3 r
+
+          drop_goes : (v : View g d0 k0 was) (r : Result (Unit {0}) Refused) → DropsSo r → Goes g v.graph (DropsFrom g v.graph (there v).ds v.id from d2 d3 k3 mid now) d2 d3 r
+          drop_goes v r drops = drops (there v) (done v).read_is (keeps_one (u v) read (read1 v) p.less p.limit p.number from p.border p.cuts (done v) next_is)
+
+          drop_images : (v : View g d0 k0 was) (r : Result (Unit {0}) Refused) → DropsSo r → Leaves g d0 d3 (λ c. Holds c v.graph)
+          drop_images v r drops = images_since p.reads d3 _ ((then) g d1 d2 d3 _ _ (cut_images (u v) (read1 v) p.less p.limit (Ok tt) cuts) (drop_goes v r drops).leaves (λ c h. h))
+
+          drop_room : {r : Result (Unit {0}) Refused} → DropCall g from d2 d3 k2 k3 mid now r → IfErr r (λ x. is_full x ≡ false)
+          drop_room calls = calls.room (omega (
+            arith,
+            both_take was mid cut from e n at_leaf at_border cd.flags (λ whole. (cd.whole whole).2) (omega (arith, p.nodes, p.less, p.limit)),
+            room,
+            cd.ends.takes,
+          ))
+
+          -- refused
+          module _ (x told : Refused) (is : told ≡ told_after cut x) (calls : DropCall g from d2 d3 k2 k3 mid now (Err x)) where
+            pub drop_err_full : {A : Type 0} → is_full told ≡ true → A
+            drop_err_full full = absurd (both_ways _ (ap is_full is ∙ still_room cut x (drop_room calls)) full)
+
+            pub drop_err_goes : {P : Type 0} (v : View g d0 k0 was) → DropsSo (Err x) → Goes {A = Unit {0}} g v.graph P d0 d3 (Err told)
+            drop_err_goes v drops = record { done = tt; leaves = drop_images v (Err x) drops; sound = ap is_damaged is ∙ still_sound cut x (drop_goes v (Err x) drops).sound }
+
+            pub drop_err_call : ResizeCall g size floor d0 d3 k0 k3 was now (Err told)
+            drop_err_call = record {
+              stays = stays_then was mid now cd.stays calls.stays;
+              spared = drop_err_full;
+              told = λ none. tt;
+              ends = subst (λ (y : Refused). Ends {A = Unit {0}} g was.at floor 31092 15486 (sum k0.free) d0 d3 k0 k3 (Err y)) (sym is) (ends cut refl);
+              kept = λ untried. kept cut refl (sym is ∙ untried);
+            }
+              where
+                here : Ends {A = Unit {0}} g was.at 0 31083 15482 (sum k2.free) d2 d3 k2 k3 (Err x)
+                here = subst (λ (at : ℕ). Ends {A = Unit {0}} g at 0 31083 15482 (sum k2.free) d2 d3 k2 k3 (Err x)) cd.stays.at calls.ends
+
+                ends : (b : Bool) → cut ≡ b → Ends {A = Unit {0}} g was.at floor 31092 15486 (sum k0.free) d0 d3 k0 k3 (Err (told_after b x))
+                ends true so = let c = cut_takes was cut e in after_read (ends_then_err g was.at 0 d1 d2 d3 k0 k2 k3 (tt {0}) x 8 4 c 31083 15482 (sum k2.free) cd.ends (cd.tried so) here 31091 15486 (c + sum k2.free) (omega arith) (omega arith) (omega arith)) (omega arith) (omega arith)
+                ends false not =
+                    let two = cd.whole not in
+                    after_read (subst (λ (k : Kept). Ends {A = Unit {0}} g was.at 0 31083 15482 (sum k2.free) d1 d3 k k3 (Err x)) two.1 (subst (λ (d : D). Ends {A = Unit {0}} g was.at 0 31083 15482 (sum k2.free) d d3 k2 k3 (Err x)) two.0 here)) (omega arith) (omega arith)
+
+                kept : (b : Bool) → cut ≡ b → told_after cut x ≡ refusals.Disk false → now ≡ was
+                kept true so untried = absurd (not_untried x ((λ i. told_after (sym so i) x) ∙ untried))
+                kept false not untried = calls.kept ∙ (cd.whole not).2
+
+          -- done
+          module _ (calls : DropCall g from d2 d3 k2 k3 mid now (Ok (tt {0}))) where
+            pub drop_ok_call : ResizeCall g size floor d0 d3 k0 k3 was (sized now size) (Ok tt)
+            drop_ok_call = record {
+              stays = let stays = stays_then was mid now cd.stays calls.stays in record { at = stays.at; shadow = stays.shadow; own = stays.own; created = stays.created; word = stays.word; root = record { kind = stays.root.kind; fill = stays.root.fill; size = refl } };
+              spared = tt;
+              told = λ none. told_by_nodes none p cd calls;
+              ends =
+                  let c = cut_takes was cut e in
+                  let here = subst (λ (at : ℕ). Ends {A = Unit {0}} g at 0 31083 15482 (sum k2.free) d2 d3 k2 k3 (Ok tt)) cd.stays.at calls.ends in
+                  after_read (ends_then_ok g was.at 0 d1 d2 d3 k0 k2 k3 (tt {0}) (tt {0}) 8 4 c 31083 15482 (sum k2.free) cd.ends here 31091 15486 (c + sum k2.free) (omega arith) (omega arith) (omega arith)) (omega arith) (omega arith);
+              kept = tt;
+            }
+
+            pub drop_ok_goes : (v : View g d0 k0 was) → DropsSo (Ok (tt {0})) → Goes {A = Unit {0}} g v.graph ((f : File) → v.draft.object ≡ objects.File f → Resized g v.graph v.ds v.id v.draft size floor d0 d3 k0 k3 was (sized now size)) d0 d3 (Ok tt)
+            drop_ok_goes v drops = record {
+              done = λ f file. record {
+                becomes = becomes_since p.reads (shrunk_becomes g v.graph v.ds v.id v.object v.at d1 k0 was v.draft (u v).store v.opened f file size p.less p.limit read.node.leaves (node1 v) from p.border cut p.cuts d2 d3 k2 k3 mid now next (done v) (drop_goes v (Ok tt) drops).done);
+                order = order v (drop_goes v (Ok tt) drops).done f file;
+                room = omega (arith, call_need v f file, room);
+              };
+              leaves = drop_images v (Ok tt) drops;
+              sound = tt;
+            }
+              where
+                -- the claims in their order
+                marked : (v : View g d0 k0 was) → cut ≡ true → is_fresh_node mid n ≡ true
+                marked v is = subst (λ (k : ℕ). is_fresh_node mid k ≡ true) (at_leaf is) ((done v).node_marks.new e (omega arith) (rw is (omega arith)))
+
+                -- a leaf that was fresh has a fresh node
+                above : (v : View g d0 k0 was) → cut ≡ true → is_fresh_leaf was e ≡ true → is_fresh_node was n ≡ true
+                above v is fresh =
+                    let w = u v in
+                    let draft = draft_of w in
+                    let tell = flags_of (g.content d1) w.ds w.id was w.draft w.opened draft in
+                    subst (λ (k : ℕ). is_fresh_node was k ≡ true) (at_leaf is) (tell.node (e / 128) (omega (arith, p.less, p.limit))
+                    ∙ node_of_fresh (g.content d1) w.graph w.store.account.holds w.id w.object w.at (w.store.account.objects w.id w.object w.at) (opened_as w.id was w.draft) draft (e / 128) (e % 128) (sym (tell.leaf e (omega (arith, p.less, p.limit))) ∙ fresh))
+
+                still : (v : View g d0 k0 was) (b l : Bool) → cut ≡ b → is_fresh_leaf was e ≡ l → (b && not l) ≡ false → is_fresh_node mid n ≡ is_fresh_node was n
+                still v true true is fresh not_stale = marked v is ∙ sym (above v is fresh)
+                still v true false is stale not_stale = cc
+                still v false l whole any not_stale = ap (λ (w : Drafting). is_fresh_node w n) (cd.whole whole).2
+
+                first : (b : Bool) → cut ≡ b → (if cut then leaf_claims was.at was.leaves was.nodes e else []) ≡ (if cut then (if is_fresh_leaf was e then [] else intended (Leaf e) was.at ∷ node_claims was.at was.nodes n) else [])
+                first true is = ap (λ (k : ℕ). if cut then (if is_fresh_leaf was e then [] else intended (Leaf e) was.at ∷ node_claims was.at was.nodes k) else []) (at_leaf is)
+                first false is = rw is refl
+
+                then_node : (b : Bool) → (from % 128 == 0) ≡ b → border_claims mid from ≡ (if from % 128 == 0 then [] else node_claims was.at mid.nodes n)
+                then_node true is = rw is refl
+                then_node false is = let k : from / 128 ≡ n = at_border (eqb-false (from % 128) 0 is) in (λ i. if from % 128 == 0 then [] else node_claims (cd.stays.at i) mid.nodes (k i))
+
+                order : (v : View g d0 k0 was) → DropsFrom g v.graph (there v).ds v.id from d2 d3 k3 mid now → (f : File) → v.draft.object ≡ objects.File f
+                    → ClaimsAndDrops v.id.block (claims_anew was.at (written_anew (SetSize size) v.draft.object v.draft.fresh) v.draft.fresh) (g.content d0) (g.content d3)
+                order v drops f file =
+                    let w = u v in
+                    let same = (λ i. first cut refl i ++ then_node (from % 128 == 0) refl i)
+                    ∙ one_after_other cut (is_fresh_leaf was e) (from % 128 == 0) (is_fresh_node was n) (is_fresh_node mid n) e n was.at
+                    (λ stale. marked v (and_parts cut (not (is_fresh_leaf was e)) stale).0) (still v cut (is_fresh_leaf was e) refl refl)
+                    ∙ sym (recut_claims (g.content d1) w.ds w.id was w.draft w.opened (draft_of w) size p.less read.node.leaves (node1 v) from p.border cut p.cuts (whole_size v f file)) in
+                    subst (λ (i : Image). ClaimsAndDrops v.id.block (claims_anew was.at (written_anew (SetSize size) v.draft.object v.draft.fresh) v.draft.fresh) i (g.content d3)) p.reads.content (record {
+                      mid = drops.order.mid;
+                      claimed = subst (λ (es : List MapEntry). AreClaimed es (g.content d1) drops.order.mid) same (claims_then _ _ (g.content d1) (g.content d2) drops.order.mid (done v).order drops.order.claimed);
+                      left = drops.order.left;
+                    })

@@ -1,57 +1,18 @@
 -- A draft whose last leaf was cut, and whose leaves past it were dropped, is the model's draft of that size.
-use Rattle.std.proofs.Common.{◌≡◌, ◌≢◌, ◌⊎◌, inl, inr, ℕ, zero, suc, ◌+◌, ◌-◌, ◌*◌, ◌/◌, ◌%◌, ◌<◌, ◌≤◌, Bool, true, false, List, [], ◌∷◌, get_or, Option, Some, None, refl, sym, ◌∙◌, ap, subst, arith}
-use Rattle.std.specs.Prelude.{◌&&◌, if◌then◌else◌, is_some, map, not}
-use Rattle.std.proofs.Math.Path.{fun_ext}
-use Rattle.std.proofs.lemmas.Bool.{both_ways, cases_Bool, cases_lt}
-use Rattle.cfs_base.specs.Disk.{Image}
-use Rattle.cfs_base.specs.declared.disk.Disk.{Ghosts}
-use Rattle.cfs_base.specs.declared.identifier.Puid.{Puid}
+use Rattle.std.proofs.Common.{◌≡◌, ◌≢◌, ◌⊎◌, inl, inr, ℕ, zero, suc, ◌+◌, ◌-◌, ◌*◌, ◌/◌, ◌%◌, ◌<◌, ◌≤◌, Bool, true, false, List, [], ◌∷◌, get_or, Option, Some, None, refl, sym, ◌∙◌, ap, subst, arith, if◌then◌else◌, not}
+use Rattle.special_files.proofs.Words.{AreClaimed, Becomes, Draft, Drafting, DropsFrom, File, Ghosts, Graph, HasDraft, Held, Image, IsBorder, IsCutHere, IsOpen, IsRead, IsRoot, Kept, LeavesFit, NodeRead, Object, Opened, Puid, PutsLeaf, SetSize, SetsSize, Shrinks, StaysBut, StoreHas, all-rise, both_ways, bytes_held, cases_Bool, cases_lt, changed_draft, changed_object, cut_fit, cut_held, cut_object, draft_in, file_to_leaves, filter-rises, fresh_after, fresh_of, fun_ext, has_number, held_leaves, held_levels, held_nodes, held_of, in_all, in_filter, in_held, in_map, in_withs, is_fresh_leaf, is_fresh_node, is_meant_for, is_some, leaf_claims, leaf_content, leaves_at, leaves_in, leaves_of, map, merged, next_levels, node_of, object_at, object_of, object_with, opened_as, replaced, root_spelling, same_numbers, same_object, set_in, shared, size_of, sized, to_all, to_filter, tree_in, with_numbers, within, ◌&&◌}
 use Rattle.cfs_base.specs.declared.kind.Kind.TheVariants as kinds
-use Rattle.cfs_base.specs.declared.kind.FileKind.{FileKind}
-use Rattle.cfs_base.specs.declared.kind.FileKind.TheVariants as file_kinds
-use Rattle.block_tree.specs.Root.{IsRoot, root_spelling}
-use Rattle.cyl_alloc.specs.Space.{Kept}
 use Rattle.leaf_changes.specs.Bytes as changes
-use Rattle.leaf_changes.specs.Changes.{SetsSize}
-use Rattle.leaf_changes.specs.Gives.{kind_of}
-use Rattle.leaf_changes.specs.Leaves.{LeavesFit, Shrinks, bytes_held, cut_held}
-use Rattle.leaf_changes.proofs.Fits.{same_object}
-use Rattle.leaf_changes.proofs.Given.{file_to_leaves}
-use Rattle.leaf_changes.proofs.HeldNumbers.{all-rise, held_of, in_all, in_held, to_all}
-use Rattle.leaf_changes.proofs.Resized.{cut_fit, cut_object}
-use Rattle.ufs_model.specs.declared.change.Change.TheVariants.{SetSize}
-use Rattle.ufs_model.specs.declared.object.Draft.{Draft}
-use Rattle.ufs_model.specs.declared.object.File.{File}
 use Rattle.ufs_model.specs.declared.object.Object.TheVariants as objects
-use Rattle.ufs_model.specs.declared.object.Object.{Object}
-use Rattle.ufs_model.specs.Graph.{Graph, object_at}
-use Rattle.ufs_model.specs.Numbers.{has_number, merged, next_levels, shared, with_numbers, within}
-use Rattle.ufs_model.specs.Object.{changed_object, fresh_after, held_leaves, held_levels, held_nodes, leaves_in, size_of}
-use Rattle.ufs_model.specs.State.{changed_draft}
-use Rattle.vol_image.specs.Reading.{leaf_content, object_with}
-use Rattle.vol_image.specs.Seen.{Held, tree_in}
-use Rattle.vol_image.proofs.Rising.{filter-rises, in_filter, in_map, in_withs, same_numbers, to_filter}
-use Rattle.vol_owners.specs.Account.{HasDraft, Opened, is_meant_for}
-use Rattle.intentions.specs.Store.{StoreHas}
-use Rattle.claims.specs.Claims.{AreClaimed}
-use Rattle.special_files.specs.Becomes.{Becomes}
-use Rattle.special_files.specs.Drafting.{Drafting, IsOpen, fresh_of, is_fresh_leaf, is_fresh_node, node_of, opened_as, set_in}
-use Rattle.special_files.specs.Leaves.{draft_in, leaves_of, object_of}
-use Rattle.special_files.specs.Nodes.{IsRead, leaves_at}
-use Rattle.special_files.specs.Order.{leaf_claims}
-use Rattle.special_files.specs.Puts.{PutsLeaf, StaysBut}
-use Rattle.special_files.specs.Shed.{DropsFrom, IsBorder, IsCutHere, sized}
-use Rattle.special_files.specs.Store.{replaced}
-use Rattle.special_files.specs.declared.node.NodeRead.{NodeRead}
-use Rattle.special_files.proofs.Amid.{amid_begins}
 use Rattle.special_files.proofs.Fresh.{node_of_fresh}
 use Rattle.special_files.proofs.Levels.{Tell}
-use Rattle.special_files.proofs.Lists.{replaced_again}
 use Rattle.special_files.proofs.Marks.{Marks, below_flags, first_is, in_set, leaf_held, marks_begin, marks_more, next_is, node_held, set-rises, to_set, within_none}
-use Rattle.special_files.proofs.PutStore.{alone_now, flags_of, store_goes_on, the_draft}
+use Rattle.special_files.proofs.PutStore.{flags_of, the_draft}
 use Rattle.special_files.proofs.Recut.{anew, anew_leaves, anew_nodes, cut_held_here, in_a0, in_a1, no_cut_here, none_between, stale_a1, to_a0, within_a1}
 use Rattle.special_files.proofs.Sized.{same_leaf, sized_draft}
-use Rattle.special_files.proofs.Writes.{becomes_as, becomes_begin, becomes_then}
+use Rattle.special_files.proofs.Endings.{stays_itself}
+use Rattle.special_files.proofs.View.{no_index}
+use Rattle.special_files.proofs.Writes.{becomes_as, becomes_begin, becomes_then, becomes_again}
 
 -- ---- a draft of another size
 
@@ -70,9 +31,6 @@ pub record CutTo {D : Type 0} (g : Ghosts D) (graph : Graph) (ds : List Opened) 
   pub node_marks : Marks (λ l. l / 128) (size / 512) (upto cut (size / 512)) was.nodes mid.nodes
   pub read_is : IsRead (g.content d2) mid read
   pub order : AreClaimed (if cut then leaf_claims was.at was.leaves was.nodes (size / 512) else []) (g.content d0) (g.content d2)
-
-pub stays_itself : (was : Drafting) → StaysBut was was
-stays_itself was = record { at = refl; shadow = refl; own = refl; created = refl; word = refl; root = record { kind = refl; fill = refl; size = refl } }
 
 module _ {D : Type 0} (g : Ghosts D) (graph : Graph) (ds : List Opened) (id : Puid) (o : Object) (at : object_at graph id ≡ Some o) (d0 : D) (k0 : Kept) (was : Drafting) (d : Draft) (store : StoreHas g graph ds d0 k0) (opened : IsOpen ds id was d)
     (size : ℕ) (d2 : D) (k2 : Kept) (mid : Drafting) (read : NodeRead) where
@@ -122,21 +80,7 @@ module _ {D : Type 0} (g : Ghosts D) (graph : Graph) (ds : List Opened) (id : Pu
   was_there = the_draft image es id now m is.is_open (is.steps.store.account.drafts id o at)
 
   pub becomes_sized : Becomes g graph ds id next d0 d1 k1 (sized now size)
-  becomes_sized =
-      let stands = sized_draft image now.root size was_there.tree.spelled.good.0 id now m refl was_there good fit in
-      let same = replaced_again (opened_as id (sized now size) next) (opened_as id now m) ds refl in
-      let store = is.steps.store in
-      let amid = amid_begins g graph es id o d1 k1 store at in
-      record {
-        steps = record { store = subst (λ (fs : List Opened). StoreHas g graph fs d1 k1) same (store_goes_on g graph es id o d1 d1 k1 k1 now (sized now size) m next store at is.is_open amid stands refl); only = is.steps.only };
-        is_open = subst (λ (fs : List Opened). IsOpen fs id (sized now size) next) same (record {
-          at = is.is_open.at;
-          alone = alone_now g graph es id o d1 d1 k1 k1 now (sized now size) m next store at is.is_open amid;
-          leaf_flags = is.is_open.leaf_flags;
-          node_flags = is.is_open.node_flags;
-          fresh = is.is_open.fresh;
-        });
-      }
+  becomes_sized = becomes_again g graph ds id o at d0 d1 k1 now (sized now size) m next is (sized_draft image now.root size was_there.tree.spelled.good.0 id now m refl was_there good fit) refl refl refl refl is.is_open.fresh
 
 none_held : (p : Option Held) → bytes_held p ≡ None → p ≡ None
 none_held None is = refl
@@ -233,12 +177,8 @@ module _ {D : Type 0} (g : Ghosts D) (graph : Graph) (ds : List Opened) (id : Pu
   gives : object_with was.root old ≡ objects.File f
   gives = draft.tree.object ∙ file
 
-  no_index : was.root.kind ≢ kinds.Index
-  no_index is = by f.kind ((file_to_leaves was.root old f gives).kind)
-    where
-      by : (k : FileKind) → was.root.kind ≡ kind_of k → ⊥
-      by file_kinds.Normal same = (let no : kinds.Normal ≡ kinds.Index = sym same ∙ is in cc)
-      by file_kinds.Special same = (let no : kinds.Special ≡ kinds.Index = sym same ∙ is in cc)
+  not_index : was.root.kind ≢ kinds.Index
+  not_index = no_index was.root old f gives
 
   pub size_is : size_of d.object ≡ was.root.size
   size_is = ap size_of file ∙ (file_to_leaves was.root old f gives).size
@@ -250,7 +190,7 @@ module _ {D : Type 0} (g : Ghosts D) (graph : Graph) (ds : List Opened) (id : Pu
   had = the_draft b _ id now (draft_in b now) dropped.is_open (dropped.steps.store.account.drafts id o at)
 
   good : IsRoot small.root
-  good = record { fill = had.tree.spelled.good.1.fill; size = record { limit = omega (arith, less, limit); slots = λ is. absurd (no_index (sym root.kind ∙ is)) } }
+  good = record { fill = had.tree.spelled.good.1.fill; size = record { limit = omega (arith, less, limit); slots = λ is. absurd (not_index (sym root.kind ∙ is)) } }
 
   abbrev E : Draft
   E = record { object = object_of b small.root; fresh = fresh_of now }
@@ -266,7 +206,7 @@ module _ {D : Type 0} (g : Ghosts D) (graph : Graph) (ds : List Opened) (id : Pu
 
   object : changed_object (SetSize size) d.object ≡ E.object
   object =
-      ap (changed_object (SetSize size)) (sym draft.tree.object) ∙ sym (cut_object was.root old gets size fit_old shrinks (omega (arith, less)) no_index)
+      ap (changed_object (SetSize size)) (sym draft.tree.object) ∙ sym (cut_object was.root old gets size fit_old shrinks (omega (arith, less)) not_index)
       ∙ sym (same_object size was.root small.root root gets) ∙ ap (object_with small.root) (sym same_below)
 
   -- ---- what is fresh

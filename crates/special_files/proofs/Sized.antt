@@ -1,50 +1,16 @@
 -- The size of a draft changed, while its leaves stay.
-use Rattle.std.proofs.Common.{◌≡◌, ◌≢◌, inl, inr, ℕ, zero, suc, ◌+◌, ◌/◌, ◌%◌, ◌<◌, ◌≤◌, Bool, true, false, if◌then◌else◌, IsTrue, List, [], ◌∷◌, ◌++◌, length, get_or, Some, refl, sym, ◌∙◌, ap, subst, arith}
-use Rattle.std.specs.Prelude.{filter, is_some}
-use Rattle.std.specs.List.{range_with_len}
-use Rattle.std.proofs.Math.Path.{fun_ext}
-use Rattle.std.proofs.lemmas.Bool.{le-leb}
-use Rattle.cfs_base.specs.Disk.{Image}
-use Rattle.cfs_base.specs.declared.disk.Disk.{Ghosts}
-use Rattle.cfs_base.specs.declared.identifier.Puid.{Puid}
+use Rattle.std.proofs.Common.{◌≡◌, ◌≢◌, inl, inr, ℕ, zero, suc, ◌+◌, ◌/◌, ◌%◌, ◌<◌, ◌≤◌, Bool, true, false, if◌then◌else◌, IsTrue, List, [], ◌∷◌, ◌++◌, length, get_or, refl, sym, ◌∙◌, ap, subst, arith}
+use Rattle.special_files.proofs.Words.{Becomes, BelongsTo, Draft, Drafting, File, Fits, Ghosts, HasDraft, Image, IsFullFor, IsRoot, IsTree, Kept, LeavesFit, Object, Opened, Puid, Refused, Resized, SetSize, View, bytes_held, changed_draft, changed_object, file_to_leaves, filter, filter-rises, first_level, fresh_after, fun_ext, grown_fit, grown_object, has_number, held_at, held_leaves, held_levels, held_nodes, in_filter, inner_levels, is_meant_for, is_some, le-leb, leaves_of, levels_of, levels_standing, merged, missing, need_beside, next_levels, object_of, object_with, opened_as, passes, path_is, place_at, range_with_len, replaced, resize_anew, root_spelling, same_levels, same_numbers, set_in, shadow_need, shared, size_of, standing_at, sum, to_filter, tree_in, tree_of, within, written_anew}
 use Rattle.cfs_base.specs.declared.kind.Kind.TheVariants as kinds
-use Rattle.cfs_base.specs.declared.kind.FileKind.{FileKind}
-use Rattle.cfs_base.specs.declared.kind.FileKind.TheVariants as file_kinds
 use Rattle.block_tree.specs.declared.root.Root as roots
-use Rattle.block_tree.specs.Root.{Fits, IsRoot, root_spelling}
-use Rattle.block_tree.specs.Tree.{levels_of, tree_of}
-use Rattle.block_tree.proofs.Trees.{path_is}
-use Rattle.cyl_alloc.specs.Space.{Kept}
-use Rattle.leaf_changes.specs.Gives.{kind_of}
-use Rattle.leaf_changes.specs.Leaves.{LeavesFit, bytes_held}
-use Rattle.leaf_changes.proofs.Given.{file_to_leaves}
-use Rattle.leaf_changes.proofs.Resized.{grown_fit, grown_object}
-use Rattle.ufs_model.specs.declared.change.Change.TheVariants.{SetSize}
-use Rattle.ufs_model.specs.declared.object.Draft.{Draft}
-use Rattle.ufs_model.specs.declared.object.File.{File}
 use Rattle.ufs_model.specs.declared.object.Object.TheVariants as objects
-use Rattle.ufs_model.specs.declared.object.Object.{Object}
-use Rattle.ufs_model.specs.Graph.{Graph, object_at}
-use Rattle.ufs_model.specs.Numbers.{first_level, has_number, merged, missing, next_levels, shared, within}
-use Rattle.ufs_model.specs.Object.{changed_object, fresh_after, held_leaves, held_levels, held_nodes, inner_levels, resize_anew, size_of, written_anew}
-use Rattle.ufs_model.specs.State.{changed_draft}
-use Rattle.vol_image.specs.Part.{BelongsTo}
-use Rattle.vol_image.specs.Reading.{IsTree, object_with}
-use Rattle.vol_image.specs.Seen.{held_at, place_at, tree_in}
-use Rattle.vol_image.proofs.Places.{same_levels}
-use Rattle.vol_image.proofs.Rising.{filter-rises, in_filter, same_numbers, to_filter}
-use Rattle.vol_owners.specs.Account.{HasDraft, Opened, is_meant_for, levels_standing, passes, standing_at}
-use Rattle.intentions.specs.Store.{StoreHas}
-use Rattle.special_files.specs.Becomes.{Becomes}
-use Rattle.special_files.specs.Drafting.{Drafting, IsOpen, need_beside, opened_as, set_in, shadow_need}
-use Rattle.special_files.specs.Leaves.{leaves_of, object_of}
-use Rattle.special_files.specs.Order.{ClaimsAndDrops, claims_anew}
-use Rattle.special_files.specs.Store.{replaced}
 use Rattle.special_files.proofs.Amid.{amid_begins}
 use Rattle.special_files.proofs.Levels.{leaf_level, levels_are, node_level}
 use Rattle.special_files.proofs.Marks.{below_flags, in_set, leaf_held, next_is, node_held, set-rises, within_none}
-use Rattle.special_files.proofs.PutStore.{alone_now, store_goes_on, the_draft}
+use Rattle.special_files.proofs.PutStore.{becomes_now}
 use Rattle.special_files.proofs.Trees.{leaf_at, node_at, nothing_below}
+use Rattle.special_files.proofs.View.{draft_of, no_index}
+use Rattle.cfs_base.specs.declared.refusal.Refused.TheVariants as refusals
 use Rattle.special_files.proofs.Writes.{becomes_as}
 
 -- ---- the tree of a root of another size
@@ -130,8 +96,7 @@ within_next (ns ∷ levels) there k = refl
 
 -- ---- to more, or to the same
 
-module _ {D : Type 0} (g : Ghosts D) (graph : Graph) (ds : List Opened) (id : Puid) (o : Object) (at : object_at graph id ≡ Some o) (d0 : D) (k0 : Kept) (was : Drafting) (d : Draft)
-    (store : StoreHas g graph ds d0 k0) (opened : IsOpen ds id was d) (f : File) (file : d.object ≡ objects.File f) (size : ℕ) (more : was.root.size ≤ size) (limit : size ≤ 7864320) where
+module _ {D : Type 0} {g : Ghosts D} {d0 : D} {k0 : Kept} {was : Drafting} (v : View g d0 k0 was) (f : File) (file : v.draft.object ≡ objects.File f) (size : ℕ) (more : was.root.size ≤ size) (limit : size ≤ 7864320) where
   abbrev a : Image
   a = g.content d0
 
@@ -139,90 +104,79 @@ module _ {D : Type 0} (g : Ghosts D) (graph : Graph) (ds : List Opened) (id : Pu
   now = record was { root = record was.root { size = size } }
 
   abbrev e : Draft
-  e = record { object = object_of a now.root; fresh = d.fresh }
+  e = record { object = object_of a now.root; fresh = v.draft.fresh }
 
   abbrev es : List Opened
-  es = replaced (opened_as id now e) ds
+  es = replaced (opened_as v.id now e) v.ds
 
-  draft : HasDraft a id (opened_as id was d)
-  draft = the_draft a ds id was d opened (store.account.drafts id o at)
+  draft : HasDraft a v.id (opened_as v.id was v.draft)
+  draft = draft_of v
 
   gives : object_with was.root (leaves_of a was.root) ≡ objects.File f
   gives = draft.tree.object ∙ file
 
-  no_index : was.root.kind ≢ kinds.Index
-  no_index is = by f.kind ((file_to_leaves was.root (leaves_of a was.root) f gives).kind)
-    where
-      by : (k : FileKind) → was.root.kind ≡ kind_of k → ⊥
-      by file_kinds.Normal same = (let no : kinds.Normal ≡ kinds.Index = sym same ∙ is in cc)
-      by file_kinds.Special same = (let no : kinds.Special ≡ kinds.Index = sym same ∙ is in cc)
+  not_index : was.root.kind ≢ kinds.Index
+  not_index = no_index was.root (leaves_of a was.root) f gives
 
   fit : LeavesFit was.root (leaves_of a was.root)
   fit = record { within = draft.tree.within; filled = draft.tree.filled }
 
   good : IsRoot now.root
-  good = record { fill = draft.tree.spelled.good.1.fill; size = record { limit = limit; slots = λ is. absurd (no_index is) } }
+  good = record { fill = draft.tree.spelled.good.1.fill; size = record { limit = limit; slots = λ is. absurd (not_index is) } }
 
-  stands : HasDraft a id (opened_as id now e)
-  stands = sized_draft a was.root size draft.tree.spelled.good.0 id was d refl draft good (grown_fit was.root (leaves_of a was.root) (leaves_of a was.root) size fit (λ n. refl) more)
+  stands : HasDraft a v.id (opened_as v.id now e)
+  stands = sized_draft a was.root size draft.tree.spelled.good.0 v.id was v.draft refl draft good (grown_fit was.root (leaves_of a was.root) (leaves_of a was.root) size fit (λ n. refl) more)
 
-  first : Becomes g graph ds id e d0 d0 k0 now
-  first =
-      let amid = amid_begins g graph ds id o d0 k0 store at in
-      record {
-        steps = record { store = store_goes_on g graph ds id o d0 d0 k0 k0 was now d e store at opened amid stands refl; only = amid.only };
-        is_open = record {
-          at = opened.at;
-          alone = alone_now g graph ds id o d0 d0 k0 k0 was now d e store at opened amid;
-          leaf_flags = opened.leaf_flags;
-          node_flags = opened.node_flags;
-          fresh = opened.fresh;
-        };
-      }
+  first : Becomes g v.graph v.ds v.id e d0 d0 k0 now
+  first = becomes_now g v.graph v.ds v.id v.object d0 d0 k0 k0 was now v.draft e v.store v.at v.opened (amid_begins g v.graph v.ds v.id v.object d0 k0 v.store v.at) stands refl refl v.opened.leaf_flags v.opened.node_flags v.opened.fresh
 
-  object : changed_object (SetSize size) d.object ≡ e.object
+  object : changed_object (SetSize size) v.draft.object ≡ e.object
   object =
       ap (changed_object (SetSize size)) (sym draft.tree.object)
-      ∙ sym (grown_object was.root (leaves_of a was.root) (leaves_of a now.root) size fit (λ n. ap bytes_held (same_leaf a was.root size draft.tree.spelled.good.0 n)) more no_index)
+      ∙ sym (grown_object was.root (leaves_of a was.root) (leaves_of a now.root) size fit (λ n. ap bytes_held (same_leaf a was.root size draft.tree.spelled.good.0 n)) more not_index)
 
-  size_is : size_of d.object ≡ was.root.size
+  size_is : size_of v.draft.object ≡ was.root.size
   size_is = ap size_of file ∙ (file_to_leaves was.root (leaves_of a was.root) f gives).size
 
-  nothing_anew : written_anew (SetSize size) d.object d.fresh ≡ []
-  nothing_anew = ap (λ (b : Bool). if b then [] else resize_anew (inner_levels d.object) size (held_leaves d.object) d.fresh) (le-leb (size_of d.object) size (omega (arith, size_is, more)))
+  nothing_anew : written_anew (SetSize size) v.draft.object v.draft.fresh ≡ []
+  nothing_anew = ap (λ (b : Bool). if b then [] else resize_anew (inner_levels v.draft.object) size (held_leaves v.draft.object) v.draft.fresh) (le-leb (size_of v.draft.object) size (omega (arith, size_is, more)))
 
-  same_leaves : shared (get_or d.fresh 0 []) (held_leaves e.object) ≡ get_or d.fresh 0 []
+  same_leaves : shared (get_or v.draft.fresh 0 []) (held_leaves e.object) ≡ get_or v.draft.fresh 0 []
   same_leaves =
-      ap (λ (ns : List ℕ). shared ns (held_leaves e.object)) (opened.fresh 0)
-      ∙ all_shared was.leaves (held_leaves e.object) (λ x flag. leaf_held a id es now e first.is_open stands x (below_flags was.leaves 15360 x opened.leaf_flags flag) flag) ∙ sym (opened.fresh 0)
+      ap (λ (ns : List ℕ). shared ns (held_leaves e.object)) (v.opened.fresh 0)
+      ∙ all_shared was.leaves (held_leaves e.object) (λ x flag. leaf_held a v.id es now e first.is_open stands x (below_flags was.leaves 15360 x v.opened.leaf_flags flag) flag) ∙ sym (v.opened.fresh 0)
 
-  same_nodes : shared (get_or (next_levels d.fresh) 0 []) (held_nodes e.object) ≡ get_or d.fresh 1 []
+  same_nodes : shared (get_or (next_levels v.draft.fresh) 0 []) (held_nodes e.object) ≡ get_or v.draft.fresh 1 []
   same_nodes =
-      ap (λ (ns : List ℕ). shared ns (held_nodes e.object)) (next_is d.fresh 0 ∙ opened.fresh 1)
-      ∙ all_shared was.nodes (held_nodes e.object) (λ x flag. node_held a id es now e first.is_open stands x (below_flags was.nodes 120 x opened.node_flags flag) flag) ∙ sym (opened.fresh 1)
+      ap (λ (ns : List ℕ). shared ns (held_nodes e.object)) (next_is v.draft.fresh 0 ∙ v.opened.fresh 1)
+      ∙ all_shared was.nodes (held_nodes e.object) (λ x flag. node_held a v.id es now e first.is_open stands x (below_flags was.nodes 120 x v.opened.node_flags flag) flag) ∙ sym (v.opened.fresh 1)
 
-  same_fresh : (k : ℕ) → get_or (within d.fresh (held_levels e.object)) k [] ≡ get_or d.fresh k []
-  same_fresh zero = within_first d.fresh (held_levels e.object) ∙ same_leaves
-  same_fresh (suc zero) = within_next d.fresh (held_levels e.object) 0 ∙ within_first (next_levels d.fresh) (next_levels (held_levels e.object)) ∙ same_nodes
+  same_fresh : (k : ℕ) → get_or (within v.draft.fresh (held_levels e.object)) k [] ≡ get_or v.draft.fresh k []
+  same_fresh zero = within_first v.draft.fresh (held_levels e.object) ∙ same_leaves
+  same_fresh (suc zero) = within_next v.draft.fresh (held_levels e.object) 0 ∙ within_first (next_levels v.draft.fresh) (next_levels (held_levels e.object)) ∙ same_nodes
   same_fresh (suc (suc j)) =
-      within_next d.fresh (held_levels e.object) (suc j) ∙ within_next (next_levels d.fresh) (next_levels (held_levels e.object)) j
-      ∙ within_none (next_levels (next_levels d.fresh)) j ∙ sym (opened.fresh (suc (suc j)))
+      within_next v.draft.fresh (held_levels e.object) (suc j) ∙ within_next (next_levels v.draft.fresh) (next_levels (held_levels e.object)) j
+      ∙ within_none (next_levels (next_levels v.draft.fresh)) j ∙ sym (v.opened.fresh (suc (suc j)))
 
-  all_fresh : (k : ℕ) → get_or (fresh_after (SetSize size) d.object d.fresh) k [] ≡ get_or d.fresh k []
+  all_fresh : (k : ℕ) → get_or (fresh_after (SetSize size) v.draft.object v.draft.fresh) k [] ≡ get_or v.draft.fresh k []
   all_fresh k =
-      ap (λ (ls : List (List ℕ)). get_or (within (merged ls d.fresh) (held_levels (changed_object (SetSize size) d.object))) k []) nothing_anew
-      ∙ ap (λ (p : Object). get_or (within d.fresh (held_levels p)) k []) object ∙ same_fresh k
-
-  -- the draft is the model's
-  pub grown_becomes : Becomes g graph ds id (changed_draft (SetSize size) d) d0 d0 k0 now
-  grown_becomes = becomes_as g graph ds id o at d0 d0 k0 now e (changed_draft (SetSize size) d) first object all_fresh
-
-  pub grown_order : ClaimsAndDrops id.block (claims_anew was.at (written_anew (SetSize size) d.object d.fresh) d.fresh) a a
-  grown_order = rw nothing_anew (record { mid = a; claimed = λ m. refl; left = λ m. inl refl })
+      ap (λ (ls : List (List ℕ)). get_or (within (merged ls v.draft.fresh) (held_levels (changed_object (SetSize size) v.draft.object))) k []) nothing_anew
+      ∙ ap (λ (p : Object). get_or (within v.draft.fresh (held_levels p)) k []) object ∙ same_fresh k
 
   -- it takes nothing but the shadow root
-  pub grown_need : need_beside (SetSize size) d was ≡ shadow_need was
-  grown_need = ap (λ (ls : List (List ℕ)). missing ls d.fresh + shadow_need was) nothing_anew ∙ zero_and (shadow_need was)
+  need : need_beside (SetSize size) v.draft was ≡ shadow_need was
+  need = ap (λ (ls : List (List ℕ)). missing ls v.draft.fresh + shadow_need was) nothing_anew ∙ zero_and (shadow_need was)
     where
       zero_and : (n : ℕ) → 0 + n ≡ n
       zero_and n = omega arith
+
+  -- the draft is the model's
+  pub grown_resized : (floor n : ℕ) → n ≡ shadow_need was → n + floor ≤ sum k0.free → Resized g v.graph v.ds v.id v.draft size floor d0 d0 k0 k0 was now
+  grown_resized floor n is room = record {
+    becomes = becomes_as g v.graph v.ds v.id v.object v.at d0 d0 k0 now e (changed_draft (SetSize size) v.draft) first object all_fresh;
+    order = rw nothing_anew (record { mid = a; claimed = λ m. refl; left = λ m. inl refl });
+    room = omega (arith, room, is, need);
+  }
+
+  pub grown_full : (floor n : ℕ) (x : Refused) → n ≡ shadow_need was → x ≡ refusals.Full (record { free = sum k0.free; need = n }) → sum k0.free < n + floor → IsFullFor size floor v.draft k0 was x
+  grown_full floor n x same is less = record { is = is ∙ ap (λ (k : ℕ). refusals.Full (record { free = sum k0.free; need = k })) (same ∙ sym need); less = omega (arith, less, same, need) }

@@ -1,33 +1,7 @@
 -- A draft that was its object until one leaf was put: what its commit takes and drops.
 use Rattle.std.proofs.Common.{◌≡◌, ◌≢◌, ℕ, zero, suc, ◌+◌, ◌*◌, ◌/◌, ◌%◌, ◌<◌, List, [], ◌∷◌, ◌++◌, get_or, Option, Some, None, refl, sym, ◌∙◌, ap, subst, arith}
-use Rattle.cfs_base.specs.Disk.{Image}
-use Rattle.cfs_base.specs.declared.identifier.Puid.{Puid}
-use Rattle.block_tree.specs.Root.{Fits, root_spelling}
-use Rattle.block_tree.specs.Tree.{tree_of}
+use Rattle.special_files.proofs.Words.{Accounts, Becomes, ChangesOnly, Draft, Drafting, Fits, Ghosts, Graph, HasDraft, Held, Image, IsChanged, IsNearSwap, IsOpen, IsRead, IsSafe, IsSwapped, Kept, NodeRead, Object, Opened, Puid, SameBeside, StoreHas, Swap, Tree, all_unlike, block_kept, drafts_miss, dropped_by, held_at, is_had, leaves_at, node_of, object_at, of_draft, opened_as, own_tree, replaced, root_spelling, same_tree, tree_in, tree_of, unlike}
 use Rattle.block_tree.specs.declared.root.Root as roots
-use Rattle.ufs_model.specs.Graph.{Graph, object_at}
-use Rattle.ufs_model.specs.declared.object.Draft.{Draft}
-use Rattle.ufs_model.specs.declared.object.Object.{Object}
-use Rattle.cfs_base.specs.declared.disk.Disk.{Ghosts}
-use Rattle.cyl_alloc.specs.Space.{Kept}
-use Rattle.intentions.specs.Store.{StoreHas}
-use Rattle.vol_image.specs.Seen.{Held, Tree, held_at, tree_in}
-use Rattle.vol_image.proofs.Views.{same_tree}
-use Rattle.vol_owners.specs.Account.{Accounts, HasDraft, Opened}
-use Rattle.vol_owners.specs.Change.{ChangesOnly, of_draft}
-use Rattle.vol_owners.specs.Owner.{is_had}
-use Rattle.vol_owners.proofs.Differing.{own_tree}
-use Rattle.vol_owners.proofs.Kept.{block_kept}
-use Rattle.vol_owners.proofs.Owners.{drafts_miss}
-use Rattle.special_files.specs.Changed.{IsChanged, all_unlike, unlike}
-use Rattle.special_files.specs.Becomes.{Becomes}
-use Rattle.special_files.specs.Drafting.{Drafting, IsOpen, node_of, opened_as}
-use Rattle.special_files.specs.Fills.{IsNearSwap, IsSwapped, dropped_by}
-use Rattle.special_files.specs.Leaves.{SameBeside}
-use Rattle.special_files.specs.Nodes.{IsRead, IsSafe, leaves_at}
-use Rattle.special_files.specs.Store.{replaced}
-use Rattle.special_files.specs.declared.fill.Swap.{Swap}
-use Rattle.special_files.specs.declared.node.NodeRead.{NodeRead}
 use Rattle.special_files.proofs.PutStore.{the_draft}
 use Rattle.special_files.proofs.ChangedRun.{all_change, node_in_tree, table_below}
 use Rattle.special_files.proofs.ChangedTrees.{in_tree, in_tree_is, index_again, index_of, path_of}

@@ -1,17 +1,8 @@
 -- A tree of nodes and leaves: what stands at each path, as the pointers say.
 use Rattle.std.proofs.Common.{◌≡◌, ℕ, zero, suc, ◌+◌, ◌*◌, ◌<◌, List, [], ◌∷◌, length, get_or, set, refl, sym, ◌∙◌, ap, ◌^◌, arith}
-use Rattle.std.specs.Prelude.{slice_index}
-use Rattle.std.proofs.lemmas.List.Elements.{All-set}
+use Rattle.special_files.proofs.Words.{All-set, Fits, Image, IsGoodRoot, Leaf, Node, block_at, end_of, leaf_pointers, levels_of, node_block, node_pointers, nodes_of, place_at, pointer, root_spelling, slice_index, tree_of}
 use Rattle.std.proofs.Math.ListN.{length-set}
-use Rattle.cfs_base.specs.Disk.{Image, block_at}
-use Rattle.cfs_base.specs.declared.kind.Place.TheVariants.{Leaf, Node}
 use Rattle.block_tree.specs.declared.root.Root as roots
-use Rattle.block_tree.specs.Pointers.{leaf_pointers, node_pointers}
-use Rattle.block_tree.specs.Root.{Fits, IsGoodRoot, root_spelling}
-use Rattle.block_tree.specs.Tree.{end_of, levels_of, pointer, tree_of}
-use Rattle.block_tree.proofs.Spellings.{nodes_of}
-use Rattle.block_tree.proofs.Trees.{node_block}
-use Rattle.vol_image.specs.Seen.{place_at}
 
 -- ---- pointers
 

@@ -1,14 +1,7 @@
 -- The pointers of a table that are unlike those of another, each a number that isn't 0.
 use Rattle.std.proofs.Common.{◌≡◌, ◌≢◌, ◌⊎◌, inl, inr, ℕ, zero, suc, ◌+◌, ◌<◌, ◌≤◌, true, false, not, List, [], ◌∷◌, ◌++◌, length, refl, sym, ◌∙◌, ap, subst, append_assoc, length-append, arith}
-use Rattle.std.specs.Prelude.{◌==◌}
-use Rattle.std.proofs.lemmas.Bool.{and_from, cases_Bool, cases_lt, eqb-false, eqb-true, or_cases, or_left, or_right}
-use Rattle.std.proofs.lemmas.List.{append-nil}
-use Rattle.std.proofs.lemmas.List.Elements.{All-append, All-cons, All-nil}
-use Rattle.ufs_model.specs.Numbers.{has_number}
-use Rattle.vol_image.proofs.Rising.{here}
-use Rattle.vol_owners.specs.Account.{numbers_differ}
-use Rattle.vol_owners.proofs.Differ.{Differ, append_differ, has-append}
-use Rattle.special_files.specs.Changed.{Adds, AreOnDisk, all_unlike, unlike}
+use Rattle.special_files.proofs.Words.{All-append, All-cons, All-nil, AreOnDisk, Differ, all_unlike, and_from, append-nil, append_differ, cases_Bool, cases_lt, eqb-false, eqb-true, has-append, has_number, here, numbers_differ, or_cases, or_left, or_right, unlike, ◌==◌}
+use Rattle.special_files.specs.Changed.{Adds}
 
 -- ---- one pointer
 

@@ -1,56 +1,13 @@
 -- Bytes written into one leaf of a draft: what was read is laid under them, and they are put.
-use Rattle.std.proofs.Common.{◌≡◌, ℕ, ◌+◌, ◌-◌, ◌*◌, ◌/◌, ◌%◌, ◌<◌, ◌≤◌, List, ◌++◌, length, get_or, take, replicate, slice_range, inl, Some, Ok, Err, refl, sym, ◌∙◌, ap, subst, arith}
-use Rattle.std.specs.Prelude.{IfErr, OnOk, Result}
-use Rattle.std.proofs.lemmas.List.{drop_all, get_or-append_right, get_or-replicate, length-take}
-use Rattle.cfs_base.specs.Calls.{OnlyReads}
-use Rattle.cfs_base.specs.Disk.{Image, Nothing}
-use Rattle.cfs_base.specs.Refusals.{refused_by}
-use Rattle.cfs_base.specs.Run.{Leaves}
-use Rattle.cfs_base.specs.declared.disk.Disk.{Ghosts}
-use Rattle.cfs_base.specs.declared.identifier.Puid.{Puid}
-use Rattle.cfs_base.specs.declared.refusal.Refused.{Refused}
-use Rattle.cfs_base.specs.declared.refusal.Trouble.{Trouble}
-use Rattle.cfs_base.proofs.Calls.{makes_then, reads_make, reads_then, reads_within}
-use Rattle.cfs_base.proofs.Runs.{then, wider}
-use Rattle.block_tree.specs.Root.{root_spelling}
+use Rattle.std.proofs.Common.{◌≡◌, ℕ, ◌+◌, ◌-◌, ◌*◌, ◌/◌, ◌%◌, ◌<◌, ◌≤◌, List, ◌++◌, length, get_or, take, replicate, slice_range, Err, refl, sym, ◌∙◌, ap, subst, arith, false, Ok}
+use Rattle.special_files.proofs.Words.{AreClaimed, Becomes, ChangesOnly, Drafting, Ends, FitsLeaf, Ghosts, Goes, Graph, HasDraft, Holds, Image, IsNear, IsRead, IsTrouble, Kept, LeafCall, Leaves, LeavesFit, NodeRead, Nothing, OnlyReads, Opened, Puid, PutsAt, PutsLeaf, Refused, Result, SameBeside, Tells, Trouble, View, cut, drop_all, get_or-append_right, get_or-replicate, is_damage, is_damaged, is_full, leaf_claims, leaf_content, leaf_takes, leaves_at, leaves_in, leaves_of, length-leaf_content, length-take, makes_then, node_of, of_draft, opened_as, over_byte, over_past, overlaid, past_size, patched, reads_make, reads_then, reads_within, refused_by, root_spelling, sum, then, then_tried, tree_in, wider}
 use Rattle.block_tree.specs.declared.root.Root as roots
-use Rattle.claims.specs.Claims.{AreClaimed}
-use Rattle.cyl_alloc.specs.Space.{Kept}
-use Rattle.leaf_changes.specs.Bytes.{cut, overlaid, patched}
-use Rattle.leaf_changes.specs.Leaves.{LeavesFit}
-use Rattle.leaf_changes.proofs.Contents.{length-leaf_content, past_size}
-use Rattle.leaf_changes.proofs.Overlays.{over_byte, over_past}
 use Rattle.ufs_model.specs.declared.object.Draft as models
-use Rattle.ufs_model.specs.declared.object.Object.{Object}
-use Rattle.ufs_model.specs.Graph.{Graph, object_at}
-use Rattle.ufs_model.specs.Object.{leaves_in}
-use Rattle.vol_image.specs.Reading.{leaf_content}
-use Rattle.vol_image.specs.Seen.{tree_in}
-use Rattle.vol_owners.specs.Account.{HasDraft, Opened}
-use Rattle.vol_owners.specs.Change.{ChangesOnly, of_draft}
-use Rattle.intentions.specs.Store.{StoreHas}
-use Rattle.special_files.specs.Drafting.{Drafting, IsOpen, node_of, opened_as}
-use Rattle.special_files.specs.Ends.{Ends}
-use Rattle.special_files.specs.Leaves.{PutsAt, SameBeside, leaves_of}
-use Rattle.special_files.specs.Nodes.{IsNear, IsRead, leaves_at}
-use Rattle.special_files.specs.Order.{leaf_claims}
-use Rattle.special_files.specs.Puts.{FitsLeaf, PutsLeaf}
-use Rattle.special_files.specs.Refusal.{IsTrouble}
-use Rattle.special_files.specs.declared.node.NodeRead.{NodeRead}
-use Rattle.special_files.proofs.Begun.{store_reads}
-use Rattle.special_files.proofs.PutStore.{the_draft}
 use Rattle.special_files.proofs.ReadLeaves.{node_near}
-use Rattle.special_files.proofs.Refusals.{refusal_after_reads, refusal_of}
-
--- ---- results
-
-pub on_ok : {A E : Type 0} (r : Result A E) {P Q : Type 0} → (P → Q) → OnOk r P → OnOk r Q
-on_ok (Ok x) f p = f p
-on_ok (Err e) f p = tt
-
-pub if_err : {A E : Type 0} (r : Result A E) {P Q : E → Type 0} → ((e : E) → P e → Q e) → IfErr r P → IfErr r Q
-if_err (Ok x) f p = tt
-if_err (Err e) f p = f e p
+use Rattle.special_files.proofs.View.{view_reads, draft_of}
+use Rattle.special_files.proofs.Endings.{makes_none, stays_itself}
+use Rattle.cfs_base.specs.declared.refusal.Trouble.TheVariants as trouble
+use Rattle.special_files.proofs.Refusals.{refusal_after_reads, refusal_of, damaged_by, on_ok, if_err}
 
 -- ---- bytes
 
@@ -91,14 +48,22 @@ cut_fits root size content long less = record {
 
 -- ---- after reads
 
-module _ {D : Type 0} (g : Ghosts D) (d0 d1 : D) (n : ℕ) (reads : OnlyReads g n d0 d1) where
-  -- what was read last, seen from the image before
-  pub read_since : (was : Drafting) (read : NodeRead) → IsRead (g.content d0) was read → IsRead (g.content d1) was read
-  read_since was read is = λ few. is few ∙ ap (λ (i : Image). leaves_at i (node_of was.root read.number)) (sym reads.content)
+-- what was read last, seen from the image before
+pub read_since : {D : Type 0} {g : Ghosts D} {d0 d1 : D} {n : ℕ} (reads : OnlyReads g n d0 d1) (was : Drafting) (read : NodeRead) → IsRead (g.content d0) was read → IsRead (g.content d1) was read
+read_since {g} reads was read is = λ few. is few ∙ ap (λ (i : Image). leaves_at i (node_of was.root read.number)) (sym reads.content)
 
-module _ {D : Type 0} (g : Ghosts D) (d0 d1 d2 : D) (n : ℕ) (reads : OnlyReads g n d0 d1) where
-  pub puts_since : (graph : Graph) (ds : List Opened) (id : Puid) (leaf : ℕ) (content : List ℕ) (after : Kept) (was now : Drafting) (read : NodeRead) → PutsLeaf g graph ds id leaf content d1 d2 after was now read → PutsLeaf g graph ds id leaf content d0 d2 after was now read
-  puts_since graph ds id leaf content after was now read puts = record {
+-- reads leave nothing more
+pub leaves_read : {D : Type 0} (g : Ghosts D) (graph : Graph) (n : ℕ) (d0 d1 : D) → OnlyReads g n d0 d1 → Leaves g d0 d1 (λ c. Holds c graph)
+leaves_read g graph n d0 d1 reads = wider g d0 d1 Nothing (λ c. Holds c graph) reads.images (λ c none. absurd none)
+
+-- a refusal that was a trouble isn't Full
+pub not_full : (t : Trouble) → is_full (refused_by t) ≡ false
+not_full (trouble.Disk tried) = refl
+not_full (trouble.Damaged damage) = refl
+
+module _ {D : Type 0} {g : Ghosts D} {d0 d1 : D} {n : ℕ} (reads : OnlyReads g n d0 d1) where
+  pub puts_since : {d2 : D} {graph : Graph} {ds : List Opened} {id : Puid} {leaf : ℕ} {content : List ℕ} {after : Kept} {was now : Drafting} {read : NodeRead} → PutsLeaf g graph ds id leaf content d1 d2 after was now read → PutsLeaf g graph ds id leaf content d0 d2 after was now read
+  puts_since {d2} {id = id} {leaf = leaf} {content = content} {was = was} {now = now} puts = record {
     steps = record { store = puts.steps.store; only = subst (λ (i : Image). ChangesOnly (λ e. of_draft id.block e) i (g.content d2)) reads.content puts.steps.only };
     is_open = puts.is_open;
     sets = puts.sets;
@@ -108,11 +73,22 @@ module _ {D : Type 0} (g : Ghosts D) (d0 d1 d2 : D) (n : ℕ) (reads : OnlyReads
     beside = subst (λ (i : Image). SameBeside leaf (tree_in i (root_spelling was.root)) (tree_in (g.content d2) (root_spelling now.root))) reads.content puts.beside;
   }
 
-  pub images_since : (P : Image → Type 0) → Leaves g d1 d2 P → Leaves g d0 d2 P
-  images_since P images = then g d0 d1 d2 P P (wider g d0 d1 Nothing P reads.images (λ c none. absurd none)) images (λ c h. h)
+  pub becomes_since : {d2 : D} {graph : Graph} {ds : List Opened} {id : Puid} {e : models.Draft} {k2 : Kept} {now : Drafting} → Becomes g graph ds id e d1 d2 k2 now → Becomes g graph ds id e d0 d2 k2 now
+  becomes_since {d2} {id = id} is = record { steps = record { store = is.steps.store; only = subst (λ (i : Image). ChangesOnly (λ e. of_draft id.block e) i (g.content d2)) reads.content is.steps.only }; is_open = is.is_open }
 
-  pub ends_since : {A : Type 0} (at floor m t k most : ℕ) (k1 k2 : Kept) (r : Result A Refused) → Ends g at floor m t k d1 d2 k1 k2 r → n + m ≤ most → Ends g at floor most t k d0 d2 k1 k2 r
-  ends_since at floor m t k most k1 k2 r is le = record {
+  pub images_since : (d2 : D) (P : Image → Type 0) → Leaves g d1 d2 P → Leaves g d0 d2 P
+  images_since d2 P images = then g d0 d1 d2 P P (wider g d0 d1 Nothing P reads.images (λ c none. absurd none)) images (λ c h. h)
+
+  -- the call goes on
+  pub goes_since : {A : Type 0} {graph : Graph} {P Q : Type 0} {d2 : D} {r : Result A Refused} → (P → Q) → Goes g graph P d1 d2 r → Goes g graph Q d0 d2 r
+  goes_since {d2 = d2} {r = r} f goes = record { done = on_ok r f goes.done; leaves = images_since d2 _ goes.leaves; sound = goes.sound }
+
+  -- the call stopped there
+  pub goes_stopped : {A : Type 0} {graph : Graph} {P : Type 0} (t : Trouble) (e : Refused) → e ≡ refused_by t → is_damage t ≡ false → Goes {A = A} g graph P d0 d1 (Err e)
+  goes_stopped {graph = graph} t e is sound = record { done = tt; leaves = leaves_read g graph n d0 d1 reads; sound = ap is_damaged is ∙ damaged_by t sound }
+
+  pub ends_since : {A : Type 0} {at floor m t k : ℕ} {d2 : D} {k1 k2 : Kept} {r : Result A Refused} (most : ℕ) → Ends g at floor m t k d1 d2 k1 k2 r → n + m ≤ most → Ends g at floor most t k d0 d2 k1 k2 r
+  ends_since {at = at} {floor = floor} {m = m} {t = t} {d2 = d2} {k2 = k2} {r = r} most is le = record {
     told = on_ok r (λ told b was. told b (reads.told b was)) is.told;
     refused = if_err r (λ e why. refusal_after_reads g at d0 d1 d2 k2 floor n e reads why) is.refused;
     untried = if_err r (λ e why same. ((why same).0, reads_then g d0 d1 d2 n m most reads (why same).1 le)) is.untried;
@@ -121,47 +97,51 @@ module _ {D : Type 0} (g : Ghosts D) (d0 d1 d2 : D) (n : ℕ) (reads : OnlyReads
     calls = makes_then g d0 d1 d2 n m most 0 t t (reads_make g d0 d1 n reads) is.calls le (omega arith);
   }
 
--- only reads, and then a trouble
-pub ends_trouble : {D A : Type 0} (g : Ghosts D) (at floor n t k most : ℕ) (d0 d1 : D) (kept : Kept) (trouble : Trouble) → OnlyReads g n d0 d1 → n ≤ most → IsTrouble g at d0 d1 kept trouble → Ends {A = A} g at floor most t k d0 d1 kept kept (Err (refused_by trouble))
-ends_trouble g at floor n t k most d0 d1 kept trouble reads le is = record {
-  told = tt;
-  refused = refusal_of g at floor d0 d1 kept trouble is;
-  untried = λ same. (refl, reads_within g d0 d1 n most le reads);
-  cylinders = refl;
-  takes = omega arith;
-  calls = makes_then g d0 d1 d1 n 0 most 0 0 t (reads_make g d0 d1 n reads) (reads_make g d1 d1 0 (no_reads g d1)) (omega (arith, le)) (omega arith);
-}
-  where
-    no_reads : {D : Type 0} (g : Ghosts D) (d : D) → OnlyReads g 0 d d
-    no_reads g d = record {
-      content = refl;
-      told = λ b was. was;
-      images = record { later = omega arith; since = λ t c le h. inl h; now = λ c h. inl h };
-      keeps = λ t c before was. was;
-      same = record { size = refl; honesty = refl; telling = refl };
-      tries = refl;
-      faults = omega arith;
-      calls = omega arith;
-    }
+  -- only reads, and then a trouble
+  pub ends_trouble : {A : Type 0} {at floor : ℕ} {kept : Kept} (t k most : ℕ) (trouble : Trouble) (e : Refused) → e ≡ refused_by trouble → n ≤ most → IsTrouble g at d0 d1 kept trouble → Ends {A = A} g at floor most t k d0 d1 kept kept (Err e)
+  ends_trouble {A = A} {at = at} {floor = floor} {kept = kept} t k most trouble e same le is = subst (λ (x : Refused). Ends {A = A} g at floor most t k d0 d1 kept kept (Err x)) (sym same) (record {
+    told = tt;
+    refused = refusal_of g at floor d0 d1 kept trouble is;
+    untried = λ same. (refl, reads_within g d0 d1 n most le reads);
+    cylinders = refl;
+    takes = omega arith;
+    calls = makes_then g d0 d1 d1 n 0 most 0 0 t (reads_make g d0 d1 n reads) (makes_none g d1 0 0) (omega (arith, le)) (omega arith);
+  })
 
--- ---- one leaf
+-- ---- one leaf put
 
-module _ {D : Type 0} (g : Ghosts D) (graph : Graph) (ds : List Opened) (id : Puid) (o : Object) (d0 d1 : D) (k0 : Kept) (was : Drafting) (d : models.Draft) (n : ℕ)
-    (store : StoreHas g graph ds d0 k0) (at : object_at graph id ≡ Some o) (opened : IsOpen ds id was d) (reads : OnlyReads g n d0 d1) where
-  pub store_now : StoreHas g graph ds d1 k0
-  store_now = store_reads g graph ds d0 d1 k0 n store reads
+pub leaf_refused : {D : Type 0} {g : Ghosts D} {n leaf : ℕ} {d0 d1 : D} {k0 k1 : Kept} {was : Drafting} (read : NodeRead) {e : Refused} → Ends {A = Unit {0}} g was.at 0 n 4 (leaf_takes was leaf) d0 d1 k0 k1 (Err e) → (leaf_takes was leaf ≤ sum k0.free → is_full e ≡ false)
+    → LeafCall g n leaf d0 d1 k0 k1 was was read (Err e)
+leaf_refused {was = was} read ends room = record { stays = stays_itself was; flags = tt; number = tt; safe = tt; ends = ends; tried = tt; kept = λ same. refl; room = room }
 
-  pub the_draft_there : HasDraft (g.content d0) id (opened_as id was d)
-  the_draft_there = the_draft (g.content d0) ds id was d opened (store.account.drafts id o at)
+module _ {D : Type 0} {g : Ghosts D} {d0 d1 : D} {n : ℕ} (reads : OnlyReads g n d0 d1) where
+  pub leaf_since : {m leaf : ℕ} {d2 : D} {k0 k2 : Kept} {was now : Drafting} {read : NodeRead} {r : Result (Unit {0}) Refused} (most : ℕ) → LeafCall g m leaf d1 d2 k0 k2 was now read r → n + m ≤ most → LeafCall g most leaf d0 d2 k0 k2 was now read r
+  leaf_since {d2 = d2} {r = r} most is le = record {
+    stays = is.stays;
+    flags = is.flags;
+    number = is.number;
+    safe = is.safe;
+    ends = ends_since reads most is.ends le;
+    tried = on_ok r (λ tried. then_tried g d0 d1 d2 n 0 (reads_make g d0 d1 n reads) tried) is.tried;
+    kept = is.kept;
+    room = is.room;
+  }
+
+  pub leaf_stopped : {leaf : ℕ} {kept : Kept} {was : Drafting} (read : NodeRead) (most : ℕ) (t : Trouble) (e : Refused) → e ≡ refused_by t → n ≤ most → IsTrouble g was.at d0 d1 kept t → LeafCall g most leaf d0 d1 kept kept was was read (Err e)
+  leaf_stopped {leaf} read most t e same le is = leaf_refused read (ends_trouble reads 4 _ most t e same le is) (λ enough. ap is_full same ∙ not_full t)
 
   -- content that was read, and then put
-  pub leaf_changed : (leaf : ℕ) (content whole : List ℕ) (d2 : D) (k2 : Kept) (now : Drafting) (read : NodeRead) (r : Result (Unit {0}) Refused) → content ≡ whole → FitsLeaf was.root leaf whole
-      → (FitsLeaf was.root leaf content → OnOk r (PutsLeaf g graph ds id leaf content d1 d2 k2 was now read)) → OnOk r (PutsLeaf g graph ds id leaf whole d0 d2 k2 was now read)
-  leaf_changed leaf content whole d2 k2 now read r is fits put =
-      on_ok r (λ puts. subst (λ (c : List ℕ). PutsLeaf g graph ds id leaf c d0 d2 k2 was now read) is (puts_since g d0 d1 d2 n reads graph ds id leaf content k2 was now read puts)) (put (subst (FitsLeaf was.root leaf) (sym is) fits))
+  pub leaf_changed : {k0 k2 : Kept} {was now : Drafting} {d2 : D} {r : Result (Unit {0}) Refused} (v : View g d0 k0 was) (read mid next : NodeRead) (leaf : ℕ) (content whole : List ℕ) → (Tells g d0 → IsRead (g.content d0) was read → IsRead (g.content d0) was mid) → IsRead (g.content d0) was read
+      → content ≡ whole → FitsLeaf was.root leaf whole → ((w : View g d1 k0 was) → IsRead (g.content d1) was mid → FitsLeaf was.root leaf content → Goes g w.graph (PutsLeaf g w.graph w.ds w.id leaf content d1 d2 k2 was now next) d1 d2 r)
+      → Goes g v.graph (PutsLeaf g v.graph v.ds v.id leaf whole d0 d2 k2 was now next) d0 d2 r
+  leaf_changed {k2 = k2} {was = was} {now = now} {d2 = d2} v read mid next leaf content whole node is same fits put =
+      goes_since reads (λ puts. subst (λ (c : List ℕ). PutsLeaf g v.graph v.ds v.id leaf c d0 d2 k2 was now next) same (puts_since reads puts))
+      (put (view_reads v reads) (read_since reads was mid (node v.store.carries.tells is)) (subst (FitsLeaf was.root leaf) (sym same) fits))
 
 -- on an honest disk the node is near
-pub near_there : {D : Type 0} (g : Ghosts D) (graph : Graph) (ds : List Opened) (id : Puid) (o : Object) (d0 : D) (k0 : Kept) (was : Drafting) (d : models.Draft) → StoreHas g graph ds d0 k0 → object_at graph id ≡ Some o → IsOpen ds id was d
-    → length (g.content d0) ≡ g.blocks d0 → 0 < g.blocks d0 → (n : ℕ) → IsNear (g.blocks d0) (g.content d0) (node_of was.root n)
-near_there g graph ds id o d0 k0 was d store at opened size some n =
-    node_near (g.content d0) (g.blocks d0) id was d (the_draft (g.content d0) ds id was d opened (store.account.drafts id o at)) size some n
+pub near_there : {D : Type 0} {g : Ghosts D} {d0 : D} {k0 : Kept} {was : Drafting} (v : View g d0 k0 was) → length (g.content d0) ≡ g.blocks d0 → 0 < g.blocks d0 → (n : ℕ) → IsNear (g.blocks d0) (g.content d0) (node_of was.root n)
+near_there {g = g} {d0 = d0} {was = was} v size some n = node_near (g.content d0) (g.blocks d0) v.id was v.draft (draft_of v) size some n
+
+-- the same, done with another answer
+pub ends_as : {D A B : Type 0} {g : Ghosts D} {at floor n t k : ℕ} {d0 d1 : D} {k0 k1 : Kept} {x : A} (y : B) → Ends g at floor n t k d0 d1 k0 k1 (Ok x) → Ends g at floor n t k d0 d1 k0 k1 (Ok y)
+ends_as y is = record { told = is.told; refused = tt; untried = tt; cylinders = is.cylinders; takes = is.takes; calls = is.calls }

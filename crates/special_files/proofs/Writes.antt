@@ -1,49 +1,12 @@
 -- Leaves written into a draft one after another, and what has become of it then.
-use Rattle.std.proofs.Common.{◌≡◌, ◌≢◌, inl, ℕ, suc, ◌+◌, ◌-◌, ◌/◌, ◌<◌, ◌≤◌, Bool, true, List, [], length, get_or, set, Some, refl, sym, ◌∙◌, ap, subst, arith}
-use Rattle.cfs_base.specs.Disk.{Image}
-use Rattle.cfs_base.specs.Run.{Leaves}
-use Rattle.cfs_base.specs.declared.disk.Disk.{Ghosts}
-use Rattle.cfs_base.specs.declared.identifier.Puid.{Puid}
-use Rattle.cfs_base.specs.declared.kind.Kind.TheVariants as kinds
-use Rattle.cfs_base.proofs.Runs.{then}
-use Rattle.block_tree.specs.Root.{root_spelling}
-use Rattle.claims.specs.Claims.{AreClaimed}
-use Rattle.claims.proofs.Claims.{claims_then}
-use Rattle.cyl_alloc.specs.Space.{Kept}
-use Rattle.leaf_changes.specs.Bytes.{patched}
-use Rattle.leaf_changes.specs.Leaves.{WritesTo}
-use Rattle.leaf_changes.specs.Gives.{kind_of}
-use Rattle.leaf_changes.proofs.Fits.{same_object}
-use Rattle.leaf_changes.proofs.Given.{file_to_leaves}
-use Rattle.leaf_changes.proofs.Written.{writes_begin, writes_more, writes_object}
-use Rattle.ufs_model.specs.declared.change.Change.TheVariants.{Overwrite}
-use Rattle.ufs_model.specs.declared.object.Draft.{Draft}
-use Rattle.ufs_model.specs.State.{changed_draft}
-use Rattle.ufs_model.specs.declared.object.File.{File}
+use Rattle.std.proofs.Common.{◌≡◌, inl, ℕ, suc, ◌+◌, ◌-◌, ◌/◌, ◌<◌, ◌≤◌, Bool, true, List, [], length, get_or, set, Some, refl, sym, ◌∙◌, ap, subst, arith}
+use Rattle.special_files.proofs.Words.{AreClaimed, Becomes, Draft, Drafting, File, Ghosts, Graph, HasDraft, Holds, Image, IsOpen, IsRead, IsTree, Kept, Leaves, NodeRead, Object, Opened, Overwrite, Puid, PutsLeaf, StaysBut, Steps, StoreHas, WritesTo, changed_draft, changed_object, changes_begin, changes_then, claims_from, claims_then, draft_in, leaf_claims, leaf_content, leaves_in, leaves_of, object_at, object_with, opened_as, patched, replaced, root_spelling, same_object, then, tree_in, writes_begin, writes_more, writes_object, fresh_of}
 use Rattle.ufs_model.specs.declared.object.Object.TheVariants as objects
-use Rattle.ufs_model.specs.declared.object.Object.{Object}
-use Rattle.cfs_base.specs.declared.kind.FileKind.{FileKind}
-use Rattle.cfs_base.specs.declared.kind.FileKind.TheVariants as file_kinds
-use Rattle.ufs_model.specs.Graph.{Graph, object_at}
-use Rattle.ufs_model.specs.Object.{changed_object, leaves_in}
-use Rattle.vol_image.specs.Reading.{IsTree, leaf_content, object_with}
-use Rattle.vol_image.specs.Seen.{tree_in}
-use Rattle.vol_image.specs.Sound.{Holds}
-use Rattle.vol_owners.specs.Account.{HasDraft, Opened}
-use Rattle.vol_owners.proofs.Changes.{changes_begin, changes_then}
-use Rattle.intentions.specs.Store.{StoreHas}
-use Rattle.special_files.specs.Becomes.{Becomes}
-use Rattle.special_files.specs.Drafting.{Drafting, IsOpen, opened_as}
-use Rattle.special_files.specs.Leaves.{draft_in, leaves_of}
-use Rattle.special_files.specs.Nodes.{IsRead}
-use Rattle.special_files.specs.Order.{claims_from, leaf_claims}
-use Rattle.special_files.specs.Puts.{PutsLeaf, StaysBut}
-use Rattle.special_files.specs.Store.{Steps, replaced}
-use Rattle.special_files.specs.declared.node.NodeRead.{NodeRead}
 use Rattle.special_files.proofs.Amid.{amid_begins}
 use Rattle.special_files.proofs.Lists.{replaced_again, replaced_same}
 use Rattle.special_files.proofs.Marks.{Marks, fresh_written, marks_begin, marks_more}
-use Rattle.special_files.proofs.PutStore.{alone_now, store_goes_on, the_draft}
+use Rattle.special_files.proofs.View.{no_index}
+use Rattle.special_files.proofs.PutStore.{the_draft, becomes_now}
 
 -- the leaves from one on and before another are written
 pub record WrittenTo {D : Type 0} (g : Ghosts D) (graph : Graph) (ds : List Opened) (id : Puid) (offset : ℕ) (bytes : List ℕ) (leaf : ℕ) (old now : D) (space : Kept) (was is : Drafting) (read : NodeRead) : Type 0 where
@@ -80,34 +43,22 @@ module _ {D : Type 0} (g : Ghosts D) (graph : Graph) (ds : List Opened) (id : Pu
         is_open = subst (λ (es : List Opened). IsOpen es id now e) same opened;
       }
 
+  -- another draft of the model, in the same image
+  pub becomes_again : (d0 d1 : D) (k1 : Kept) (now next : Drafting) (d e : Draft) → Becomes g graph ds id d d0 d1 k1 now → HasDraft (g.content d1) id (opened_as id next e) → next.at ≡ now.at → next.created ≡ now.created
+      → length next.leaves ≡ length now.leaves → length next.nodes ≡ length now.nodes → ((k : ℕ) → get_or e.fresh k [] ≡ get_or (fresh_of next) k []) → Becomes g graph ds id e d0 d1 k1 next
+  becomes_again d0 d1 k1 now next d e is stands same_at created leaves nodes fresh =
+      let es = replaced (opened_as id now d) ds in
+      let again = becomes_now g graph es id o d1 d1 k1 k1 now next d e is.steps.store at is.is_open (amid_begins g graph es id o d1 k1 is.steps.store at) stands same_at created (leaves ∙ is.is_open.leaf_flags) (nodes ∙ is.is_open.node_flags) fresh in
+      becomes_then d0 d1 d1 k1 k1 now next d e is again.steps again.is_open
+
   -- the same draft of the model, told by other lists
   pub becomes_as : (d0 d1 : D) (k1 : Kept) (now : Drafting) (d e : Draft) → Becomes g graph ds id d d0 d1 k1 now → e.object ≡ d.object → ((k : ℕ) → get_or e.fresh k [] ≡ get_or d.fresh k []) → Becomes g graph ds id e d0 d1 k1 now
   becomes_as d0 d1 k1 now d e is object fresh =
-      let es = replaced (opened_as id now d) ds in
       let image = g.content d1 in
-      let store = is.steps.store in
-      let had : HasDraft image id (opened_as id now d) = the_draft image es id now d is.is_open (store.account.drafts id o at) in
-      let stands : HasDraft image id (opened_as id now e) = record {
-        own = had.own;
-        same_kind = had.same_kind;
-        same_word = had.same_word;
-        tree = subst (λ (p : Object). IsTree (length image) id.block (tree_in image (root_spelling now.root)) now.root p) (sym object) had.tree;
-        shadow = had.shadow;
-        fresh = λ k. fresh k ∙ had.fresh k;
-        no_other = had.no_other;
-      } in
-      let same = replaced_again (opened_as id now e) (opened_as id now d) ds refl in
-      let amid = amid_begins g graph es id o d1 k1 store at in
-      record {
-        steps = record { store = subst (λ (fs : List Opened). StoreHas g graph fs d1 k1) same (store_goes_on g graph es id o d1 d1 k1 k1 now now d e store at is.is_open amid stands refl); only = is.steps.only };
-        is_open = subst (λ (fs : List Opened). IsOpen fs id now e) same (record {
-          at = is.is_open.at;
-          alone = alone_now g graph es id o d1 d1 k1 k1 now now d e store at is.is_open amid;
-          leaf_flags = is.is_open.leaf_flags;
-          node_flags = is.is_open.node_flags;
-          fresh = λ k. fresh k ∙ is.is_open.fresh k;
-        });
-      }
+      let had : HasDraft image id (opened_as id now d) = the_draft image (replaced (opened_as id now d) ds) id now d is.is_open (is.steps.store.account.drafts id o at) in
+      let tree = subst (λ (p : Object). IsTree (length image) id.block (tree_in image (root_spelling now.root)) now.root p) (sym object) had.tree in
+      let stands : HasDraft image id (opened_as id now e) = record { own = had.own; same_kind = had.same_kind; same_word = had.same_word; tree = tree; shadow = had.shadow; fresh = λ k. fresh k ∙ had.fresh k; no_other = had.no_other } in
+      becomes_again d0 d1 k1 now now d e is stands refl refl refl refl (λ k. fresh k ∙ is.is_open.fresh k)
 
   module _ (d0 : D) (k0 : Kept) (was : Drafting) (d : Draft) (store : StoreHas g graph ds d0 k0) (opened : IsOpen ds id was d) (offset : ℕ) (bytes : List ℕ) where
     pub written_begin : (read : NodeRead) → IsRead (g.content d0) was read → StaysBut was was → WrittenTo g graph ds id offset bytes (offset / 512) d0 d0 k0 was was read
@@ -166,18 +117,11 @@ module _ {D : Type 0} (g : Ghosts D) (graph : Graph) (ds : List Opened) (id : Pu
       gives : object_with was.root (leaves_of a was.root) ≡ objects.File f
       gives = before.tree.object ∙ file
 
-      no_index : was.root.kind ≢ kinds.Index
-      no_index is = by f.kind ((file_to_leaves was.root (leaves_of a was.root) f gives).kind)
-        where
-          by : (k : FileKind) → was.root.kind ≡ kind_of k → ⊥
-          by file_kinds.Normal same = (let no : kinds.Normal ≡ kinds.Index = sym same ∙ is in cc)
-          by file_kinds.Special same = (let no : kinds.Special ≡ kinds.Index = sym same ∙ is in cc)
-
       object : changed_object (Overwrite offset bytes) d.object ≡ done.draft.object
       object =
           ap (changed_object (Overwrite offset bytes)) (sym before.tree.object)
           ∙ sym (same_object was.root.size was.root now.root done.stays.root (leaves_of b now.root)
-          ∙ writes_object was.root (leaves_of a was.root) (leaves_of b now.root) offset bytes (record { within = before.tree.within; filled = before.tree.filled }) done.leaves inside no_index)
+          ∙ writes_object was.root (leaves_of a was.root) (leaves_of b now.root) offset bytes (record { within = before.tree.within; filled = before.tree.filled }) done.leaves inside (no_index was.root (leaves_of a was.root) f gives))
           ∙ after.tree.object
 
       pub written_end : Becomes g graph ds id (changed_draft (Overwrite offset bytes) d) d0 d1 k1 now

@@ -13,7 +13,8 @@ use Rattle.cyl_alloc.specs.Space.{Kept, intended}
 use Rattle.special_files.specs.Drafting.{Drafting, is_fresh_leaf, is_fresh_node, node_of}
 
 -- a block is written
-pub record WritesBlock {D : Type 0} (g : Ghosts D) (n : ℕ) (block : List ℕ) (old new : D) (result : Result (Unit {0}) Refused) : Type 0 where
+pub record WritesBlock {D : Type 0} (g : Ghosts D) (n : ℕ) (block : List ℕ) (old new : D)
+    (result : Result (Unit {0}) Refused) : Type 0 where
   pub written : OnOk result (g.content new ≡ set (g.content old) n block)
   pub tried : HasTried g old new
   pub told : OnOk result ((b : ℕ) → IsTrue (g.told old b) → IsTrue (g.told new b))
@@ -23,9 +24,12 @@ pub record WritesBlock {D : Type 0} (g : Ghosts D) (n : ℕ) (block : List ℕ) 
   pub calls : MakesAtMost g 1 1 old new
 
 -- where the draft has a node of its own nothing is done; else a block is claimed for it
-pub data GetsNode {D : Type 0} (g : Ghosts D) (n : ℕ) (old new : D) (before after : Kept) (drafting : Drafting) (result : Result BlockNo Refused) : Type 0 where
-  Had : is_fresh_node drafting n ≡ true → new ≡ old → after ≡ before → result ≡ Ok (record { 0 = node_of drafting.root n }) → GetsNode g n old new before after drafting result
-  Claims : is_fresh_node drafting n ≡ false → Enters g (intended (Node n) drafting.at) old new before after result → GetsNode g n old new before after drafting result
+pub data GetsNode {D : Type 0} (g : Ghosts D) (n : ℕ) (old new : D) (before after : Kept) (drafting : Drafting)
+    (result : Result BlockNo Refused) : Type 0 where
+  Had : is_fresh_node drafting n ≡ true → new ≡ old → after ≡ before
+      → result ≡ Ok (record { 0 = node_of drafting.root n }) → GetsNode g n old new before after drafting result
+  Claims : is_fresh_node drafting n ≡ false → Enters g (intended (Node n) drafting.at) old new before after result
+      → GetsNode g n old new before after drafting result
 
 -- a leaf and its node are fresh afterwards, and all others as they were
 pub record SetsFresh (leaf : ℕ) (was now : Drafting) : Type 0 where
@@ -35,7 +39,8 @@ pub record SetsFresh (leaf : ℕ) (was now : Drafting) : Type 0 where
 -- the same on any disk, where a leaf that was fresh may have stood below a node that wasn't
 pub record SetsFlags (leaf : ℕ) (was now : Drafting) : Type 0 where
   pub leaves : now.leaves ≡ set was.leaves leaf true
-  pub nodes : ((is_fresh_leaf was leaf ≡ true) × (now.nodes ≡ was.nodes)) ⊎ (now.nodes ≡ set was.nodes (leaf / 128) true)
+  pub nodes : ((is_fresh_leaf was leaf ≡ true) × (now.nodes ≡ was.nodes))
+      ⊎ (now.nodes ≡ set was.nodes (leaf / 128) true)
 
 -- so they are, the node at this block
 pub record Adds (leaf block : ℕ) (was now : Drafting) : Type 0 where

@@ -1,5 +1,6 @@
 -- The blocks that a commit takes, and those that it drops.
-use Rattle.std.specs.Prelude.{◌≡◌, ◌≢◌, ◌⊎◌, ℕ, zero, suc, ◌+◌, ◌<◌, ◌≤◌, true, false, ◌==◌, ◌||◌, if◌then◌else◌, List, [], ◌∷◌, ◌++◌, length, get_or, Some}
+use Rattle.std.specs.Prelude.{◌≡◌, ◌≢◌, ◌⊎◌, ℕ, zero, suc, ◌+◌, ◌<◌, ◌≤◌, true, false, ◌==◌, ◌||◌, if◌then◌else◌, List}
+use Rattle.std.specs.Prelude.{[], ◌∷◌, ◌++◌, length, get_or, Some}
 use Rattle.std.specs.List.{All}
 use Rattle.cfs_base.specs.Disk.{Image}
 use Rattle.cfs_base.specs.declared.identifier.Puid.{Puid}
@@ -13,7 +14,8 @@ use Rattle.special_files.specs.Nodes.{leaves_at}
 
 -- ---- what the two lists are
 
--- taken are those blocks of the draft's tree that are meant for the object, each once: all that are, but the shadow root
+-- taken are those blocks of the draft's tree that are meant for the object, each once: all that are, but the shadow
+-- root
 pub record AreTaken (image : Image) (id : Puid) (d : Opened) (taken : List ℕ) : Type 0 where
   pub stands : (n : ℕ) → has_number n taken ≡ true → StandsIn (tree_in image (content_of d)) n
   pub meant : (n : ℕ) → has_number n taken ≡ true → is_meant_for image id.block n ≡ true
@@ -26,7 +28,8 @@ pub record AreDropped (image : Image) (id : Puid) (d : Opened) (dropped : List �
   pub stands : (n : ℕ) → has_number n dropped ≡ true → StandsIn (tree_in image (root_spelling d.own)) n
   pub had : (n : ℕ) → has_number n dropped ≡ true → is_of is_had id.block (entry_in image n) ≡ true
   pub gone : (n : ℕ) → has_number n dropped ≡ true → ¬ StandsIn (tree_in image (content_of d)) n
-  pub all : (n : ℕ) → StandsIn (tree_in image (root_spelling d.own)) n → StandsIn (tree_in image (content_of d)) n ⊎ (has_number n dropped ≡ true)
+  pub all : (n : ℕ) → StandsIn (tree_in image (root_spelling d.own)) n
+      → StandsIn (tree_in image (content_of d)) n ⊎ (has_number n dropped ≡ true)
   pub once : numbers_differ dropped ≡ true
 
 pub record IsChanged (image : Image) (id : Puid) (d : Opened) (taken dropped : List ℕ) : Type 0 where

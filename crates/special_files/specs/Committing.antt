@@ -1,5 +1,6 @@
 -- Entries that are changed one after another, as a commit and an abort do.
-use Rattle.std.specs.Prelude.{◌≡◌, ◌⊎◌, ℕ, ◌≤◌, ◌≢◌, ◌%◌, true, false, List, [], ◌∷◌, ◌++◌, set, IfErr, OnOk, Result, Ok, Err, Option, Some, None, option_to_list}
+use Rattle.std.specs.Prelude.{◌≡◌, ◌⊎◌, ℕ, ◌≤◌, ◌≢◌, ◌%◌, true, false, List, [], ◌∷◌, ◌++◌, set, IfErr, OnOk, Result}
+use Rattle.std.specs.Prelude.{Ok, Err, Option, Some, None, option_to_list}
 use Rattle.cfs_base.specs.Codes.{past_disk}
 use Rattle.cfs_base.specs.Calls.{HasFailed, MakesAtMost}
 use Rattle.cfs_base.specs.Disk.{Image, block_at}
@@ -28,7 +29,8 @@ use Rattle.vol_image.specs.Part.{SameAt}
 use Rattle.vol_image.specs.Reading.{bare_object}
 use Rattle.vol_image.specs.Sound.{Holds, IsBareRoot}
 use Rattle.intentions.specs.Store.{StoreHas}
-use Rattle.vol_owners.specs.Account.{HasItsBlocks, IsMade, Opened, StandsIn, content_of, drafts_of, is_meant_for, numbers_differ}
+use Rattle.vol_owners.specs.Account.{HasItsBlocks, IsMade, Opened, StandsIn, content_of, drafts_of, is_meant_for}
+use Rattle.vol_owners.specs.Account.{numbers_differ}
 use Rattle.vol_owners.specs.Change.{ChangesOnly, of_drafts, of_owners}
 use Rattle.vol_owners.specs.Owner.{is_had, is_of, is_taken}
 use Rattle.block_tree.specs.declared.root.Root as roots
@@ -62,7 +64,8 @@ flipped image (x ∷ xs) = flipped (flip image x) xs
 -- each of them may come on this course
 abbrev pub MayFlip : Course → Image → List Flip → Type 0
 MayFlip course image [] = Unit {0}
-MayFlip course image (x ∷ xs) = ((e : MapEntry) × (entry_in image x.block ≡ Some e) × MayPut course x.block e (changed x.how e)) × MayFlip course (flip image x) xs
+MayFlip course image (x ∷ xs) = ((e : MapEntry) × (entry_in image x.block ≡ Some e)
+    × MayPut course x.block e (changed x.how e)) × MayFlip course (flip image x) xs
 
 -- a device call failed, where a write or barrier was tried, or a block that was read is damaged
 abbrev pub Fails : {D : Type 0} → Ghosts D → ℕ → D → D → Kept → Trouble → Type 0
@@ -70,14 +73,18 @@ Fails g at old new kept (trouble.Disk tried) = (tried ≡ true) × HasFailed g o
 Fails g at old new kept (trouble.Damaged damage) = IsDamage g at old new kept damage
 
 -- These entries are changed, with at most n device calls, t of them writes and barriers.
-pub record Flips {D : Type 0} (g : Ghosts D) (n t : ℕ) (xs : List Flip) (old new : D) (result : Result (Unit {0}) Trouble) : Type 0 where
+pub record Flips {D : Type 0} (g : Ghosts D) (n t : ℕ) (xs : List Flip) (old new : D)
+    (result : Result (Unit {0}) Trouble) : Type 0 where
   pub put : Tells g old → OnOk result (g.content new ≡ flipped (g.content old) xs)
   pub tells : Tells g old → OnOk result (Tells g new)
   -- a run stays on its course, and each image that a crash leaves is on it
-  pub keeps : (course : Course) → IsCourse course → Keeps g course old → MayFlip course (g.content old) xs → OnOk result (Keeps g course new)
-  pub leaves : (course : Course) → IsCourse course → Keeps g course old → MayFlip course (g.content old) xs → Leaves g old new (IsOn course)
+  pub keeps : (course : Course) → IsCourse course → Keeps g course old → MayFlip course (g.content old) xs
+      → OnOk result (Keeps g course new)
+  pub leaves : (course : Course) → IsCourse course → Keeps g course old → MayFlip course (g.content old) xs
+      → Leaves g old new (IsOn course)
   -- on it no damage is met
-  pub sound : (course : Course) → IsCourse course → Keeps g course old → MayFlip course (g.content old) xs → IfErr result (λ t. is_damage t ≡ false)
+  pub sound : (course : Course) → IsCourse course → Keeps g course old → MayFlip course (g.content old) xs
+      → IfErr result (λ t. is_damage t ≡ false)
   pub fails : (at : ℕ) (kept : Kept) → IfErr result (Fails g at old new kept)
   pub calls : MakesAtMost g n t old new
 
@@ -92,12 +99,14 @@ given_all kept (n ∷ ns) = given_all (after_giving kept n 1) ns
 
 -- what is changed from the copy of the root on, but for the commit bit
 abbrev pub settling : (taken dropped made : List ℕ) (s : ℕ) → List Flip
-settling taken dropped made s = flips Finish taken ++ (flips Finish dropped ++ (flips Finish made ++ flips Undo (s ∷ [])))
+settling taken dropped made s = flips Finish taken ++ (flips Finish dropped
+    ++ (flips Finish made ++ flips Undo (s ∷ [])))
 
--- The image holds these objects. The draft of one stands with its root in the shadow root s. These blocks of its tree are those that
--- are meant for the object, and those are the blocks of the object's own tree that the draft's doesn't have. The root of the object
--- that is made with the commit, if one is, is there.
-pub record IsReady (a : Image) (graph : Graph) (id : Puid) (was o : Object) (s : ℕ) (taken dropped : List ℕ) (created : Option ℕ) : Type 0 where
+-- The image holds these objects. The draft of one stands with its root in the shadow root s. These blocks of its tree
+-- are those that are meant for the object, and those are the blocks of the object's own tree that the draft's doesn't
+-- have. The root of the object that is made with the commit, if one is, is there.
+pub record IsReady (a : Image) (graph : Graph) (id : Puid) (was o : Object) (s : ℕ) (taken dropped : List ℕ)
+    (created : Option ℕ) : Type 0 where
   pub holds : Holds a graph
   pub at : object_at graph id ≡ Some was
   pub has : HasItsBlocks a id.block
@@ -108,11 +117,13 @@ pub record IsReady (a : Image) (graph : Graph) (id : Puid) (was o : Object) (s :
   pub once : numbers_differ taken ≡ true
   pub own : (n : ℕ) → has_number n dropped ≡ true → StandsIn (tree_in a (block_at a id.block)) n
   pub gone : (n : ℕ) → has_number n dropped ≡ true → ¬ StandsIn (tree_in a (block_at a s)) n
-  pub others : (n : ℕ) → StandsIn (tree_in a (block_at a id.block)) n → StandsIn (tree_in a (block_at a s)) n ⊎ (has_number n dropped ≡ true)
+  pub others : (n : ℕ) → StandsIn (tree_in a (block_at a id.block)) n
+      → StandsIn (tree_in a (block_at a s)) n ⊎ (has_number n dropped ≡ true)
   pub dropped_once : numbers_differ dropped ≡ true
   pub made : (c : ℕ) → created ≡ Some c → IsMade a c
 
--- an image with these blocks released and the commit bit of root r set, and with the content of its shadow root s copied to it
+-- an image with these blocks released and the commit bit of root r set, and with the content of its shadow root s
+-- copied to it
 abbrev pub bit_set : Image → ℕ → List ℕ → Image
 bit_set a r dropped = flipped a (flips Release dropped ++ flips SetBit (r ∷ []))
 
@@ -133,9 +144,10 @@ pub record IsEntered (a b : Image) (c : ℕ) : Type 0 where
   pub alone : (n : ℕ) → is_of is_taken c (entry_in b n) ≡ true → n ≡ c
   pub same : SameAt a b c
 
--- The draft of an object became the object, and the root of the one that is made with it is there. No block of them waits for
--- anything, and the Free blocks are counted.
-pub record CarriedOut {D : Type 0} (g : Ghosts D) (graph : Graph) (id : Puid) (o : Object) (s : ℕ) (created : Option ℕ) (old new : D) (before after : Kept) : Type 0 where
+-- The draft of an object became the object, and the root of the one that is made with it is there. No block of them
+-- waits for anything, and the Free blocks are counted.
+pub record CarriedOut {D : Type 0} (g : Ghosts D) (graph : Graph) (id : Puid) (o : Object) (s : ℕ) (created : Option ℕ)
+    (old new : D) (before after : Kept) : Type 0 where
   pub carries : Carries g (with_object graph id o) new
   pub settled : IsSettled g new
   pub has : HasItsBlocks (g.content new) id.block
@@ -143,16 +155,22 @@ pub record CarriedOut {D : Type 0} (g : Ghosts D) (graph : Graph) (id : Puid) (o
   pub made : (c : ℕ) → created ≡ Some c → IsEntered (g.content old) (g.content new) c
   pub only : ChangesOnly (λ entry. of_owners (id.block ∷ option_to_list created) entry) (g.content old) (g.content new)
   pub counts : AreCounts (g.content old) before → AreCounts (g.content new) after
-  pub tree : tree_in (g.content new) (block_at (g.content new) id.block) ≡ tree_in (g.content old) (block_at (g.content old) s)
+  pub tree : tree_in (g.content new) (block_at (g.content new) id.block)
+      ≡ tree_in (g.content old) (block_at (g.content old) s)
   pub left : (n : ℕ) → n % 64 ≢ 0 → n ≢ id.block → block_at (g.content new) n ≡ block_at (g.content old) n
 
--- A draft that stands ready becomes its object. Each image that a crash leaves on the way has all old, or all new, and no damage is met.
-pub record Finishes {D : Type 0} (g : Ghosts D) (at s : ℕ) (taken dropped : List ℕ) (created : Option ℕ) (old new : D) (before after : Kept) (result : Result (Unit {0}) Trouble) : Type 0 where
-  pub done : (graph full : Graph) (word : ℕ) (was o : Object) → Carries g graph old → IsReady (g.content old) full (named at word) was o s taken dropped created
+-- A draft that stands ready becomes its object. Each image that a crash leaves on the way has all old, or all new, and
+-- no damage is met.
+pub record Finishes {D : Type 0} (g : Ghosts D) (at s : ℕ) (taken dropped : List ℕ) (created : Option ℕ) (old new : D)
+    (before after : Kept) (result : Result (Unit {0}) Trouble) : Type 0 where
+  pub done : (graph full : Graph) (word : ℕ) (was o : Object) → Carries g graph old
+      → IsReady (g.content old) full (named at word) was o s taken dropped created
       → OnOk result (CarriedOut g full (named at word) o s created old new before after)
-  pub leaves : (graph full : Graph) (word : ℕ) (was o : Object) → Carries g graph old → IsReady (g.content old) full (named at word) was o s taken dropped created
+  pub leaves : (graph full : Graph) (word : ℕ) (was o : Object) → Carries g graph old
+      → IsReady (g.content old) full (named at word) was o s taken dropped created
       → Leaves g old new (IsOldOrNew graph full (named at word) o)
-  pub sound : (graph full : Graph) (word : ℕ) (was o : Object) → Carries g graph old → IsReady (g.content old) full (named at word) was o s taken dropped created
+  pub sound : (graph full : Graph) (word : ℕ) (was o : Object) → Carries g graph old
+      → IsReady (g.content old) full (named at word) was o s taken dropped created
       → IfErr result (λ t. is_damage t ≡ false)
 
 -- the draft in memory leads past the disk
@@ -177,27 +195,35 @@ with_made graph (Some m) = with_object graph m.id m.object
 -- The draft makes no object; or this one, whose root is written, and leads to nothing.
 abbrev pub Makes : Image → Option ℕ → Option Making → Type 0
 Makes image created None = created ≡ None
-Makes image created (Some m) = (created ≡ Some m.id.block) × ((root : roots.Root) × IsBareRoot image m.id root × (bare_object root ≡ m.object))
+Makes image created (Some m) = (created ≡ Some m.id.block) × ((root : roots.Root) × IsBareRoot image m.id root
+    × (bare_object root ≡ m.object))
 
--- The store has this object in place of its draft, and the one that is made with it. Nothing waits, and only blocks of these and
--- Free ones changed.
-pub record Committed {D : Type 0} (g : Ghosts D) (graph : Graph) (ds : List Opened) (id : Puid) (o : Object) (made : Option Making) (old new : D) (space : Kept) : Type 0 where
+-- The store has this object in place of its draft, and the one that is made with it. Nothing waits, and only blocks of
+-- these and Free ones changed.
+pub record Committed {D : Type 0} (g : Ghosts D) (graph : Graph) (ds : List Opened) (id : Puid) (o : Object)
+    (made : Option Making) (old new : D) (space : Kept) : Type 0 where
   pub store : StoreHas g (with_object (with_made graph made) id o) (without_draft id ds) new space
   pub settled : IsSettled g new
-  pub only : ChangesOnly (λ entry. of_owners (id.block ∷ option_to_list (root_of made)) entry) (g.content old) (g.content new)
-  -- the object's tree is the draft's: each node and leaf stands where it stood, in the same block, with its part and content
-  pub tree : (d : Opened) → drafts_of ds id ≡ d ∷ [] → tree_in (g.content new) (block_at (g.content new) id.block) ≡ tree_in (g.content old) (content_of d)
+  pub only : ChangesOnly (λ entry. of_owners (id.block ∷ option_to_list (root_of made)) entry) (g.content old)
+      (g.content new)
+  -- the object's tree is the draft's: each node and leaf stands where it stood, in the same block, with its part and
+  -- content
+  pub tree : (d : Opened) → drafts_of ds id ≡ d ∷ [] → tree_in (g.content new) (block_at (g.content new) id.block)
+      ≡ tree_in (g.content old) (content_of d)
   -- a draft without a shadow root took the least Free block for it, in which its root still is
-  pub order : (d : Opened) → drafts_of ds id ≡ d ∷ [] → d.shadow ≡ None → (s : ℕ) × IsLeastFree (g.content old) s × (block_at (g.content new) s ≡ root_spelling d.root)
+  pub order : (d : Opened) → drafts_of ds id ≡ d ∷ [] → d.shadow ≡ None
+      → (s : ℕ) × IsLeastFree (g.content old) s × (block_at (g.content new) s ≡ root_spelling d.root)
 
 -- how a commit ends where the store has the draft
-pub record CommitEnds {D : Type 0} (g : Ghosts D) (graph : Graph) (ds : List Opened) (id : Puid) (o : Object) (made : Option Making) (old new : D) (space : Kept) (result : Result (Unit {0}) Trouble) : Type 0 where
+pub record CommitEnds {D : Type 0} (g : Ghosts D) (graph : Graph) (ds : List Opened) (id : Puid) (o : Object)
+    (made : Option Making) (old new : D) (space : Kept) (result : Result (Unit {0}) Trouble) : Type 0 where
   pub done : OnOk result (Committed g graph ds id o made old new space)
   pub leaves : Leaves g old new (IsOldOrNew graph (with_made graph made) id o)
   pub sound : IfErr result (λ t. is_damage t ≡ false)
 
 -- of a draft as the layers above see it: where its root and its shadow root are, its two roots, and what it makes
-pub record AreParts (was : Drafting) (at : ℕ) (shadow : Option ℕ) (own root : roots.Root) (created : Option ℕ) : Type 0 where
+pub record AreParts (was : Drafting) (at : ℕ) (shadow : Option ℕ) (own root : roots.Root)
+    (created : Option ℕ) : Type 0 where
   pub at_is : was.at ≡ at
   pub shadow_is : was.shadow ≡ shadow
   pub own_is : was.own ≡ own
@@ -215,15 +241,17 @@ as_refused (Err t) = Err (refused_by t)
 abbrev pub undoing : List ℕ → Option ℕ → Option ℕ → List Flip
 undoing taken shadow made = flips Undo taken ++ (flips Undo (option_to_list shadow) ++ flips Undo (option_to_list made))
 
--- The store has no draft of the object any more. Only blocks that were meant for it changed, and the root of the object that was
--- to be made with it, which is Free.
-pub record Dropped {D : Type 0} (g : Ghosts D) (graph : Graph) (ds : List Opened) (id : Puid) (created : Option ℕ) (old new : D) (space : Kept) : Type 0 where
+-- The store has no draft of the object any more. Only blocks that were meant for it changed, and the root of the object
+-- that was to be made with it, which is Free.
+pub record Dropped {D : Type 0} (g : Ghosts D) (graph : Graph) (ds : List Opened) (id : Puid) (created : Option ℕ)
+    (old new : D) (space : Kept) : Type 0 where
   pub store : StoreHas g graph (without_draft id ds) new space
   pub freed : (c : ℕ) → created ≡ Some c → is_free_in (g.content new) c ≡ true
   pub only : ChangesOnly (λ entry. of_drafts (id.block ∷ option_to_list created) entry) (g.content old) (g.content new)
 
 -- how an abort ends where the store has the draft
-pub record AbortEnds {D : Type 0} (g : Ghosts D) (graph : Graph) (ds : List Opened) (id : Puid) (created : Option ℕ) (old new : D) (space : Kept) (result : Result (Unit {0}) Trouble) : Type 0 where
+pub record AbortEnds {D : Type 0} (g : Ghosts D) (graph : Graph) (ds : List Opened) (id : Puid) (created : Option ℕ)
+    (old new : D) (space : Kept) (result : Result (Unit {0}) Trouble) : Type 0 where
   pub done : OnOk result (Dropped g graph ds id created old new space)
   pub leaves : Leaves g old new (λ c. Holds c graph)
   pub sound : IfErr result (λ t. is_damage t ≡ false)

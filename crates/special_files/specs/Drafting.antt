@@ -1,5 +1,6 @@
 -- A draft as the layers above see it.
-use Rattle.std.specs.Prelude.{◌≡◌, ℕ, ◌+◌, ◌-◌, ◌/◌, Bool, false, not, List, [], ◌∷◌, length, get_or, filter, replicate, Option, Some, None, if◌then◌else◌, is_some, slice_index}
+use Rattle.std.specs.Prelude.{◌≡◌, ℕ, ◌+◌, ◌-◌, ◌/◌, Bool, false, not, List, [], ◌∷◌, length, get_or, filter, replicate}
+use Rattle.std.specs.Prelude.{Option, Some, None, if◌then◌else◌, is_some, slice_index}
 use Rattle.std.specs.List.{range_with_len}
 use Rattle.cfs_base.specs.declared.identifier.BlockNo.{BlockNo}
 use Rattle.cfs_base.specs.declared.identifier.Puid.{Puid}
@@ -32,7 +33,15 @@ none_of count = replicate count false
 -- a draft that was just begun, as its object
 abbrev pub begun_at : ℕ → Option ℕ → roots.Root → Drafting
 begun_at at shadow root =
-    record { at = at; shadow = shadow; own = root; root = root; leaves = none_of 15360; nodes = none_of 120; created = None }
+    record {
+      at = at;
+      shadow = shadow;
+      own = root;
+      root = root;
+      leaves = none_of 15360;
+      nodes = none_of 120;
+      created = None;
+    }
 
 -- ---- the draft of the model
 
@@ -47,7 +56,14 @@ fresh_of drafting = set_in drafting.leaves ∷ set_in drafting.nodes ∷ []
 -- the same as the draft of this object on a disk, which is this draft of the model
 abbrev pub opened_as : Puid → Drafting → Draft → Opened
 opened_as id drafting d =
-    record { id = id; shadow = drafting.shadow; own = drafting.own; root = drafting.root; draft = d; created = drafting.created }
+    record {
+      id = id;
+      shadow = drafting.shadow;
+      own = drafting.own;
+      root = drafting.root;
+      draft = d;
+      created = drafting.created;
+    }
 
 -- among these drafts it is the one of the object with this identifier, and has the model's fresh blocks, level by level
 pub record IsOpen (ds : List Opened) (id : Puid) (drafting : Drafting) (d : Draft) : Type 0 where
@@ -79,7 +95,8 @@ one_unless b = if b then 0 else 1
 
 -- a leaf that isn't fresh takes a block, and one for its node where that isn't fresh
 abbrev pub leaf_takes : Drafting → ℕ → ℕ
-leaf_takes drafting leaf = if is_fresh_leaf drafting leaf then 0 else 1 + one_unless (is_fresh_node drafting (leaf / 128))
+leaf_takes drafting leaf =
+    if is_fresh_leaf drafting leaf then 0 else 1 + one_unless (is_fresh_node drafting (leaf / 128))
 
 -- those of the flags from one on and before another that aren't set
 unfoldable pub unset_in : List Bool → ℕ → ℕ → List ℕ

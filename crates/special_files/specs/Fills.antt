@@ -14,8 +14,8 @@ use Rattle.special_files.specs.declared.fill.Swap.{Swap}
 abbrev pub is_empty_already : Index → ℕ → Option Puid → Bool
 is_empty_already i slot what = is_none what && is_none (slot_of i slot)
 
--- The draft with this in the slot, as the model has it. Where the slot is empty and is to be, nothing is written, and so
--- nothing is fresh that wasn't.
+-- The draft with this in the slot, as the model has it. Where the slot is empty and is to be, nothing is written, and
+-- so nothing is fresh that wasn't.
 abbrev pub filled_draft : Index → ℕ → Option Puid → Draft → Draft
 filled_draft i slot what d = record {
   object = changed_object (Fill slot what) d.object;

@@ -24,7 +24,8 @@ pub record PutsAt (leaf : ℕ) (content : List ℕ) (old new : ℕ → Option He
 
 -- but for one leaf and its node, each node and leaf stands where it stood, in the same block, with its part and content
 abbrev pub SameBeside : ℕ → Tree → Tree → Type 0
-SameBeside leaf old new = (path : List ℕ) → path ≢ leaf / 128 ∷ [] → path ≢ leaf / 128 ∷ leaf % 128 ∷ [] → new.below path ≡ old.below path
+SameBeside leaf old new = (path : List ℕ) → path ≢ leaf / 128 ∷ [] → path ≢ leaf / 128 ∷ leaf % 128 ∷ []
+    → new.below path ≡ old.below path
 
 -- the draft of the model that an image and a draft in memory give
 abbrev pub draft_in : Image → Drafting → Draft

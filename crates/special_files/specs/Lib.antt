@@ -12,3 +12,4 @@ pub mod Puts
 pub mod Refusal
 pub mod Shed
 pub mod Store
+pub mod View

@@ -1,9 +1,17 @@
 -- Nodes that were read.
-use Rattle.std.specs.Prelude.{◌≡◌, ℕ, zero, suc, ◌<◌, List, get_or, replicate}
+use Rattle.std.specs.Prelude.{◌≡◌, ℕ, zero, suc, ◌<◌, false, List, get_or, replicate, IfErr, OnOk, Result}
 use Rattle.std.specs.List.{All}
+use Rattle.cfs_base.specs.Calls.{OnlyReads}
 use Rattle.cfs_base.specs.Disk.{Image, block_at}
+use Rattle.cfs_base.specs.Refusals.{trouble_had_tried}
+use Rattle.cfs_base.specs.Run.{Tells}
+use Rattle.cfs_base.specs.declared.disk.Disk.{Ghosts}
+use Rattle.cfs_base.specs.declared.refusal.Trouble.{Trouble}
+use Rattle.cyl_alloc.specs.Space.{Kept}
 use Rattle.block_tree.specs.Pointers.{leaf_pointers, pointers_of}
 use Rattle.special_files.specs.Drafting.{Drafting, node_of}
+use Rattle.special_files.specs.Refusal.{IsTrouble, is_damage}
+use Rattle.special_files.specs.View.{View}
 use Rattle.special_files.specs.declared.node.NodeRead.{NodeRead}
 
 -- the leaf pointers of the node at a block; where that is 0 the node is absent, and has no leaf
@@ -24,3 +32,15 @@ IsRead image drafting read = read.number < 120 → read.node.leaves ≡ leaves_a
 abbrev pub IsSafe : ℕ → Drafting → NodeRead → Type 0
 IsSafe size drafting read =
     read.number < 120 → (node_of drafting.root read.number < size) × All (λ leaf. leaf < size) read.node.leaves
+
+-- A call turned to a node of the draft, and made at most n device calls, all of them reads.
+pub record TurnsTo {D A : Type 0} (g : Ghosts D) (was : Drafting) (number n : ℕ) (old new : D) (before after : NodeRead)
+    (result : Result A Trouble) : Type 0 where
+  pub node : Tells g old → IsRead (g.content old) was before → OnOk result (IsRead (g.content old) was after)
+  pub safe : OnOk result (IsSafe (g.blocks old) was after)
+  pub number_is : OnOk result (after.number ≡ number)
+  pub refused : (kept : Kept) → IfErr result (IsTrouble g was.at old new kept)
+  pub untried : IfErr result (λ t. trouble_had_tried t ≡ false)
+  -- no damage where the disk holds the object
+  pub sound : (kept : Kept) → View g old kept was → IfErr result (λ t. is_damage t ≡ false)
+  pub reads : OnlyReads g n old new

@@ -1,5 +1,6 @@
 -- Which leaves and nodes of a draft take blocks, and in what order.
-use Rattle.std.specs.Prelude.{◌≡◌, ◌⊎◌, map, ℕ, zero, suc, ◌+◌, ◌-◌, ◌/◌, Bool, true, false, List, [], ◌∷◌, ◌++◌, get_or, set, if◌then◌else◌}
+use Rattle.std.specs.Prelude.{◌≡◌, ◌⊎◌, map, ℕ, zero, suc, ◌+◌, ◌-◌, ◌/◌, Bool, true, false, List, [], ◌∷◌, ◌++◌}
+use Rattle.std.specs.Prelude.{get_or, set, if◌then◌else◌}
 use Rattle.cfs_base.specs.declared.kind.Place.TheVariants.{Leaf, Node}
 use Rattle.cfs_base.specs.Disk.{Image}
 use Rattle.claims.specs.Claims.{AreClaimed}
@@ -35,8 +36,8 @@ claims_anew at anew fresh =
     map (λ l. intended (Leaf l) at) (lacking (first_level anew) (first_level fresh))
     ++ map (λ n. intended (Node n) at) (lacking (first_level (next_levels anew)) (first_level (next_levels fresh)))
 
--- From image a on these are claimed, and of the blocks that are meant for an owner then some are Free in image b; all others are
--- as they were.
+-- From image a on these are claimed, and of the blocks that are meant for an owner then some are Free in image b; all
+-- others are as they were.
 pub record ClaimsAndDrops (owner : ℕ) (es : List MapEntry) (a b : Image) : Type 0 where
   pub mid : Image
   pub claimed : AreClaimed es a mid

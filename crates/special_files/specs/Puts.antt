@@ -1,22 +1,29 @@
 -- One leaf put into a draft that stands.
-use Rattle.std.specs.Prelude.{◌≡◌, ℕ, ◌+◌, ◌*◌, ◌<◌, ◌≤◌, List, get_or}
+use Rattle.std.specs.Prelude.{◌≡◌, ℕ, ◌+◌, ◌*◌, ◌/◌, ◌<◌, ◌≤◌, false, List, get_or, sum, IfErr, OnOk, Result}
+use Rattle.cfs_base.specs.Calls.{HasTried}
 use Rattle.cfs_base.specs.Disk.{Image}
 use Rattle.cfs_base.specs.declared.disk.Disk.{Ghosts}
 use Rattle.cfs_base.specs.declared.identifier.Puid.{Puid}
+use Rattle.cfs_base.specs.declared.refusal.Refused.{Refused}
+use Rattle.cfs_base.specs.declared.refusal.Refused.TheVariants as refusals
 use Rattle.block_tree.specs.Root.{root_spelling}
 use Rattle.block_tree.specs.declared.root.Root as roots
 use Rattle.claims.specs.Claims.{AreClaimed}
 use Rattle.cyl_alloc.specs.Space.{Kept}
+use Rattle.leaf_changes.specs.Bytes.{cut}
 use Rattle.leaf_changes.specs.Changes.{SetsSize}
 use Rattle.ufs_model.specs.Graph.{Graph}
 use Rattle.ufs_model.specs.Object.{leaves_in}
+use Rattle.vol_image.specs.Reading.{leaf_content}
 use Rattle.vol_image.specs.Seen.{tree_in}
 use Rattle.vol_owners.specs.Account.{Opened}
-use Rattle.special_files.specs.Drafting.{Drafting, IsOpen, opened_as}
-use Rattle.special_files.specs.Calls.{SetsFresh}
+use Rattle.special_files.specs.Calls.{SetsFlags, SetsFresh}
+use Rattle.special_files.specs.Drafting.{Drafting, IsOpen, leaf_takes, opened_as}
+use Rattle.special_files.specs.Ends.{Ends}
 use Rattle.special_files.specs.Leaves.{PutsAt, SameBeside, draft_in, leaves_of}
-use Rattle.special_files.specs.Nodes.{IsRead}
+use Rattle.special_files.specs.Nodes.{IsRead, IsSafe}
 use Rattle.special_files.specs.Order.{leaf_claims}
+use Rattle.special_files.specs.Refusal.{is_full}
 use Rattle.special_files.specs.Store.{Steps, replaced}
 use Rattle.special_files.specs.declared.node.NodeRead.{NodeRead}
 
@@ -39,11 +46,34 @@ abbrev pub drafts_with : Image → List Opened → Puid → Drafting → List Op
 drafts_with image ds id now = replaced (opened_as id now (draft_in image now)) ds
 
 -- a leaf of this content was put into the draft
-pub record PutsLeaf {D : Type 0} (g : Ghosts D) (graph : Graph) (ds : List Opened) (id : Puid) (leaf : ℕ) (content : List ℕ) (old new : D) (after : Kept) (was now : Drafting) (read : NodeRead) : Type 0 where
+pub record PutsLeaf {D : Type 0} (g : Ghosts D) (graph : Graph) (ds : List Opened) (id : Puid) (leaf : ℕ)
+    (content : List ℕ) (old new : D) (after : Kept) (was now : Drafting) (read : NodeRead) : Type 0 where
   pub steps : Steps g graph id (drafts_with (g.content new) ds id now) old new after
   pub is_open : IsOpen (drafts_with (g.content new) ds id now) id now (draft_in (g.content new) now)
   pub sets : SetsFresh leaf was now
   pub leaves : PutsAt leaf content (leaves_of (g.content old) was.root) (leaves_of (g.content new) now.root)
   pub read_is : IsRead (g.content new) now read
   pub order : AreClaimed (leaf_claims was.at was.leaves was.nodes leaf) (g.content old) (g.content new)
-  pub beside : SameBeside leaf (tree_in (g.content old) (root_spelling was.root)) (tree_in (g.content new) (root_spelling now.root))
+  pub beside : SameBeside leaf (tree_in (g.content old) (root_spelling was.root))
+      (tree_in (g.content new) (root_spelling now.root))
+
+-- the leaf within which a size ends was cut there
+abbrev pub CutsLeaf : {D : Type 0} → Ghosts D → Graph → List Opened → Puid → ℕ → D → D → Kept → Drafting → Drafting
+    → NodeRead → Type 0
+CutsLeaf g graph ds id size old new after was now read =
+    PutsLeaf g graph ds id (size / 512)
+    (cut size was.root.fill (leaf_content was.root.fill (leaves_of (g.content old) was.root (size / 512))))
+    old new after was now read
+
+-- What a call did, on any disk, that puts a leaf into a draft: it made at most n device calls.
+pub record LeafCall {D : Type 0} (g : Ghosts D) (n leaf : ℕ) (old new : D) (before after : Kept) (was now : Drafting)
+    (read : NodeRead) (result : Result (Unit {0}) Refused) : Type 0 where
+  pub stays : StaysBut was now
+  pub flags : OnOk result (SetsFlags leaf was now)
+  pub number : OnOk result (read.number ≡ leaf / 128)
+  pub safe : OnOk result (IsSafe (g.blocks new) now read)
+  pub ends : Ends g was.at 0 n 4 (leaf_takes was leaf) old new before after result
+  pub tried : OnOk result (HasTried g old new)
+  -- where nothing was tried yet the draft is as it was
+  pub kept : IfErr result (λ e. e ≡ refusals.Disk false → now ≡ was)
+  pub room : leaf_takes was leaf ≤ sum before.free → IfErr result (λ e. is_full e ≡ false)

@@ -25,15 +25,20 @@ IsFarNode size image block = (k : ℕ) × (size ≤ get_or (pointers_of leaf_poi
 
 pub data IsDamage {D : Type 0} (g : Ghosts D) (at : ℕ) (old new : D) (kept : Kept) (damage : Damage) : Type 0 where
   -- a map is none
-  NoMap : damage.code ≡ no_entry → damage.block < g.blocks new → (Tells g old → IsBadMap (g.content new) damage.block) → IsDamage g at old new kept damage
+  NoMap : damage.code ≡ no_entry → damage.block < g.blocks new → (Tells g old → IsBadMap (g.content new) damage.block)
+      → IsDamage g at old new kept damage
   -- the first map's own block is Free
-  OpenMap : damage.code ≡ no_entry → damage.block ≡ 0 → (Tells g old → is_free_in (g.content new) 0 ≡ true) → IsDamage g at old new kept damage
+  OpenMap : damage.code ≡ no_entry → damage.block ≡ 0 → (Tells g old → is_free_in (g.content new) 0 ≡ true)
+      → IsDamage g at old new kept damage
   -- no block is Free in a map in which some were counted
-  OtherCount : damage.code ≡ other_count → (Tells g old → ¬ AreCounts (g.content new) kept) → IsDamage g at old new kept damage
+  OtherCount : damage.code ≡ other_count → (Tells g old → ¬ AreCounts (g.content new) kept)
+      → IsDamage g at old new kept damage
   -- the root block is none
-  NoRoot : damage.code ≡ no_root → damage.block ≡ at → (Tells g old → (root : roots.Root) → ¬ IsRootBlock (block_at (g.content new) at) root) → IsDamage g at old new kept damage
+  NoRoot : damage.code ≡ no_root → damage.block ≡ at → (Tells g old → (root : roots.Root)
+      → ¬ IsRootBlock (block_at (g.content new) at) root) → IsDamage g at old new kept damage
   -- a node has a pointer past the disk, or the object's root has
-  FarNode : damage.code ≡ past_disk → (Tells g old → IsFarNode (g.blocks new) (g.content new) damage.block) → IsDamage g at old new kept damage
+  FarNode : damage.code ≡ past_disk → (Tells g old → IsFarNode (g.blocks new) (g.content new) damage.block)
+      → IsDamage g at old new kept damage
   FarRoot : damage.code ≡ past_disk → damage.block ≡ at → IsDamage g at old new kept damage
 
 -- ---- why a call ends

@@ -1,33 +1,44 @@
 -- Leaves dropped from a draft, from one on, with the nodes that have no leaf before it.
-use Rattle.std.specs.Prelude.{◌≡◌, ◌≢◌, ◌⊎◌, ℕ, zero, suc, Bool, not, ◌&&◌, ◌||◌, ◌++◌, get_or, ◌+◌, ◌*◌, ◌/◌, ◌%◌, ◌<◌, ◌≤◌, true, false, if◌then◌else◌, ◌==◌, List, [], ◌∷◌, length, None, slice_index, IfErr, OnOk, Result, Ok, Err}
+use Rattle.std.specs.Prelude.{◌≡◌, ◌≢◌, ◌⊎◌, ℕ, zero, suc, Bool, not, ◌&&◌, ◌||◌, ◌++◌, get_or, ◌+◌, ◌-◌, ◌*◌, ◌/◌, ◌%◌}
+use Rattle.std.specs.Prelude.{◌<◌, ◌≤◌, true, false, if◌then◌else◌, ◌==◌, List, [], ◌∷◌, length, None, slice_index, sum}
+use Rattle.std.specs.Prelude.{IfErr, OnOk, Result, Ok, Err}
 use Rattle.std.specs.List.{All}
 use Rattle.cfs_base.specs.Calls.{HasTried, OnlyReads}
-use Rattle.cfs_base.specs.Refusals.{trouble_after_try}
-use Rattle.cfs_base.specs.declared.refusal.Trouble.{Trouble}
-use Rattle.block_tree.specs.declared.root.Root as roots
-use Rattle.cfs_base.specs.declared.identifier.BlockNo.{BlockNo}
-use Rattle.cfs_base.specs.declared.refusal.Refused.{Refused}
-use Rattle.block_tree.specs.Pointers.{leaf_pointers, pointers_of}
-use Rattle.special_files.specs.Calls.{GetsNode, WritesBlock}
-use Rattle.special_files.specs.Nodes.{leaves_at}
-use Rattle.special_files.specs.declared.node.NodeRead.{NodeRead}
 use Rattle.cfs_base.specs.Disk.{Image}
-use Rattle.cfs_base.specs.Run.{Leaves}
+use Rattle.cfs_base.specs.Refusals.{trouble_after_try}
+use Rattle.cfs_base.specs.Run.{Tells}
 use Rattle.cfs_base.specs.declared.disk.Disk.{Ghosts}
+use Rattle.cfs_base.specs.declared.identifier.BlockNo.{BlockNo}
 use Rattle.cfs_base.specs.declared.identifier.Puid.{Puid}
+use Rattle.cfs_base.specs.declared.refusal.Refused.{Refused}
+use Rattle.cfs_base.specs.declared.refusal.Refused.TheVariants as refusals
+use Rattle.cfs_base.specs.declared.refusal.Trouble.{Trouble}
+use Rattle.block_tree.specs.Pointers.{leaf_pointers, pointers_of}
 use Rattle.block_tree.specs.Tree.{tree_of}
+use Rattle.block_tree.specs.declared.root.Root as roots
 use Rattle.cyl_alloc.specs.Space.{Kept}
 use Rattle.cyl_map.specs.declared.entry.MapEntry.{MapEntry}
 use Rattle.ufs_model.specs.Graph.{Graph}
 use Rattle.ufs_model.specs.Numbers.{has_number}
-use Rattle.vol_image.specs.Sound.{Holds}
+use Rattle.ufs_model.specs.Object.{leaves_in, written_anew}
+use Rattle.ufs_model.specs.State.{changed_draft}
+use Rattle.ufs_model.specs.declared.change.Change.TheVariants.{SetSize}
+use Rattle.ufs_model.specs.declared.object.Draft.{Draft}
 use Rattle.vol_owners.specs.Account.{Opened, content_of, is_meant_for, numbers_differ}
-use Rattle.special_files.specs.Drafting.{Drafting, IsOpen, is_fresh_leaf, is_fresh_node, leaf_takes, node_of, one_unless}
+use Rattle.special_files.specs.Becomes.{Becomes}
+use Rattle.special_files.specs.Calls.{GetsNode, WritesBlock}
+use Rattle.special_files.specs.Drafting.{Drafting, HasNoneFresh, IsOpen, is_fresh_leaf, is_fresh_node, leaf_takes}
+use Rattle.special_files.specs.Drafting.{need_beside, node_of, one_unless, shadow_need}
+use Rattle.special_files.specs.Ends.{Ends}
 use Rattle.special_files.specs.Leaves.{draft_in, leaves_of}
-use Rattle.special_files.specs.Order.{ClaimsAndDrops, node_claims}
-use Rattle.special_files.specs.Puts.{StaysBut, drafts_with}
-use Rattle.special_files.specs.Refusal.{is_damaged}
+use Rattle.special_files.specs.Nodes.{IsRead, IsSafe, leaves_at}
+use Rattle.special_files.specs.Order.{ClaimsAndDrops, claims_anew, node_claims}
+use Rattle.special_files.specs.Puts.{CutsLeaf, LeafCall, StaysBut, drafts_with}
+use Rattle.special_files.specs.Refusal.{is_full}
 use Rattle.special_files.specs.Store.{Steps}
+use Rattle.special_files.specs.View.{Goes, View}
+use Rattle.special_files.specs.declared.node.NodeRead.{NodeRead}
+use Rattle.special_files.specs.declared.shrink.Plan.{Plan}
 
 -- a path to such a leaf or node
 abbrev pub IsPast : ℕ → List ℕ → Type 0
@@ -56,14 +67,16 @@ one_if b n = if b then n ∷ [] else []
 -- of a node's pointers those of fresh leaves, so many from a place on
 unfoldable pub fresh_in : (flags : List Bool) (leaves : List ℕ) (node from count : ℕ) → List ℕ
 fresh_in flags leaves node from zero = []
-fresh_in flags leaves node from (suc k) = fresh_in flags leaves node from k ++ one_if (get_or flags (128 * node + (from + k)) false) (slice_index leaves (from + k))
+fresh_in flags leaves node from (suc k) = fresh_in flags leaves node from k
+    ++ one_if (get_or flags (128 * node + (from + k)) false) (slice_index leaves (from + k))
 
--- From which leaf on a draft drops its leaves that is to keep those before `to`, where that lies in a node with these leaves, or at
--- its end: where that is within the node, the node keeps a leaf and drops one.
+-- From which leaf on a draft drops its leaves that is to keep those before `to`, where that lies in a node with these
+-- leaves, or at its end: where that is within the node, the node keeps a leaf and drops one.
 pub record IsBorder (leaves : List ℕ) (node to from : ℕ) : Type 0 where
   pub low : 128 * node ≤ from
   pub high : from ≤ 128 * node + 128
-  pub none : (j : ℕ) → j < 128 → ((from ≤ 128 * node + j) × (128 * node + j < to)) ⊎ ((to ≤ 128 * node + j) × (128 * node + j < from)) → slice_index leaves j ≡ 0
+  pub none : (j : ℕ) → j < 128 → ((from ≤ 128 * node + j) × (128 * node + j < to))
+      ⊎ ((to ≤ 128 * node + j) × (128 * node + j < from)) → slice_index leaves j ≡ 0
   pub keeps : from % 128 ≢ 0 → (from ≡ to) × ((j : ℕ) × (128 * node + j < to) × (slice_index leaves j ≢ 0))
   pub drops : from % 128 ≢ 0 → (j : ℕ) × (j < 128) × (to ≤ 128 * node + j) × (slice_index leaves j ≢ 0)
 
@@ -75,7 +88,8 @@ pub record Forgets (from block : ℕ) (was now : Drafting) : Type 0 where
   pub count : length now.root.nodes ≡ length was.root.nodes
   pub leaf_before : (l : ℕ) → l < from → is_fresh_leaf now l ≡ is_fresh_leaf was l
   pub leaf_past : (l : ℕ) → from ≤ l → is_fresh_leaf now l ≡ false
-  pub before : (m : ℕ) → 128 * m + 128 ≤ from → (is_fresh_node now m ≡ is_fresh_node was m) × (node_of now.root m ≡ node_of was.root m)
+  pub before : (m : ℕ) → 128 * m + 128 ≤ from → (is_fresh_node now m ≡ is_fresh_node was m)
+      × (node_of now.root m ≡ node_of was.root m)
   pub past : (m : ℕ) → from ≤ 128 * m → (is_fresh_node now m ≡ false) × (node_of now.root m ≡ 0)
   pub here : from % 128 ≢ 0 → (is_fresh_node now (from / 128) ≡ true) × (node_of now.root (from / 128) ≡ block)
 
@@ -84,7 +98,8 @@ abbrev pub border_claims : Drafting → ℕ → List MapEntry
 border_claims was from = if from % 128 == 0 then [] else node_claims was.at was.nodes (from / 128)
 
 -- the same of the store, and of the draft that the model has then
-pub record DropsFrom {D : Type 0} (g : Ghosts D) (graph : Graph) (ds : List Opened) (id : Puid) (from : ℕ) (old new : D) (after : Kept) (was now : Drafting) : Type 0 where
+pub record DropsFrom {D : Type 0} (g : Ghosts D) (graph : Graph) (ds : List Opened) (id : Puid) (from : ℕ)
+    (old new : D) (after : Kept) (was now : Drafting) : Type 0 where
   pub steps : Steps g graph id (drafts_with (g.content new) ds id now) old new after
   pub is_open : IsOpen (drafts_with (g.content new) ds id now) id now (draft_in (g.content new) now)
   pub block : ℕ
@@ -109,7 +124,8 @@ abbrev pub IsReadIn : Image → roots.Root → NodeRead → Type 0
 IsReadIn image root read = read.number < 120 → read.node.leaves ≡ leaves_at image (node_of root read.number)
 
 abbrev pub IsSafeIn : ℕ → roots.Root → NodeRead → Type 0
-IsSafeIn size root read = read.number < 120 → (node_of root read.number < size) × All (λ leaf. leaf < size) read.node.leaves
+IsSafeIn size root read = read.number < 120 → (node_of root read.number < size)
+    × All (λ leaf. leaf < size) read.node.leaves
 
 -- the result of a call before which a write was tried
 abbrev pub as_tried : Result (Unit {0}) Trouble → Result (Unit {0}) Trouble
@@ -124,27 +140,41 @@ pub record IsShortNode (leaves : List ℕ) (place : ℕ) (block : List ℕ) : Ty
   pub past : (j : ℕ) → place ≤ j → j < 128 → slice_index (pointers_of leaf_pointers block) j ≡ 0
 
 -- it is written so, into a block of the draft's own, which is claimed where the draft has none
-pub data PutsShort {D : Type 0} (g : Ghosts D) (from : ℕ) (leaves : List ℕ) (was : Drafting) (old new : D) (before after : Kept) (result : Result BlockNo Refused) : Type 0 where
-  NoBlock : (e : Refused) → GetsNode g (from / 128) old new before after was (Err e) → result ≡ Err e → PutsShort g from leaves was old new before after result
-  NoWrite : (mid : D) (y : BlockNo) (block : List ℕ) (e : Refused) → GetsNode g (from / 128) old mid before after was (Ok y) → IsShortNode leaves (from % 128) block → WritesBlock g y.0 block mid new (Err e) → result ≡ Err e
+pub data PutsShort {D : Type 0} (g : Ghosts D) (from : ℕ) (leaves : List ℕ) (was : Drafting) (old new : D)
+    (before after : Kept) (result : Result BlockNo Refused) : Type 0 where
+  NoBlock : (e : Refused) → GetsNode g (from / 128) old new before after was (Err e) → result ≡ Err e
       → PutsShort g from leaves was old new before after result
-  Put : (mid : D) (y : BlockNo) (block : List ℕ) → GetsNode g (from / 128) old mid before after was (Ok y) → IsShortNode leaves (from % 128) block → WritesBlock g y.0 block mid new (Ok tt) → result ≡ Ok y
+  NoWrite : (mid : D) (y : BlockNo) (block : List ℕ) (e : Refused)
+      → GetsNode g (from / 128) old mid before after was (Ok y) → IsShortNode leaves (from % 128) block
+      → WritesBlock g y.0 block mid new (Err e) → result ≡ Err e
+      → PutsShort g from leaves was old new before after result
+  Put : (mid : D) (y : BlockNo) (block : List ℕ) → GetsNode g (from / 128) old mid before after was (Ok y)
+      → IsShortNode leaves (from % 128) block → WritesBlock g y.0 block mid new (Ok tt) → result ≡ Ok y
       → PutsShort g from leaves was old new before after result
 
 -- It is written so where the first leaf dropped lies within it; else nothing is done.
-pub data PutsWithin {D : Type 0} (g : Ghosts D) (from : ℕ) (leaves : List ℕ) (was : Drafting) (old new : D) (before after : Kept) (result : Result BlockNo Refused) : Type 0 where
-  Whole : (y : BlockNo) → from % 128 ≡ 0 → new ≡ old → after ≡ before → result ≡ Ok y → PutsWithin g from leaves was old new before after result
-  Within : from % 128 ≢ 0 → PutsShort g from leaves was old new before after result → PutsWithin g from leaves was old new before after result
+pub data PutsWithin {D : Type 0} (g : Ghosts D) (from : ℕ) (leaves : List ℕ) (was : Drafting) (old new : D)
+    (before after : Kept) (result : Result BlockNo Refused) : Type 0 where
+  Whole : (y : BlockNo) → from % 128 ≡ 0 → new ≡ old → after ≡ before → result ≡ Ok y
+      → PutsWithin g from leaves was old new before after result
+  Within : from % 128 ≢ 0 → PutsShort g from leaves was old new before after result
+      → PutsWithin g from leaves was old new before after result
 
 -- the node that was read keeps a leaf, where it is to be written
 abbrev pub KeepsOne : ℕ → NodeRead → Type 0
 KeepsOne from read = from % 128 ≢ 0 → (j : ℕ) × (j < from % 128) × (slice_index read.node.leaves j ≢ 0)
 
--- what a call did that drops leaves
-pub record Drops {D : Type 0} (g : Ghosts D) (graph : Graph) (ds : List Opened) (id : Puid) (from : ℕ) (old new : D) (after : Kept) (was now : Drafting) (result : Result (Unit {0}) Refused) : Type 0 where
-  pub done : OnOk result (DropsFrom g graph ds id from old new after was now)
-  pub leaves : Leaves g old new (λ c. Holds c graph)
-  pub sound : IfErr result (λ e. is_damaged e ≡ false)
+-- what a call did, on any disk, that drops leaves from one on
+pub record DropCall {D : Type 0} (g : Ghosts D) (from : ℕ) (old new : D) (before after : Kept) (was now : Drafting)
+    (result : Result (Unit {0}) Refused) : Type 0 where
+  pub stays : StaysBut was now
+  pub forgets : OnOk result ((block : ℕ) × Forgets from block was now)
+  -- something was tried where a node is written; else, where no node is fresh, nothing was done to the disk
+  pub tried : from % 128 ≢ 0 → OnOk result (HasTried g old new)
+  pub untried : from % 128 ≡ 0 → ((n : ℕ) → is_fresh_node was n ≡ false) → (new ≡ old) × (after ≡ before)
+  pub ends : Ends g was.at 0 31083 15482 (sum before.free) old new before after result
+  pub kept : IfErr result (λ e. now ≡ was)
+  pub room : border_takes was from ≤ sum before.free → IfErr result (λ e. is_full e ≡ false)
 
 -- ---- a resize to less
 
@@ -152,6 +182,16 @@ pub record Drops {D : Type 0} (g : Ghosts D) (graph : Graph) (ds : List Opened) 
 pub record IsCutHere (size : ℕ) (leaves : List ℕ) (cut : Bool) : Type 0 where
   pub is : cut ≡ true → (size % 512 ≢ 0) × (slice_index leaves ((size / 512) % 128) ≢ 0)
   pub none : cut ≡ false → size % 512 ≢ 0 → slice_index leaves ((size / 512) % 128) ≡ 0
+
+-- The leaf within which the size ends is cut, where it is to be; else nothing is done.
+pub data CutsIf {D : Type 0} (g : Ghosts D) (size : ℕ) (cut : Bool) (old new : D) (before after : Kept)
+    (was now : Drafting) (read next : NodeRead) (result : Result (Unit {0}) Refused) : Type 0 where
+  Spares : cut ≡ false → result ≡ Ok tt → new ≡ old → after ≡ before → now ≡ was → next ≡ read
+      → CutsIf g size cut old new before after was now read next result
+  Cuts : cut ≡ true → ((v : View g old before was) → IsRead (g.content old) was read → size < was.root.size
+      → Goes g v.graph (CutsLeaf g v.graph v.ds v.id size old new after was now next) old new result)
+      → LeafCall g 8 (size / 512) old new before after was now next result
+      → CutsIf g size cut old new before after was now read next result
 
 -- the leaf within which the size ends takes its blocks where it is cut
 abbrev pub cut_takes : Drafting → Bool → ℕ → ℕ
@@ -176,7 +216,51 @@ abbrev pub Resizes : ℕ → Drafting → Drafting → Result (Unit {0}) Refused
 Resizes size was now (Ok t) = StaysBut (sized was size) now
 Resizes size was now (Err e) = StaysBut was now
 
--- Of a draft that had no fresh block a resize tried something exactly where a node is fresh then; else it read a node at most.
+-- Of a draft that had no fresh block a resize tried something exactly where a node is fresh then; else it read a node
+-- at most.
 pub record IsToldByNodes {D : Type 0} (g : Ghosts D) (old new : D) (before after : Kept) (now : Drafting) : Type 0 where
   pub tried : (n : ℕ) → is_fresh_node now n ≡ true → HasTried g old new
   pub untried : ((n : ℕ) → is_fresh_node now n ≡ false) → (after ≡ before) × OnlyReads g 1 old new
+
+-- the node of the last leaf of a file of this size; of an empty file the first
+abbrev pub last_node : ℕ → ℕ
+last_node size = (leaves_in size - 1) / 128
+
+-- That node was read. This tells from which leaf on a resize to less drops leaves, and whether one is cut.
+pub record IsPlan {D : Type 0} (g : Ghosts D) (size : ℕ) (was : Drafting) (old new : D) (plan : Plan) : Type 0 where
+  pub reads : OnlyReads g 1 old new
+  pub less : size < was.root.size
+  pub limit : was.root.size ≤ 7864320
+  pub nodes : length was.nodes ≡ 120
+  pub read_is : Tells g old → IsRead (g.content old) was plan.read
+  pub safe : IsSafe (g.blocks old) was plan.read
+  pub number : plan.read.number ≡ last_node size
+  pub border : IsBorder plan.read.node.leaves (last_node size) (leaves_in size) plan.from
+  pub cuts : IsCutHere size plan.read.node.leaves plan.cut
+
+-- what such a resize needs, with the shadow root that a commit takes
+abbrev pub plan_needs : ℕ → Drafting → Plan → ℕ
+plan_needs size was plan = shrink_takes was plan.cut plan.from (size / 512) (last_node size) + shadow_need was
+
+-- The draft is the model's of another size. Its blocks were claimed in their order, each the least Free, what it
+-- dropped of its own is Free, and what it needed was Free beside the floor.
+pub record Resized {D : Type 0} (g : Ghosts D) (graph : Graph) (ds : List Opened) (id : Puid) (d : Draft)
+    (size floor : ℕ) (old new : D) (before after : Kept) (was now : Drafting) : Type 0 where
+  pub becomes : Becomes g graph ds id (changed_draft (SetSize size) d) old new after now
+  pub order : ClaimsAndDrops id.block
+      (claims_anew was.at (written_anew (SetSize size) d.object d.fresh) d.fresh) (g.content old) (g.content new)
+  pub room : need_beside (SetSize size) d was + floor ≤ sum before.free
+
+-- the refusal of a resize where fewer blocks are Free than the model's need and the floor
+pub record IsFullFor (size floor : ℕ) (d : Draft) (space : Kept) (was : Drafting) (e : Refused) : Type 0 where
+  pub is : e ≡ refusals.Full (record { free = sum space.free; need = need_beside (SetSize size) d was })
+  pub less : sum space.free < need_beside (SetSize size) d was + floor
+
+-- what a resize did, on any disk
+pub record ResizeCall {D : Type 0} (g : Ghosts D) (size floor : ℕ) (old new : D) (before after : Kept)
+    (was now : Drafting) (result : Result (Unit {0}) Refused) : Type 0 where
+  pub stays : Resizes size was now result
+  pub spared : IfErr result (λ e. is_full e ≡ true → OnlyReads g 1 old new × (after ≡ before) × (now ≡ was))
+  pub told : HasNoneFresh was → OnOk result (IsToldByNodes g old new before after now)
+  pub ends : Ends g was.at floor 31092 15486 (sum before.free) old new before after result
+  pub kept : IfErr result (λ e. e ≡ refusals.Disk false → now ≡ was)

@@ -17,7 +17,9 @@ replaced d ds = map (λ e. if same_puid e.id d.id then d else e) ds
 abbrev pub without_draft : Puid → List Opened → List Opened
 without_draft id ds = filter (λ e. not (same_puid e.id id)) ds
 
--- The store has these drafts afterwards, and nothing changed but blocks that are meant for the draft's object or were Free.
-pub record Steps {D : Type 0} (g : Ghosts D) (graph : Graph) (id : Puid) (es : List Opened) (old new : D) (space : Kept) : Type 0 where
+-- The store has these drafts afterwards, and nothing changed but blocks that are meant for the draft's object or were
+-- Free.
+pub record Steps {D : Type 0} (g : Ghosts D) (graph : Graph) (id : Puid) (es : List Opened) (old new : D)
+    (space : Kept) : Type 0 where
   pub store : StoreHas g graph es new space
   pub only : ChangesOnly (λ entry. of_draft id.block entry) (g.content old) (g.content new)

@@ -10,6 +10,7 @@ ghost use Rattle.special_files.specs.Changed.{AreTaken};
 ghost use Rattle.special_files.specs.Committing as spec;
 ghost use Rattle.special_files.specs.Drafting.{Drafting, IsOpen, number_of, opened_as};
 ghost use Rattle.special_files.specs.Refusal.{IsTrouble, is_damage};
+ghost use Rattle.special_files.specs.View.{View};
 ghost use Rattle.ufs_model.specs.Graph.{Graph, object_at};
 ghost use Rattle.ufs_model.specs.declared.object.Draft as drafts;
 ghost use Rattle.ufs_model.specs.declared.object.Object.{Object};
@@ -27,7 +28,8 @@ use cfs_base::{BlockNo, Disk, Trouble};
 use cyl_alloc::{KnownMaps, Space};
 use intentions::{Change, barrier};
 
-/// Takes back what was claimed for a draft: its nodes and leaves, its shadow root, and the root of an object that it makes.
+/// Takes back what was claimed for a draft: its nodes and leaves, its shadow root, and the root of an object that it
+/// makes.
 fn undo_all<D: Disk>(
     disk: &mut D,
     known: &mut KnownMaps,
@@ -69,11 +71,10 @@ fn give_up<D: Disk>(
     requires taken_on_disk { All (λ n. n < D.blocks disk.old) taken.now }
     requires shadow_on_disk { (n : ℕ) → number_of shadow ≡ Some n → n < D.blocks disk.old }
     requires created_on_disk { (n : ℕ) → number_of created ≡ Some n → n < D.blocks disk.old }
-    ensures ends { (graph : Graph) (ds : List Opened) (id : Puid) (o : Object) (was : Drafting) (d : drafts.Draft)
-        → StoreHas D.Disk graph ds disk.old space.old → object_at graph id ≡ Some o → IsOpen ds id was d
+    ensures ends { (was : Drafting) (v : View D.Disk disk.old space.old was)
         → was.shadow ≡ number_of shadow → was.created ≡ number_of created
-        → AreTaken (D.content disk.old) id (opened_as id was d) taken.now
-        → spec.AbortEnds D.Disk graph ds id was.created disk.old disk.new space.new result }
+        → AreTaken (D.content disk.old) v.id (opened_as v.id was v.draft) taken.now
+        → spec.AbortEnds D.Disk v.graph v.ds v.id was.created disk.old disk.new space.new result }
     ensures fails { (at : ℕ) → IfErr result (spec.Fails D.Disk at disk.old disk.new space.new) }
     ensures cylinders { length space.new.free ≡ length space.old.free }
     ensures calls { MakesAtMost D.Disk (2 * length taken.now + (2 + 2)) (length taken.now + (1 + 1)) disk.old disk.new }
@@ -103,10 +104,9 @@ fn abort_parts<D: Disk>(
 ) -> Result<(), Trouble>
     requires on_disk { at.0 < D.blocks disk.old }
     requires size { D.blocks disk.old ≡ 64 * length space.old.free }
-    ensures ends { (graph : Graph) (ds : List Opened) (id : Puid) (o : Object) (was : Drafting) (d : drafts.Draft)
-        → StoreHas D.Disk graph ds disk.old space.old → object_at graph id ≡ Some o → IsOpen ds id was d
+    ensures ends { (was : Drafting) (v : View D.Disk disk.old space.old was)
         → spec.AreParts was at.0 (number_of shadow) own.now root.now (number_of created)
-        → spec.AbortEnds D.Disk graph ds id was.created disk.old disk.new space.new result }
+        → spec.AbortEnds D.Disk v.graph v.ds v.id was.created disk.old disk.new space.new result }
     ensures refused { IfErr result (IsTrouble D.Disk at.0 disk.old disk.new space.new) }
     ensures tried { IfErr result (λ t. t ≢ troubles.Disk false) }
     ensures made { OnOk result (HasTried D.Disk disk.old disk.new) }
@@ -133,8 +133,9 @@ fn abort_parts<D: Disk>(
 }
 
 impl Draft {
-    /// Gives up the draft, whose blocks are Free then, as is the root of an object that it was to make. Where it is refused
-    /// the draft is gone, and each image that a crash leaves has the object as it was. `Damaged` as in `commit`.
+    /// Gives up the draft, whose blocks are Free then, as is the root of an object that it was to make. Where it is
+    /// refused the draft is gone, and each image that a crash leaves has the object as it was. `Damaged` as in
+    /// `commit`.
     pub fn abort<D: Disk>(mut self, disk: &mut D, space: &mut Space) -> Result<(), Trouble>
         requires on_disk { self.at < D.blocks disk.old }
         requires size { D.blocks disk.old ≡ 64 * length space.old.free }

@@ -5,8 +5,8 @@ use crate::draft::Draft;
 use cfs_base::BlockNo;
 
 impl Draft {
-    /// Gives the draft the root of a new object, which was claimed and written. `commit` makes it Allocated, and `abort`
-    /// makes it Free.
+    /// Gives the draft the root of a new object, which was claimed and written. `commit` makes it Allocated, and
+    /// `abort` makes it Free.
     pub fn adopt(&mut self, created: BlockNo)
         requires some { created.0 ≢ 0 }
         requires direct { self.old.shadow ≡ None }

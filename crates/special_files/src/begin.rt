@@ -1,5 +1,6 @@
 //! A draft begun.
-ghost use Rattle.std.specs.Prelude.{◌≡◌, ◌≢◌, ◌<◌, ◌≤◌, ℕ, ◌+◌, ◌*◌, true, false, length, sum, List, [], ◌∷◌, Some, None, IfErr, IfOk};
+ghost use Rattle.std.specs.Prelude.{◌≡◌, ◌≢◌, ◌<◌, ◌≤◌, ℕ, ◌+◌, ◌*◌, true, false, length, sum, List, [], ◌∷◌, Some};
+ghost use Rattle.std.specs.Prelude.{None, IfErr, IfOk};
 ghost use Rattle.block_tree.specs.Root.{IsRootBlock};
 ghost use Rattle.block_tree.specs.declared.root.Root as roots;
 ghost use Rattle.cfs_base.specs.Calls.{MakesAtMost, OnlyReads};
@@ -97,9 +98,9 @@ impl Room {
 }
 
 impl Draft {
-    /// Begins a draft with its shadow root, for which the least-numbered Free block is claimed. `Full` where fewer blocks are
-    /// Free than 1 and the floor; nothing was written then. `Damaged` names the root block, with code 3, which is none, or the
-    /// map in which no Free block was found, with code 2 where it is none.
+    /// Begins a draft with its shadow root, for which the least-numbered Free block is claimed. `Full` where fewer
+    /// blocks are Free than 1 and the floor; nothing was written then. `Damaged` names the root block, with code 3,
+    /// which is none, or the map in which no Free block was found, with code 2 where it is none.
     pub fn begin<D: Disk>(
         alloc: Global,
         disk: &mut D,
@@ -114,22 +115,29 @@ impl Draft {
         ensures begun { IfOk result (λ draft. (s : ℕ) × (draft ≡ begun_at at.0 (Some s) draft.own)) }
         ensures root { Tells D.Disk disk.old → IfOk result (λ draft.
             IsRootBlock (block_at (D.content disk.old) at.0) draft.own) }
-        ensures steps { (graph : Graph) (ds : List Opened) (id : Puid) (o : Object) → StoreHas D.Disk graph ds disk.old space.old
-            → id.block ≡ at.0 → object_at graph id ≡ Some o → drafts_of ds id ≡ [] → IfOk result (λ draft.
-            Steps D.Disk graph id (opened_as id draft (record { object = o; fresh = [] }) ∷ ds) disk.old disk.new space.new) }
-        ensures least { (graph : Graph) (ds : List Opened) (id : Puid) (o : Object) → StoreHas D.Disk graph ds disk.old space.old
+        ensures steps { (graph : Graph) (ds : List Opened) (id : Puid) (o : Object)
+            → StoreHas D.Disk graph ds disk.old space.old → id.block ≡ at.0 → object_at graph id ≡ Some o
+            → drafts_of ds id ≡ [] → IfOk result (λ draft.
+            Steps D.Disk graph id (opened_as id draft (record { object = o; fresh = [] }) ∷ ds)
+            disk.old disk.new space.new) }
+        ensures least { (graph : Graph) (ds : List Opened) (id : Puid) (o : Object)
+            → StoreHas D.Disk graph ds disk.old space.old
             → id.block ≡ at.0 → object_at graph id ≡ Some o → drafts_of ds id ≡ [] → IfOk result (λ draft. (s : ℕ)
             × (draft.shadow ≡ Some s) × IsLeastFree (D.content disk.old) s) }
         // Each image that a crash leaves on the way holds all objects as they were.
-        ensures leaves { (graph : Graph) (ds : List Opened) (id : Puid) (o : Object) → StoreHas D.Disk graph ds disk.old space.old
+        ensures leaves { (graph : Graph) (ds : List Opened) (id : Puid) (o : Object)
+            → StoreHas D.Disk graph ds disk.old space.old
             → id.block ≡ at.0 → object_at graph id ≡ Some o → Leaves D.Disk disk.old disk.new (λ c. Holds c graph) }
         // The floor is kept: where it is begun that many blocks were Free beside its own.
         ensures floor { IfOk result (λ draft. 1 + floor ≤ sum space.old.free) }
-        ensures full { IfErr result (λ e. is_full e ≡ true → (e ≡ refused.Full (record { free = sum space.old.free; need = 1 }))
-            × (sum space.old.free < 1 + floor) × (disk.new ≡ disk.old)) }
+        ensures full { IfErr result (λ e. is_full e ≡ true
+            → (e ≡ refused.Full (record { free = sum space.old.free; need = 1 })) × (sum space.old.free < 1 + floor)
+            × (disk.new ≡ disk.old)) }
         ensures refused { IfErr result (IsRefusalOrMemory D.Disk at.0 floor disk.old disk.new space.new) }
-        ensures untried { IfErr result (λ e. had_tried e ≡ false → (space.new ≡ space.old) × OnlyReads D.Disk 2 disk.old disk.new) }
-        ensures sound { (graph : Graph) (ds : List Opened) (id : Puid) (o : Object) → StoreHas D.Disk graph ds disk.old space.old
+        ensures untried { IfErr result (λ e. had_tried e ≡ false
+            → (space.new ≡ space.old) × OnlyReads D.Disk 2 disk.old disk.new) }
+        ensures sound { (graph : Graph) (ds : List Opened) (id : Puid) (o : Object)
+            → StoreHas D.Disk graph ds disk.old space.old
             → id.block ≡ at.0 → object_at graph id ≡ Some o → IfErr result (λ e. is_damaged e ≡ false) }
         ensures cylinders { length space.new.free ≡ length space.old.free }
         ensures calls { MakesAtMost D.Disk 3 1 disk.old disk.new }
@@ -157,14 +165,16 @@ impl Draft {
         ensures begun { IfOk result (λ draft. draft ≡ begun_at at.0 None draft.own) }
         ensures root { Tells D.Disk disk.old → IfOk result (λ draft.
             IsRootBlock (block_at (D.content disk.old) at.0) draft.own) }
-        ensures store { (graph : Graph) (ds : List Opened) (id : Puid) (o : Object) → StoreHas D.Disk graph ds disk.old space.old
+        ensures store { (graph : Graph) (ds : List Opened) (id : Puid) (o : Object)
+            → StoreHas D.Disk graph ds disk.old space.old
             → id.block ≡ at.0 → object_at graph id ≡ Some o → drafts_of ds id ≡ [] → IfOk result (λ draft.
             StoreHas D.Disk graph (opened_as id draft (record { object = o; fresh = [] }) ∷ ds) disk.new space.new) }
         ensures refused { IfErr result (IsRefusalOrMemory D.Disk at.0 0 disk.old disk.new space.new) }
         ensures spare { IfErr result (λ error. is_full error ≡ false) }
         ensures untried { IfErr result (λ error. had_tried error ≡ false) }
         // No damage where the disk holds the object.
-        ensures sound { (graph : Graph) (ds : List Opened) (id : Puid) (o : Object) → StoreHas D.Disk graph ds disk.old space.old
+        ensures sound { (graph : Graph) (ds : List Opened) (id : Puid) (o : Object)
+            → StoreHas D.Disk graph ds disk.old space.old
             → id.block ≡ at.0 → object_at graph id ≡ Some o → IfErr result (λ error. is_damaged error ≡ false) }
         ensures space { space.new ≡ space.old }
         ensures reads { OnlyReads D.Disk 1 disk.old disk.new }

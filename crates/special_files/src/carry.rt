@@ -1,6 +1,7 @@
 //! A draft that stands with its root in its shadow root, carried out.
 ghost use Rattle.intentions.specs.Entries.{Fits};
-ghost use Rattle.std.specs.Prelude.{◌≡◌, ◌<◌, ◌+◌, ◌*◌, ◌++◌, ℕ, List, set, [], ◌∷◌, false, length, option_to_list, Option, None, Some, IfErr, OnOk};
+ghost use Rattle.std.specs.Prelude.{◌≡◌, ◌<◌, ◌+◌, ◌*◌, ◌++◌, ℕ, List, set, [], ◌∷◌, false, length, option_to_list};
+ghost use Rattle.std.specs.Prelude.{Option, None, Some, IfErr, OnOk};
 ghost use Rattle.std.specs.List.{All};
 ghost use Rattle.cfs_base.specs.Calls.{MakesAtMost};
 ghost use Rattle.cfs_base.specs.Disk.{block_at};
@@ -30,7 +31,8 @@ pub(crate) fn flip_made<D: Disk>(
 ) -> Result<(), Trouble>
     requires on_disk { (n : ℕ) → number_of created ≡ Some n → n < D.blocks disk.old }
     requires fits { Fits how }
-    ensures flips { spec.Flips D.Disk 2 1 (spec.flips how (option_to_list (number_of created))) disk.old disk.new result }
+    ensures flips { spec.Flips D.Disk 2 1
+        (spec.flips how (option_to_list (number_of created))) disk.old disk.new result }
 {
     match created {
         Some(block) => flip(disk, known, block, how),
@@ -90,7 +92,8 @@ fn settle<D: Disk>(
     requires created_on_disk { (n : ℕ) → number_of created ≡ Some n → n < D.blocks disk.old }
     ensures flips { spec.Flips D.Disk (2 * length taken.now + (2 * length dropped.now + (2 + 2)) + 4)
         (length taken.now + (length dropped.now + (1 + 1)) + 3)
-        (spec.settling taken.now dropped.now (option_to_list (number_of created)) shadow.0 ++ spec.flips changes.ClearBit (at.0 ∷ []))
+        (spec.settling taken.now dropped.now (option_to_list (number_of created)) shadow.0
+        ++ spec.flips changes.ClearBit (at.0 ∷ []))
         disk.old disk.new result }
     ensures settled { Tells D.Disk disk.old → OnOk result (IsSettled D.Disk disk.new) }
 {
@@ -150,8 +153,8 @@ fn copy<D: Disk>(disk: &mut D, at: BlockNo, shadow: BlockNo) -> Result<(), Troub
     }
 }
 
-/// Makes a draft its object, whose root is at `at`, and whose shadow root is written. The blocks of its own are `taken`, and it
-/// drops these of the object's.
+/// Makes a draft its object, whose root is at `at`, and whose shadow root is written. The blocks of its own are
+/// `taken`, and it drops these of the object's.
 pub(crate) fn carry_out<D: Disk>(
     disk: &mut D,
     known: &mut KnownMaps,

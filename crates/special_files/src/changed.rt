@@ -1,19 +1,15 @@
 //! What a commit takes and drops.
-ghost use Rattle.std.specs.Prelude.{◌≡◌, ◌≢◌, ◌+◌, ◌<◌, ◌≤◌, ◌++◌, ℕ, false, length, slice_index, List, Some, IfErr, OnOk};
+ghost use Rattle.std.specs.Prelude.{◌≡◌, ◌+◌, ◌<◌, ◌≤◌, ◌++◌, false, length, IfErr};
+ghost use Rattle.std.specs.Prelude.{OnOk};
 ghost use Rattle.cfs_base.specs.Calls.{OnlyReads};
 ghost use Rattle.cfs_base.specs.Refusals.{trouble_had_tried};
 ghost use Rattle.cfs_base.specs.Run.{Tells};
-ghost use Rattle.cfs_base.specs.declared.identifier.Puid.{Puid};
 ghost use Rattle.cyl_alloc.specs.Space.{Kept};
-ghost use Rattle.intentions.specs.Store.{StoreHas};
 ghost use Rattle.special_files.specs.Changed as spec;
-ghost use Rattle.special_files.specs.Drafting.{Drafting, IsOpen, opened_as};
+ghost use Rattle.special_files.specs.Drafting.{Drafting, opened_as};
 ghost use Rattle.special_files.specs.Nodes.{IsNear};
 ghost use Rattle.special_files.specs.Refusal.{IsTrouble, is_damage};
-ghost use Rattle.ufs_model.specs.Graph.{Graph, object_at};
-ghost use Rattle.ufs_model.specs.declared.object.Draft as drafts;
-ghost use Rattle.ufs_model.specs.declared.object.Object.{Object};
-ghost use Rattle.vol_owners.specs.Account.{Opened};
+ghost use Rattle.special_files.specs.View.{View};
 
 use crate::blocks::Blocks;
 use crate::node::read_node;
@@ -110,9 +106,9 @@ fn add_changed<D: Disk>(
     add_nodes(disk, at, own, new, taken, dropped)
 }
 
-/// Lists the blocks of a draft's own, but for its shadow root, and the blocks of the object that the draft doesn't have.
-/// The object's root is at the block `at`, `own` is that root, and `root` the one that it is to get. Nothing is written.
-/// `Damaged` names the object's root block or a node, with code 4, where a pointer of it leads past the disk.
+/// Lists the blocks of a draft's own, but for its shadow root, and the blocks of the object that the draft doesn't
+/// have. The object's root is at the block `at`, `own` is that root, and `root` the one that it is to get. Nothing is
+/// written. `Damaged` names the object's root block or a node, with code 4, where a pointer of it leads past the disk.
 pub(crate) fn changed<D: Disk>(
     disk: &mut D,
     at: BlockNo,
@@ -122,18 +118,17 @@ pub(crate) fn changed<D: Disk>(
     dropped: &mut Blocks,
 ) -> Result<(), Trouble>
     requires { 0 < D.blocks disk.old }
-    ensures changed { (graph : Graph) (ds : List Opened) (space : Kept) (id : Puid) (o : Object) (was : Drafting) (d : drafts.Draft)
-        → StoreHas D.Disk graph ds disk.old space → object_at graph id ≡ Some o → IsOpen ds id was d
+    ensures changed { (space : Kept) (was : Drafting) (v : View D.Disk disk.old space was)
         → was.own ≡ own.now → was.root ≡ root.now
-        → OnOk result (spec.IsChanged (D.content disk.old) id (opened_as id was d) taken.new dropped.new) }
+        → OnOk result (spec.IsChanged (D.content disk.old) v.id (opened_as v.id was v.draft) taken.new dropped.new) }
     // On any disk there are no more than a draft has room for, and each is a block of the disk.
     ensures room { OnOk result ((length taken.new ≤ 15480) × (length dropped.new ≤ 15480)) }
-    ensures on_disk { OnOk result (spec.AreOnDisk (D.blocks disk.old) taken.new × spec.AreOnDisk (D.blocks disk.old) dropped.new) }
+    ensures on_disk { OnOk result (spec.AreOnDisk (D.blocks disk.old) taken.new
+        × spec.AreOnDisk (D.blocks disk.old) dropped.new) }
     ensures refused { (kept : Kept) → IfErr result (IsTrouble D.Disk at.0 disk.old disk.new kept) }
     ensures untried { IfErr result (λ trouble. trouble_had_tried trouble ≡ false) }
     // No damage where the disk holds the object.
-    ensures sound { (graph : Graph) (ds : List Opened) (space : Kept) (id : Puid) (o : Object) (was : Drafting) (d : drafts.Draft)
-        → StoreHas D.Disk graph ds disk.old space → object_at graph id ≡ Some o → IsOpen ds id was d
+    ensures sound { (space : Kept) (was : Drafting) (v : View D.Disk disk.old space was)
         → was.own ≡ own.now → was.root ≡ root.now → IfErr result (λ trouble. is_damage trouble ≡ false) }
     ensures reads { OnlyReads D.Disk 240 disk.old disk.new }
 {

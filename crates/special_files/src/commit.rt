@@ -1,18 +1,13 @@
 //! A draft committed.
-ghost use Rattle.std.specs.Prelude.{◌≡◌, ◌≢◌, ◌<◌, ◌+◌, ◌*◌, ℕ, List, false, length, Option, Some, IfErr};
+ghost use Rattle.std.specs.Prelude.{◌≡◌, ◌≢◌, ◌<◌, ◌+◌, ◌*◌, ℕ, false, length, Option, Some, IfErr};
 ghost use Rattle.std.specs.List.{All};
 ghost use Rattle.cfs_base.specs.Calls.{HasTried, MakesAtMost};
-ghost use Rattle.cfs_base.specs.declared.identifier.Puid.{Puid};
 ghost use Rattle.cfs_base.specs.declared.refusal.Refused.TheVariants as refused;
 ghost use Rattle.cfs_base.specs.declared.refusal.Trouble.TheVariants as troubles;
-ghost use Rattle.intentions.specs.Store.{StoreHas};
 ghost use Rattle.special_files.specs.Committing as spec;
-ghost use Rattle.special_files.specs.Drafting.{Drafting, IsOpen, number_of};
+ghost use Rattle.special_files.specs.Drafting.{Drafting, number_of};
 ghost use Rattle.special_files.specs.Refusal.{IsTrouble};
-ghost use Rattle.ufs_model.specs.Graph.{Graph, object_at};
-ghost use Rattle.ufs_model.specs.declared.object.Draft as drafts;
-ghost use Rattle.ufs_model.specs.declared.object.Object.{Object};
-ghost use Rattle.vol_owners.specs.Account.{Opened};
+ghost use Rattle.special_files.specs.View.{View};
 
 use crate::blocks::Blocks;
 use crate::carry::carry_out;
@@ -72,11 +67,10 @@ pub(crate) fn commit_begun<D: Disk>(
     requires size { D.blocks disk.old ≡ 64 * length space.old.free }
     requires shadow_on_disk { shadow.0 < D.blocks disk.old }
     requires created_on_disk { (n : ℕ) → number_of created ≡ Some n → n < D.blocks disk.old }
-    ensures commits { (graph : Graph) (ds : List Opened) (id : Puid) (o : Object) (was : Drafting) (d : drafts.Draft)
-        (made : Option spec.Making) → StoreHas D.Disk graph ds disk.old space.old → object_at graph id ≡ Some o
-        → IsOpen ds id was d → spec.AreParts was at.0 (Some shadow.0) own.now root.now (number_of created)
+    ensures commits { (was : Drafting) (v : View D.Disk disk.old space.old was) (made : Option spec.Making)
+        → spec.AreParts was at.0 (Some shadow.0) own.now root.now (number_of created)
         → spec.Makes (D.content disk.old) (number_of created) made
-        → spec.CommitEnds D.Disk graph ds id d.object made disk.old disk.new space.new result }
+        → spec.CommitEnds D.Disk v.graph v.ds v.id v.draft.object made disk.old disk.new space.new result }
     ensures refused { IfErr result (IsTrouble D.Disk at.0 disk.old disk.new space.new) }
     ensures made { HasTried D.Disk disk.old disk.new }
     // No device call comes before the first try.

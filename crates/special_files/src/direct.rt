@@ -1,23 +1,19 @@
 //! A draft committed that has no shadow root yet.
-ghost use Rattle.std.specs.Prelude.{◌≡◌, ◌≢◌, ◌<◌, ◌≤◌, ◌+◌, ◌*◌, ℕ, List, false, length, sum, Option, None, Some, IfErr, OnOk};
+ghost use Rattle.std.specs.Prelude.{◌≡◌, ◌≢◌, ◌<◌, ◌≤◌, ◌+◌, ◌*◌, ℕ, false, length, sum, Option, None, Some};
+ghost use Rattle.std.specs.Prelude.{IfErr, OnOk};
 ghost use Rattle.std.specs.List.{All};
 ghost use Rattle.cfs_base.specs.Calls.{HasTried, MakesAtMost, OnlyReads};
 ghost use Rattle.cfs_base.specs.Refusals.{refused_by};
-ghost use Rattle.cfs_base.specs.declared.identifier.Puid.{Puid};
 ghost use Rattle.cfs_base.specs.declared.kind.Place.TheVariants.{ShadowRoot};
 ghost use Rattle.cfs_base.specs.declared.refusal.Refused.TheVariants as refused;
 ghost use Rattle.cfs_base.specs.declared.refusal.Trouble.TheVariants as troubles;
 ghost use Rattle.cyl_alloc.specs.Enters.{Enters};
 ghost use Rattle.cyl_alloc.specs.Space.{intended};
-ghost use Rattle.intentions.specs.Store.{StoreHas};
 ghost use Rattle.special_files.specs.Changed.{IsChanged};
 ghost use Rattle.special_files.specs.Committing as spec;
-ghost use Rattle.special_files.specs.Drafting.{Drafting, IsOpen, number_of, opened_as};
+ghost use Rattle.special_files.specs.Drafting.{Drafting, number_of, opened_as};
 ghost use Rattle.special_files.specs.Refusal.{IsTrouble, is_full};
-ghost use Rattle.ufs_model.specs.Graph.{Graph, object_at};
-ghost use Rattle.ufs_model.specs.declared.object.Draft as drafts;
-ghost use Rattle.ufs_model.specs.declared.object.Object.{Object};
-ghost use Rattle.vol_owners.specs.Account.{Opened};
+ghost use Rattle.special_files.specs.View.{View};
 
 use crate::blocks::Blocks;
 use crate::changed::changed;
@@ -46,7 +42,8 @@ fn claim_shadow<D: Disk>(disk: &mut D, space: &mut Space, at: BlockNo) -> Result
     requires some { at.0 ≢ 0 }
     requires size { D.blocks disk.old ≡ 64 * length space.old.free }
     requires room { 1 ≤ sum space.old.free }
-    ensures enters { Enters D.Disk (intended ShadowRoot at.0) disk.old disk.new space.old space.new (spec.as_refused result) }
+    ensures enters { Enters D.Disk (intended ShadowRoot at.0) disk.old disk.new space.old space.new
+        (spec.as_refused result) }
 {
     match space.intend(disk, Place::ShadowRoot, at.0) {
         Ok(block) => Ok(block),
@@ -54,8 +51,8 @@ fn claim_shadow<D: Disk>(disk: &mut D, space: &mut Space, at: BlockNo) -> Result
     }
 }
 
-/// Commits a draft of these parts, which takes and drops these blocks: its shadow root is claimed and written, and then all
-/// is carried out.
+/// Commits a draft of these parts, which takes and drops these blocks: its shadow root is claimed and written, and then
+/// all is carried out.
 pub(crate) fn commit_listed<D: Disk>(
     disk: &mut D,
     space: &mut Space,
@@ -72,15 +69,15 @@ pub(crate) fn commit_listed<D: Disk>(
     requires taken_on_disk { All (λ n. n < D.blocks disk.old) taken.now }
     requires dropped_on_disk { All (λ n. n < D.blocks disk.old) dropped.now }
     requires created_on_disk { (n : ℕ) → number_of created ≡ Some n → n < D.blocks disk.old }
-    ensures commits { (graph : Graph) (ds : List Opened) (id : Puid) (o : Object) (was : Drafting) (d : drafts.Draft)
-        (made : Option spec.Making) → StoreHas D.Disk graph ds disk.old space.old → object_at graph id ≡ Some o
-        → IsOpen ds id was d → spec.AreParts was at.0 None was.own root.now (number_of created)
+    ensures commits { (was : Drafting) (v : View D.Disk disk.old space.old was) (made : Option spec.Making)
+        → spec.AreParts was at.0 None was.own root.now (number_of created)
         → spec.Makes (D.content disk.old) (number_of created) made
-        → IsChanged (D.content disk.old) id (opened_as id was d) taken.now dropped.now
-        → spec.CommitEnds D.Disk graph ds id d.object made disk.old disk.new space.new result }
+        → IsChanged (D.content disk.old) v.id (opened_as v.id was v.draft) taken.now dropped.now
+        → spec.CommitEnds D.Disk v.graph v.ds v.id v.draft.object made disk.old disk.new space.new result }
     ensures refused { IfErr result (IsTrouble D.Disk at.0 disk.old disk.new space.new) }
     ensures made { OnOk result (HasTried D.Disk disk.old disk.new) }
-    ensures untried { IfErr result (λ t. t ≡ troubles.Disk false → (space.new ≡ space.old) × OnlyReads D.Disk 1 disk.old disk.new) }
+    ensures untried { IfErr result (λ t. t ≡ troubles.Disk false
+        → (space.new ≡ space.old) × OnlyReads D.Disk 1 disk.old disk.new) }
     ensures cylinders { length space.new.free ≡ length space.old.free }
     ensures calls { MakesAtMost D.Disk (2 * length taken.now + 4 * length dropped.now + 18)
         (length taken.now + 2 * length dropped.now + 12) disk.old disk.new }
@@ -112,14 +109,14 @@ pub(crate) fn commit_direct<D: Disk>(
     requires size { D.blocks disk.old ≡ 64 * length space.old.free }
     requires room { 1 ≤ sum space.old.free }
     requires created_on_disk { (n : ℕ) → number_of created ≡ Some n → n < D.blocks disk.old }
-    ensures commits { (graph : Graph) (ds : List Opened) (id : Puid) (o : Object) (was : Drafting) (d : drafts.Draft)
-        (made : Option spec.Making) → StoreHas D.Disk graph ds disk.old space.old → object_at graph id ≡ Some o
-        → IsOpen ds id was d → spec.AreParts was at.0 None own.now root.now (number_of created)
+    ensures commits { (was : Drafting) (v : View D.Disk disk.old space.old was) (made : Option spec.Making)
+        → spec.AreParts was at.0 None own.now root.now (number_of created)
         → spec.Makes (D.content disk.old) (number_of created) made
-        → spec.CommitEnds D.Disk graph ds id d.object made disk.old disk.new space.new result }
+        → spec.CommitEnds D.Disk v.graph v.ds v.id v.draft.object made disk.old disk.new space.new result }
     ensures refused { IfErr result (IsTrouble D.Disk at.0 disk.old disk.new space.new) }
     ensures made { OnOk result (HasTried D.Disk disk.old disk.new) }
-    ensures untried { IfErr result (λ t. t ≡ troubles.Disk false → (space.new ≡ space.old) × OnlyReads D.Disk 241 disk.old disk.new) }
+    ensures untried { IfErr result (λ t. t ≡ troubles.Disk false
+        → (space.new ≡ space.old) × OnlyReads D.Disk 241 disk.old disk.new) }
     ensures cylinders { length space.new.free ≡ length space.old.free }
     ensures calls { MakesAtMost D.Disk 93138 46452 disk.old disk.new }
 {

@@ -1,12 +1,10 @@
 //! The draft of an object.
-ghost use Rattle.std.specs.Prelude.{◌≡◌, ◌+◌, ◌<◌, ◌≤◌, ℕ, List, true, false, length, sum, IfErr, OnOk};
+ghost use Rattle.std.specs.Prelude.{◌≡◌, ◌+◌, ◌<◌, ◌≤◌, ℕ, List, true, false, length, sum, IfErr, OnOk, is_some};
 ghost use Rattle.std.specs.List.{sum_by};
 ghost use Rattle.cfs_base.specs.declared.identifier.Puid.{Puid};
 ghost use Rattle.cfs_base.specs.declared.refusal.Refused.TheVariants as refused;
-ghost use Rattle.special_files.specs.Drafting.{IsOpen, shadow_count, shadow_need};
-ghost use Rattle.special_files.specs.Drafting.{is_fresh_leaf, is_fresh_node};
+ghost use Rattle.special_files.specs.Drafting.{IsOpen, shadow_count, shadow_need, is_fresh_leaf, is_fresh_node};
 ghost use Rattle.special_files.specs.Refusal.{told_after};
-ghost use Rattle.std.specs.Prelude.{is_some};
 ghost use Rattle.ufs_model.specs.declared.object.Draft as drafts;
 ghost use Rattle.vol_owners.specs.Account.{Opened};
 
@@ -17,8 +15,8 @@ use cfs_base::{BlockNo, Need, Refused};
 use cyl_alloc::Space;
 use std::marker::Model;
 
-/// A changed object beside the one that stands. It has a shadow root, and of the leaves and nodes those that were written
-/// since it was begun; all others are the object's own.
+/// A changed object beside the one that stands. It has a shadow root, and of the leaves and nodes those that were
+/// written since it was begun; all others are the object's own.
 #[derive(Debug, Drop)]
 pub struct Draft {
     pub(crate) at: BlockNo,
@@ -44,7 +42,15 @@ impl Model for Draft {
 
     ghost Value = { Drafting };
 
-    ghost view = { λ a. record { at = a.at.0; shadow = number_of a.shadow; own = a.own; root = a.root; leaves = a.leaves; nodes = a.nodes; created = number_of a.created } };
+    ghost view = { λ a. record {
+      at = a.at.0;
+      shadow = number_of a.shadow;
+      own = a.own;
+      root = a.root;
+      leaves = a.leaves;
+      nodes = a.nodes;
+      created = number_of a.created;
+    } };
 
     ghost invariant = { λ a. (a.at.0 ≢ 0) × (length a.leaves ≡ 15360) × (length a.nodes ≡ 120)
         × (a.root.size ≤ 7864320) };

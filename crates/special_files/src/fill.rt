@@ -1,5 +1,6 @@
 //! A slot of an index filled or emptied in a draft.
-ghost use Rattle.std.specs.Prelude.{◌≡◌, ◌+◌, ◌*◌, ◌/◌, ◌<◌, ◌≤◌, ◌&&◌, ℕ, true, false, is_none, is_some, length, sum, List, None, Some, IfErr, IfOk, IfSome, OnOk};
+ghost use Rattle.std.specs.Prelude.{◌≡◌, ◌+◌, ◌*◌, ◌/◌, ◌<◌, ◌≤◌, ◌&&◌, ℕ, true, false, is_none, is_some, length, sum};
+ghost use Rattle.std.specs.Prelude.{List, None, Some, IfErr, IfOk, IfSome, OnOk};
 ghost use Rattle.block_tree.specs.Root.{root_spelling};
 ghost use Rattle.cfs_base.specs.Calls.{HasTried, OnlyReads};
 ghost use Rattle.cfs_base.specs.Run.{Leaves};
@@ -50,9 +51,9 @@ fn is_empty_already(content: &Block, slot: usize, what: Option<Puid>) -> bool
 }
 
 impl Draft {
-    /// Puts an identifier into a slot of an index, or empties the slot, and answers what was put: the slot's leaf alone is
-    /// read, and put with this in it. `None` where the slot is empty and is to be: nothing is done then. Has no floor, and
-    /// never answers `Memory`.
+    /// Puts an identifier into a slot of an index, or empties the slot, and answers what was put: the slot's leaf alone
+    /// is read, and put with this in it. `None` where the slot is empty and is to be: nothing is done then. Has no
+    /// floor, and never answers `Memory`.
     pub fn fill<D: Disk>(
         &mut self,
         disk: &mut D,
@@ -73,8 +74,10 @@ impl Draft {
         ensures order { (graph : Graph) (ds : List Opened) (id : Puid) (o : Object) (d : drafts.Draft) (i : Index)
             → StoreHas D.Disk graph ds disk.old space.old → object_at graph id ≡ Some o → IsOpen ds id self.old d
             → d.object ≡ objects.Index i → IfOk result (λ put. is_some put ≡ true
-            → AreClaimed (leaf_claims self.old.at self.old.leaves self.old.nodes (slot / 64)) (D.content disk.old) (D.content disk.new)) }
-        // Where the draft was its object its commit takes the leaf and its node that are put, and drops those that stood.
+            → AreClaimed (leaf_claims self.old.at self.old.leaves self.old.nodes (slot / 64)) (D.content disk.old)
+            (D.content disk.new)) }
+        // Where the draft was its object its commit takes the leaf and its node that are put, and drops those that
+        // stood.
         ensures swaps { (graph : Graph) (ds : List Opened) (id : Puid) (o : Object) (d : drafts.Draft) (i : Index)
             → StoreHas D.Disk graph ds disk.old space.old → object_at graph id ≡ Some o → IsOpen ds id self.old d
             → d.object ≡ objects.Index i → self.old.root ≡ self.old.own → IfOk result (λ put.
@@ -85,12 +88,14 @@ impl Draft {
         ensures beside { (graph : Graph) (ds : List Opened) (id : Puid) (o : Object) (d : drafts.Draft) (i : Index)
             → StoreHas D.Disk graph ds disk.old space.old → object_at graph id ≡ Some o → IsOpen ds id self.old d
             → d.object ≡ objects.Index i → OnOk result (SameBeside (slot / 64)
-            (tree_in (D.content disk.old) (root_spelling self.old.root)) (tree_in (D.content disk.new) (root_spelling self.new.root))) }
+            (tree_in (D.content disk.old) (root_spelling self.old.root))
+            (tree_in (D.content disk.new) (root_spelling self.new.root))) }
         ensures leaves { (graph : Graph) (ds : List Opened) (id : Puid) (o : Object) (d : drafts.Draft)
             → StoreHas D.Disk graph ds disk.old space.old → object_at graph id ≡ Some o → IsOpen ds id self.old d
             → Leaves D.Disk disk.old disk.new (λ c. Holds c graph) }
         ensures stays { StaysBut self.old self.new }
-        ensures ends { Ends D.Disk self.old.at 0 8 4 (leaf_takes self.old (slot / 64)) disk.old disk.new space.old space.new result }
+        ensures ends { Ends D.Disk self.old.at 0 8 4 (leaf_takes self.old (slot / 64))
+            disk.old disk.new space.old space.new result }
         ensures done { IfOk result (λ put. is_some put ≡ true → HasTried D.Disk disk.old disk.new) }
         ensures spared { IfOk result (λ put. put ≡ None
             → (self.new ≡ self.old) × (space.new ≡ space.old) × OnlyReads D.Disk 2 disk.old disk.new) }

@@ -1,5 +1,6 @@
 //! One flag for each leaf, or each node.
-ghost use Rattle.std.specs.Prelude.{◌≡◌, ◌-◌, ◌<◌, ◌≤◌, ◌+◌, ◌++◌, ℕ, false, count_by, get_or, length, replicate, set, IfOk};
+ghost use Rattle.std.specs.Prelude.{◌≡◌, ◌-◌, ◌<◌, ◌≤◌, ◌+◌, ◌++◌, ℕ, false, count_by, get_or, length, replicate, set};
+ghost use Rattle.std.specs.Prelude.{IfOk};
 ghost use Rattle.std.specs.Vec.{vec_capacity};
 ghost use Rattle.special_files.specs.Drafting as spec;
 
@@ -24,7 +25,8 @@ impl Model for Flags {
 
     ghost view = { λ a. a.items.items ++ replicate (a.len - length a.items.items) false };
 
-    ghost invariant = { λ a. (a.count ≡ count_by (λ b. b) a.items.items) × (length a.items.items ≤ a.len) × (a.len ≤ 15360)
+    ghost invariant = { λ a. (a.count ≡ count_by (λ b. b) a.items.items) × (length a.items.items ≤ a.len)
+        × (a.len ≤ 15360)
         × (a.len ≤ vec_capacity a.items) };
 }
 

@@ -1,24 +1,12 @@
 //! One leaf put into a draft.
-ghost use Rattle.std.specs.Prelude.{◌≡◌, ◌≢◌, ℕ, ◌+◌, ◌*◌, ◌/◌, ◌^◌, ◌<◌, ◌≤◌, false, length, sum, List, Some, IfErr, OnOk};
-ghost use Rattle.cfs_base.specs.Calls.{HasTried};
-ghost use Rattle.cfs_base.specs.Run.{Leaves};
-ghost use Rattle.cfs_base.specs.declared.identifier.Puid.{Puid};
-ghost use Rattle.cfs_base.specs.declared.refusal.Refused.TheVariants as refused;
+ghost use Rattle.std.specs.Prelude.{◌≡◌, ◌≢◌, ℕ, ◌*◌, ◌/◌, ◌^◌, ◌<◌, length};
 ghost use Rattle.cyl_alloc.specs.Enters.{Enters};
 ghost use Rattle.cyl_alloc.specs.Space.{intended};
 ghost use Rattle.cyl_map.specs.Entry.{IsEntry};
-ghost use Rattle.intentions.specs.Store.{StoreHas};
 ghost use Rattle.special_files.specs.Calls as spec;
-ghost use Rattle.special_files.specs.Drafting.{IsOpen, leaf_takes};
-ghost use Rattle.special_files.specs.Ends.{Ends};
 ghost use Rattle.special_files.specs.Nodes.{IsRead, IsSafe};
-ghost use Rattle.special_files.specs.Puts.{FitsLeaf, PutsLeaf, StaysBut};
-ghost use Rattle.special_files.specs.Refusal.{is_damaged, is_full};
-ghost use Rattle.ufs_model.specs.Graph.{Graph, object_at};
-ghost use Rattle.ufs_model.specs.declared.object.Draft as drafts;
-ghost use Rattle.ufs_model.specs.declared.object.Object.{Object};
-ghost use Rattle.vol_image.specs.Sound.{Holds};
-ghost use Rattle.vol_owners.specs.Account.{Opened};
+ghost use Rattle.special_files.specs.Puts.{FitsLeaf, LeafCall, PutsLeaf, StaysBut};
+ghost use Rattle.special_files.specs.View.{Goes, View};
 
 use crate::draft::Draft;
 use crate::node::NodeRead;
@@ -72,8 +60,8 @@ impl Draft {
         self.claim(disk, space, Place::Node(node as u16))
     }
 
-    /// Puts a leaf of this content into the draft. Where the draft has no leaf of its own one is claimed, and after it its
-    /// node, where that needs one. The leaf's node was read, and is as it is then afterwards.
+    /// Puts a leaf of this content into the draft. Where the draft has no leaf of its own one is claimed, and after it
+    /// its node, where that needs one. The leaf's node was read, and is as it is then afterwards.
     pub(crate) fn put_leaf<D: Disk>(
         &mut self,
         disk: &mut D,
@@ -86,25 +74,11 @@ impl Draft {
         requires below { leaf < 15360 }
         requires read { read.old.number ≡ leaf / 128 }
         requires safe { IsSafe (D.blocks disk.old) self.old read.old }
-        ensures put { (graph : Graph) (ds : List Opened) (id : Puid) (o : Object) (d : drafts.Draft)
-            → StoreHas D.Disk graph ds disk.old space.old → object_at graph id ≡ Some o → IsOpen ds id self.old d
-            → IsRead (D.content disk.old) self.old read.old → FitsLeaf self.old.root leaf content.now
-            → OnOk result (PutsLeaf D.Disk graph ds id leaf content.now disk.old disk.new space.new self.old self.new read.new) }
-        ensures leaves { (graph : Graph) (ds : List Opened) (id : Puid) (o : Object) (d : drafts.Draft)
-            → StoreHas D.Disk graph ds disk.old space.old → object_at graph id ≡ Some o → IsOpen ds id self.old d
-            → IsRead (D.content disk.old) self.old read.old → Leaves D.Disk disk.old disk.new (λ c. Holds c graph) }
-        ensures stays { StaysBut self.old self.new }
-        ensures flags { OnOk result (spec.SetsFlags leaf self.old self.new) }
-        ensures number { read.new.number ≡ leaf / 128 }
-        ensures safe { OnOk result (IsSafe (D.blocks disk.new) self.new read.new) }
-        ensures ends { Ends D.Disk self.old.at 0 6 4 (leaf_takes self.old leaf) disk.old disk.new space.old space.new result }
-        ensures tried { OnOk result (HasTried D.Disk disk.old disk.new) }
-        // Where nothing was tried yet the draft is as it was.
-        ensures kept { IfErr result (λ e. e ≡ refused.Disk false → self.new ≡ self.old) }
-        ensures room { leaf_takes self.old leaf ≤ sum space.old.free → IfErr result (λ e. is_full e ≡ false) }
-        ensures sound { (graph : Graph) (ds : List Opened) (id : Puid) (o : Object) (d : drafts.Draft)
-            → StoreHas D.Disk graph ds disk.old space.old → object_at graph id ≡ Some o → IsOpen ds id self.old d
-            → IsRead (D.content disk.old) self.old read.old → IfErr result (λ e. is_damaged e ≡ false) }
+        ensures goes { (v : View D.Disk disk.old space.old self.old) → IsRead (D.content disk.old) self.old read.old
+            → FitsLeaf self.old.root leaf content.now → Goes D.Disk v.graph
+            (PutsLeaf D.Disk v.graph v.ds v.id leaf content.now
+            disk.old disk.new space.new self.old self.new read.new) disk.old disk.new result }
+        ensures calls { LeafCall D.Disk 6 leaf disk.old disk.new space.old space.new self.old self.new read.new result }
     {
         let place = (leaf % 128) as usize;
         if self.has_fresh_leaf(leaf) {

@@ -1,23 +1,19 @@
 //! The blocks of a draft's own that become Free where leaves are dropped.
-ghost use Rattle.std.specs.Prelude.{◌≡◌, ◌≢◌, ◌+◌, ◌-◌, ◌*◌, ◌/◌, ◌<◌, ◌≤◌, ◌==◌, ◌++◌, if◌then◌else◌, ℕ, IsTrue, false, [], get_or, length, slice_index, List, Ok, Some, IfErr, IfOk, OnOk};
+ghost use Rattle.std.specs.Prelude.{◌≡◌, ◌+◌, ◌-◌, ◌*◌, ◌/◌, ◌<◌, ◌≤◌, ◌==◌, ◌++◌, if◌then◌else◌, ℕ, IsTrue, false, []};
+ghost use Rattle.std.specs.Prelude.{get_or, length, slice_index, Ok, IfErr, IfOk, OnOk};
 ghost use Rattle.std.specs.List.{All};
 ghost use Rattle.cfs_base.specs.Calls.{OnlyReads};
 ghost use Rattle.cfs_base.specs.Refusals.{trouble_after_try, trouble_had_tried};
 ghost use Rattle.cfs_base.specs.Run.{Tells};
-ghost use Rattle.cfs_base.specs.declared.identifier.Puid.{Puid};
 ghost use Rattle.cfs_base.specs.declared.refusal.Trouble.TheVariants as trouble;
 ghost use Rattle.cyl_alloc.specs.Space.{Kept};
-ghost use Rattle.intentions.specs.Store.{StoreHas};
 ghost use Rattle.intentions.specs.declared.change.Change.TheVariants.{Undo};
 ghost use Rattle.special_files.specs.Committing.{Flips, flips};
-ghost use Rattle.special_files.specs.Drafting.{Drafting, IsOpen, opened_as};
-ghost use Rattle.special_files.specs.Nodes.{IsNear, IsRead, IsSafe, leaves_at};
+ghost use Rattle.special_files.specs.Drafting.{Drafting, opened_as};
+ghost use Rattle.special_files.specs.Nodes.{IsNear, leaves_at};
 ghost use Rattle.special_files.specs.Refusal.{IsTrouble, is_damage};
 ghost use Rattle.special_files.specs.Shed as spec;
-ghost use Rattle.ufs_model.specs.Graph.{Graph, object_at};
-ghost use Rattle.ufs_model.specs.declared.object.Draft as drafts;
-ghost use Rattle.ufs_model.specs.declared.object.Object.{Object};
-ghost use Rattle.vol_owners.specs.Account.{Opened};
+ghost use Rattle.special_files.specs.View.{View};
 
 use crate::blocks::Blocks;
 use crate::flags::Flags;
@@ -100,20 +96,19 @@ pub(crate) fn list_from<D: Disk>(
     requires node_flags { length nodes.now ≡ 120 }
     requires limit { from ≤ 15360 }
     requires safe { spec.IsSafeIn (D.blocks disk.old) root.now read.now }
-    ensures listed { (graph : Graph) (ds : List Opened) (space : Kept) (id : Puid) (o : Object) (was : Drafting) (d : drafts.Draft)
-        → StoreHas D.Disk graph ds disk.old space → object_at graph id ≡ Some o → IsOpen ds id was d
+    ensures listed { (space : Kept) (was : Drafting) (v : View D.Disk disk.old space was)
         → spec.HasParts was root.now leaves.now nodes.now → spec.IsReadIn (D.content disk.old) root.now read.now
-        → OnOk result (spec.AreShed (D.content disk.old) id (opened_as id was d) from list.new) }
+        → OnOk result (spec.AreShed (D.content disk.old) v.id (opened_as v.id was v.draft) from list.new) }
     // On any disk there are no more than a draft has room for, and each is a block of the disk.
     ensures room { OnOk result (length list.new ≤ 15480) }
     ensures on_disk { OnOk result (All (λ n. n < D.blocks disk.old) list.new) }
     ensures refused { (kept : Kept) → IfErr result (IsTrouble D.Disk at.0 disk.old disk.new kept) }
     ensures untried { IfErr result (λ trouble. trouble_had_tried trouble ≡ false) }
-    ensures sound { (graph : Graph) (ds : List Opened) (space : Kept) (id : Puid) (o : Object) (was : Drafting) (d : drafts.Draft)
-        → StoreHas D.Disk graph ds disk.old space → object_at graph id ≡ Some o → IsOpen ds id was d
+    ensures sound { (space : Kept) (was : Drafting) (v : View D.Disk disk.old space was)
         → spec.HasParts was root.now leaves.now nodes.now → IfErr result (λ trouble. is_damage trouble ≡ false) }
     // Where no node is fresh there is none, and nothing is read.
-    ensures none { ((n : ℕ) → get_or nodes.now n false ≡ false) → (result ≡ Ok tt) × (list.new ≡ []) × (disk.new ≡ disk.old) }
+    ensures none { ((n : ℕ) → get_or nodes.now n false ≡ false)
+        → (result ≡ Ok tt) × (list.new ≡ []) × (disk.new ≡ disk.old) }
     ensures reads { OnlyReads D.Disk 120 disk.old disk.new }
 {
     list.clear();

@@ -1,5 +1,5 @@
 //! Nodes and leaves of a draft that are read.
-ghost use Rattle.std.specs.Prelude.{◌≡◌, ◌≢◌, ◌<◌, ◌≤◌, ◌/◌, ℕ, false, replicate, IfErr, IfOk, OnOk};
+ghost use Rattle.std.specs.Prelude.{◌≡◌, ◌<◌, false, replicate, IfErr, IfOk, OnOk};
 ghost use Rattle.std.specs.List.{All};
 ghost use Rattle.block_tree.specs.Tree.{bytes_in};
 ghost use Rattle.cfs_base.specs.Calls.{OnlyReads};
@@ -7,7 +7,6 @@ ghost use Rattle.cfs_base.specs.Refusals.{trouble_had_tried};
 ghost use Rattle.cfs_base.specs.Run.{Tells};
 ghost use Rattle.cyl_alloc.specs.Space.{Kept};
 ghost use Rattle.intentions.specs.Calls.{HasStoppedBy};
-ghost use Rattle.special_files.specs.Drafting.{node_of};
 ghost use Rattle.special_files.specs.Nodes as spec;
 ghost use Rattle.special_files.specs.Refusal.{IsTrouble, is_damage};
 
@@ -41,11 +40,12 @@ impl NodeRead {
     }
 }
 
-/// Reads the node at a block, to which this holder points. Where it is 0 the node is absent. `Damaged` names the holder,
-/// with code 4, where the node lies past the disk, and the node where one of its leaves does.
+/// Reads the node at a block, to which this holder points. Where it is 0 the node is absent. `Damaged` names the
+/// holder, with code 4, where the node lies past the disk, and the node where one of its leaves does.
 pub(crate) fn read_node<D: Disk>(disk: &mut D, block: u32, holder: BlockNo) -> Result<Node, Trouble>
     requires { 0 < D.blocks disk.old }
-    ensures node { Tells D.Disk disk.old → IfOk result (λ node. node.leaves ≡ spec.leaves_at (D.content disk.old) block) }
+    ensures node { Tells D.Disk disk.old → IfOk result
+        (λ node. node.leaves ≡ spec.leaves_at (D.content disk.old) block) }
     ensures there { OnOk result (block < D.blocks disk.old) }
     ensures leaves { IfOk result (λ node. All (λ leaf. leaf < D.blocks disk.old) node.leaves) }
     ensures refused { (kept : Kept) → IfErr result (IsTrouble D.Disk holder.0 disk.old disk.new kept) }
@@ -83,7 +83,8 @@ pub(crate) fn read_node<D: Disk>(disk: &mut D, block: u32, holder: BlockNo) -> R
 /// Reads a leaf, which is fill bytes where its block is 0.
 pub(crate) fn read_block<D: Disk>(disk: &mut D, block: u32, fill: u8) -> Result<Block, Trouble>
     requires { block < D.blocks disk.old }
-    ensures content { Tells D.Disk disk.old → IfOk result (λ content. content ≡ bytes_in (D.content disk.old) fill block) }
+    ensures content { Tells D.Disk disk.old → IfOk result (λ content.
+        content ≡ bytes_in (D.content disk.old) fill block) }
     ensures refused { IfErr result (HasStoppedBy D.Disk disk.old disk.new) }
     ensures untried { IfErr result (λ trouble. trouble_had_tried trouble ≡ false) }
     ensures reads { OnlyReads D.Disk 1 disk.old disk.new }
@@ -109,18 +110,9 @@ impl Draft {
         requires below { number < 120 }
         requires some { 0 < D.blocks disk.old }
         requires safe { spec.IsSafe (D.blocks disk.old) self.now read.old }
-        ensures node { Tells D.Disk disk.old → spec.IsRead (D.content disk.old) self.now read.old
-            → OnOk result (spec.IsRead (D.content disk.old) self.now read.new) }
-        ensures safe { OnOk result (spec.IsSafe (D.blocks disk.old) self.now read.new) }
-        ensures number { OnOk result (read.new.number ≡ number) }
+        ensures turns { spec.TurnsTo D.Disk self.now number 1 disk.old disk.new read.old read.new result }
         // The node that was read last is not read again.
         ensures again { read.old.number ≡ number → disk.new ≡ disk.old }
-        ensures refused { (kept : Kept) → IfErr result (IsTrouble D.Disk self.now.at disk.old disk.new kept) }
-        ensures untried { IfErr result (λ trouble. trouble_had_tried trouble ≡ false) }
-        ensures sound { Tells D.Disk disk.old
-            → spec.IsNear (D.blocks disk.old) (D.content disk.old) (node_of self.now.root number)
-            → IfErr result (λ trouble. is_damage trouble ≡ false) }
-        ensures reads { OnlyReads D.Disk 1 disk.old disk.new }
     {
         if read.number == number {
             return Ok(());

@@ -1,16 +1,16 @@
 //! A draft that is read.
-ghost use Rattle.std.specs.Prelude.{◌≡◌, ◌+◌, ◌-◌, ◌*◌, ◌/◌, ◌<◌, ◌≤◌, ℕ, false, length, slice_range, List, Some, IfErr, IfOk, OnOk};
-ghost use Rattle.block_tree.specs.Root.{Fits};
+ghost use Rattle.std.specs.Prelude.{◌≡◌, ◌+◌, ◌-◌, ◌*◌, ◌/◌, ◌<◌, ◌≤◌, false, length, slice_range, List, Some, IfErr};
+ghost use Rattle.std.specs.Prelude.{IfOk, OnOk};
 ghost use Rattle.cfs_base.specs.Calls.{OnlyReads};
 ghost use Rattle.cfs_base.specs.Refusals.{trouble_had_tried};
-ghost use Rattle.cfs_base.specs.Run.{Tells};
 ghost use Rattle.cfs_base.specs.declared.identifier.Puid.{Puid};
 ghost use Rattle.cyl_alloc.specs.Space.{Kept};
 ghost use Rattle.intentions.specs.Store.{StoreHas};
-ghost use Rattle.special_files.specs.Drafting.{IsOpen, node_of};
+ghost use Rattle.special_files.specs.Drafting.{IsOpen};
 ghost use Rattle.special_files.specs.Leaves.{leaves_of};
-ghost use Rattle.special_files.specs.Nodes.{IsNear, IsRead, IsSafe};
+ghost use Rattle.special_files.specs.Nodes.{IsRead, IsSafe, TurnsTo};
 ghost use Rattle.special_files.specs.Refusal.{IsTrouble, is_damage};
+ghost use Rattle.special_files.specs.View.{View};
 ghost use Rattle.ufs_model.specs.Graph.{Graph, object_at};
 ghost use Rattle.ufs_model.specs.Object as spec;
 ghost use Rattle.ufs_model.specs.declared.object.Draft as drafts;
@@ -45,18 +45,11 @@ impl Draft {
         requires below { leaf < 15360 }
         requires some { 0 < D.blocks disk.old }
         requires safe { IsSafe (D.blocks disk.old) self.now read.old }
-        ensures bytes { Tells D.Disk disk.old → Fits self.now.root → IsRead (D.content disk.old) self.now read.old
-            → IfOk result (λ content. content ≡ leaf_content self.now.root.fill (leaves_of (D.content disk.old) self.now.root leaf)) }
-        ensures node { Tells D.Disk disk.old → IsRead (D.content disk.old) self.now read.old
-            → OnOk result (IsRead (D.content disk.old) self.now read.new) }
-        ensures safe { OnOk result (IsSafe (D.blocks disk.old) self.now read.new) }
-        ensures number { OnOk result (read.new.number ≡ leaf / 128) }
-        ensures refused { (kept : Kept) → IfErr result (IsTrouble D.Disk self.now.at disk.old disk.new kept) }
-        ensures untried { IfErr result (λ trouble. trouble_had_tried trouble ≡ false) }
-        ensures sound { Tells D.Disk disk.old
-            → IsNear (D.blocks disk.old) (D.content disk.old) (node_of self.now.root (leaf / 128))
-            → IfErr result (λ trouble. is_damage trouble ≡ false) }
-        ensures reads { OnlyReads D.Disk 2 disk.old disk.new }
+        ensures bytes { (kept : Kept) (v : View D.Disk disk.old kept self.now)
+            → IsRead (D.content disk.old) self.now read.old
+            → IfOk result (λ content. content ≡ leaf_content self.now.root.fill
+            (leaves_of (D.content disk.old) self.now.root leaf)) }
+        ensures turns { TurnsTo D.Disk self.now (leaf / 128) 2 disk.old disk.new read.old read.new result }
     {
         match self.turn_to(disk, read, leaf / 128) {
             Ok(()) => {}
@@ -69,13 +62,14 @@ impl Draft {
         )
     }
 
-    /// Reads a part of a file, from an offset in bytes on. `Damaged` names the root block, or a node, with code 4, where a
-    /// pointer of it leads past the disk.
+    /// Reads a part of a file, from an offset in bytes on. `Damaged` names the root block, or a node, with code 4,
+    /// where a pointer of it leads past the disk.
     pub fn read<D: Disk>(&self, disk: &mut D, offset: u64, into: &mut [u8]) -> Result<(), Trouble>
         requires on_disk { self.now.at < D.blocks disk.old }
         requires within { offset + length into.old ≤ self.now.root.size }
         // The part has the bytes of the draft of the model.
-        ensures bytes { (graph : Graph) (ds : List Opened) (space : Kept) (id : Puid) (o : Object) (d : drafts.Draft) (f : File)
+        ensures bytes { (graph : Graph) (ds : List Opened) (space : Kept) (id : Puid) (o : Object) (d : drafts.Draft)
+            (f : File)
             → StoreHas D.Disk graph ds disk.old space → object_at graph id ≡ Some o → IsOpen ds id self.now d
             → d.object ≡ objects.File f
             → OnOk result (into.new ≡ slice_range f.bytes offset (offset + length into.old)) }
@@ -88,7 +82,8 @@ impl Draft {
         ensures sound { (graph : Graph) (ds : List Opened) (space : Kept) (id : Puid) (o : Object) (d : drafts.Draft)
             → StoreHas D.Disk graph ds disk.old space → object_at graph id ≡ Some o → IsOpen ds id self.now d
             → IfErr result (λ trouble. is_damage trouble ≡ false) }
-        ensures reads { OnlyReads D.Disk (2 * (spec.leaves_in (offset + length into.old) - offset / 512)) disk.old disk.new }
+        ensures reads { OnlyReads D.Disk
+            (2 * (spec.leaves_in (offset + length into.old) - offset / 512)) disk.old disk.new }
     {
         prove!(self.root.size <= SIZE_LIMIT);
         let mut read = NodeRead::nothing();

@@ -1,34 +1,17 @@
 //! The size of a draft changed.
-ghost use Rattle.std.specs.Prelude.{◌≡◌, ◌+◌, ◌*◌, ◌/◌, ◌<◌, ◌≤◌, ℕ, true, false, length, sum, List, Some, IfErr, IfOk, OnOk};
-ghost use Rattle.block_tree.specs.Root.{Fits};
-ghost use Rattle.cfs_base.specs.Calls.{HasTried, OnlyReads};
-ghost use Rattle.cfs_base.specs.Refusals.{trouble_had_tried};
-ghost use Rattle.cfs_base.specs.Run.{Leaves, Tells};
-ghost use Rattle.cfs_base.specs.declared.identifier.Puid.{Puid};
+ghost use Rattle.std.specs.Prelude.{◌≡◌, ◌+◌, ◌*◌, ◌/◌, ◌<◌, ◌≤◌, length, sum, IfErr, IfOk, OnOk};
 ghost use Rattle.cfs_base.specs.declared.refusal.Refused.TheVariants as refused;
 ghost use Rattle.cyl_alloc.specs.Space.{Kept};
-ghost use Rattle.intentions.specs.Store.{StoreHas};
 ghost use Rattle.leaf_changes.specs.Bytes as changes;
-ghost use Rattle.special_files.specs.Becomes.{Becomes};
-ghost use Rattle.special_files.specs.Calls.{SetsFlags};
-ghost use Rattle.special_files.specs.Drafting.{IsOpen, leaf_takes, need_beside, node_of, shadow_need};
-ghost use Rattle.special_files.specs.Ends.{Ends};
+ghost use Rattle.special_files.specs.Drafting.{shadow_need};
 ghost use Rattle.special_files.specs.Leaves.{leaves_of};
-ghost use Rattle.special_files.specs.Nodes.{IsNear, IsRead, IsSafe};
-ghost use Rattle.special_files.specs.Order.{ClaimsAndDrops, claims_anew};
-ghost use Rattle.special_files.specs.Puts.{PutsLeaf, StaysBut};
-ghost use Rattle.special_files.specs.Refusal.{IsTrouble, is_damage, is_damaged, is_full};
-ghost use Rattle.ufs_model.specs.Graph.{Graph, object_at};
-ghost use Rattle.ufs_model.specs.Object.{written_anew};
-ghost use Rattle.ufs_model.specs.State.{changed_draft};
-ghost use Rattle.ufs_model.specs.declared.change.Change.TheVariants.{SetSize};
-ghost use Rattle.ufs_model.specs.declared.object.Draft as drafts;
+ghost use Rattle.special_files.specs.Nodes.{IsRead, IsSafe, TurnsTo};
+ghost use Rattle.special_files.specs.Puts.{CutsLeaf, LeafCall};
+ghost use Rattle.special_files.specs.Shed.{IsFullFor, Resized, sized};
+ghost use Rattle.special_files.specs.View.{Goes, View};
 ghost use Rattle.ufs_model.specs.declared.object.File.{File};
 ghost use Rattle.ufs_model.specs.declared.object.Object.TheVariants as objects;
-ghost use Rattle.ufs_model.specs.declared.object.Object.{Object};
 ghost use Rattle.vol_image.specs.Reading.{leaf_content};
-ghost use Rattle.vol_image.specs.Sound.{Holds};
-ghost use Rattle.vol_owners.specs.Account.{Opened};
 
 use crate::draft::{Draft, has_room};
 use crate::node::NodeRead;
@@ -47,26 +30,15 @@ impl Draft {
     ) -> Result<(), Refused>
         requires more { self.old.root.size ≤ size }
         requires limit { size ≤ 7864320 }
-        ensures resized { (graph : Graph) (ds : List Opened) (id : Puid) (o : Object) (d : drafts.Draft) (f : File)
-            → StoreHas D.Disk graph ds _disk.now space.now → object_at graph id ≡ Some o → IsOpen ds id self.old d
-            → d.object ≡ objects.File f → OnOk result
-            (Becomes D.Disk graph ds id (changed_draft (SetSize size) d) _disk.now _disk.now space.now self.new) }
-        ensures order { (graph : Graph) (ds : List Opened) (id : Puid) (o : Object) (d : drafts.Draft) (f : File)
-            → StoreHas D.Disk graph ds _disk.now space.now → object_at graph id ≡ Some o → IsOpen ds id self.old d
-            → d.object ≡ objects.File f → OnOk result (ClaimsAndDrops id.block (claims_anew self.old.at
-            (written_anew (SetSize size) d.object d.fresh) d.fresh) (D.content _disk.now) (D.content _disk.now)) }
-        ensures only_size { OnOk result (self.new ≡ record self.old { root = record self.old.root { size = size } }) }
-        // Full exactly where the model's need and the floor aren't Free; the draft is as it was.
-        ensures full { (graph : Graph) (ds : List Opened) (id : Puid) (o : Object) (d : drafts.Draft) (f : File)
-            → StoreHas D.Disk graph ds _disk.now space.now → object_at graph id ≡ Some o → IsOpen ds id self.old d
-            → d.object ≡ objects.File f → IfErr result (λ e.
-            (e ≡ refused.Full (record { free = sum space.now.free; need = need_beside (SetSize size) d self.old }))
-            × (sum space.now.free < need_beside (SetSize size) d self.old + floor)) }
-        ensures room { (graph : Graph) (ds : List Opened) (id : Puid) (o : Object) (d : drafts.Draft) (f : File)
-            → StoreHas D.Disk graph ds _disk.now space.now → object_at graph id ≡ Some o → IsOpen ds id self.old d
-            → d.object ≡ objects.File f → OnOk result (need_beside (SetSize size) d self.old + floor ≤ sum space.now.free) }
+        ensures resized { (v : View D.Disk _disk.now space.now self.old) (f : File) → v.draft.object ≡ objects.File f
+            → OnOk result (Resized D.Disk v.graph v.ds v.id v.draft size floor _disk.now _disk.now space.now space.now
+            self.old self.new) }
+        ensures full { (v : View D.Disk _disk.now space.now self.old) (f : File) → v.draft.object ≡ objects.File f
+            → IfErr result (IsFullFor size floor v.draft space.now self.old) }
+        ensures only_size { OnOk result (self.new ≡ sized self.old size) }
         // It takes the shadow root alone.
-        ensures short { IfErr result (λ e. (e ≡ refused.Full (record { free = sum space.now.free; need = shadow_need self.old }))
+        ensures short { IfErr result (λ e.
+            (e ≡ refused.Full (record { free = sum space.now.free; need = shadow_need self.old }))
             × (sum space.now.free < shadow_need self.old + floor)) }
         ensures kept { IfErr result (λ e. self.new ≡ self.old) }
     {
@@ -89,19 +61,11 @@ impl Draft {
         requires below { size < 7864320 }
         requires some { 0 < D.blocks disk.old }
         requires safe { IsSafe (D.blocks disk.old) self.now read.old }
-        ensures bytes { Tells D.Disk disk.old → Fits self.now.root → IsRead (D.content disk.old) self.now read.old
+        ensures bytes { (kept : Kept) (v : View D.Disk disk.old kept self.now)
+            → IsRead (D.content disk.old) self.now read.old
             → IfOk result (λ content. content ≡ changes.cut size self.now.root.fill
             (leaf_content self.now.root.fill (leaves_of (D.content disk.old) self.now.root (size / 512)))) }
-        ensures node { Tells D.Disk disk.old → IsRead (D.content disk.old) self.now read.old
-            → OnOk result (IsRead (D.content disk.old) self.now read.new) }
-        ensures safe { OnOk result (IsSafe (D.blocks disk.old) self.now read.new) }
-        ensures number { OnOk result (read.new.number ≡ size / 512 / 128) }
-        ensures refused { (kept : Kept) → IfErr result (IsTrouble D.Disk self.now.at disk.old disk.new kept) }
-        ensures untried { IfErr result (λ trouble. trouble_had_tried trouble ≡ false) }
-        ensures sound { Tells D.Disk disk.old
-            → IsNear (D.blocks disk.old) (D.content disk.old) (node_of self.now.root (size / 512 / 128))
-            → IfErr result (λ trouble. is_damage trouble ≡ false) }
-        ensures reads { OnlyReads D.Disk 2 disk.old disk.new }
+        ensures turns { TurnsTo D.Disk self.now (size / 512 / 128) 2 disk.old disk.new read.old read.new result }
     {
         let mut content = match self.leaf_bytes(disk, read, (size / 512) as u32) {
             Ok(content) => content,
@@ -123,26 +87,11 @@ impl Draft {
         requires below { size < 7864320 }
         requires some { 0 < D.blocks disk.old }
         requires safe { IsSafe (D.blocks disk.old) self.old read.old }
-        ensures put { (graph : Graph) (ds : List Opened) (id : Puid) (o : Object) (d : drafts.Draft)
-            → StoreHas D.Disk graph ds disk.old space.old → object_at graph id ≡ Some o → IsOpen ds id self.old d
-            → IsRead (D.content disk.old) self.old read.old → size < self.old.root.size
-            → OnOk result (PutsLeaf D.Disk graph ds id (size / 512) (changes.cut size self.old.root.fill
-            (leaf_content self.old.root.fill (leaves_of (D.content disk.old) self.old.root (size / 512))))
-            disk.old disk.new space.new self.old self.new read.new) }
-        ensures leaves { (graph : Graph) (ds : List Opened) (id : Puid) (o : Object) (d : drafts.Draft)
-            → StoreHas D.Disk graph ds disk.old space.old → object_at graph id ≡ Some o → IsOpen ds id self.old d
-            → IsRead (D.content disk.old) self.old read.old → Leaves D.Disk disk.old disk.new (λ c. Holds c graph) }
-        ensures stays { StaysBut self.old self.new }
-        ensures flags { OnOk result (SetsFlags (size / 512) self.old self.new) }
-        ensures number { OnOk result (read.new.number ≡ size / 512 / 128) }
-        ensures safe { OnOk result (IsSafe (D.blocks disk.new) self.new read.new) }
-        ensures ends { Ends D.Disk self.old.at 0 8 4 (leaf_takes self.old (size / 512)) disk.old disk.new space.old space.new result }
-        ensures tried { OnOk result (HasTried D.Disk disk.old disk.new) }
-        ensures kept { IfErr result (λ e. e ≡ refused.Disk false → self.new ≡ self.old) }
-        ensures room { leaf_takes self.old (size / 512) ≤ sum space.old.free → IfErr result (λ e. is_full e ≡ false) }
-        ensures sound { (graph : Graph) (ds : List Opened) (id : Puid) (o : Object) (d : drafts.Draft)
-            → StoreHas D.Disk graph ds disk.old space.old → object_at graph id ≡ Some o → IsOpen ds id self.old d
-            → IsRead (D.content disk.old) self.old read.old → IfErr result (λ e. is_damaged e ≡ false) }
+        ensures goes { (v : View D.Disk disk.old space.old self.old) → IsRead (D.content disk.old) self.old read.old
+            → size < self.old.root.size → Goes D.Disk v.graph (CutsLeaf D.Disk v.graph v.ds v.id size
+            disk.old disk.new space.new self.old self.new read.new) disk.old disk.new result }
+        ensures calls { LeafCall D.Disk 8 (size / 512)
+            disk.old disk.new space.old space.new self.old self.new read.new result }
     {
         match self.cut_bytes(disk, read, size) {
             Ok(content) => self.put_leaf(disk, space, read, (size / 512) as u32, &content),

@@ -1,21 +1,20 @@
 //! The size of a draft set to less, and to any.
-ghost use Rattle.std.specs.Prelude.{◌≡◌, ◌≢◌, ◌+◌, ◌*◌, ◌/◌, ◌%◌, ◌<◌, ◌≤◌, ℕ, true, false, length, slice_index, sum, List, Some, Ok, IfErr, OnOk};
-ghost use Rattle.cfs_base.specs.Calls.{HasTried, OnlyReads};
+ghost use Rattle.std.specs.Prelude.{◌≡◌, ◌≢◌, ◌+◌, ◌*◌, ◌/◌, ◌%◌, ◌<◌, ◌≤◌, ℕ, true, false, length, slice_index, sum};
+ghost use Rattle.std.specs.Prelude.{List, Some, Err, IfErr, IfOk, OnOk};
+ghost use Rattle.cfs_base.specs.Calls.{OnlyReads};
 ghost use Rattle.cfs_base.specs.Run.{Leaves};
 ghost use Rattle.cfs_base.specs.declared.identifier.Puid.{Puid};
 ghost use Rattle.cfs_base.specs.declared.refusal.Refused.TheVariants as refused;
 ghost use Rattle.intentions.specs.Store.{StoreHas};
 ghost use Rattle.leaf_changes.specs.Bytes as changes;
 ghost use Rattle.special_files.specs.Becomes.{Becomes};
-ghost use Rattle.special_files.specs.Calls.{SetsFlags};
-ghost use Rattle.special_files.specs.Drafting.{HasNoneFresh, IsOpen, is_fresh_node, need_beside, node_of, shadow_need};
+ghost use Rattle.special_files.specs.Drafting.{HasNoneFresh, IsOpen, need_beside, node_of, shadow_need};
 ghost use Rattle.special_files.specs.Ends.{Ends};
-ghost use Rattle.special_files.specs.Leaves.{leaves_of};
 ghost use Rattle.special_files.specs.Nodes.{IsRead, IsSafe};
 ghost use Rattle.special_files.specs.Order.{ClaimsAndDrops, claims_anew};
-ghost use Rattle.special_files.specs.Puts.{PutsLeaf, StaysBut};
 ghost use Rattle.special_files.specs.Refusal.{is_damaged, is_full};
 ghost use Rattle.special_files.specs.Shed as spec;
+ghost use Rattle.special_files.specs.View.{Goes, View};
 ghost use Rattle.ufs_model.specs.Graph.{Graph, object_at};
 ghost use Rattle.ufs_model.specs.Object.{written_anew};
 ghost use Rattle.ufs_model.specs.State.{changed_draft};
@@ -24,7 +23,6 @@ ghost use Rattle.ufs_model.specs.declared.object.Draft as drafts;
 ghost use Rattle.ufs_model.specs.declared.object.File.{File};
 ghost use Rattle.ufs_model.specs.declared.object.Object.TheVariants as objects;
 ghost use Rattle.ufs_model.specs.declared.object.Object.{Object};
-ghost use Rattle.vol_image.specs.Reading.{leaf_content};
 ghost use Rattle.vol_image.specs.Sound.{Holds};
 ghost use Rattle.vol_owners.specs.Account.{Opened};
 
@@ -37,6 +35,16 @@ use crate::read::leaves_in;
 use block_tree::{Node, SIZE_LIMIT};
 use cfs_base::{BlockNo, Disk, Refused};
 use cyl_alloc::Space;
+
+/// What a resize to less does: it drops the leaves from one on, and before that may cut the leaf within which the file
+/// ends.
+#[derive(Clone, Copy)]
+struct Plan {
+    /// The node in which the file ends.
+    read: NodeRead,
+    from: u32,
+    cut: bool,
+}
 
 /// Whether a node holds a leaf in these places.
 fn holds(node: &Node, from: u32, to: u32) -> bool
@@ -52,8 +60,8 @@ fn holds(node: &Node, from: u32, to: u32) -> bool
     false
 }
 
-/// From which leaf on a draft drops its leaves that is to keep those before one, which lies in this node or at its end. Where that
-/// is within the node, the node keeps a leaf and drops one.
+/// From which leaf on a draft drops its leaves that is to keep those before one, which lies in this node or at its end.
+/// Where that is within the node, the node keeps a leaf and drops one.
 fn border(node: &Node, number: u32, to: u32) -> u32
     requires few { number < 120 }
     requires low { 128 * number ≤ to }
@@ -101,8 +109,8 @@ fn clear_pointers(nodes: &mut [u32; 120], from: u32)
 }
 
 impl Draft {
-    /// How many blocks a resize to less takes, with the shadow root that a commit takes: one for its last leaf where that is
-    /// cut and isn't fresh, and one for the node where it changes and isn't fresh.
+    /// How many blocks a resize to less takes, with the shadow root that a commit takes: one for its last leaf where
+    /// that is cut and isn't fresh, and one for the node where it changes and isn't fresh.
     fn need_at(&self, cut: bool, from: u32, leaf: u32, node: u32) -> u32
         requires leaf { leaf < 15360 }
         requires node { node < 120 }
@@ -124,7 +132,8 @@ impl Draft {
         requires size { D.blocks disk.old ≡ 64 * length space.old.free }
         requires below { from < 15360 }
         requires safe { node_of self.now.root (from / 128) < D.blocks disk.old }
-        ensures { spec.PutsShort D.Disk from read.now.node.leaves self.now disk.old disk.new space.old space.new result }
+        ensures { spec.PutsShort D.Disk from read.now.node.leaves self.now
+            disk.old disk.new space.old space.new result }
     {
         let block = match self.node_block(disk, space, from / 128) {
             Ok(block) => block,
@@ -136,7 +145,8 @@ impl Draft {
         }
     }
 
-    /// The draft has no leaf from one on. Where that is within a node, this node is at the block, and of the draft's own.
+    /// The draft has no leaf from one on. Where that is within a node, this node is at the block, and of the draft's
+    /// own.
     fn forget(&mut self, from: u32, block: u32)
         requires { from ≤ 15360 }
         ensures { spec.Forgets from block self.old self.new }
@@ -161,7 +171,8 @@ impl Draft {
         requires size { D.blocks disk.old ≡ 64 * length space.old.free }
         requires limit { from ≤ 15360 }
         requires safe { from % 128 ≢ 0 → node_of self.now.root (from / 128) < D.blocks disk.old }
-        ensures { spec.PutsWithin D.Disk from read.now.node.leaves self.now disk.old disk.new space.old space.new result }
+        ensures { spec.PutsWithin D.Disk from read.now.node.leaves self.now disk.old disk.new space.old space.new
+            result }
     {
         if from % 128 == 0 {
             return Ok(BlockNo(0));
@@ -182,19 +193,10 @@ impl Draft {
         requires limit { from ≤ 15360 }
         requires here { from % 128 ≢ 0 → read.now.number ≡ from / 128 }
         requires safe { IsSafe (D.blocks disk.old) self.old read.now }
-        ensures drops { (graph : Graph) (ds : List Opened) (id : Puid) (o : Object) (d : drafts.Draft)
-            → StoreHas D.Disk graph ds disk.old space.old → object_at graph id ≡ Some o → IsOpen ds id self.old d
-            → IsRead (D.content disk.old) self.old read.now → spec.KeepsOne from read.now
-            → spec.Drops D.Disk graph ds id from disk.old disk.new space.new self.old self.new result }
-        ensures stays { StaysBut self.old self.new }
-        ensures forgets { OnOk result ((block : ℕ) × spec.Forgets from block self.old self.new) }
-        // Something was tried where a node is written; else, where no node is fresh, nothing is done to the disk.
-        ensures tried { from % 128 ≢ 0 → OnOk result (HasTried D.Disk disk.old disk.new) }
-        ensures untried { from % 128 ≡ 0 → ((n : ℕ) → is_fresh_node self.old n ≡ false)
-            → (disk.new ≡ disk.old) × (space.new ≡ space.old) }
-        ensures ends { Ends D.Disk self.old.at 0 31083 15482 (sum space.old.free) disk.old disk.new space.old space.new result }
-        ensures kept { IfErr result (λ e. self.new ≡ self.old) }
-        ensures room { spec.border_takes self.old from ≤ sum space.old.free → IfErr result (λ e. is_full e ≡ false) }
+        ensures goes { (v : View D.Disk disk.old space.old self.old) → IsRead (D.content disk.old) self.old read.now
+            → spec.KeepsOne from read.now → Goes D.Disk v.graph (spec.DropsFrom D.Disk v.graph v.ds v.id from
+            disk.old disk.new space.new self.old self.new) disk.old disk.new result }
+        ensures calls { spec.DropCall D.Disk from disk.old disk.new space.old space.new self.old self.new result }
     {
         match list_from(
             disk,
@@ -235,29 +237,8 @@ impl Draft {
         requires below { size < 7864320 }
         requires some { 0 < D.blocks disk.old }
         requires safe { IsSafe (D.blocks disk.old) self.old read.old }
-        ensures none { cut ≡ false → (result ≡ Ok tt) × (disk.new ≡ disk.old) × (space.new ≡ space.old)
-            × (self.new ≡ self.old) × (read.new ≡ read.old) }
-        ensures put { (graph : Graph) (ds : List Opened) (id : Puid) (o : Object) (d : drafts.Draft)
-            → StoreHas D.Disk graph ds disk.old space.old → object_at graph id ≡ Some o → IsOpen ds id self.old d
-            → IsRead (D.content disk.old) self.old read.old → size < self.old.root.size → cut ≡ true
-            → OnOk result (PutsLeaf D.Disk graph ds id (size / 512) (changes.cut size self.old.root.fill
-            (leaf_content self.old.root.fill (leaves_of (D.content disk.old) self.old.root (size / 512))))
-            disk.old disk.new space.new self.old self.new read.new) }
-        ensures leaves { (graph : Graph) (ds : List Opened) (id : Puid) (o : Object) (d : drafts.Draft)
-            → StoreHas D.Disk graph ds disk.old space.old → object_at graph id ≡ Some o → IsOpen ds id self.old d
-            → IsRead (D.content disk.old) self.old read.old → Leaves D.Disk disk.old disk.new (λ c. Holds c graph) }
-        ensures stays { StaysBut self.old self.new }
-        ensures flags { cut ≡ true → OnOk result (SetsFlags (size / 512) self.old self.new) }
-        ensures number { cut ≡ true → OnOk result (read.new.number ≡ size / 512 / 128) }
-        ensures safe { OnOk result (IsSafe (D.blocks disk.new) self.new read.new) }
-        ensures ends { Ends D.Disk self.old.at 0 8 4 (spec.cut_takes self.old cut (size / 512))
-            disk.old disk.new space.old space.new result }
-        ensures tried { cut ≡ true → OnOk result (HasTried D.Disk disk.old disk.new) }
-        ensures kept { IfErr result (λ e. e ≡ refused.Disk false → self.new ≡ self.old) }
-        ensures room { spec.cut_takes self.old cut (size / 512) ≤ sum space.old.free → IfErr result (λ e. is_full e ≡ false) }
-        ensures sound { (graph : Graph) (ds : List Opened) (id : Puid) (o : Object) (d : drafts.Draft)
-            → StoreHas D.Disk graph ds disk.old space.old → object_at graph id ≡ Some o → IsOpen ds id self.old d
-            → IsRead (D.content disk.old) self.old read.old → IfErr result (λ e. is_damaged e ≡ false) }
+        ensures { spec.CutsIf D.Disk size cut disk.old disk.new space.old space.new self.old self.new read.old read.new
+            result }
     {
         if !cut {
             return Ok(());
@@ -265,50 +246,25 @@ impl Draft {
         self.cut(disk, space, read, size)
     }
 
-    /// Sets the size to less than it is.
-    fn shrink<D: Disk>(
-        &mut self,
+    /// Reads the node in which a file of less size ends. `Full` where fewer blocks are Free than the resize needs and
+    /// the floor.
+    fn plan<D: Disk>(
+        &self,
         disk: &mut D,
-        space: &mut Space,
+        space: &Space,
         size: u64,
         floor: u32,
-    ) -> Result<(), Refused>
-        requires on_disk { self.old.at < D.blocks disk.old }
-        requires size { D.blocks disk.old ≡ 64 * length space.old.free }
-        requires less { size < self.old.root.size }
-        ensures resized { (graph : Graph) (ds : List Opened) (id : Puid) (o : Object) (d : drafts.Draft) (f : File)
-            → StoreHas D.Disk graph ds disk.old space.old → object_at graph id ≡ Some o → IsOpen ds id self.old d
-            → d.object ≡ objects.File f → OnOk result
-            (Becomes D.Disk graph ds id (changed_draft (SetSize size) d) disk.old disk.new space.new self.new) }
-        // Its blocks are claimed in their order, each the least Free; what it drops of its own is Free then.
-        ensures order { (graph : Graph) (ds : List Opened) (id : Puid) (o : Object) (d : drafts.Draft) (f : File)
-            → StoreHas D.Disk graph ds disk.old space.old → object_at graph id ≡ Some o → IsOpen ds id self.old d
-            → d.object ≡ objects.File f → OnOk result (ClaimsAndDrops id.block (claims_anew self.old.at
-            (written_anew (SetSize size) d.object d.fresh) d.fresh) (D.content disk.old) (D.content disk.new)) }
-        ensures leaves { (graph : Graph) (ds : List Opened) (id : Puid) (o : Object) (d : drafts.Draft)
-            → StoreHas D.Disk graph ds disk.old space.old → object_at graph id ≡ Some o → IsOpen ds id self.old d
-            → Leaves D.Disk disk.old disk.new (λ c. Holds c graph) }
-        ensures stays { spec.Resizes size self.old self.new result }
-        ensures full { (graph : Graph) (ds : List Opened) (id : Puid) (o : Object) (d : drafts.Draft) (f : File)
-            → StoreHas D.Disk graph ds disk.old space.old → object_at graph id ≡ Some o → IsOpen ds id self.old d
-            → d.object ≡ objects.File f → IfErr result (λ e. is_full e ≡ true → (e ≡ refused.Full (record {
-              free = sum space.old.free;
-              need = need_beside (SetSize size) d self.old;
-            }))
-            × (sum space.old.free < need_beside (SetSize size) d self.old + floor)) }
-        ensures spared { IfErr result (λ e. is_full e ≡ true
-            → OnlyReads D.Disk 1 disk.old disk.new × (space.new ≡ space.old) × (self.new ≡ self.old)) }
-        ensures room { (graph : Graph) (ds : List Opened) (id : Puid) (o : Object) (d : drafts.Draft) (f : File)
-            → StoreHas D.Disk graph ds disk.old space.old → object_at graph id ≡ Some o → IsOpen ds id self.old d
-            → d.object ≡ objects.File f → OnOk result (need_beside (SetSize size) d self.old + floor ≤ sum space.old.free) }
-        ensures told { HasNoneFresh self.old
-            → OnOk result (spec.IsToldByNodes D.Disk disk.old disk.new space.old space.new self.new) }
-        ensures ends { Ends D.Disk self.old.at floor 31092 15486 (sum space.old.free)
-            disk.old disk.new space.old space.new result }
-        ensures kept { IfErr result (λ e. e ≡ refused.Disk false → self.new ≡ self.old) }
-        ensures sound { (graph : Graph) (ds : List Opened) (id : Puid) (o : Object) (d : drafts.Draft)
-            → StoreHas D.Disk graph ds disk.old space.old → object_at graph id ≡ Some o → IsOpen ds id self.old d
-            → IfErr result (λ e. is_damaged e ≡ false) }
+    ) -> Result<Plan, Refused>
+        requires on_disk { self.now.at < D.blocks disk.old }
+        requires less { size < self.now.root.size }
+        ensures planned { IfOk result (spec.IsPlan D.Disk size self.now disk.old disk.new) }
+        ensures room { IfOk result (λ plan. spec.plan_needs size self.now plan + floor ≤ sum space.now.free) }
+        ensures goes { (v : View D.Disk disk.old space.now self.now)
+            → IfErr result (λ e. Goes {A = Unit {0}} D.Disk v.graph (Unit {0}) disk.old disk.new (Err e)) }
+        ensures full { (v : View D.Disk disk.old space.now self.now) (f : File) → v.draft.object ≡ objects.File f
+            → IfErr result (λ e. is_full e ≡ true → spec.IsFullFor size floor v.draft space.now self.now e) }
+        ensures calls { IfErr result (λ e.
+            spec.ResizeCall D.Disk size floor disk.old disk.new space.now space.now self.now self.now (Err e)) }
     {
         prove!(self.root.size <= SIZE_LIMIT);
         let to = leaves_in(size);
@@ -322,24 +278,50 @@ impl Draft {
         let cut = is_cut(&read.node, size);
         let need = self.need_at(cut, from, (size / 512) as u32, number);
         match has_room(space, need, floor) {
-            Ok(()) => {}
-            Err(full) => return Err(full),
+            Ok(()) => Ok(Plan { read, from, cut }),
+            Err(full) => Err(full),
         }
-        match self.cut_if(disk, space, &mut read, size, cut) {
+    }
+
+    /// Sets the size to less than it is.
+    fn shrink<D: Disk>(
+        &mut self,
+        disk: &mut D,
+        space: &mut Space,
+        size: u64,
+        floor: u32,
+    ) -> Result<(), Refused>
+        requires on_disk { self.old.at < D.blocks disk.old }
+        requires size { D.blocks disk.old ≡ 64 * length space.old.free }
+        requires less { size < self.old.root.size }
+        ensures goes { (v : View D.Disk disk.old space.old self.old) → Goes D.Disk v.graph
+            ((f : File) → v.draft.object ≡ objects.File f → spec.Resized D.Disk v.graph v.ds v.id v.draft size floor
+            disk.old disk.new space.old space.new self.old self.new) disk.old disk.new result }
+        ensures full { (v : View D.Disk disk.old space.old self.old) (f : File) → v.draft.object ≡ objects.File f
+            → IfErr result (λ e. is_full e ≡ true → spec.IsFullFor size floor v.draft space.old self.old e) }
+        ensures calls { spec.ResizeCall D.Disk size floor disk.old disk.new space.old space.new self.old self.new
+            result }
+    {
+        let plan = match self.plan(disk, space, size, floor) {
+            Ok(plan) => plan,
+            Err(error) => return Err(error),
+        };
+        let mut read = plan.read;
+        match self.cut_if(disk, space, &mut read, size, plan.cut) {
             Ok(()) => {}
             Err(error) => return Err(error),
         }
-        match self.drop_from(disk, space, &read, from) {
+        match self.drop_from(disk, space, &read, plan.from) {
             Ok(()) => {}
-            Err(error) => return Err(after(cut, error)),
+            Err(error) => return Err(after(plan.cut, error)),
         }
         self.root.size = size;
         Ok(())
     }
 
-    /// Sets the size of a file, in bytes. To less, its leaves past the size are dropped, and those of the draft's own become
-    /// Free. `Full` where fewer blocks are Free than the resize needs, with the shadow root that a commit takes where there is
-    /// none, and the floor; nothing was written then. Never `Memory`.
+    /// Sets the size of a file, in bytes. To less, its leaves past the size are dropped, and those of the draft's own
+    /// become Free. `Full` where fewer blocks are Free than the resize needs, with the shadow root that a commit takes
+    /// where there is none, and the floor; nothing was written then. Never `Memory`.
     pub fn resize<D: Disk>(
         &mut self,
         disk: &mut D,
@@ -377,7 +359,8 @@ impl Draft {
             → OnlyReads D.Disk 1 disk.old disk.new × (space.new ≡ space.old) × (self.new ≡ self.old)) }
         ensures room { (graph : Graph) (ds : List Opened) (id : Puid) (o : Object) (d : drafts.Draft) (f : File)
             → StoreHas D.Disk graph ds disk.old space.old → object_at graph id ≡ Some o → IsOpen ds id self.old d
-            → d.object ≡ objects.File f → OnOk result (need_beside (SetSize size) d self.old + floor ≤ sum space.old.free) }
+            → d.object ≡ objects.File f → OnOk result
+            (need_beside (SetSize size) d self.old + floor ≤ sum space.old.free) }
         // Of a draft that had no fresh block it tells whether a write was tried.
         ensures told { HasNoneFresh self.old
             → OnOk result (spec.IsToldByNodes D.Disk disk.old disk.new space.old space.new self.new) }

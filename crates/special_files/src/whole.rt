@@ -1,5 +1,6 @@
 //! A draft becomes its object.
-ghost use Rattle.std.specs.Prelude.{◌≡◌, ◌≢◌, ◌<◌, ◌≤◌, ◌*◌, ◌++◌, ℕ, List, false, length, sum, Option, None, Some, IfErr, OnOk};
+ghost use Rattle.std.specs.Prelude.{◌≡◌, ◌≢◌, ◌<◌, ◌≤◌, ◌*◌, ◌++◌, ℕ, List, false, length, sum, Option, None, Some};
+ghost use Rattle.std.specs.Prelude.{IfErr, OnOk};
 ghost use Rattle.cfs_base.specs.Calls.{HasTried, MakesAtMost, OnlyReads};
 ghost use Rattle.cfs_base.specs.Run.{Leaves};
 ghost use Rattle.cfs_base.specs.declared.identifier.Puid.{Puid};
@@ -10,6 +11,7 @@ ghost use Rattle.special_files.specs.Committing as spec;
 ghost use Rattle.special_files.specs.Drafting.{Drafting, IsOpen, number_of};
 ghost use Rattle.special_files.specs.Fills.{IsNearSwap, IsSwapped};
 ghost use Rattle.special_files.specs.Refusal.{IsTrouble, is_damage};
+ghost use Rattle.special_files.specs.View.{View};
 ghost use Rattle.ufs_model.specs.Graph.{Graph, object_at};
 ghost use Rattle.ufs_model.specs.declared.object.Draft as drafts;
 ghost use Rattle.ufs_model.specs.declared.object.Object.{Object};
@@ -70,15 +72,15 @@ fn commit_parts<D: Disk>(
     requires on_disk { at.0 < D.blocks disk.old }
     requires size { D.blocks disk.old ≡ 64 * length space.old.free }
     requires room { number_of shadow ≡ None → 1 ≤ sum space.old.free }
-    ensures commits { (graph : Graph) (ds : List Opened) (id : Puid) (o : Object) (was : Drafting) (d : drafts.Draft)
-        (made : Option spec.Making) → StoreHas D.Disk graph ds disk.old space.old → object_at graph id ≡ Some o
-        → IsOpen ds id was d → spec.AreParts was at.0 (number_of shadow) own.now root.now (number_of created)
+    ensures commits { (was : Drafting) (v : View D.Disk disk.old space.old was) (made : Option spec.Making)
+        → spec.AreParts was at.0 (number_of shadow) own.now root.now (number_of created)
         → spec.Makes (D.content disk.old) (number_of created) made
-        → spec.CommitEnds D.Disk graph ds id d.object made disk.old disk.new space.new result }
+        → spec.CommitEnds D.Disk v.graph v.ds v.id v.draft.object made disk.old disk.new space.new result }
     ensures refused { IfErr result (IsTrouble D.Disk at.0 disk.old disk.new space.new) }
     ensures made { OnOk result (HasTried D.Disk disk.old disk.new) }
     ensures tried { number_of shadow ≢ None → IfErr result (λ t. t ≢ troubles.Disk false) }
-    ensures untried { IfErr result (λ t. t ≡ troubles.Disk false → (space.new ≡ space.old) × OnlyReads D.Disk 241 disk.old disk.new) }
+    ensures untried { IfErr result (λ t. t ≡ troubles.Disk false
+        → (space.new ≡ space.old) × OnlyReads D.Disk 241 disk.old disk.new) }
     ensures cylinders { length space.new.free ≡ length space.old.free }
     ensures calls { MakesAtMost D.Disk 93138 46452 disk.old disk.new }
 {
@@ -105,11 +107,11 @@ fn list_two(list: &mut Blocks, node: u32, other_node: u32, leaf: u32, other_leaf
 }
 
 impl Draft {
-    /// Makes the draft its object. A draft without a shadow root takes one Free block for it. Done, all is durable, and the
-    /// object's blocks are exactly those of the draft; of an object that is made with it the root is Allocated. Where it is
-    /// refused the draft is gone, and each image that a crash leaves has the object old, or it new and what is made with
-    /// it. `Damaged` names a map block, with code 2, which is none or has no Free block, with code 12, or a node or the
-    /// root block, with code 4, where a pointer leads past the disk.
+    /// Makes the draft its object. A draft without a shadow root takes one Free block for it. Done, all is durable, and
+    /// the object's blocks are exactly those of the draft; of an object that is made with it the root is Allocated.
+    /// Where it is refused the draft is gone, and each image that a crash leaves has the object old, or it new and what
+    /// is made with it. `Damaged` names a map block, with code 2, which is none or has no Free block, with code 12, or
+    /// a node or the root block, with code 4, where a pointer leads past the disk.
     pub fn commit<D: Disk>(mut self, disk: &mut D, space: &mut Space) -> Result<(), Trouble>
         requires on_disk { self.at < D.blocks disk.old }
         requires size { D.blocks disk.old ≡ 64 * length space.old.free }
@@ -153,8 +155,8 @@ impl Draft {
         )
     }
 
-    /// The same of a draft without a shadow root that equalled its object until one slot was filled, by what was put. No node
-    /// is read.
+    /// The same of a draft without a shadow root that equalled its object until one slot was filled, by what was put.
+    /// No node is read.
     pub fn commit_swap<D: Disk>(
         mut self,
         disk: &mut D,

@@ -1,9 +1,8 @@
 //! Bytes written into a draft.
-ghost use Rattle.std.specs.Prelude.{◌≡◌, ◌+◌, ◌-◌, ◌*◌, ◌/◌, ◌<◌, ◌≤◌, ℕ, true, false, length, sum, List, Some, IfErr, IfOk, OnOk};
-ghost use Rattle.block_tree.specs.Root.{Fits};
-ghost use Rattle.cfs_base.specs.Calls.{HasTried, OnlyReads};
-ghost use Rattle.cfs_base.specs.Refusals.{trouble_had_tried};
-ghost use Rattle.cfs_base.specs.Run.{Leaves, Tells};
+ghost use Rattle.std.specs.Prelude.{◌≡◌, ◌+◌, ◌-◌, ◌*◌, ◌/◌, ◌<◌, ◌≤◌, true, false, length, sum, List, Some, IfErr};
+ghost use Rattle.std.specs.Prelude.{IfOk, OnOk};
+ghost use Rattle.cfs_base.specs.Calls.{HasTried};
+ghost use Rattle.cfs_base.specs.Run.{Leaves};
 ghost use Rattle.cfs_base.specs.declared.identifier.Puid.{Puid};
 ghost use Rattle.cfs_base.specs.declared.refusal.Refused.TheVariants as refused;
 ghost use Rattle.claims.specs.Claims.{AreClaimed};
@@ -11,15 +10,15 @@ ghost use Rattle.cyl_alloc.specs.Space.{Kept};
 ghost use Rattle.intentions.specs.Store.{StoreHas};
 ghost use Rattle.leaf_changes.specs.Bytes as changes;
 ghost use Rattle.special_files.specs.Becomes.{Becomes};
-ghost use Rattle.special_files.specs.Calls.{SetsFlags};
 ghost use Rattle.special_files.specs.Drafting as drafting;
-ghost use Rattle.special_files.specs.Drafting.{IsOpen, leaf_takes, leaves_take, need_beside, node_of};
+ghost use Rattle.special_files.specs.Drafting.{IsOpen, leaves_take, need_beside};
 ghost use Rattle.special_files.specs.Ends.{Ends};
 ghost use Rattle.special_files.specs.Leaves.{leaves_of};
-ghost use Rattle.special_files.specs.Nodes.{IsNear, IsRead, IsSafe};
+ghost use Rattle.special_files.specs.Nodes.{IsRead, IsSafe, TurnsTo};
 ghost use Rattle.special_files.specs.Order.{claims_of};
-ghost use Rattle.special_files.specs.Puts.{PutsLeaf, StaysBut};
-ghost use Rattle.special_files.specs.Refusal.{IsTrouble, is_damage, is_damaged, is_full};
+ghost use Rattle.special_files.specs.Puts.{PutsLeaf, StaysBut, LeafCall};
+ghost use Rattle.special_files.specs.Refusal.{is_damaged, is_full};
+ghost use Rattle.special_files.specs.View.{Goes, View};
 ghost use Rattle.ufs_model.specs.Graph.{Graph, object_at};
 ghost use Rattle.ufs_model.specs.Object as spec;
 ghost use Rattle.ufs_model.specs.State.{changed_draft};
@@ -69,19 +68,11 @@ impl Draft {
         requires end { offset + length bytes.now ≤ 7864320 }
         requires some { 0 < D.blocks disk.old }
         requires safe { IsSafe (D.blocks disk.old) self.now read.old }
-        ensures bytes { Tells D.Disk disk.old → Fits self.now.root → IsRead (D.content disk.old) self.now read.old
+        ensures bytes { (kept : Kept) (v : View D.Disk disk.old kept self.now)
+            → IsRead (D.content disk.old) self.now read.old
             → IfOk result (λ content. content ≡ changes.patched leaf offset bytes.now
             (leaf_content self.now.root.fill (leaves_of (D.content disk.old) self.now.root leaf))) }
-        ensures node { Tells D.Disk disk.old → IsRead (D.content disk.old) self.now read.old
-            → OnOk result (IsRead (D.content disk.old) self.now read.new) }
-        ensures safe { OnOk result (IsSafe (D.blocks disk.old) self.now read.new) }
-        ensures number { OnOk result (read.new.number ≡ leaf / 128) }
-        ensures refused { (kept : Kept) → IfErr result (IsTrouble D.Disk self.now.at disk.old disk.new kept) }
-        ensures untried { IfErr result (λ trouble. trouble_had_tried trouble ≡ false) }
-        ensures sound { Tells D.Disk disk.old
-            → IsNear (D.blocks disk.old) (D.content disk.old) (node_of self.now.root (leaf / 128))
-            → IfErr result (λ trouble. is_damage trouble ≡ false) }
-        ensures reads { OnlyReads D.Disk 2 disk.old disk.new }
+        ensures turns { TurnsTo D.Disk self.now (leaf / 128) 2 disk.old disk.new read.old read.new result }
     {
         let start = 512 * leaf as u64;
         let mut content = Block::zero();
@@ -115,26 +106,12 @@ impl Draft {
         requires end { offset + length bytes.now ≤ 7864320 }
         requires some { 0 < D.blocks disk.old }
         requires safe { IsSafe (D.blocks disk.old) self.old read.old }
-        ensures put { (graph : Graph) (ds : List Opened) (id : Puid) (o : Object) (d : drafts.Draft)
-            → StoreHas D.Disk graph ds disk.old space.old → object_at graph id ≡ Some o → IsOpen ds id self.old d
-            → IsRead (D.content disk.old) self.old read.old → leaf < spec.leaves_in self.old.root.size
-            → offset + length bytes.now ≤ self.old.root.size
-            → OnOk result (PutsLeaf D.Disk graph ds id leaf (changes.patched leaf offset bytes.now
+        ensures goes { (v : View D.Disk disk.old space.old self.old) → IsRead (D.content disk.old) self.old read.old
+            → leaf < spec.leaves_in self.old.root.size → offset + length bytes.now ≤ self.old.root.size
+            → Goes D.Disk v.graph (PutsLeaf D.Disk v.graph v.ds v.id leaf (changes.patched leaf offset bytes.now
             (leaf_content self.old.root.fill (leaves_of (D.content disk.old) self.old.root leaf)))
-            disk.old disk.new space.new self.old self.new read.new) }
-        ensures leaves { (graph : Graph) (ds : List Opened) (id : Puid) (o : Object) (d : drafts.Draft)
-            → StoreHas D.Disk graph ds disk.old space.old → object_at graph id ≡ Some o → IsOpen ds id self.old d
-            → IsRead (D.content disk.old) self.old read.old → Leaves D.Disk disk.old disk.new (λ c. Holds c graph) }
-        ensures stays { StaysBut self.old self.new }
-        ensures flags { OnOk result (SetsFlags leaf self.old self.new) }
-        ensures safe { OnOk result (IsSafe (D.blocks disk.new) self.new read.new) }
-        ensures ends { Ends D.Disk self.old.at 0 8 4 (leaf_takes self.old leaf) disk.old disk.new space.old space.new result }
-        ensures tried { OnOk result (HasTried D.Disk disk.old disk.new) }
-        ensures kept { IfErr result (λ e. e ≡ refused.Disk false → self.new ≡ self.old) }
-        ensures room { leaf_takes self.old leaf ≤ sum space.old.free → IfErr result (λ e. is_full e ≡ false) }
-        ensures sound { (graph : Graph) (ds : List Opened) (id : Puid) (o : Object) (d : drafts.Draft)
-            → StoreHas D.Disk graph ds disk.old space.old → object_at graph id ≡ Some o → IsOpen ds id self.old d
-            → IsRead (D.content disk.old) self.old read.old → IfErr result (λ e. is_damaged e ≡ false) }
+            disk.old disk.new space.new self.old self.new read.new) disk.old disk.new result }
+        ensures calls { LeafCall D.Disk 8 leaf disk.old disk.new space.old space.new self.old self.new read.new result }
     {
         match self.patched(disk, read, leaf, offset, bytes) {
             Ok(content) => self.put_leaf(disk, space, read, leaf, &content),
@@ -142,8 +119,9 @@ impl Draft {
         }
     }
 
-    /// Writes bytes of a file within its size, at an offset in bytes. `Full` where fewer blocks are Free than the write needs,
-    /// with the shadow root that a commit takes where there is none, and the floor; nothing was written then. Never `Memory`.
+    /// Writes bytes of a file within its size, at an offset in bytes. `Full` where fewer blocks are Free than the write
+    /// needs, with the shadow root that a commit takes where there is none, and the floor; nothing was written then.
+    /// Never `Memory`.
     pub fn write<D: Disk>(
         &mut self,
         disk: &mut D,
@@ -159,7 +137,8 @@ impl Draft {
         ensures written { (graph : Graph) (ds : List Opened) (id : Puid) (o : Object) (d : drafts.Draft) (f : File)
             → StoreHas D.Disk graph ds disk.old space.old → object_at graph id ≡ Some o → IsOpen ds id self.old d
             → d.object ≡ objects.File f → OnOk result
-            (Becomes D.Disk graph ds id (changed_draft (Overwrite offset bytes.now) d) disk.old disk.new space.new self.new) }
+            (Becomes D.Disk graph ds id (changed_draft (Overwrite offset bytes.now) d)
+            disk.old disk.new space.new self.new) }
         // Each leaf that isn't fresh takes the least Free block, and after it its node: in increasing order.
         ensures order { (graph : Graph) (ds : List Opened) (id : Puid) (o : Object) (d : drafts.Draft)
             → StoreHas D.Disk graph ds disk.old space.old → object_at graph id ≡ Some o → IsOpen ds id self.old d

@@ -1,8 +1,8 @@
 //! Calls of the store as values, so that tables can have them.
 use crate::laid::{Edit, edited};
 use crate::volume::Volume;
-use crate::watched::Seen;
 use cfs_base::{BlockNo, Disk, Failed, FileKind, Kind, Puid, Refused};
+use cfs_fakes::Seen;
 use special_files::Draft;
 use std::alloc::Global;
 use std::test::Fail;

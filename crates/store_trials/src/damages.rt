@@ -2,11 +2,10 @@
 ghost use Rattle.std.specs.Prelude.{◌<◌};
 
 use crate::bench::{Act, Bench};
-use crate::crashes::blocks_of;
 use crate::laid::put;
 use crate::plain::{Reading, Word};
 use crate::volume::ROOT_WORD;
-use cfs_base::{Block, Failed, FileKind, Kind, Puid};
+use cfs_base::{Block, BlockNo, Disk, Failed, FileKind, Kind, Puid};
 use cfs_fakes::MemoryDisk;
 use cfs_recover::{RecoverFault, recover};
 use std::alloc::Global;
@@ -15,6 +14,17 @@ use std::test::Fail;
 
 /// So many of the first blocks are damaged.
 const USED: usize = 24;
+
+/// What the 64 blocks of a disk hold.
+fn blocks_of(alloc: Global, disk: &mut MemoryDisk) -> Result<Vec<Block>, Fail> {
+    let mut blocks = vec![in alloc; Block::zero(); 64]?;
+    for (at, block) in blocks.iter_mut().enumerate() {
+        if at < disk.blocks() as usize {
+            disk.read(BlockNo(at as u32), block)?;
+        }
+    }
+    Ok(blocks)
+}
 
 /// The next number below a bound, as if it were drawn.
 fn below(state: &mut u64, bound: usize) -> usize

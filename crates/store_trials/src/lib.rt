@@ -1,11 +1,10 @@
 //! The store tried on small volumes in memory: worked bytes, which blocks its calls take, how often they read and
 //! write, what calls that fail and damaged blocks come to, and damaged volumes that a plain reader judges. Its use is
-//! its tests; those of whole services take from it what crashes leave.
+//! its tests.
 #![tactic(auto)]
 
 #[cfg(test)]
 mod bench;
-pub mod crashes;
 #[cfg(test)]
 mod damages;
 #[cfg(test)]
@@ -24,7 +23,5 @@ mod refusals;
 mod taken;
 #[cfg(test)]
 mod volume;
-#[cfg(test)]
-mod watched;
 #[cfg(test)]
 mod worked;

@@ -3,10 +3,9 @@ use crate::laid::{
     Edit, LEAF_ENTRY, NODE_ENTRY, RESERVED, ROOT_ENTRY, block_of, edit, get, node_with, put,
     root_with,
 };
-use crate::watched::{Seen, Watched};
 use block_tree::Node;
 use cfs_base::{Block, Damage, Disk, Kind, Puid};
-use cfs_fakes::MemoryDisk;
+use cfs_fakes::{MemoryDisk, Watched};
 use cfs_recover::{RecoverFault, Recovered, check_volume, recover};
 use std::alloc::Global;
 use std::process::Abort;
@@ -231,8 +230,8 @@ fn a_committed_root_is_copied_and_what_nobody_has_is_free(rt: HostRuntime) -> Re
     expect_recovered(&rt, alloc, &mut disk)
 }
 
-fn expect_tidy(rt: &impl Abort, alloc: Global, disk: &mut Watched) -> Result<(), Fail> {
-    lay(&mut disk.memory, 2)?;
+fn expect_tidy(rt: &impl Abort, alloc: Global, disk: &mut Watched<MemoryDisk>) -> Result<(), Fail> {
+    lay(&mut disk.lower, 2)?;
     recover(alloc, disk)?;
     // Read are the map, and of the other blocks the label, both roots, both nodes, and a leaf of
     // each.
@@ -244,9 +243,8 @@ fn expect_tidy(rt: &impl Abort, alloc: Global, disk: &mut Watched) -> Result<(),
 #[test]
 fn a_tidy_volume_gets_barriers_and_no_write(rt: HostRuntime) -> Result<(), Fail> {
     let alloc = rt.alloc();
-    let memory = MemoryDisk::new(alloc, 64)?;
-    let seen = Seen::nothing();
-    expect_tidy(&rt, alloc, &mut Watched { memory, seen })
+    let disk = MemoryDisk::new(alloc, 64)?;
+    expect_tidy(&rt, alloc, &mut Watched::new(disk))
 }
 
 /// Of the device calls of its opening the first, and the first after them.

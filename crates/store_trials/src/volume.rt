@@ -4,11 +4,10 @@ ghost use Rattle.cfs_fakes.specs.Memory.{contents};
 ghost use Rattle.index_ops.specs.Creates.{MayBeMade};
 
 use crate::laid::{LEAF_ENTRY, NODE_ENTRY, RESERVED, ROOT_ENTRY, block_of, get, put};
-use crate::watched::{Seen, Watched};
 use cfs_base::{
     Block, BlockNo, Bytes, Disk, Failed, FileKind, Kind, NoMemory, Place, Puid, Refused, Trouble,
 };
-use cfs_fakes::MemoryDisk;
+use cfs_fakes::{MemoryDisk, Seen, Watched};
 use cyl_alloc::Space;
 use file_ops::{read, resize, write};
 use index_ops::{create, delete, retain, retrieve};
@@ -26,9 +25,9 @@ const LIMIT: u64 = 7_864_320;
 /// A volume of one or two cylinders with what is Free counted.
 #[derive(Drop)]
 pub struct Volume {
-    pub disk: Watched,
+    pub disk: Watched<MemoryDisk>,
     pub space: Space,
-    ghost size: { length (contents disk.memory) ≡ 64 * length space.free },
+    ghost size: { length (contents disk.lower) ≡ 64 * length space.free },
 }
 
 /// The blocks of a special file of 512 bytes, 1 and 2 and then zeros, and of its map.
@@ -50,8 +49,7 @@ fn lay_file(memory: &mut MemoryDisk) -> Result<(), Failed> {
 impl Volume {
     /// The volume on this disk.
     pub fn on(alloc: Global, memory: MemoryDisk) -> Result<Volume, Fail> {
-        let seen = Seen::nothing();
-        let mut disk = Watched { memory, seen };
+        let mut disk = Watched::new(memory);
         let cylinders = disk.blocks() / 64;
         if disk.blocks() != 64 * cylinders || cylinders == 0 || cylinders > 2 {
             return Err("a disk of another size")?;
@@ -78,11 +76,11 @@ impl Volume {
 
     /// A block.
     pub fn get(&mut self, at: u32) -> Result<Block, Failed> {
-        get(&mut self.disk.memory, at)
+        get(&mut self.disk.lower, at)
     }
 
     pub fn put(&mut self, at: u32, block: &Block) -> Result<(), Failed> {
-        put(&mut self.disk.memory, at, block)
+        put(&mut self.disk.lower, at, block)
     }
 
     /// Device calls are counted from here on.
@@ -92,7 +90,7 @@ impl Volume {
 
     /// Whether so many blocks are there and Free that no call asks for more.
     fn is_ready(&self) -> bool
-        ensures { result ≡ true → (8 < length (contents self.now.disk.memory)) × (8 ≤ sum self.now.space.free) }
+        ensures { result ≡ true → (8 < length (contents self.now.disk.lower)) × (8 ≤ sum self.now.space.free) }
     {
         self.disk.blocks() > 8 && self.space.free() >= 8
     }

@@ -43,8 +43,8 @@ pub record ReadsIn (image : Image) (P : Graph → Type 0) : Type 0 where
   pub may : P graph
   pub reads : IsSoundAs image (rooted_part graph)
 
--- What a crash leaves in this call, from this state and with this event, survives the events before it or these with it;
--- what one leaves now, these with it.
+-- What a crash leaves in this call, from this state and with this event, survives the events before it or these with
+-- it; what one leaves now, these with it.
 pub record CallSurvives {D : Type 0} (g : Ghosts D) (seed : ℕ) (s : State) (e : Event) (old new : D) : Type 0 where
   pub crashes : Leaves g old new (λ c. ReadsIn c (Early seed s e) ⊎ ReadsIn c (Late seed s e))
   pub now : (c : Image) → left_now g new c → ReadsIn c (Late seed s e)

@@ -14,11 +14,14 @@ pub record SurvivesFrom (image : Image) (seed : ℕ) (g : Graph) (trail : List E
   pub most : events ≤ length trail
   pub survives : Survives image seed g trail events
 
--- Of a run there are marks: the moment at which it began, and that at which each event was recorded. They never fall. What a
--- crash leaves at a moment since the k-th mark survives k events or more, and what one leaves now the whole trail.
-pub record RunSurvives {D : Type 0} (g : Ghosts D) (seed : ℕ) (opened : Graph) (trail : List Event) (marks : List ℕ) (d : D) : Type 0 where
+-- Of a run there are marks: the moment at which it began, and that at which each event was recorded. They never fall.
+-- What a crash leaves at a moment since the k-th mark survives k events or more, and what one leaves now the whole
+-- trail.
+pub record RunSurvives {D : Type 0} (g : Ghosts D) (seed : ℕ) (opened : Graph) (trail : List Event) (marks : List ℕ)
+    (d : D) : Type 0 where
   pub count : length marks ≡ length trail + 1
   pub past : (k : ℕ) → k < length marks → get_or marks k 0 ≤ g.moment d
   pub rising : (k : ℕ) → k + 1 < length marks → get_or marks k 0 ≤ get_or marks (k + 1) 0
-  pub each : (k : ℕ) → k ≤ length trail → (c : Image) → g.left_since d (get_or marks k 0) c → SurvivesFrom c seed opened trail k
+  pub each : (k : ℕ) → k ≤ length trail → (c : Image) → g.left_since d (get_or marks k 0) c
+      → SurvivesFrom c seed opened trail k
   pub now : (c : Image) → left_now g d c → Survives c seed opened trail (length trail)

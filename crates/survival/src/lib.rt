@@ -58,6 +58,7 @@ pub fn calls_survive<D: Disk>()
     ensures loose { (seed : ℕ) (s t : State) (e : Event) (old new : D) → next seed s e ≡ Some t → t.graph ≡ s.graph
         → Fits (D.blocks new) s.graph → Leaves D.Disk old new (λ c. Holds c s.graph)
         → ((c : Image) → left_now D.Disk old c → Holds c s.graph) → CallSurvives D.Disk seed s e old new }
-    ensures none { (s : State) (old new : D) → Fits (D.blocks new) s.graph → Leaves D.Disk old new (λ c. Holds c s.graph)
+    ensures none { (s : State) (old new : D) → Fits (D.blocks new) s.graph
+        → Leaves D.Disk old new (λ c. Holds c s.graph)
         → CallKeeps D.Disk s old new }
 {}

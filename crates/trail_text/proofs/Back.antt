@@ -1,23 +1,9 @@
 -- The words of an event that fits are read as that event.
 use Rattle.std.proofs.Common.{◌≡◌, ℕ, ◌^◌, true, false, ◌==◌, List, [], ◌∷◌, ◌++◌, length, drop, map, refl, ap, ◌∙◌, arith, Some, None}
-use Rattle.std.specs.Prelude.{codes, nat_lt}
-use Rattle.std.proofs.lemmas.Bool.{and_parts, ltb-true, eqb-true, false_from_ne_true, false≢true}
-use Rattle.std.proofs.lemmas.Fmt.{decimal_is_IsNumeral}
-use Rattle.std.specs.List.{list_all}
-use Rattle.std.specs.Fmt.{decimal}
-use Rattle.hex.specs.Hex.{encode_lower}
-use Rattle.cfs_base.specs.declared.identifier.Puid.{Puid}
-use Rattle.ufs_model.specs.declared.asked.Request.{Request}
+use Rattle.trail_text.proofs.Words.{Event, Puid, Reply, Request, and_parts, as_grant, bytes_read, bytes_within, codes, decimal, decimal_is_IsNumeral, encode_lower, eqb-true, event_line, event_read, event_shaped, event_within, event_words, false_from_ne_true, false≢true, fits, id_digits, id_read, id_within, id_word, in_32, in_64, in_8, list_all, ltb-true, nat_lt, number_if_any, number_read, ok_read, ref_within, reply_read, reply_shaped, reply_within, reply_words, request_read, request_shaped, request_within, request_words, wants_content, wants_done, wants_grant, wants_number, words_in}
 use Rattle.ufs_model.specs.declared.asked.Request.TheVariants as asks
-use Rattle.ufs_model.specs.declared.asked.Reply.{Reply}
 use Rattle.ufs_model.specs.declared.asked.Reply.TheVariants as replies
-use Rattle.ufs_model.specs.declared.asked.Event.{Event}
 use Rattle.ufs_model.specs.declared.asked.Event.TheVariants as events
-use Rattle.ufs_model.specs.Printed.{id_digits}
-use Rattle.trail_text.specs.EventLine.{event_line, event_words, id_word, reply_words, request_words}
-use Rattle.trail_text.specs.Fits.{bytes_within, event_shaped, event_within, fits, id_within, in_8, in_32, in_64, ref_within, request_shaped, reply_shaped, reply_within, request_within, wants_content, wants_done, wants_grant, wants_number}
-use Rattle.trail_text.specs.Likely.{as_grant, bytes_read, event_read, id_read, number_if_any, number_read, ok_read, reply_read, request_read}
-use Rattle.trail_text.specs.Read.{words_in}
 use Rattle.trail_text.proofs.Clear.{line_cut}
 use Rattle.trail_text.proofs.WordsBack.{and_3, back_8, back_32, byte_back, bytes_back, commit_back, grant_back, grant_digits_back, id_back, kind_back, mode_back, number_back, ref_back, unread_back}
 

@@ -1,46 +1,27 @@
--- No word of an event has a space, so its line is cut into its words.
-use Rattle.std.proofs.Common.{◌≡◌, ℕ, zero, suc, ◌/◌, ◌%◌, ◌<◌, ◌^◌, Bool, true, false, not, ◌==◌, List, [], ◌∷◌, ◌++◌, length, get_or, refl, ap, ◌∙◌, arith, Some, None}
-use Rattle.std.specs.Prelude.{map, slice_index, codes}
-use Rattle.std.proofs.lemmas.Bool.{and_from, ltb-true, lt-ltb, and_parts, not-true}
-use Rattle.std.proofs.lemmas.List.Sums.{AllPass-from_list_all}
-use Rattle.std.proofs.lemmas.List.Folds.{list_all-append}
-use Rattle.std.proofs.lemmas.List.Splits.{slice_split_at, slice_split_none}
-use Rattle.std.proofs.lemmas.Fmt.{digits_decimal}
-use Rattle.std.specs.List.{All, list_all, join_with_byte}
-use Rattle.std.specs.Fmt.{decimal}
-use Rattle.std.specs.Char.{is_ascii_digit}
-use Rattle.std.specs.Str.{all_ascii_digits}
-use Rattle.hex.specs.Hex.{encode_lower, encode_with, lower_digits}
-use Rattle.cfs_base.specs.declared.identifier.Puid.{Puid}
-use Rattle.cfs_base.specs.declared.identifier.Tuid.{Tuid}
-use Rattle.cfs_base.specs.declared.kind.FileKind.{FileKind}
+-- No word of an event has a space or an end of a line, so its line is cut into its words.
+use Rattle.std.proofs.Common.{◌≡◌, ℕ, zero, suc, ◌/◌, ◌%◌, ◌<◌, ◌^◌, Bool, true, false, not, ◌==◌, List, [], ◌∷◌, ◌++◌, length, get_or, refl, ap, ◌∙◌, arith, Some, None, map, ◌&&◌}
+use Rattle.trail_text.proofs.Words.{All, AllPass-from_list_all, Direct, Event, FileKind, Mode, Puid, Ref, Reply, Request, Through, Tuid, Unread, all_ascii_digits, and_from, and_parts, bytes_within, codes, commit_word, decimal, digits_decimal, encode_lower, event_line, event_within, event_words, grant_word, id_digits, id_within, id_word, in_32, in_64, in_8, is_ascii_digit, join_with_byte, kind_word, list_all, list_all-append, lower_digits, lt-ltb, ltb-true, mode_word, not-true, own, ref_within, ref_word, reply_within, reply_words, request_within, request_words, slice_index, slice_split_at, slice_split_none, to_be_bytes, unread_word, w32, words_in}
+use Rattle.hex.specs.Hex.{encode_with}
 use Rattle.cfs_base.specs.declared.kind.FileKind.TheVariants as kinds
-use Rattle.cfs_base.specs.declared.kind.Mode.{Mode}
 use Rattle.cfs_base.specs.declared.kind.Mode.TheVariants as modes
-use Rattle.ufs_model.specs.declared.asked.Ref.{Ref}
-use Rattle.ufs_model.specs.declared.asked.Ref.TheVariants.{Direct, Through}
-use Rattle.ufs_model.specs.declared.asked.Request.{Request}
 use Rattle.ufs_model.specs.declared.asked.Request.TheVariants as asks
-use Rattle.ufs_model.specs.declared.asked.Reply.{Reply}
 use Rattle.ufs_model.specs.declared.asked.Reply.TheVariants as replies
-use Rattle.ufs_model.specs.declared.asked.Unread.{Unread}
 use Rattle.ufs_model.specs.declared.asked.Unread.TheVariants as unread
-use Rattle.ufs_model.specs.declared.asked.Event.{Event}
 use Rattle.ufs_model.specs.declared.asked.Event.TheVariants as events
-use Rattle.ufs_model.specs.Printed.{id_digits}
-use Rattle.trail_text.specs.EventLine.{id_word, grant_word, ref_word, kind_word, mode_word, commit_word, unread_word, request_words, reply_words, event_words, event_line}
-use Rattle.trail_text.specs.Fits.{bytes_within, in_8, in_32, in_64, id_within, ref_within, event_within, reply_within, request_within}
-use Rattle.trail_text.specs.Read.{words_in}
-use Rattle.trail_text.proofs.WordsBack.{own, and_3}
-use Rattle.std.specs.Int.{w32, to_be_bytes}
+use Rattle.trail_text.proofs.WordsBack.{and_3}
 
 -- ---- a line is cut into its words
 
+abbrev pub is_word_byte : ℕ → Bool
+is_word_byte c = not (c == 32) && not (c == 10)
+
 abbrev pub is_clear : List ℕ → Bool
-is_clear w = list_all (λ c. not (c == 32)) w
+is_clear w = list_all is_word_byte w
 
 not_space : (w : List ℕ) → is_clear w ≡ true → All (λ c. (c == 32) ≡ false) w
-not_space w h k d less = not-true (get_or w k d == 32) (AllPass-from_list_all (λ c. not (c == 32)) w h k d less)
+not_space w h k d less =
+    let two = and_parts (not (get_or w k d == 32)) (not (get_or w k d == 10)) (AllPass-from_list_all is_word_byte w h k d less) in
+    not-true (get_or w k d == 32) two.0
 
 pub cut : (w : List ℕ) (ws : List (List ℕ)) → list_all is_clear (w ∷ ws) ≡ true → words_in (join_with_byte 32 (w ∷ ws)) ≡ w ∷ ws
 cut w [] h =
@@ -57,17 +38,17 @@ clear_digits : (ds : List ℕ) → all_ascii_digits ds ≡ true → is_clear ds 
 clear_digits [] h = refl
 clear_digits (c ∷ ds) h =
     let parts = and_parts (is_ascii_digit c) (all_ascii_digits ds) h in
-    and_from (not (c == 32)) (is_clear ds) (digit c parts.0) (clear_digits ds parts.1)
+    and_from (is_word_byte c) (is_clear ds) (digit c parts.0) (clear_digits ds parts.1)
   where
-    digit : (c : ℕ) → is_ascii_digit c ≡ true → not (c == 32) ≡ true
+    digit : (c : ℕ) → is_ascii_digit c ≡ true → is_word_byte c ≡ true
     digit c is = grind (arith)
 
-clear_at : (t : List ℕ) (d : ℕ) → is_clear t ≡ true → not (slice_index t d == 32) ≡ true
+clear_at : (t : List ℕ) (d : ℕ) → is_clear t ≡ true → is_word_byte (slice_index t d) ≡ true
 clear_at [] d h = refl
-clear_at (c ∷ t) zero h = (and_parts (not (c == 32)) (is_clear t) h).0
-clear_at (c ∷ t) (suc d) h = clear_at t d (and_parts (not (c == 32)) (is_clear t) h).1
+clear_at (c ∷ t) zero h = (and_parts (is_word_byte c) (is_clear t) h).0
+clear_at (c ∷ t) (suc d) h = clear_at t d (and_parts (is_word_byte c) (is_clear t) h).1
 
-clear_lower : (d : ℕ) → not (slice_index lower_digits d == 32) ≡ true
+clear_lower : (d : ℕ) → is_word_byte (slice_index lower_digits d) ≡ true
 clear_lower d = clear_at lower_digits d refl
 
 hex_clear : (bytes : List ℕ) → is_clear (encode_lower bytes) ≡ true
@@ -76,19 +57,19 @@ hex_clear [] = refl
 hex_clear (b ∷ bytes) = rw (clear_lower (b / 16), clear_lower (b % 16)) (hex_clear bytes)
 
 -- it has no space
-record Clear (w : List ℕ) : Type 0 where
-  is : is_clear w ≡ true
+pub record Clear (w : List ℕ) : Type 0 where
+  pub is : is_clear w ≡ true
 
 clear_hex : (bytes : List ℕ) → Clear (encode_lower bytes)
 clear_hex bytes = record { is = hex_clear bytes }
 
-clear_number : (n : ℕ) → in_64 n ≡ true → Clear (decimal n)
+pub clear_number : (n : ℕ) → in_64 n ≡ true → Clear (decimal n)
 clear_number n within = record { is = clear_digits (decimal n) (digits_decimal own n (ltb-true n (2 ^ 64) within)) }
 
-clear_32 : (n : ℕ) → in_32 n ≡ true → Clear (decimal n)
+pub clear_32 : (n : ℕ) → in_32 n ≡ true → Clear (decimal n)
 clear_32 n within = let small = ltb-true n (2 ^ 32) within in clear_number n (lt-ltb n (2 ^ 64) (omega (arith, small)))
 
-clear_8 : (n : ℕ) → in_8 n ≡ true → Clear (decimal n)
+pub clear_8 : (n : ℕ) → in_8 n ≡ true → Clear (decimal n)
 clear_8 n within = let small = ltb-true n (2 ^ 8) within in clear_number n (lt-ltb n (2 ^ 64) (omega (arith, small)))
 
 clear_id : (high low : ℕ) → Clear (id_digits high low)
@@ -124,16 +105,16 @@ clear_ids (id ∷ ids) = rw (clear_id id.block id.word).is (clear_ids ids)
 
 -- ---- requests, replies and events
 
-abbrev all_clear : List (List ℕ) → Bool
+abbrev pub all_clear : List (List ℕ) → Bool
 all_clear ws = list_all is_clear ws
 
 clear_0 : {a : List ℕ} (ws : List (List ℕ)) → Clear a → all_clear ws ≡ true → all_clear (a ∷ ws) ≡ true
 clear_0 {a} ws h clear = and_from (is_clear a) (all_clear ws) h.is clear
 
-clear_1 : {a : List ℕ} → Clear a → all_clear (a ∷ []) ≡ true
+pub clear_1 : {a : List ℕ} → Clear a → all_clear (a ∷ []) ≡ true
 clear_1 {a} h = and_from (is_clear a) true h.is refl
 
-clear_2 : {a b : List ℕ} → Clear a → Clear b → all_clear (a ∷ b ∷ []) ≡ true
+pub clear_2 : {a b : List ℕ} → Clear a → Clear b → all_clear (a ∷ b ∷ []) ≡ true
 clear_2 {a} {b} h i = and_from (is_clear a) (all_clear (b ∷ [])) h.is (clear_1 i)
 
 clear_3 : {a b c : List ℕ} → Clear a → Clear b → Clear c → all_clear (a ∷ b ∷ c ∷ []) ≡ true
@@ -214,3 +195,24 @@ line_cut event h = by (event_words event) (some event) (clear_event event h)
     some (events.Vanish ids) = omega arith
     some events.Finished = omega arith
     some (events.Halted moment) = omega arith
+
+-- ---- no line has an end
+
+abbrev pub has_no_end : List ℕ → Bool
+has_no_end line = list_all (λ c. not (c == 10)) line
+
+one_word : (w : List ℕ) → is_clear w ≡ true → has_no_end w ≡ true
+one_word [] h = refl
+one_word (c ∷ w) h =
+    let two = and_parts (is_word_byte c) (is_clear w) h in
+    and_from (not (c == 10)) (has_no_end w) (and_parts (not (c == 32)) (not (c == 10)) two.0).1 (one_word w two.1)
+
+pub no_end : (ws : List (List ℕ)) → all_clear ws ≡ true → has_no_end (join_with_byte 32 ws) ≡ true
+no_end [] h = refl
+no_end (w ∷ []) h = one_word w (and_parts (is_clear w) true h).0
+no_end (w ∷ x ∷ ws) h =
+    let two = and_parts (is_clear w) (all_clear (x ∷ ws)) h in
+    list_all-append (λ c. not (c == 10)) w (32 ∷ join_with_byte 32 (x ∷ ws)) ∙ and_from (has_no_end w) (has_no_end (32 ∷ join_with_byte 32 (x ∷ ws))) (one_word w two.0) (no_end (x ∷ ws) two.1)
+
+pub event_no_end : (event : Event) → event_within event ≡ true → has_no_end (event_line event) ≡ true
+event_no_end event h = no_end (event_words event) (clear_event event h)

@@ -1,13 +1,6 @@
 -- The event that a line is read as is the one that has the line, where there is one.
 use Rattle.std.proofs.Common.{◌≡◌, ℕ, true, false, ◌&&◌, List, sym, ap, ◌∙◌}
-use Rattle.std.proofs.lemmas.Bool.{and_from, and_parts, true≢false}
-use Rattle.std.proofs.lemmas.Slice.Eq.{bytes_eq-Decides}
-use Rattle.std.specs.Str.{bytes_eq}
-use Rattle.ufs_model.specs.declared.asked.Event.{Event}
-use Rattle.trail_text.specs.EventLine.{event_line}
-use Rattle.trail_text.specs.Fits.{fits}
-use Rattle.trail_text.specs.Likely.{event_read}
-use Rattle.trail_text.specs.Read.{IsLineOf, IsNoLine, words_in}
+use Rattle.trail_text.proofs.Words.{Event, IsLineOf, IsNoLine, and_from, and_parts, bytes_eq, bytes_eq-Decides, event_line, event_read, fits, true≢false, words_in}
 use Rattle.trail_text.proofs.Back.{line_back}
 
 pub line_of : (line : List ℕ) (event : Event) → (fits event && bytes_eq line (event_line event)) ≡ true → IsLineOf line event

@@ -4,3 +4,5 @@ mod Clear
 mod Back
 mod Found
 mod Parts
+mod EndLines
+mod Words

@@ -1,18 +1,8 @@
 -- Lines as texts with words behind them.
-use Rattle.std.proofs.Common.{◌≡◌, ℕ, List, [], ◌∷◌, ◌++◌, refl, sym, ap, ◌∙◌}
-use Rattle.std.specs.Prelude.{codes, length, map, Some, None}
-use Rattle.std.proofs.lemmas.List.{append_assoc, append-nil}
-use Rattle.std.specs.List.{join_with_byte}
-use Rattle.std.specs.Fmt.{decimal}
-use Rattle.cfs_base.specs.declared.identifier.Puid.{Puid}
-use Rattle.ufs_model.specs.declared.asked.Request.{Request}
-use Rattle.ufs_model.specs.declared.asked.Reply.{Reply}
+use Rattle.std.proofs.Common.{◌≡◌, ℕ, List, [], ◌∷◌, ◌++◌, refl, sym, ap, ◌∙◌, length, map, Some, None}
+use Rattle.trail_text.proofs.Words.{LF, Puid, Reply, Request, append-nil, append_assoc, codes, decimal, event_line, id_word, join_with_byte, reply_line, reply_words, request_words, spaced}
 use Rattle.ufs_model.specs.declared.asked.Reply.TheVariants as replies
-use Rattle.ufs_model.specs.Printed.{reply_line}
-use Rattle.ufs_model.specs.Script.{LF}
 use Rattle.ufs_model.specs.declared.asked.Event.TheVariants as events
-use Rattle.trail_text.specs.EventLine.{event_line, request_words, reply_words, id_word}
-use Rattle.trail_text.specs.Spaced.{spaced}
 
 -- the first word, and the others behind it
 pub joined : (w : List ℕ) (ws : List (List ℕ)) → join_with_byte 32 (w ∷ ws) ≡ w ++ spaced ws

@@ -1,13 +1,7 @@
 -- The words that are left of a line, and the parts of an ask.
 use Rattle.std.proofs.Common.{◌≡◌, ℕ, ◌-◌, List, length, take, drop, refl, sym, inl, inr, arith, min, Bor}
-use Rattle.std.proofs.lemmas.Bool.{cases_lt}
-use Rattle.std.proofs.lemmas.List.{drop-map, drop_all, take_all, length-map, length-drop}
-use Rattle.ufs_model.specs.declared.asked.Request.{Request}
-use Rattle.ufs_model.specs.declared.asked.Reply.{Reply}
+use Rattle.trail_text.proofs.Words.{Reply, Request, ask_read, cases_lt, drop-map, drop_all, length-drop, length-map, read_32, reply_read, request_read, request_words, take_all, texts, word_at}
 use Rattle.ufs_model.specs.declared.asked.Event.TheVariants as events
-use Rattle.trail_text.specs.EventLine.{request_words}
-use Rattle.trail_text.specs.Likely.{ask_read, read_32, reply_read, request_read, word_at}
-use Rattle.trail_text.specs.Read.{texts}
 
 pub texts_left : (ws : List (Bor (List ℕ))) (at m : ℕ) → m ≡ min at (length ws)
     → texts (take (length ws - m) (drop m ws)) ≡ drop at (texts ws)

@@ -1,31 +1,9 @@
 -- Each word is read as what it was written for.
-use Rattle.std.proofs.Common.{◌≡◌, ℕ, zero, suc, ◌^◌, ◌<◌, Bool, true, false, List, [], ◌∷◌, ◌++◌, length, get_or, refl, sym, ap, ◌∙◌, arith, Ok}
-use Rattle.std.specs.Prelude.{◌&&◌, codes}
-use Rattle.std.proofs.lemmas.Bool.{lt-ltb, le-leb, ltb-true, and_parts, false≢true}
-use Rattle.std.proofs.lemmas.List.{drop_all, drop_more}
-use Rattle.std.proofs.lemmas.Str.Parse.{IsNumeralModel, numerals_by_value, tells_all_ascii_digits}
-use Rattle.std.proofs.lemmas.Fmt.{decimal_is_IsNumeral, length-decimal-le, digits_decimal, digits_value-decimal}
-use Rattle.std.proofs.lemmas.Nat.{from_be_bytes-to_be_bytes_4}
-use Rattle.std.specs.Fmt.{decimal}
-use Rattle.std.specs.Str.{all_ascii_digits}
-use Rattle.std.specs.Str.Parse.{digits_value}
-use Rattle.std.specs.Int.{w32, to_be_bytes, from_be_bytes, bytes_high_first, byte_at}
-use Rattle.hex.specs.Hex.{IsBytes, decode_sized, encode_lower, lower_digits}
-use Rattle.hex.proofs.HexLemmas.{decode_of-encode_lower, decode_of-ok, decode_sized-encode_lower, decode_sized-ok, decode_sized-twice, length-encode_with}
-use Rattle.cfs_base.specs.declared.identifier.Puid.{Puid}
-use Rattle.cfs_base.specs.declared.identifier.Tuid.{Tuid}
-use Rattle.cfs_base.specs.declared.kind.FileKind.{FileKind}
+use Rattle.std.proofs.Common.{◌≡◌, ℕ, zero, suc, ◌^◌, ◌<◌, Bool, true, false, List, [], ◌∷◌, ◌++◌, length, get_or, refl, sym, ap, ◌∙◌, arith, Ok, ◌&&◌}
+use Rattle.trail_text.proofs.Words.{Direct, FileKind, IsBytes, Mode, Puid, Ref, Through, Tuid, Unread, and_parts, as_grant, byte_at, byte_read, bytes_high_first, bytes_read, bytes_within, codes, commit_word, decimal, decimal_is_IsNumeral, decode_of-encode_lower, decode_of-ok, decode_sized, decode_sized-encode_lower, decode_sized-ok, decode_sized-twice, digits_decimal, digits_value-decimal, eight, encode_lower, false≢true, from_be_bytes, from_be_bytes-to_be_bytes_4, grant_read, grant_within, grant_word, id_digits, id_of_bytes, id_read, id_within, id_word, in_32, in_64, in_8, is, kind_read, kind_word, le-leb, length-decimal-le, length-encode_with, lower_digits, lt-ltb, ltb-true, mode_read, mode_word, number_read, own, read_32, read_8, ref_read, ref_within, ref_word, to_be_bytes, unread_read, unread_word, w32}
 use Rattle.cfs_base.specs.declared.kind.FileKind.TheVariants as kinds
-use Rattle.cfs_base.specs.declared.kind.Mode.{Mode}
 use Rattle.cfs_base.specs.declared.kind.Mode.TheVariants as modes
-use Rattle.ufs_model.specs.declared.asked.Ref.{Ref}
-use Rattle.ufs_model.specs.declared.asked.Ref.TheVariants.{Direct, Through}
-use Rattle.ufs_model.specs.declared.asked.Unread.{Unread}
 use Rattle.ufs_model.specs.declared.asked.Unread.TheVariants as unread
-use Rattle.ufs_model.specs.Printed.{id_digits}
-use Rattle.trail_text.specs.EventLine.{id_word, grant_word, ref_word, kind_word, mode_word, commit_word, unread_word}
-use Rattle.trail_text.specs.Fits.{in_8, in_32, in_64, id_within, grant_within, ref_within, bytes_within}
-use Rattle.trail_text.specs.Likely.{as_grant, bytes_read, byte_read, grant_read, id_of_bytes, id_read, is, kind_read, mode_read, number_read, read_8, read_32, ref_read, unread_read}
 
 pub and_3 : (x y z : Bool) → (x && y && z) ≡ true → (x ≡ true) × (y ≡ true) × (z ≡ true)
 and_3 true true true h = (refl, refl, refl)
@@ -34,9 +12,6 @@ and_3 true false z h = absurd (false≢true h)
 and_3 false y z h = absurd (false≢true h)
 
 -- ---- numbers
-
-pub own : IsNumeralModel (λ ds. all_ascii_digits ds ≡ true) (digits_value 10)
-own = numerals_by_value (λ ds. all_ascii_digits ds ≡ true) tells_all_ascii_digits
 
 pub number_back : (n : ℕ) → in_64 n ≡ true → number_read (decimal n) ≡ n
 number_back n within =
@@ -104,21 +79,6 @@ id_back id within =
     let each : IsBytes bytes = are_bytes 4 id.block (to_be_bytes w32 id.word) (are_bytes 4 id.word [] no_bytes) in
     let sized = decode_sized-encode_lower bytes 8 refl each in
     rw (sized, high, low) refl
-
--- a list of 8, item by item
-eight : (bytes : List ℕ) → length bytes ≡ 8
-    → bytes ≡ get_or bytes 0 0 ∷ get_or bytes 1 0 ∷ get_or bytes 2 0 ∷ get_or bytes 3 0 ∷ get_or bytes 4 0 ∷ get_or bytes 5 0 ∷ get_or bytes 6 0 ∷ get_or bytes 7 0 ∷ []
-eight bytes h =
-    let a = drop_more bytes 0 0 (omega arith) in
-    let b = drop_more bytes 1 0 (omega arith) in
-    let c = drop_more bytes 2 0 (omega arith) in
-    let d = drop_more bytes 3 0 (omega arith) in
-    let e = drop_more bytes 4 0 (omega arith) in
-    let f = drop_more bytes 5 0 (omega arith) in
-    let g = drop_more bytes 6 0 (omega arith) in
-    let i = drop_more bytes 7 0 (omega arith) in
-    let end = drop_all 8 bytes (omega arith) in
-    cc
 
 pub id_decoded : (word bytes : List ℕ) → decode_sized word 8 ≡ Ok bytes
     → id_read word ≡ record {

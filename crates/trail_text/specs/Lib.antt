@@ -3,3 +3,4 @@ pub mod Fits
 pub mod Spaced
 pub mod Likely
 pub mod Read
+pub mod Trail

@@ -2,6 +2,7 @@
 //! The layers above use that an event that fits has one line, and no two of them have the same.
 #![tactic(auto)]
 
+mod ends;
 mod fault;
 mod laws;
 mod print;
@@ -14,6 +15,7 @@ mod read_word;
 mod shape;
 mod word;
 
+pub use ends::{Opening, print_opening, print_status, print_trail, read_opening, read_status};
 pub use fault::TrailFault;
 pub use laws::lines_tell_events;
 pub use print::print_event;

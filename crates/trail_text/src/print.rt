@@ -50,7 +50,7 @@ pub fn print_event(alloc: Global, event: &Event) -> Result<String, NoMemory>
 }
 
 /// The line of these words.
-fn line_of(alloc: Global, verb: &str, words: &[Word<'_>]) -> Result<String, NoMemory>
+pub fn line_of(alloc: Global, verb: &str, words: &[Word<'_>]) -> Result<String, NoMemory>
     ensures { IfOk result (λ line. string_bytes line ≡ verb.now ++ spaced (map letters words.now)) }
 {
     let mut line = String::from_str(alloc, verb)?;

@@ -1,6 +1,7 @@
 //! Words, each read as what would stand at its place; one that can't be read so counts as nothing.
 ghost use Rattle.std.specs.Prelude.{◌≡◌, ◌<◌, ◌==◌, IfOk, drop, length};
-ghost use Rattle.trail_text.specs.Likely.{as_grant, byte_read, bytes_read, grant_read, id_read, kind_read, mode_read, number_if_any, number_read, read_32, read_8, ref_read, word_at};
+ghost use Rattle.trail_text.specs.Likely.{as_grant, byte_read, bytes_read, grant_read, id_read, kind_read, mode_read};
+ghost use Rattle.trail_text.specs.Likely.{number_if_any, number_read, read_32, read_8, ref_read, word_at};
 ghost use Rattle.trail_text.specs.Read.{texts, words_in};
 
 use cfs_base::{Bytes, FileKind, Mode, NoMemory, Puid, Tuid};

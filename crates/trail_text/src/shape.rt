@@ -1,7 +1,10 @@
 //! Which events fit a line.
 ghost use Rattle.std.specs.Prelude.{◌≡◌, true, length};
 ghost use Rattle.std.specs.List.{list_all};
-ghost use Rattle.trail_text.specs.Fits.{bytes_within, event_shaped, event_within, fits, grant_within, ids_rise, id_within, in_32, in_64, ref_within, reply_shaped, reply_within, request_shaped, request_within, rise_from, wants_content, wants_done, wants_grant, wants_id, wants_number};
+ghost use Rattle.trail_text.specs.Fits.{bytes_within, grant_within, id_within, in_32, in_64, ref_within};
+ghost use Rattle.trail_text.specs.Fits.{event_within, reply_within, request_within};
+ghost use Rattle.trail_text.specs.Fits.{event_shaped, fits, ids_rise, reply_shaped, request_shaped, rise_from};
+ghost use Rattle.trail_text.specs.Fits.{wants_content, wants_done, wants_grant, wants_id, wants_number};
 
 use cfs_base::{Need, Puid, Tuid};
 use std::cmp::Ordering;

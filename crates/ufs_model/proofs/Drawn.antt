@@ -1,7 +1,6 @@
 -- A word that is drawn, and the stream that is left.
 use Rattle.std.proofs.Common.{◌≡◌, ℕ, ◌+◌, ◌<◌, ◌^◌, ap, ◌∙◌, arith}
-use Rattle.rand_chacha.specs.ChaCha.{ChaCha, next_word}
-use Rattle.ufs_model.specs.Word.{word, words_from}
+use Rattle.ufs_model.proofs.Words.{ChaCha, next_word, word, words_from}
 
 module _ (seed k r : ℕ) (g : ChaCha) (is : (r, g) ≡ next_word 10 (words_from seed k)) where
   pub drawn_word : (j : ℕ) → k ≡ j → r ≡ word seed j

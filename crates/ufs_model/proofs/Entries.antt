@@ -1,16 +1,7 @@
 -- The entries of a graph, where an object that is there is replaced.
 use Rattle.std.proofs.Common.{◌≡◌, ◌≢◌, List, [], ◌∷◌, refl, sym, ap, arith, Some, None, true, false, cond}
-use Rattle.std.proofs.lemmas.Bool.Decides.{nat_tests}
-use Rattle.std.specs.List.{AllByRecursion}
+use Rattle.ufs_model.proofs.Words.{AllByRecursion, Equal, Greater, IsTotalOrder, Less, Puid, alike_right, insert_entry, is_at, is_eq, keys_of, lookup, match_ordering, nat_cmp_total, nat_tests, on_total, puid_cmp, set_value, then_total, tied_itself}
 use Rattle.std.specs.List.Sorted.{IsStrictlySortedBy}
-use Rattle.std.specs.Ordering.{is_eq, match_ordering}
-use Rattle.std.specs.declared.cmp.Ordering.TheVariants.{Less, Equal, Greater}
-use Rattle.std.specs.BTreeMap.{insert_entry, is_at}
-use Rattle.std.specs.Map.{lookup, keys_of, set_value}
-use Rattle.std.specs.Cmp.{IsTotalOrder}
-use Rattle.std.proofs.lemmas.Cmp.{then_total, on_total, nat_cmp_total, alike_right, tied_itself}
-use Rattle.cfs_base.specs.declared.identifier.Puid.{Puid}
-use Rattle.ufs_model.specs.Identifier.{puid_cmp}
 
 pub puid_total : IsTotalOrder puid_cmp
 puid_total = then_total (on_total (λ (p : Puid). p.block) nat_cmp_total) (on_total (λ (p : Puid). p.word) nat_cmp_total)

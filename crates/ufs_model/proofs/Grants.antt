@@ -1,17 +1,6 @@
 -- Grants in the order in which they were drawn: each identifier is that of one.
-use Rattle.std.proofs.Common.{◌≡◌, ◌≢◌, ℕ, zero, suc, ◌+◌, ◌<◌, ◌≤◌, List, [], ◌∷◌, ◌++◌, length, set, refl, sym, ◌∙◌, ap, subst, arith, Bool, true, false, cond, ◌&&◌, Some, None, slice_get}
-use Rattle.std.specs.Prelude.{◌==◌, not, nat_lt, nat_le, filter}
-use Rattle.std.specs.List.{list_all, find, position, position_or_len, remove}
-use Rattle.std.proofs.lemmas.Bool.{and_parts, and_from, eqb-true, ltb-true, ltb-false, lt-ltb, le-leb, leb-true}
-use Rattle.std.proofs.lemmas.List.Folds.{find_at, list_all-append, list_all-map}
-use Rattle.std.proofs.lemmas.Option.{slice_get_past}
-use Rattle.cfs_base.specs.declared.identifier.Tuid.{Tuid}
-use Rattle.ufs_model.specs.declared.object.Draft.{Draft}
-use Rattle.ufs_model.specs.declared.object.Grant.{Grant}
-use Rattle.ufs_model.specs.Identifier.{same_tuid}
-use Rattle.ufs_model.specs.Numbers.{numbers_rise}
-use Rattle.ufs_model.specs.State.{is_grant, with_draft}
-use Rattle.ufs_model.specs.WellFormed.{draws_of}
+use Rattle.std.proofs.Common.{◌≡◌, ◌≢◌, ℕ, zero, suc, ◌+◌, ◌<◌, ◌≤◌, List, [], ◌∷◌, ◌++◌, length, set, refl, sym, ◌∙◌, ap, subst, arith, Bool, true, false, cond, ◌&&◌, Some, None, slice_get, not}
+use Rattle.ufs_model.proofs.Words.{Draft, Grant, Tuid, and_from, and_parts, draws_of, eqb-true, filter, find, find_at, is_grant, le-leb, leb-true, list_all, list_all-append, list_all-map, lt-ltb, ltb-false, ltb-true, nat_le, nat_lt, numbers_rise, position, position_or_len, remove, same_tuid, slice_get_past, with_draft, ◌==◌}
 use Rattle.ufs_model.proofs.Tests.{all_filter, all_weaker}
 use Rattle.ufs_model.proofs.Rising.{rise-push}
 

@@ -1,23 +1,7 @@
 -- What a graph has at an identifier, after a change too, and what refers to what in it.
-use Rattle.std.proofs.Common.{◌≡◌, List, [], ◌∷◌, length, refl, sym, ◌∙◌, ap, subst, Bool, true, false, cond, not, ◌&&◌, ◌||◌, Option, Some, None}
-use Rattle.std.specs.Prelude.{map, filter, is_some}
-use Rattle.std.specs.List.{list_all, flat_map, AllByRecursion}
+use Rattle.std.proofs.Common.{◌≡◌, List, [], ◌∷◌, length, refl, sym, ◌∙◌, ap, subst, Bool, true, false, cond, not, ◌&&◌, ◌||◌, Option, Some, None, map}
+use Rattle.ufs_model.proofs.Words.{AllByRecursion, Equal, Graph, Greater, Less, Object, Ordering, Puid, and_from, and_parts, filter, flat_map, graph_pairs, has_pair, ids_of, insert_entry, is_among, is_at, is_lt, is_some, is_some-lookup, is_there, keys_of, length-map, list_all, list_any-append, lookup, lookup-filter-keys, match_ordering, none-some, object_at, ordering_reverse, puid_cmp, referred, rises, same_Some, same_puid, with_object, without}
 use Rattle.std.specs.List.Sorted.{IsStrictlySortedBy}
-use Rattle.std.specs.Ordering.{is_lt, ordering_reverse, match_ordering}
-use Rattle.std.specs.declared.cmp.Ordering.{Ordering}
-use Rattle.std.specs.declared.cmp.Ordering.TheVariants.{Less, Equal, Greater}
-use Rattle.std.specs.BTreeMap.{is_at, insert_entry}
-use Rattle.std.specs.Map.{lookup, keys_of}
-use Rattle.std.proofs.lemmas.Bool.{and_parts, and_from}
-use Rattle.std.proofs.lemmas.List.{length-map}
-use Rattle.std.proofs.lemmas.List.Folds.{list_any-append}
-use Rattle.std.proofs.lemmas.Map.Entries.{lookup-filter-keys}
-use Rattle.std.proofs.lemmas.Map.Made.{is_some-lookup}
-use Rattle.std.proofs.lemmas.Option.{same_Some, none-some}
-use Rattle.cfs_base.specs.declared.identifier.Puid.{Puid}
-use Rattle.ufs_model.specs.declared.object.Object.{Object}
-use Rattle.ufs_model.specs.Identifier.{puid_cmp, same_puid, is_among, rises}
-use Rattle.ufs_model.specs.Graph.{Graph, ids_of, object_at, is_there, with_object, without, referred, graph_pairs, has_pair}
 use Rattle.ufs_model.proofs.Entries.{puid_total, lookup-insert_entry, lookup-insert_same}
 use Rattle.ufs_model.proofs.Tests.{all_filter}
 use Rattle.ufs_model.proofs.Reached.{exact_puid, same_puid_is, same_puid_itself}

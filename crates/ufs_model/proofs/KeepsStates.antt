@@ -1,30 +1,11 @@
 -- What may happen keeps a state well-formed.
-use Rattle.std.proofs.Common.{◌≡◌, ℕ, zero, suc, ◌+◌, List, [], ◌∷◌, length, refl, ◌∙◌, ap, subst, arith, Bool, true, false, not, ◌&&◌, ◌||◌, Some, None, Option}
-use Rattle.std.specs.Prelude.{◌==◌, nat_lt, nat_le, is_none, option_and_then, map, All}
-use Rattle.std.specs.List.{list_all}
-use Rattle.std.proofs.lemmas.Bool.{and_parts, and_from, or_left, or_right, not-false, leb-true, leb-false, ltb-false}
-use Rattle.cfs_base.specs.declared.identifier.Puid.{Puid}
-use Rattle.ufs_model.specs.declared.asked.Request.{Request}
+use Rattle.std.proofs.Common.{◌≡◌, ℕ, zero, suc, ◌+◌, List, [], ◌∷◌, length, refl, ◌∙◌, ap, subst, arith, Bool, true, false, not, ◌&&◌, ◌||◌, Some, None, Option, map}
+use Rattle.ufs_model.proofs.Words.{All, Event, Fill, Grant, Graph, IsGraph, IsInside, IsSpeakable, IsState, Object, Overwrite, Puid, Reply, Request, SetSize, State, after_leave, allowed_if, and_from, and_parts, answered, block_named, by_outcome, changed, conditions, creates, goes_nowhere, goes_through, has_no_grant, has_no_object, has_no_slot, is_among, is_beyond, is_free_root, is_grant_in, is_none, is_open_so, is_out_of_range, is_outcome, is_range, is_running, is_there, leb-false, leb-true, list_all, ltb-false, may_vanish, named, nat_le, nat_lt, new_file, new_index, next, not-false, opening, option_and_then, or_left, or_right, outcome_of, pairs_of, referred, refusal_of, replay_from, retains_nothing, same_puid, same_reply, seen, starts_now, stopped_at, stores_bytes, target, the_file, the_index, with_edge, without, ◌==◌}
 use Rattle.ufs_model.specs.declared.asked.Request.TheVariants as asks
-use Rattle.ufs_model.specs.declared.asked.Reply.{Reply}
 use Rattle.ufs_model.specs.declared.asked.Reply.TheVariants as replies
-use Rattle.ufs_model.specs.declared.asked.Event.{Event}
 use Rattle.ufs_model.specs.declared.asked.Event.TheVariants as events
 use Rattle.ufs_model.specs.declared.collection.Collection.TheVariants as collections
-use Rattle.ufs_model.specs.declared.object.Object.{Object}
 use Rattle.ufs_model.specs.declared.object.Object.TheVariants as objects
-use Rattle.ufs_model.specs.declared.object.Grant.{Grant}
-use Rattle.ufs_model.specs.Identifier.{same_puid, is_among}
-use Rattle.ufs_model.specs.Object.{Fill, Overwrite, SetSize, IsInside, new_file, new_index}
-use Rattle.ufs_model.specs.Graph.{Graph, IsGraph, is_there, without, referred, is_free_root}
-use Rattle.ufs_model.specs.State.{State, opening, is_running, stopped_at, after_leave, named, the_index, the_file, seen, pairs_of}
-use Rattle.ufs_model.specs.Refusal.{target, goes_nowhere, retains_nothing, has_no_grant, has_no_object, has_no_slot, is_out_of_range, is_range, is_beyond, conditions, refusal_of}
-use Rattle.ufs_model.specs.Outcome.{changed, creates, outcome_of, block_named, with_edge}
-use Rattle.ufs_model.specs.Reach.{starts_now}
-use Rattle.ufs_model.specs.Vanish.{may_vanish}
-use Rattle.ufs_model.specs.Next.{allowed_if, is_outcome, goes_through, same_reply, by_outcome, answered, next}
-use Rattle.ufs_model.specs.Run.{replay_from}
-use Rattle.ufs_model.specs.WellFormed.{IsState, IsSpeakable, stores_bytes, is_grant_in, is_open_so}
 use Rattle.ufs_model.proofs.Reached.{same_puid_itself}
 use Rattle.ufs_model.proofs.Objects.{new_file_whole, new_index_whole}
 use Rattle.ufs_model.proofs.WellGraphs.{taken_keeps}

@@ -1,25 +1,9 @@
 -- An answer is an event that may happen.
 use Rattle.std.proofs.Common.{◌≡◌, ◌≢◌, ℕ, zero, suc, List, [], ◌∷◌, ◌++◌, refl, sym, ap, arith, Bool, true, false, cond, not, ◌&&◌, ◌||◌, Some, None, Option, slice_get}
-use Rattle.std.specs.Prelude.{is_none, nat_lt, ◌==◌, option_and_then, Result, Ok, Err, IfOk, OnErr}
-use Rattle.std.specs.Result.{result_unwrap_or}
-use Rattle.cfs_base.specs.declared.refusal.NoMemory.{NoMemory}
-use Rattle.std.specs.List.{list_all}
-use Rattle.std.specs.Str.{bytes_eq}
-use Rattle.std.proofs.lemmas.Bool.Decides.{nat_tests}
-use Rattle.cfs_base.specs.declared.identifier.Puid.{Puid}
-use Rattle.ufs_model.specs.declared.asked.Request.{Request}
+use Rattle.ufs_model.proofs.Words.{Err, Event, Graph, IfOk, IsAnswer, IsLeastFreeRoot, IsPlainReply, NoMemory, Ok, OnErr, Puid, Reply, Request, Result, State, allowed_if, answered, block_named, bytes_eq, conditions, creates, finds_empty, first_of, is_free_root, is_id, is_none, is_outcome, is_running, list_all, nat_lt, nat_tests, next, option_and_then, outcome_of, parts_of, refusal_of, refused_or, replay_from, result_unwrap_or, same_reply, slot_reply, ◌==◌}
 use Rattle.ufs_model.specs.declared.asked.Request.TheVariants as asks
-use Rattle.ufs_model.specs.declared.asked.Reply.{Reply}
 use Rattle.ufs_model.specs.declared.asked.Reply.TheVariants as replies
-use Rattle.ufs_model.specs.declared.asked.Event.{Event}
 use Rattle.ufs_model.specs.declared.asked.Event.TheVariants as events
-use Rattle.ufs_model.specs.Graph.{Graph, IsLeastFreeRoot, is_free_root}
-use Rattle.ufs_model.specs.State.{State, is_running}
-use Rattle.ufs_model.specs.Refusal.{first_of, conditions, refusal_of, finds_empty}
-use Rattle.ufs_model.specs.Outcome.{outcome_of, slot_reply, creates, block_named}
-use Rattle.ufs_model.specs.Next.{parts_of, same_reply, answered, allowed_if, is_outcome, next}
-use Rattle.ufs_model.specs.Run.{replay_from}
-use Rattle.ufs_model.specs.Plain.{IsAnswer, IsPlainReply, refused_or, is_id}
 
 -- the replies that refuse, and those of what is done
 abbrev refuses : Reply → Bool

@@ -22,3 +22,9 @@ pub mod KeepsStates
 pub mod Drawn
 mod Places
 mod ServerChanges
+mod Beside
+mod Unkept
+mod Spreading
+mod Rises
+mod Remembered
+mod Words

@@ -1,22 +1,10 @@
 -- How many blocks requests may take.
-use Rattle.std.proofs.Common.{◌≡◌, ℕ, refl, List, [], ◌∷◌, Some}
-use Rattle.std.specs.Prelude.{replicate}
-use Rattle.cfs_base.specs.declared.identifier.Puid.{Puid}
-use Rattle.cfs_base.specs.declared.kind.FileKind.{FileKind}
+use Rattle.std.proofs.Common.{◌≡◌, ℕ, refl, List, [], ◌∷◌, Some, replicate}
+use Rattle.ufs_model.proofs.Words.{Direct, Draft, FileKind, Grant, Index, Object, Overwrite, Puid, Request, SetSize, State, Through, changed_draft, fresh_graph, need_of, object_at, opening, with_object}
 use Rattle.cfs_base.specs.declared.kind.FileKind.TheVariants as kinds
 use Rattle.cfs_base.specs.declared.kind.Mode.TheVariants as modes
-use Rattle.ufs_model.specs.declared.asked.Ref.TheVariants.{Direct, Through}
-use Rattle.ufs_model.specs.declared.asked.Request.{Request}
 use Rattle.ufs_model.specs.declared.asked.Request.TheVariants as asks
-use Rattle.ufs_model.specs.declared.object.Object.{Object}
-use Rattle.ufs_model.specs.declared.object.Index.{Index}
 use Rattle.ufs_model.specs.declared.object.Object.TheVariants as objects
-use Rattle.ufs_model.specs.declared.object.Draft.{Draft}
-use Rattle.ufs_model.specs.declared.object.Grant.{Grant}
-use Rattle.ufs_model.specs.Object.{Overwrite, SetSize}
-use Rattle.ufs_model.specs.Graph.{object_at, fresh_graph, with_object}
-use Rattle.ufs_model.specs.State.{State, opening, changed_draft}
-use Rattle.ufs_model.specs.Need.{need_of}
 use Rattle.ufs_model.proofs.Worked.{root, a, second}
 
 -- ---- a direct request on an index, whatever the state

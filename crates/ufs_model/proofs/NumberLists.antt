@@ -1,16 +1,6 @@
 -- A number at its place in a list.
 use Rattle.std.proofs.Common.{◌≡◌, ℕ, zero, suc, ◌<◌, ◌≤◌, List, [], ◌∷◌, ◌++◌, refl, sym, ap, ◌∙◌, inl, inr, true, length, arith, take, drop, get_or}
-use Rattle.std.specs.Prelude.{nat_lt, insert, Result, Ok, Err, MatchResult}
-use Rattle.std.specs.List.{list_all}
-use Rattle.std.specs.List.Sorted.{IsBinarySearchResult}
-use Rattle.std.specs.Ordering.{nat_cmp}
-use Rattle.std.proofs.lemmas.Bool.{and_parts, ltb-true, cases_lt}
-use Rattle.std.proofs.lemmas.List.Recursion.{and_at}
-use Rattle.std.proofs.lemmas.List.Sorted.{searched}
-use Rattle.std.proofs.lemmas.Bool.Decides.{nat_tests}
-use Rattle.std.proofs.Math.Seq.{drop-cons}
-use Rattle.std.proofs.lemmas.List.{take-append-drop, drop_all}
-use Rattle.ufs_model.specs.Numbers.{numbers_rise, with_number}
+use Rattle.ufs_model.proofs.Words.{Err, IsBinarySearchResult, MatchResult, Ok, Result, and_at, and_parts, cases_lt, drop-cons, drop_all, insert, list_all, ltb-true, nat_cmp, nat_lt, nat_tests, numbers_rise, searched, take-append-drop, with_number}
 
 past : (n m : ℕ) (ms : List ℕ) → m < n → with_number n (m ∷ ms) ≡ m ∷ with_number n ms
 past n m ms less = grind (arith, nat_tests)

@@ -1,17 +1,8 @@
 -- A change that is within an object keeps it well-formed, and of its kind.
 use Rattle.std.proofs.Common.{◌≡◌, ℕ, ◌+◌, ◌-◌, ◌*◌, ◌/◌, ◌<◌, ◌≤◌, List, ◌++◌, length, take, drop, replicate, set, refl, ◌∙◌, ap, arith, true, false, not, ◌||◌, Some, None, Option, ◌⊎◌, inl, inr, length-append, length-set}
-use Rattle.std.specs.Prelude.{◌==◌, nat_lt, nat_le, is_none}
-use Rattle.std.specs.List.{list_all}
-use Rattle.std.proofs.lemmas.Bool.{and_parts, and_from, or_left, or_right, or_cases, lt-ltb, le-leb, eq-eqb, cases_lt}
-use Rattle.std.proofs.lemmas.List.{length-take, length-take-le, length-drop, length-replicate}
-use Rattle.cfs_base.specs.declared.identifier.Puid.{Puid}
-use Rattle.cfs_base.specs.declared.kind.FileKind.{FileKind}
-use Rattle.ufs_model.specs.declared.object.Object.{Object}
-use Rattle.ufs_model.specs.declared.object.File.{File}
-use Rattle.ufs_model.specs.declared.object.Index.{Index}
+use Rattle.ufs_model.proofs.Words.{Change, File, FileKind, Fill, Index, IsInside, Object, Overwrite, Puid, SetSize, and_from, and_parts, byte_may_stand, cases_lt, changed_object, each_from, eq-eqb, filled, has_number, is_none, is_object, le-leb, leaves_in, length-replicate, length-take, length-take-le, list_all, lt-ltb, nat_le, nat_lt, new_file, new_index, numbers_rise, or_cases, or_left, or_right, resized, slot_may_stand, touched, written, ◌==◌}
+use Rattle.std.proofs.lemmas.List.{length-drop}
 use Rattle.ufs_model.specs.declared.object.Object.TheVariants as objects
-use Rattle.ufs_model.specs.Numbers.{has_number, numbers_rise}
-use Rattle.ufs_model.specs.Object.{Change, Fill, Overwrite, SetSize, changed_object, IsInside, is_object, each_from, byte_may_stand, slot_may_stand, leaves_in, touched, filled, written, resized, new_file, new_index}
 use Rattle.ufs_model.proofs.Tests.{all_passing, each_append, each_take, each_drop, each_set, each_same, each_weaker, each_all}
 use Rattle.ufs_model.proofs.Rising.{withs_new, withs_old, with_itself, with_others, all_with, all_withs, all_numbers, withs-rise, with_number-rises, filter-rises, to_numbers, to_filter}
 

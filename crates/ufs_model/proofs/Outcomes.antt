@@ -1,32 +1,10 @@
 -- What an outcome leaves of a state, and what it answers.
 use Rattle.std.proofs.Common.{List, ◌≡◌, ℕ, ◌+◌, ◌<◌, ◌≤◌, length, refl, sym, ap, ◌∙◌, subst, length-drop, Bool, true, false, ◌&&◌, Some, None, Option, arith}
-use Rattle.std.specs.Prelude.{◌==◌, nat_lt, nat_le, option_and_then}
-use Rattle.std.proofs.lemmas.List.{length-take}
-use Rattle.std.proofs.lemmas.Bool.{and_parts, not-false, leb-true}
-use Rattle.std.proofs.lemmas.Bool.Decides.{nat_tests}
-use Rattle.cfs_base.specs.declared.identifier.Puid.{Puid}
-use Rattle.cfs_base.specs.declared.identifier.Tuid.{Tuid}
-use Rattle.ufs_model.specs.declared.asked.Ref.{Ref}
-use Rattle.ufs_model.specs.declared.asked.Ref.TheVariants.{Through}
-use Rattle.ufs_model.specs.declared.asked.Request.{Request}
+use Rattle.ufs_model.proofs.Words.{AnIndex, Collection, Draft, Fill, Grant, Graph, IsLeastFreeRoot, IsPlainReply, IsState, Object, Puid, Ref, Request, State, Through, Tuid, and_parts, changed_draft, closed, committed, conditions, created, creates, draft_of, draws, file_seen, grant_of, has_block, index_seen, is_free_root, is_open_so, is_range, is_unwanted_file, leb-true, length-take, most_at_once, named, names_file, nat_le, nat_lt, nat_tests, not-false, object_at, object_of, option_and_then, outcome_of, put, refusal_of, seen, slot_of, slot_reply, target, wanted, with_edge, with_object, with_start, word, ◌==◌}
 use Rattle.ufs_model.specs.declared.asked.Request.TheVariants as asks
 use Rattle.ufs_model.specs.declared.asked.Reply.TheVariants as replies
-use Rattle.ufs_model.specs.declared.asked.Wanted.TheVariants.{AnIndex}
-use Rattle.ufs_model.specs.declared.collection.Collection.{Collection}
 use Rattle.ufs_model.specs.declared.collection.Collection.TheVariants as collections
-use Rattle.ufs_model.specs.declared.object.Object.{Object}
 use Rattle.ufs_model.specs.declared.object.Object.TheVariants as objects
-use Rattle.ufs_model.specs.declared.object.Draft.{Draft}
-use Rattle.ufs_model.specs.declared.object.Grant.{Grant}
-use Rattle.ufs_model.specs.Limits.{most_at_once}
-use Rattle.ufs_model.specs.Object.{Fill, slot_of}
-use Rattle.ufs_model.specs.Graph.{Graph, IsLeastFreeRoot, has_block, is_free_root, object_at, with_object}
-use Rattle.ufs_model.specs.State.{State, changed_draft, draft_of, file_seen, grant_of, index_seen, named, object_of, put, seen}
-use Rattle.ufs_model.specs.Refusal.{conditions, is_range, is_unwanted_file, names_file, refusal_of, target, wanted}
-use Rattle.ufs_model.specs.Outcome.{closed, committed, created, creates, draws, outcome_of, slot_reply, with_edge, with_start}
-use Rattle.ufs_model.specs.Plain.{IsPlainReply}
-use Rattle.ufs_model.specs.WellFormed.{IsState, is_open_so}
-use Rattle.ufs_model.specs.Word.{word}
 use Rattle.ufs_model.proofs.KeepsStates.{in_range, to}
 use Rattle.ufs_model.proofs.Legal.{least_is_free, none_holds}
 use Rattle.ufs_model.proofs.RootBlocks.{has_block-new, has_block-still}

@@ -1,14 +1,6 @@
 -- The place of a grant among the grants, and its draft.
-use Rattle.std.proofs.Common.{◌≡◌, ℕ, ◌∙◌, ap, Some, None}
-use Rattle.std.specs.Prelude.{slice_get, option_and_then}
-use Rattle.std.specs.List.{position}
-use Rattle.cfs_base.specs.declared.identifier.Tuid.{Tuid}
-use Rattle.ufs_model.specs.declared.asked.Ref.{Ref}
-use Rattle.ufs_model.specs.declared.asked.Ref.TheVariants.{Through}
-use Rattle.ufs_model.specs.declared.object.Draft.{Draft}
-use Rattle.ufs_model.specs.declared.object.Grant.{Grant}
-use Rattle.ufs_model.specs.State.{State, is_grant, grant_of, draft_of}
-use Rattle.ufs_model.specs.Plain.{IsDraftPlace}
+use Rattle.std.proofs.Common.{◌≡◌, ℕ, ◌∙◌, ap, Some, None, slice_get}
+use Rattle.ufs_model.proofs.Words.{Draft, Grant, IsDraftPlace, Ref, State, Through, Tuid, draft_of, grant_of, is_grant, option_and_then, position}
 use Rattle.ufs_model.proofs.Grants.{found_at, found_nowhere}
 
 module _ (s : State) (who : ℕ) (ref : Ref) (t : Tuid) (through : ref ≡ Through t) where

@@ -1,18 +1,7 @@
 -- What is reached: it stays within each closed set that has the starts, and is closed where each pair leads to one of a list.
-use Rattle.std.proofs.Common.{◌≡◌, ℕ, zero, suc, ◌+◌, ◌≤◌, ◌⊎◌, inl, inr, List, [], ◌∷◌, length, refl, ap, subst, arith, Bool, true, false, cond, ◌&&◌}
-use Rattle.std.specs.Prelude.{map, filter}
-use Rattle.std.specs.List.{list_all}
-use Rattle.std.specs.Ordering.{is_eq, nat_cmp}
-use Rattle.std.specs.declared.cmp.Ordering.{Ordering}
-use Rattle.std.specs.declared.cmp.Ordering.TheVariants.{Less, Equal, Greater}
-use Rattle.std.proofs.lemmas.Bool.{or_cases, or_left, or_right, and_parts, and_from, cases_lt}
-use Rattle.std.proofs.lemmas.Cmp.{tied_itself}
-use Rattle.std.proofs.lemmas.List.{length-map}
-use Rattle.std.proofs.lemmas.Map.Lookups.{CmpEqualImpliesEq, exact_pairs, exact_unsigned}
-use Rattle.cfs_base.specs.declared.identifier.Puid.{Puid}
-use Rattle.ufs_model.specs.Identifier.{puid_cmp, same_puid, is_among, joined}
-use Rattle.ufs_model.specs.Graph.{has_pair}
-use Rattle.ufs_model.specs.Reach.{targets, reached, IsReached, Start, Along}
+use Rattle.std.proofs.Common.{◌≡◌, ℕ, zero, suc, ◌+◌, ◌≤◌, ◌⊎◌, inl, inr, List, [], ◌∷◌, length, refl, ap, subst, arith, Bool, true, false, cond, ◌&&◌, map}
+use Rattle.ufs_model.proofs.Words.{Along, CmpEqualImpliesEq, Equal, Greater, IsReached, Less, Ordering, Puid, and_from, and_parts, cases_lt, exact_pairs, exact_unsigned, filter, has_pair, is_among, is_eq, joined, length-map, list_all, nat_cmp, or_cases, or_left, or_right, puid_cmp, reached, same_puid, targets, tied_itself}
+use Rattle.ufs_model.specs.Reach.{Start}
 use Rattle.ufs_model.proofs.Entries.{puid_total}
 
 -- ---- identifiers that compare alike are one
@@ -151,7 +140,7 @@ targets_has (e ∷ es) ids i x h at =
 
 -- ---- how many of these are not in the list: it falls with each step that is not the last
 
-outside : List Puid → List Puid → ℕ
+pub outside : List Puid → List Puid → ℕ
 outside [] ids = 0
 outside (y ∷ ys) ids = cond (is_among y ids) 0 1 + outside ys ids
 
@@ -181,7 +170,7 @@ module _ (ids more : List Puid) (grows : (x : Puid) → is_among x ids ≡ true 
       ] refl
 
   -- where none of them came in, what is new is not one of them
-  none_new : (all : List Puid) (x : Puid) → outside all ids ≤ outside all more → is_among x all ≡ true → is_among x more ≡ true → is_among x ids ≡ true
+  pub none_new : (all : List Puid) (x : Puid) → outside all ids ≤ outside all more → is_among x all ≡ true → is_among x more ≡ true → is_among x ids ≡ true
   unfolding outside
   none_new [] x le h at = cc
   none_new (y ∷ ys) x le h at =

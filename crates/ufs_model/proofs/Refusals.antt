@@ -1,21 +1,11 @@
 -- Each refusal, and where two conditions hold the earlier one.
-use Rattle.std.proofs.Common.{◌≡◌, refl, List, [], ◌∷◌, Some, None}
-use Rattle.std.specs.Prelude.{replicate, Option}
-use Rattle.cfs_base.specs.declared.identifier.Puid.{Puid}
-use Rattle.cfs_base.specs.declared.identifier.Tuid.{Tuid}
+use Rattle.std.proofs.Common.{◌≡◌, refl, List, [], ◌∷◌, Some, None, replicate, Option}
+use Rattle.ufs_model.proofs.Words.{Direct, Grant, Puid, Reply, Request, State, Through, Tuid, fresh_graph, new_file, new_index, opening, refusal_of, resized, with_object}
 use Rattle.cfs_base.specs.declared.kind.FileKind.TheVariants as kinds
 use Rattle.cfs_base.specs.declared.kind.Mode.TheVariants as modes
-use Rattle.ufs_model.specs.declared.asked.Ref.TheVariants.{Direct, Through}
-use Rattle.ufs_model.specs.declared.asked.Request.{Request}
 use Rattle.ufs_model.specs.declared.asked.Request.TheVariants as asks
-use Rattle.ufs_model.specs.declared.asked.Reply.{Reply}
 use Rattle.ufs_model.specs.declared.asked.Reply.TheVariants as replies
 use Rattle.ufs_model.specs.declared.object.Object.TheVariants as objects
-use Rattle.ufs_model.specs.declared.object.Grant.{Grant}
-use Rattle.ufs_model.specs.Object.{new_file, new_index, resized}
-use Rattle.ufs_model.specs.Graph.{fresh_graph, with_object}
-use Rattle.ufs_model.specs.State.{State, opening}
-use Rattle.ufs_model.specs.Refusal.{refusal_of}
 use Rattle.ufs_model.proofs.Worked.{root}
 
 -- a file of 4 bytes, and an index of 4 slots that session 0 has open for reading, as it has the file

@@ -1,11 +1,6 @@
 -- Numbers that rise: two lists with the same members are one.
-use Rattle.std.proofs.Common.{◌≡◌, ◌⊎◌, inl, inr, ℕ, zero, suc, ◌+◌, ◌<◌, ◌≤◌, List, [], ◌∷◌, ◌++◌, Bool, true, false, cond, refl, sym, ◌∙◌, ap, subst, arith}
-use Rattle.std.specs.Prelude.{◌==◌, ◌||◌, ◌&&◌, nat_lt, map, filter}
-use Rattle.std.specs.List.{list_all, range_with_len}
-use Rattle.std.proofs.lemmas.Bool.{and_parts, and_from, or_cases, eq-eqb, eqb-true, lt-ltb, ltb-true, cases_order}
-use Rattle.std.proofs.lemmas.Bool.Decides.{nat_tests}
-use Rattle.std.proofs.lemmas.List.Folds.{list_all-append}
-use Rattle.ufs_model.specs.Numbers.{has_number, numbers_rise, with_number, with_numbers}
+use Rattle.std.proofs.Common.{◌≡◌, ◌⊎◌, inl, inr, ℕ, zero, suc, ◌+◌, ◌<◌, ◌≤◌, List, [], ◌∷◌, ◌++◌, Bool, true, false, cond, refl, sym, ◌∙◌, ap, subst, arith, ◌||◌, ◌&&◌, map}
+use Rattle.ufs_model.proofs.Words.{and_from, and_parts, cases_order, eq-eqb, eqb-true, filter, has_number, list_all, list_all-append, lt-ltb, ltb-true, nat_lt, nat_tests, numbers_rise, or_cases, range_with_len, with_number, with_numbers, ◌==◌}
 
 -- ---- members
 

@@ -1,17 +1,6 @@
 -- Root blocks, and the part of a graph that has one.
 use Rattle.std.proofs.Common.{◌≡◌, ℕ, ◌+◌, ◌<◌, ◌≤◌, List, [], ◌∷◌, refl, sym, ◌∙◌, inl, inr, ⊎_elim, ◌⊎◌, true, false, Bool, cond, ◌||◌, arith, Some}
-use Rattle.std.specs.Prelude.{◌==◌}
-use Rattle.std.specs.Ordering.{is_eq, match_ordering}
-use Rattle.std.specs.declared.cmp.Ordering.TheVariants.{Less, Equal, Greater}
-use Rattle.std.specs.declared.ops.Bound.TheVariants.{Included, Excluded}
-use Rattle.std.specs.BTreeMap.{insert_entry, is_at}
-use Rattle.std.specs.BTreeMap.Range.{entries_between, range_contains}
-use Rattle.std.specs.Map.{lookup}
-use Rattle.std.proofs.lemmas.Bool.Decides.{nat_tests}
-use Rattle.cfs_base.specs.declared.identifier.Puid.{Puid}
-use Rattle.ufs_model.specs.declared.object.Object.{Object}
-use Rattle.ufs_model.specs.Identifier.{puid_cmp}
-use Rattle.ufs_model.specs.Graph.{has_block}
+use Rattle.ufs_model.proofs.Words.{Equal, Excluded, Greater, Included, Less, Object, Puid, entries_between, has_block, insert_entry, is_at, is_eq, lookup, match_ordering, nat_tests, puid_cmp, range_contains, ◌==◌}
 use Rattle.ufs_model.proofs.Entries.{lookup-insert_entry, lookup-insert_same, other-blocks}
 
 -- the identifiers with a block are those from word 0 on and before the next block's

@@ -1,21 +1,14 @@
 -- Worked runs: which are legal, and what they leave.
-use Rattle.std.proofs.Common.{◌≡◌, ℕ, refl, List, [], ◌∷◌, ◌++◌, Some, None, true, false}
-use Rattle.std.specs.Prelude.{option_map, length, map, Option}
+use Rattle.std.proofs.Common.{◌≡◌, ℕ, refl, List, [], ◌∷◌, ◌++◌, Some, None, true, false, length, map, Option}
+use Rattle.ufs_model.proofs.Words.{Direct, Event, Object, Puid, Through, blocks_of, held_leaves, held_nodes, ids_of, is_graph, object_at, option_map, word}
+use Rattle.rand_chacha.specs.Block.{block_word, column_round, diagonal_round, double_rounds, quarter_round}
 use Rattle.rand_core.specs.Steps.{u32_at}
-use Rattle.rand_chacha.specs.Block.{quarter_round, column_round, diagonal_round, double_rounds, block_word}
-use Rattle.cfs_base.specs.declared.identifier.Puid.{Puid}
 use Rattle.cfs_base.specs.declared.kind.FileKind.TheVariants as kinds
 use Rattle.cfs_base.specs.declared.kind.Mode.TheVariants as modes
-use Rattle.ufs_model.specs.declared.asked.Ref.TheVariants.{Direct, Through}
 use Rattle.ufs_model.specs.declared.asked.Request.TheVariants as asks
 use Rattle.ufs_model.specs.declared.asked.Reply.TheVariants as replies
 use Rattle.ufs_model.specs.declared.asked.Unread.TheVariants as unread
-use Rattle.ufs_model.specs.declared.asked.Event.{Event}
 use Rattle.ufs_model.specs.declared.asked.Event.TheVariants as events
-use Rattle.ufs_model.specs.declared.object.Object.{Object}
-use Rattle.ufs_model.specs.Object.{blocks_of, held_leaves, held_nodes}
-use Rattle.ufs_model.specs.Graph.{ids_of, object_at, is_graph}
-use Rattle.ufs_model.specs.Word.{word}
 use Rattle.ufs_model.proofs.Worked.{root, a, b, c, second, third, run, is_legal}
 
 -- ---- the stored run

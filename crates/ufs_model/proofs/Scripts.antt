@@ -1,24 +1,15 @@
 -- Worked scripts: what their lines come to, and the replies as they are written.
-use Rattle.std.proofs.Common.{◌≡◌, ℕ, refl, List, [], ◌∷◌, ◌++◌, Some, None, true, false}
-use Rattle.std.specs.Prelude.{codes, replicate}
-use Rattle.std.specs.List.{join_with_byte}
+use Rattle.std.proofs.Common.{◌≡◌, ℕ, refl, List, [], ◌∷◌, ◌++◌, Some, None, true, false, replicate}
+use Rattle.ufs_model.proofs.Words.{AreTurns, Bad, Direct, Event, Is, Names, Reading, Request, Through, Unbound, all_forms, bind, codes, is_name, join_with_byte, no_names, printed_replies, reading_of, reply_line, request_lines}
+use Rattle.hex.specs.Hex.{decode_pairs, encode_with}
 use Rattle.std.specs.Fmt.{digits}
-use Rattle.hex.specs.Hex.{encode_with, decode_pairs}
 use Rattle.cfs_base.specs.declared.kind.FileKind.TheVariants as kinds
 use Rattle.cfs_base.specs.declared.kind.Mode.TheVariants as modes
 use Rattle.ufs_model.specs.declared.asked.Bound.TheVariants as bounds
-use Rattle.ufs_model.specs.declared.asked.Ref.TheVariants.{Direct, Through}
-use Rattle.ufs_model.specs.declared.asked.Request.{Request}
 use Rattle.ufs_model.specs.declared.asked.Request.TheVariants as asks
 use Rattle.ufs_model.specs.declared.asked.Reply.TheVariants as replies
 use Rattle.ufs_model.specs.declared.asked.Unread.TheVariants as unread
-use Rattle.ufs_model.specs.declared.asked.Event.{Event}
 use Rattle.ufs_model.specs.declared.asked.Event.TheVariants as events
-use Rattle.ufs_model.specs.Script.{request_lines}
-use Rattle.ufs_model.specs.Names.{Names, no_names, bind, is_name}
-use Rattle.ufs_model.specs.Spoken.{Reading, Is, Unbound, Bad, all_forms, reading_of}
-use Rattle.ufs_model.specs.Turns.{AreTurns}
-use Rattle.ufs_model.specs.Printed.{printed_replies, reply_line}
 use Rattle.ufs_model.proofs.Worked.{root, a, second}
 use Rattle.ufs_model.proofs.Runs.{stored_run}
 

@@ -1,28 +1,8 @@
 -- A change of one grant's draft or of one object is the change of what the reference shows.
-use Rattle.std.proofs.Common.{◌≡◌, ℕ, ◌+◌, List, ◌∙◌, ap, sym, subst, set, refl, Bool, Some, None, Option, false, true, cond}
-use Rattle.std.specs.Prelude.{slice_get, is_none, filter, not}
-use Rattle.std.specs.List.{position, remove}
-use Rattle.std.specs.BTreeMap.{insert_entry}
-use Rattle.std.proofs.lemmas.Option.{same_Some, none-some}
-use Rattle.cfs_base.specs.declared.identifier.Puid.{Puid}
-use Rattle.cfs_base.specs.declared.identifier.Tuid.{Tuid}
-use Rattle.ufs_model.specs.declared.asked.Ref.{Ref}
-use Rattle.ufs_model.specs.declared.asked.Ref.TheVariants.{Through}
-use Rattle.ufs_model.specs.declared.asked.Reply.{Reply}
+use Rattle.std.proofs.Common.{◌≡◌, ℕ, ◌+◌, List, ◌∙◌, ap, sym, subst, set, refl, Bool, Some, None, Option, false, true, cond, slice_get, not}
+use Rattle.ufs_model.proofs.Words.{Change, Draft, Fill, Grant, Graph, IsDraftPlace, IsInside, IsState, Object, Puid, Ref, Reply, State, Through, Tuid, changed, changed_draft, changed_object, closed, committed, created, draft_of, filter, grant_of, has_no_such_grant, insert_entry, is_grant, is_none, named, none-some, object_at, position, puid_cmp, put, remove, same_Some, seen, with_draft, with_edge, with_object, word}
 use Rattle.ufs_model.specs.declared.asked.Reply.TheVariants as replies
-use Rattle.ufs_model.specs.declared.object.Object.{Object}
 use Rattle.ufs_model.specs.declared.object.Object.TheVariants as objects
-use Rattle.ufs_model.specs.declared.object.Draft.{Draft}
-use Rattle.ufs_model.specs.declared.object.Grant.{Grant}
-use Rattle.ufs_model.specs.Identifier.{puid_cmp}
-use Rattle.ufs_model.specs.Object.{Change, Fill, IsInside, changed_object}
-use Rattle.ufs_model.specs.Word.{word}
-use Rattle.ufs_model.specs.Graph.{Graph, object_at, with_object}
-use Rattle.ufs_model.specs.Refusal.{has_no_such_grant}
-use Rattle.ufs_model.specs.State.{State, is_grant, grant_of, named, draft_of, seen, changed_draft, put, with_draft}
-use Rattle.ufs_model.specs.Outcome.{changed, closed, committed, created, with_edge}
-use Rattle.ufs_model.specs.Plain.{IsDraftPlace}
-use Rattle.ufs_model.specs.WellFormed.{IsState}
 use Rattle.ufs_model.proofs.Grants.{found_at, with_draft-set, without_place}
 use Rattle.ufs_model.proofs.WellStates.{Goes, ToObject, ToDraft, grant_found, open_there, seen_object, put_object-at, seen_draft, put_draft-at, draft_found}
 

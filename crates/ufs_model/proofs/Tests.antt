@@ -1,9 +1,6 @@
 -- Tests of each element of a list, some with its place.
 use Rattle.std.proofs.Common.{◌≡◌, ℕ, zero, suc, ◌+◌, ◌<◌, ◌≤◌, List, [], ◌∷◌, ◌++◌, length, take, drop, replicate, set, refl, subst, arith, Bool, true, false, cond, Some}
-use Rattle.std.specs.Prelude.{filter}
-use Rattle.std.specs.List.{list_all, find}
-use Rattle.std.proofs.lemmas.Bool.{and_parts, and_from}
-use Rattle.ufs_model.specs.Object.{each_from}
+use Rattle.ufs_model.proofs.Words.{and_from, and_parts, each_from, filter, find, list_all}
 
 pub all_filter : {X : Type 0} (P M : X → Bool) (xs : List X) → list_all P xs ≡ true → list_all P (filter M xs) ≡ true
 all_filter P M [] h = refl

@@ -1,19 +1,13 @@
 -- Worked collections: what may vanish, and what must.
 use Rattle.std.proofs.Common.{◌≡◌, refl, List, [], ◌∷◌, Some, true, false}
-use Rattle.std.specs.Prelude.{option_map}
+use Rattle.ufs_model.proofs.Words.{Direct, Event, Puid, ids_of, kept, option_map, rooted, word}
+use Rattle.rand_chacha.specs.Block.{block_word, column_round, diagonal_round, double_rounds, quarter_round}
 use Rattle.rand_core.specs.Steps.{u32_at}
-use Rattle.rand_chacha.specs.Block.{quarter_round, column_round, diagonal_round, double_rounds, block_word}
-use Rattle.cfs_base.specs.declared.identifier.Puid.{Puid}
 use Rattle.cfs_base.specs.declared.kind.FileKind.TheVariants as kinds
 use Rattle.cfs_base.specs.declared.kind.Mode.TheVariants as modes
-use Rattle.ufs_model.specs.declared.asked.Ref.TheVariants.{Direct}
 use Rattle.ufs_model.specs.declared.asked.Request.TheVariants as asks
 use Rattle.ufs_model.specs.declared.asked.Reply.TheVariants as replies
-use Rattle.ufs_model.specs.declared.asked.Event.{Event}
 use Rattle.ufs_model.specs.declared.asked.Event.TheVariants as events
-use Rattle.ufs_model.specs.Graph.{ids_of}
-use Rattle.ufs_model.specs.Word.{word}
-use Rattle.ufs_model.specs.Reach.{kept, rooted}
 use Rattle.ufs_model.proofs.Worked.{root, a, b, second, run, is_legal}
 
 -- ---- an index that refers to itself, and is deleted

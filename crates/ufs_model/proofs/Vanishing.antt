@@ -1,18 +1,9 @@
 -- What may vanish: the test computes what is meant, and what vanishes is what was cut off, and nothing that is kept.
 use Rattle.std.proofs.Common.{◌≡◌, ℕ, List, [], ◌∷◌, length, sym, ◌∙◌, ap, subst, true, false, cond, not, ◌&&◌, ◌||◌, ◌↔◌, Some, None, inl, inr}
-use Rattle.std.specs.Prelude.{is_some}
-use Rattle.std.specs.List.{list_all}
-use Rattle.std.proofs.lemmas.Bool.{and_parts, and_from, or_left, or_right, or_cases, not-true, both_ways, cases_Bool}
-use Rattle.cfs_base.specs.declared.identifier.Puid.{Puid}
+use Rattle.ufs_model.proofs.Words.{Graph, IsCutOff, IsGraph, IsKept, IsReached, MayVanish, Puid, State, allowed_if, and_from, and_parts, both_ways, cases_Bool, edges, has_pair, ids_of, is_among, is_cut_off, is_marking, is_running, is_some, is_there, kept, list_all, may_vanish, next, none-some, not-true, object_at, open_ids, or_cases, or_left, or_right, pairs_of, reached, reached_since, rises, same_Some, starts, starts_now, without}
 use Rattle.ufs_model.specs.declared.collection.Collection.TheVariants as collections
-use Rattle.ufs_model.specs.Identifier.{is_among, rises}
-use Rattle.ufs_model.specs.Graph.{Graph, IsGraph, ids_of, object_at, is_there, without, has_pair}
-use Rattle.ufs_model.specs.State.{State, is_running, open_ids, pairs_of}
-use Rattle.ufs_model.specs.Reach.{reached, kept, starts_now, IsReached, IsKept, Start}
-use Rattle.ufs_model.specs.Vanish.{edges, starts, is_marking, reached_since, is_cut_off, IsCutOff, may_vanish, MayVanish}
+use Rattle.ufs_model.specs.Reach.{Start}
 use Rattle.ufs_model.specs.declared.asked.Event.TheVariants as events
-use Rattle.ufs_model.specs.Next.{allowed_if, next}
-use Rattle.std.proofs.lemmas.Option.{same_Some, none-some}
 use Rattle.ufs_model.proofs.Reached.{joined_has, joined_has_new, among_itself, each_among, all_among, each_pair, all_pairs, reached_is_closed, steps_reach, reach_steps, pairs_closed}
 use Rattle.ufs_model.proofs.Graphs.{is_there-ids, ids-count, object_at-without}
 use Rattle.ufs_model.proofs.WellGraphs.{graph_closed}

@@ -1,22 +1,7 @@
 -- What keeps a graph well-formed: another object, a new one, or some that are taken.
 use Rattle.std.proofs.Common.{◌≡◌, ◌≢◌, ℕ, List, [], ◌∷◌, length, refl, sym, ◌∙◌, ap, subst, arith, Bool, true, false, cond, not, ◌&&◌, ◌||◌, Some, None, Option, inl, inr}
-use Rattle.std.specs.Prelude.{◌==◌, is_some, filter}
-use Rattle.std.specs.List.{list_any, list_all}
-use Rattle.std.specs.Ordering.{match_ordering}
-use Rattle.std.specs.declared.cmp.Ordering.TheVariants.{Less, Equal, Greater}
-use Rattle.std.specs.BTreeMap.{insert_entry, is_at}
-use Rattle.std.specs.Map.{keys_of}
-use Rattle.std.proofs.lemmas.Bool.{and_parts, and_from, or_cases, not-true, eqb-true, ne_eqb, both_ways}
-use Rattle.std.proofs.lemmas.Bool.Decides.{nat_tests}
-use Rattle.std.proofs.lemmas.List.Folds.{list_all-map}
-use Rattle.std.proofs.lemmas.Map.{keys-set_value}
-use Rattle.cfs_base.specs.declared.identifier.Puid.{Puid}
-use Rattle.ufs_model.specs.declared.object.Object.{Object}
+use Rattle.ufs_model.proofs.Words.{Equal, Graph, Greater, Index, IsClosedGraph, IsGraph, Less, Object, Puid, and_from, and_parts, blocks_differ, both_ways, eqb-true, filter, fresh_graph, graph_pairs, has_block, has_pair, ids_of, insert_entry, is_among, is_at, is_free_root, is_object, is_root_index, is_some, is_there, keys-set_value, keys_of, list_all, list_all-map, list_any, match_ordering, nat_tests, ne_eqb, new_index, not-true, object_at, or_cases, puid_cmp, referred, rises, same_puid, with_object, without, ◌==◌}
 use Rattle.ufs_model.specs.declared.object.Object.TheVariants as objects
-use Rattle.ufs_model.specs.declared.object.Index.{Index}
-use Rattle.ufs_model.specs.Identifier.{puid_cmp, same_puid, is_among, rises}
-use Rattle.ufs_model.specs.Object.{is_object, new_index}
-use Rattle.ufs_model.specs.Graph.{Graph, IsGraph, IsClosedGraph, ids_of, object_at, is_there, with_object, without, referred, graph_pairs, has_pair, has_block, is_free_root, blocks_differ, is_root_index, fresh_graph}
 use Rattle.ufs_model.proofs.Tests.{all_filter}
 use Rattle.ufs_model.proofs.Entries.{insert_entry-there}
 use Rattle.ufs_model.proofs.Reached.{exact_puid, same_puid_is, same_puid_itself, each_among, each_pair, all_pairs}

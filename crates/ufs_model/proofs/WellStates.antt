@@ -1,34 +1,9 @@
 -- What is done to a well-formed state leaves one.
 use Rattle.std.proofs.Common.{◌≡◌, inl, inr, ℕ, zero, suc, ◌+◌, List, [], ◌∷◌, set, refl, sym, ◌∙◌, ap, subst, arith, Bool, true, false, cond, not, ◌&&◌, Some, None, Option}
-use Rattle.std.specs.Prelude.{◌==◌, nat_le, is_some, is_none, filter, option_and_then}
-use Rattle.std.specs.List.{list_all, filter_map}
-use Rattle.std.proofs.lemmas.Bool.{and_parts, and_from, or_left, or_right, or_cases, not-true, not-false, eqb-true, eq-eqb, both_ways}
-use Rattle.std.proofs.lemmas.List.Folds.{list_all-append}
-use Rattle.std.proofs.lemmas.Bool.Decides.{nat_tests}
-use Rattle.cfs_base.specs.declared.identifier.Puid.{Puid}
-use Rattle.cfs_base.specs.declared.identifier.Tuid.{Tuid}
-use Rattle.cfs_base.specs.declared.kind.FileKind.{FileKind}
+use Rattle.ufs_model.proofs.Words.{Change, Collection, Direct, Draft, File, FileKind, Fill, Grant, Graph, IsInside, IsState, Mode, Object, Overwrite, Puid, Ref, SetSize, State, Through, Tuid, after_leave, and_from, and_parts, both_ways, changed, changed_draft, changed_object, closed, committed, created, draft_of, draws_of, eq-eqb, eqb-true, filter, filter_map, first_draft, goes_nowhere, grant_of, granted, has_block, has_no_such_grant, is_among, is_draft_of, is_free_root, is_grant, is_grant_in, is_none, is_object, is_open_so, is_some, is_there, list_all, list_all-append, named, nat_le, nat_tests, not-false, not-true, numbers_rise, object_at, option_and_then, or_cases, or_left, or_right, put, referred, same_kind, same_puid, seen, takes_draft, with_draft, with_edge, with_object, word, ◌==◌}
 use Rattle.cfs_base.specs.declared.kind.FileKind.TheVariants as kinds
-use Rattle.cfs_base.specs.declared.kind.Mode.{Mode}
 use Rattle.cfs_base.specs.declared.kind.Mode.TheVariants as modes
-use Rattle.ufs_model.specs.declared.asked.Ref.{Ref}
-use Rattle.ufs_model.specs.declared.asked.Ref.TheVariants.{Direct, Through}
-use Rattle.ufs_model.specs.declared.collection.Collection.{Collection}
-use Rattle.ufs_model.specs.declared.object.Object.{Object}
-use Rattle.ufs_model.specs.declared.object.File.{File}
 use Rattle.ufs_model.specs.declared.object.Object.TheVariants as objects
-use Rattle.ufs_model.specs.declared.object.Draft.{Draft}
-use Rattle.ufs_model.specs.declared.object.Grant.{Grant}
-use Rattle.ufs_model.specs.Identifier.{same_puid, is_among}
-use Rattle.ufs_model.specs.Numbers.{numbers_rise}
-use Rattle.ufs_model.specs.Object.{Change, Fill, Overwrite, SetSize, changed_object, IsInside, is_object}
-use Rattle.ufs_model.specs.Graph.{Graph, object_at, is_there, with_object, referred, has_block, is_free_root}
-use Rattle.ufs_model.specs.Word.{word}
-use Rattle.ufs_model.specs.State.{State, is_grant, grant_of, after_leave, named, draft_of, seen, changed_draft, put, with_draft}
-use Rattle.ufs_model.specs.Need.{takes_draft}
-use Rattle.ufs_model.specs.Refusal.{has_no_such_grant, goes_nowhere}
-use Rattle.ufs_model.specs.Outcome.{changed, created, granted, first_draft, committed, closed, with_edge}
-use Rattle.ufs_model.specs.WellFormed.{IsState, same_kind, is_draft_of, is_open_so, is_grant_in, draws_of}
 use Rattle.ufs_model.proofs.Tests.{all_filter, all_found, all_weaker}
 use Rattle.ufs_model.proofs.Reached.{same_puid_is, same_puid_itself}
 use Rattle.ufs_model.proofs.Graphs.{object_at-with_object, object_there, refers}

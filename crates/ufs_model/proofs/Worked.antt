@@ -1,15 +1,8 @@
 -- What the worked runs speak of: seed 0, its root index, and the identifiers that it gives.
-use Rattle.std.proofs.Common.{◌≡◌, refl, List, [], ◌∷◌}
-use Rattle.std.specs.Prelude.{Option, Bool, is_some}
+use Rattle.std.proofs.Common.{◌≡◌, refl, List, [], ◌∷◌, Option, Bool}
+use Rattle.ufs_model.proofs.Words.{Event, Puid, State, Tuid, fresh_graph, is_some, replay, word}
+use Rattle.rand_chacha.specs.Block.{block_word, column_round, diagonal_round, double_rounds, quarter_round}
 use Rattle.rand_core.specs.Steps.{u32_at}
-use Rattle.rand_chacha.specs.Block.{quarter_round, column_round, diagonal_round, double_rounds, block_word}
-use Rattle.cfs_base.specs.declared.identifier.Puid.{Puid}
-use Rattle.cfs_base.specs.declared.identifier.Tuid.{Tuid}
-use Rattle.ufs_model.specs.declared.asked.Event.{Event}
-use Rattle.ufs_model.specs.Graph.{fresh_graph}
-use Rattle.ufs_model.specs.Word.{word}
-use Rattle.ufs_model.specs.State.{State}
-use Rattle.ufs_model.specs.Run.{replay}
 
 abbrev pub root : Puid
 root = record { block = 2; word = 0xade0b876 }

@@ -7,7 +7,8 @@ use Rattle.ufs_model.specs.Next.{next}
 use Rattle.ufs_model.specs.State.{State}
 
 -- the answer is an event that may come in the state, and the asker stands for the state after it
-pub record IsAsked (stands : State → Type 0) (seed : ℕ) (s : State) (who : ℕ) (request : Request) (reply : Reply) : Type 0 where
+pub record IsAsked (stands : State → Type 0) (seed : ℕ) (s : State) (who : ℕ) (request : Request) (reply : Reply) :
+    Type 0 where
   pub after : State
   pub step : next seed s (events.Ask who request reply) ≡ Some after
   pub standing : stands after

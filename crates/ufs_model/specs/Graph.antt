@@ -1,5 +1,6 @@
 -- The graph: a list of identifiers with their objects, the identifiers rising, below a root index.
-use Rattle.std.specs.Prelude.{◌≡◌, ℕ, ◌≤◌, ◌<◌, Bool, true, false, not, ◌&&◌, ◌==◌, is_some, IsTrue, List, [], ◌∷◌, length, map, filter, Option, Some, None}
+use Rattle.std.specs.Prelude.{◌≡◌, ℕ, ◌≤◌, ◌<◌, Bool, true, false, not, ◌&&◌, ◌==◌, is_some, IsTrue, List, [], ◌∷◌}
+use Rattle.std.specs.Prelude.{length, map, filter, Option, Some, None}
 use Rattle.std.specs.List.{list_any, list_all, flat_map, filter_map}
 use Rattle.std.specs.BTreeMap.{insert_entry, is_at}
 use Rattle.std.specs.Map.{lookup, keys_of}
@@ -66,7 +67,8 @@ pub record IsLeastFreeRoot (objects : List (Puid × Object)) (b : ℕ) : Type 0 
 
 abbrev pub blocks_differ : List Puid → Bool
 blocks_differ [] = true
-blocks_differ (id ∷ ids) = not (id.block == 0) && list_all (λ other. not (other.block == id.block)) ids && blocks_differ ids
+blocks_differ (id ∷ ids) =
+    not (id.block == 0) && list_all (λ other. not (other.block == id.block)) ids && blocks_differ ids
 
 abbrev pub is_root_index : Option Object → Bool
 is_root_index (Some (objects.Index i)) = length i.slots == root_slots

@@ -28,3 +28,12 @@ rises (x ∷ ids) = list_all (λ y. is_lt (puid_cmp x y)) ids && rises ids
 abbrev pub joined : List Puid → List Puid → List Puid
 joined [] ids = ids
 joined (x ∷ xs) ids = if is_among x ids then joined xs ids else joined xs (x ∷ ids)
+
+-- each is above the one before it, the first above this
+abbrev pub rise_from : Puid → List Puid → Bool
+rise_from last [] = true
+rise_from last (id ∷ ids) = is_lt (puid_cmp last id) && rise_from id ids
+
+abbrev pub ids_rise : List Puid → Bool
+ids_rise [] = true
+ids_rise (id ∷ ids) = rise_from id ids

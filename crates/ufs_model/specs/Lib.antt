@@ -19,4 +19,5 @@ pub mod Spoken
 pub mod Turns
 pub mod Printed
 pub mod Plain
+pub mod Followed
 pub mod Asks

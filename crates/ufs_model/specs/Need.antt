@@ -22,7 +22,7 @@ is_normal (objects.File f) = elim f.kind [ kinds.Normal ↦ true | kinds.Special
 is_normal (objects.Index i) = false
 
 -- a normal file is written in place, and takes the blocks that it doesn't hold yet
-abbrev in_place_need : Change → Object → ℕ
+abbrev pub in_place_need : Change → Object → ℕ
 in_place_need (Overwrite offset bytes) o = missing (written_anew (Overwrite offset bytes) o []) (held_levels o)
 in_place_need (SetSize size) o = 0
 in_place_need (Fill slot what) o = 0

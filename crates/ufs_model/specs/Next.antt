@@ -1,5 +1,6 @@
 -- What may happen next, and the state after it.
-use Rattle.std.specs.Prelude.{ℕ, ◌+◌, Bool, true, false, not, ◌&&◌, ◌||◌, ◌==◌, nat_lt, is_none, if◌then◌else◌, List, [], ◌∷◌, Option, Some, None, option_to_list}
+use Rattle.std.specs.Prelude.{ℕ, ◌+◌, Bool, true, false, not, ◌&&◌, ◌||◌, ◌==◌, nat_lt, is_none, if◌then◌else◌, List}
+use Rattle.std.specs.Prelude.{[], ◌∷◌, Option, Some, None, option_to_list}
 use Rattle.std.specs.Option.{option_map_or}
 use Rattle.std.specs.Str.{bytes_eq}
 use Rattle.cfs_base.specs.declared.refusal.Need.{Need}
@@ -53,7 +54,7 @@ same_reply a b = ((parts_of a).0 == (parts_of b).0) && bytes_eq (parts_of a).1 (
 
 -- ---- which answer may be given
 
-abbrev is_stopped_at : State → ℕ → Bool
+abbrev pub is_stopped_at : State → ℕ → Bool
 is_stopped_at s moment = option_map_or (λ m. m == moment) s.stopped false
 
 abbrev pub is_refusal : State → ℕ → Request → Reply → Bool
@@ -70,7 +71,7 @@ is_outcome seed s who request reply =
     && (not (creates request) || is_free_root s.graph (block_named reply))
     && same_reply (outcome_of seed s who request (block_named reply)).0 reply
 
-abbrev is_delete : Request → Bool
+abbrev pub is_delete : Request → Bool
 is_delete (asks.Delete index slot) = true
 is_delete request = false
 
@@ -111,12 +112,12 @@ answered seed s who request (replies.Content bytes) = by_outcome seed s who requ
 
 -- ---- the events
 
-abbrev is_idle : Collection → Bool
+abbrev pub is_idle : Collection → Bool
 is_idle collections.None = true
 is_idle (collections.Marking edges starts) = false
 is_idle collections.Sweeping = false
 
-abbrev is_sweeping : Collection → Bool
+abbrev pub is_sweeping : Collection → Bool
 is_sweeping collections.None = false
 is_sweeping (collections.Marking edges starts) = false
 is_sweeping collections.Sweeping = true
@@ -128,8 +129,11 @@ next seed s (events.Ask who request reply) = answered seed s who request reply
 next seed s (events.Leave who None) = Some (after_leave s who)
 next seed s (events.Leave who (Some moment)) = allowed_if (is_running s) (stopped_at moment (after_leave s who))
 next seed s events.Began =
-    allowed_if (is_running s && is_idle s.collection) (record s { collection = collections.Marking (pairs_of s) (starts_now s) })
+    allowed_if (is_running s && is_idle s.collection)
+    (record s { collection = collections.Marking (pairs_of s) (starts_now s) })
 next seed s (events.Vanish ids) =
-    allowed_if (is_running s && may_vanish s ids) (record s { graph = without s.graph ids; collection = collections.Sweeping })
-next seed s events.Finished = allowed_if (is_running s && is_sweeping s.collection) (record s { collection = collections.None })
+    allowed_if (is_running s && may_vanish s ids)
+    (record s { graph = without s.graph ids; collection = collections.Sweeping })
+next seed s events.Finished =
+    allowed_if (is_running s && is_sweeping s.collection) (record s { collection = collections.None })
 next seed s (events.Halted moment) = allowed_if (is_running s) (stopped_at moment s)

@@ -1,5 +1,6 @@
 -- Lists of numbers in increasing order, and lists of such lists, level by level.
-use Rattle.std.specs.Prelude.{ℕ, zero, suc, ◌+◌, ◌/◌, Bool, true, not, ◌&&◌, ◌==◌, nat_lt, if◌then◌else◌, List, [], ◌∷◌, length, map, filter}
+use Rattle.std.specs.Prelude.{ℕ, zero, suc, ◌+◌, ◌/◌, Bool, true, not, ◌&&◌, ◌==◌, nat_lt, if◌then◌else◌, List, [], ◌∷◌}
+use Rattle.std.specs.Prelude.{length, map, filter}
 use Rattle.std.specs.List.{list_any, list_all}
 use Rattle.ufs_model.specs.Limits.{fan_out}
 

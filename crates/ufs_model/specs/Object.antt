@@ -1,5 +1,7 @@
 -- Files and indices: what they hold, and how they are made and changed.
-use Rattle.std.specs.Prelude.{ℕ, zero, suc, ◌+◌, ◌-◌, ◌*◌, ◌/◌, ◌%◌, ◌<◌, ◌≤◌, Bool, true, not, ◌&&◌, ◌||◌, ◌==◌, nat_lt, nat_le, is_none, is_some, if◌then◌else◌, List, [], ◌∷◌, ◌++◌, length, filter, take, drop, replicate, slice_get, slice_set, Option, None, unwrap_or, IsTrue}
+use Rattle.std.specs.Prelude.{ℕ, zero, suc, ◌+◌, ◌-◌, ◌*◌, ◌/◌, ◌%◌, ◌<◌, ◌≤◌, Bool, true, not, ◌&&◌, ◌||◌, ◌==◌}
+use Rattle.std.specs.Prelude.{nat_lt, nat_le, is_none, is_some, if◌then◌else◌, List, [], ◌∷◌, ◌++◌, length, filter}
+use Rattle.std.specs.Prelude.{take, drop, replicate, slice_get, slice_set, Option, None, unwrap_or, IsTrue}
 use Rattle.std.specs.List.{list_all, sum_by, range_with_len}
 use Rattle.cfs_base.specs.declared.identifier.Puid.{Puid}
 use Rattle.cfs_base.specs.declared.kind.FileKind.{FileKind}
@@ -10,7 +12,8 @@ use Rattle.ufs_model.specs.declared.object.Object.{Object}
 use Rattle.ufs_model.specs.declared.object.File.{File}
 use Rattle.ufs_model.specs.declared.object.Index.{Index}
 use Rattle.ufs_model.specs.declared.object.Object.TheVariants as objects
-use Rattle.ufs_model.specs.Numbers.{numbers_rise, has_number, with_number, with_numbers, parents, branches, lacking, shared, merged, within, first_level, next_levels}
+use Rattle.ufs_model.specs.Numbers.{numbers_rise, has_number, with_number, with_numbers, parents, branches, lacking}
+use Rattle.ufs_model.specs.Numbers.{shared, merged, within, first_level, next_levels}
 
 -- ---- what an object holds: a root block, leaves, and inner blocks that lead to them
 
@@ -144,12 +147,14 @@ recut (suc n) kept gone anew fresh =
 -- the same of a resize to less, where these leaves are held
 abbrev pub resize_anew : (levels size : ℕ) → (held : List ℕ) → (fresh : List (List ℕ)) → List (List ℕ)
 resize_anew levels size held fresh =
-    recut levels (filter (λ leaf. nat_lt leaf (leaves_in size)) held) (filter (λ leaf. nat_le (leaves_in size) leaf) held) (cut_leaf size held) fresh
+    recut levels (filter (λ leaf. nat_lt leaf (leaves_in size)) held)
+    (filter (λ leaf. nat_le (leaves_in size) leaf) held) (cut_leaf size held) fresh
 
 abbrev pub written_anew : Change → Object → (fresh : List (List ℕ)) → List (List ℕ)
 written_anew (Fill slot what) o fresh = branches (inner_levels o) (leaf_of_slot slot ∷ [])
 written_anew (Overwrite offset bytes) o fresh = branches (inner_levels o) (touched offset (length bytes))
-written_anew (SetSize size) o fresh = if nat_le (size_of o) size then [] else resize_anew (inner_levels o) size (held_leaves o) fresh
+written_anew (SetSize size) o fresh =
+    if nat_le (size_of o) size then [] else resize_anew (inner_levels o) size (held_leaves o) fresh
 
 -- the fresh blocks after a change: those that it writes anew too, as far as the object still holds them
 abbrev pub fresh_after : Change → Object → List (List ℕ) → List (List ℕ)

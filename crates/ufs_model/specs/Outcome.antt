@@ -1,5 +1,6 @@
 -- What a request does that is not refused.
-use Rattle.std.specs.Prelude.{ℕ, ◌+◌, Bool, true, false, not, if◌then◌else◌, [], ◌∷◌, ◌++◌, length, filter, slice_range, Option, Some, None}
+use Rattle.std.specs.Prelude.{ℕ, ◌+◌, Bool, true, false, not, if◌then◌else◌, [], ◌∷◌, ◌++◌, length, filter, slice_range}
+use Rattle.std.specs.Prelude.{Option, Some, None}
 use Rattle.cfs_base.specs.declared.identifier.Puid.{Puid}
 use Rattle.cfs_base.specs.declared.identifier.Tuid.{Tuid}
 use Rattle.cfs_base.specs.declared.kind.Mode.{Mode}
@@ -43,7 +44,8 @@ changed s who ref c = put s who ref (changed_draft c (seen s who ref))
 
 -- the identifier put into the slot
 abbrev pub retained : State → ℕ → Ref → ℕ → Puid → State
-retained s who index slot id = record (changed s who index (Fill slot (Some id))) { collection = with_edge (named s who index) id s.collection }
+retained s who index slot id =
+    record (changed s who index (Fill slot (Some id))) { collection = with_edge (named s who index) id s.collection }
 
 -- a new object at block b, its identifier put into the slot as the index was
 abbrev pub created : ℕ → State → ℕ → Ref → ℕ → Object → ℕ → Reply × State
@@ -61,8 +63,20 @@ first_draft mode (Some o) = if takes_draft mode (Some o) then Some (record { obj
 abbrev pub granted : ℕ → State → ℕ → Puid → Mode → Reply × State
 granted seed s who id mode =
     let tuid : Tuid = record { draw = s.drawn + 1; word = word seed (s.drawn + 1) } in
-    let grant : Grant = record { tuid = tuid; session = who; id = id; mode = mode; draft = first_draft mode (object_at s.graph id) } in
-    (replies.Grant tuid, record s { grants = s.grants ++ grant ∷ []; drawn = s.drawn + 1; collection = with_start id s.collection })
+    let grant : Grant = record {
+      tuid = tuid;
+      session = who;
+      id = id;
+      mode = mode;
+      draft = first_draft mode (object_at s.graph id);
+    } in (
+      replies.Grant tuid,
+      record s {
+        grants = s.grants ++ grant ∷ [];
+        drawn = s.drawn + 1;
+        collection = with_start id s.collection;
+      },
+    )
 
 -- the grant's draft becomes the object
 abbrev pub committed : Option Grant → Graph → Graph
@@ -83,15 +97,18 @@ slot_reply None = replies.Empty
 
 -- the reply and the state after it, where b is the root block of a new object
 abbrev pub outcome_of : ℕ → State → ℕ → Request → ℕ → Reply × State
-outcome_of seed s who (asks.CreateFile kind fill index slot) b = created seed s who index slot (objects.File (new_file kind fill)) b
-outcome_of seed s who (asks.CreateIndex slots index slot) b = created seed s who index slot (objects.Index (new_index slots)) b
+outcome_of seed s who (asks.CreateFile kind fill index slot) b =
+    created seed s who index slot (objects.File (new_file kind fill)) b
+outcome_of seed s who (asks.CreateIndex slots index slot) b =
+    created seed s who index slot (objects.Index (new_index slots)) b
 outcome_of seed s who (asks.Retain index slot id) b = (replies.Done, retained s who index slot id)
 outcome_of seed s who (asks.Retrieve index slot) b = (slot_reply (slot_of (index_seen s who index) slot), s)
 outcome_of seed s who (asks.Delete index slot) b = (replies.Done, changed s who index (Fill slot None))
 outcome_of seed s who (asks.Slots index) b = (replies.Number (length (index_seen s who index).slots), s)
 outcome_of seed s who (asks.OpenFor id mode) b = granted seed s who id mode
 outcome_of seed s who (asks.Close grant commit) b = (replies.Done, closed s who grant commit)
-outcome_of seed s who (asks.Read file offset count) b = (replies.Content (slice_range (file_seen s who file).bytes offset (offset + count)), s)
+outcome_of seed s who (asks.Read file offset count) b =
+    (replies.Content (slice_range (file_seen s who file).bytes offset (offset + count)), s)
 outcome_of seed s who (asks.Write file offset bytes) b = (replies.Done, changed s who file (Overwrite offset bytes))
 outcome_of seed s who (asks.Size file) b = (replies.Number (length (file_seen s who file).bytes), s)
 outcome_of seed s who (asks.Resize file size) b = (replies.Done, changed s who file (SetSize size))

@@ -42,7 +42,8 @@ reply_line replies.Grants = line_of (codes "no grants" ∷ [])
 reply_line (replies.Full n) = line_of (codes "no full" ∷ decimal n.free ∷ decimal n.need ∷ [])
 reply_line (replies.Disk None) = line_of (codes "no disk" ∷ [])
 reply_line (replies.Disk (Some moment)) = line_of (codes "no disk" ∷ decimal moment ∷ [])
-reply_line (replies.Damaged damage moment) = line_of (codes "no damaged" ∷ decimal damage.block ∷ decimal damage.code ∷ decimal moment ∷ [])
+reply_line (replies.Damaged damage moment) =
+    line_of (codes "no damaged" ∷ decimal damage.block ∷ decimal damage.code ∷ decimal moment ∷ [])
 
 -- the line of a request line that is no request
 abbrev pub unread_line : Unread → List ℕ

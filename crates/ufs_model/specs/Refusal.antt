@@ -1,5 +1,6 @@
 -- When a request is refused: the first of these conditions that holds.
-use Rattle.std.specs.Prelude.{ℕ, ◌+◌, Bool, true, false, not, ◌&&◌, ◌||◌, ◌==◌, nat_lt, nat_le, is_none, if◌then◌else◌, List, [], ◌∷◌, length, filter, Option, Some, None}
+use Rattle.std.specs.Prelude.{ℕ, ◌+◌, Bool, true, false, not, ◌&&◌, ◌||◌, ◌==◌, nat_lt, nat_le, is_none, if◌then◌else◌}
+use Rattle.std.specs.Prelude.{List, [], ◌∷◌, length, filter, Option, Some, None}
 use Rattle.std.specs.List.{list_any}
 use Rattle.cfs_base.specs.declared.identifier.Puid.{Puid}
 use Rattle.cfs_base.specs.declared.kind.Mode.{Mode}
@@ -186,7 +187,8 @@ is_range size offset count = nat_lt 0 count && nat_le count most_at_once && nat_
 abbrev pub is_out_of_range : State → ℕ → Request → Bool
 is_out_of_range s who (asks.CreateIndex slots index slot) = (slots == 0) || nat_lt most_slots slots
 is_out_of_range s who (asks.Read file offset count) = not (is_range (length (file_seen s who file).bytes) offset count)
-is_out_of_range s who (asks.Write file offset bytes) = not (is_range (length (file_seen s who file).bytes) offset (length bytes))
+is_out_of_range s who (asks.Write file offset bytes) =
+    not (is_range (length (file_seen s who file).bytes) offset (length bytes))
 is_out_of_range s who (asks.Resize file size) = nat_lt most_bytes size
 is_out_of_range s who request = false
 

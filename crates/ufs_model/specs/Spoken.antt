@@ -1,5 +1,6 @@
 -- What the words of a request line ask.
-use Rattle.std.specs.Prelude.{ℕ, ◌^◌, Bool, true, false, ◌&&◌, ◌==◌, nat_lt, nat_le, if◌then◌else◌, List, [], ◌∷◌, length, take, drop, find, Option, Some, None, Result, Ok, Err, codes}
+use Rattle.std.specs.Prelude.{ℕ, ◌^◌, Bool, true, false, ◌&&◌, ◌==◌, nat_lt, nat_le, if◌then◌else◌, List, [], ◌∷◌}
+use Rattle.std.specs.Prelude.{length, take, drop, find, Option, Some, None, Result, Ok, Err, codes}
 use Rattle.std.specs.Str.{bytes_eq, all_ascii_digits}
 use Rattle.std.specs.Str.Parse.{digits_value}
 use Rattle.std.specs.Int.{w32, from_be_bytes}
@@ -106,10 +107,12 @@ abbrev pub grant_in : Names → List ℕ → Reading Tuid
 grant_in names w = only_if (is_name w) (temporary (names.bound w))
 
 abbrev pub kind_in : List ℕ → Reading FileKind
-kind_in w = if is_word w (codes "normal") then Is kinds.Normal else if is_word w (codes "special") then Is kinds.Special else Bad
+kind_in w = if is_word w (codes "normal") then Is kinds.Normal
+    else if is_word w (codes "special") then Is kinds.Special else Bad
 
 abbrev pub mode_in : List ℕ → Reading Mode
-mode_in w = if is_word w (codes "read") then Is modes.Reading else if is_word w (codes "write") then Is modes.Writing else Bad
+mode_in w =
+    if is_word w (codes "read") then Is modes.Reading else if is_word w (codes "write") then Is modes.Writing else Bad
 
 abbrev pub commit_in : List ℕ → Reading Bool
 commit_in w = if is_word w (codes "commit") then Is true else if is_word w (codes "abort") then Is false else Bad
@@ -224,7 +227,8 @@ form_of forms verb = find (λ form. is_word verb form.verb) forms
 
 abbrev pub read_words : Form → Names → List (List ℕ) → Reading Request
 read_words form names [] = form.reads names []
-read_words form names (w ∷ words) = if form.binds then only_if (is_name w) (form.reads names words) else form.reads names (w ∷ words)
+read_words form names (w ∷ words) =
+    if form.binds then only_if (is_name w) (form.reads names words) else form.reads names (w ∷ words)
 
 abbrev pub read_with : Option Form → Names → List (List ℕ) → Reading Request
 read_with None names words = Bad

@@ -1,5 +1,6 @@
 -- What the server remembers, and what a reference of a session goes to.
-use Rattle.std.specs.Prelude.{ℕ, Bool, not, ◌&&◌, ◌==◌, is_none, if◌then◌else◌, List, [], map, filter, find, Option, Some, None, option_and_then, unwrap_or}
+use Rattle.std.specs.Prelude.{ℕ, Bool, not, ◌&&◌, ◌==◌, is_none, if◌then◌else◌, List, [], map, filter, find, Option}
+use Rattle.std.specs.Prelude.{Some, None, option_and_then, unwrap_or}
 use Rattle.cfs_base.specs.declared.identifier.Puid.{Puid}
 use Rattle.cfs_base.specs.declared.identifier.Tuid.{Tuid}
 use Rattle.cfs_base.specs.declared.kind.FileKind.TheVariants as kinds
@@ -103,14 +104,17 @@ changed_draft c d = record { object = changed_object c d.object; fresh = fresh_a
 abbrev pub with_draft : ℕ → Tuid → Draft → List Grant → List Grant
 with_draft who t d grants = map (λ g. if is_grant who t g then record g { draft = Some d } else g) grants
 
-abbrev put_object : State → Option Puid → Object → State
+abbrev pub put_object : State → Option Puid → Object → State
 put_object s None o = s
 put_object s (Some id) o = record s { graph = with_object s.graph id o }
 
-abbrev put_draft : State → ℕ → Ref → Draft → State
+abbrev pub put_draft : State → ℕ → Ref → Draft → State
 put_draft s who (Direct id) d = s
 put_draft s who (Through t) d = record s { grants = with_draft who t d s.grants }
 
 -- the state with this to be seen through the reference: in the grant's draft where it has one, else in the graph
 abbrev pub put : State → ℕ → Ref → Draft → State
-put s who ref d = elim (draft_of s who ref) [ Some old ↦ put_draft s who ref d | None ↦ put_object s (named s who ref) d.object ]
+put s who ref d = elim (draft_of s who ref) [
+  | Some old ↦ put_draft s who ref d
+  | None ↦ put_object s (named s who ref) d.object
+]

@@ -44,7 +44,8 @@ turn_read session (Is request) event = events.Ask session request (reply_in even
 
 -- the turn of a line that reads so, with the reply of this event. Want of memory may stand in place of any
 abbrev pub turn_of : ℕ → Reading Request → Event → Event
-turn_of session reading event = if wants_memory event then events.Unread session unread.Memory else turn_read session reading event
+turn_of session reading event =
+    if wants_memory event then events.Unread session unread.Memory else turn_read session reading event
 
 -- the names after a reply, where an ok one binds this name
 abbrev pub names_after_reply : Names → Option (List ℕ) → Reply → Names
@@ -73,4 +74,5 @@ turns_of forms session root script events = turns_from forms session (no_names r
 
 -- the session's events in the trail are the turns of its script, as far as they go
 abbrev pub AreTurns : List Form → ℕ → Puid → List ℕ → List Event → Type 0
-AreTurns forms session root script trail = turns_in session trail ≡ turns_of forms session root script (turns_in session trail)
+AreTurns forms session root script trail =
+    turns_in session trail ≡ turns_of forms session root script (turns_in session trail)

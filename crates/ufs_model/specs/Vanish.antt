@@ -44,22 +44,27 @@ pub record IsCutOff (s : State) (x : Puid) : Type 0 where
 
 -- ---- whether exactly these may vanish
 
-abbrev are_there : State → List Puid → Bool
+abbrev pub are_there : State → List Puid → Bool
 are_there s ids = rises ids && list_all (is_there s.graph) ids
 
-abbrev has_no_kept : State → List Puid → Bool
+abbrev pub has_no_kept : State → List Puid → Bool
 has_no_kept s ids = list_all (λ x. not (is_among x ids)) (kept s)
 
+-- neither the root nor an open object is one
+abbrev pub are_no_starts : State → List Puid → Bool
+are_no_starts s ids = not (is_among s.graph.root ids) && list_all (λ g. not (is_among g.id ids)) s.grants
+
 -- no index that remains refers to one
-abbrev leaves_no_reference : State → List Puid → Bool
+abbrev pub leaves_no_reference : State → List Puid → Bool
 leaves_no_reference s ids = list_all (λ e. is_among e.0 ids || not (is_among e.1 ids)) (pairs_of s)
 
-abbrev has_all_cut_off : State → List Puid → Bool
+abbrev pub has_all_cut_off : State → List Puid → Bool
 has_all_cut_off s ids = list_all (λ x. not (is_cut_off s x) || is_among x ids) (ids_of s.graph)
 
 abbrev pub may_vanish : State → List Puid → Bool
 may_vanish s ids =
-    is_marking s.collection && are_there s ids && has_no_kept s ids && leaves_no_reference s ids && has_all_cut_off s ids
+    is_marking s.collection && are_there s ids && has_no_kept s ids && leaves_no_reference s ids
+    && has_all_cut_off s ids
 
 -- These may vanish at once: each is there, none is kept, no index that stays refers to one, and all are among them that
 -- were cut off throughout.

@@ -1,5 +1,6 @@
 -- Well-formed states, and the events that keep them so.
-use Rattle.std.specs.Prelude.{◌≡◌, ℕ, Bool, true, false, ◌&&◌, ◌==◌, nat_lt, nat_le, IsTrue, List, map, Option, Some, None}
+use Rattle.std.specs.Prelude.{◌≡◌, ℕ, Bool, true, false, ◌&&◌, ◌==◌, nat_lt, nat_le, IsTrue, List, map, Option, Some}
+use Rattle.std.specs.Prelude.{None}
 use Rattle.std.specs.List.{list_all}
 use Rattle.cfs_base.specs.declared.kind.FileKind.{FileKind}
 use Rattle.cfs_base.specs.declared.kind.FileKind.TheVariants as kinds
@@ -26,7 +27,8 @@ same_kind kinds.Special kinds.Special = true
 
 -- a file of the kind and fill byte of the file that it is to become
 abbrev pub is_draft_of : Object → Object → Bool
-is_draft_of (objects.File f) (objects.File d) = same_kind d.kind f.kind && (d.fill == f.fill) && is_object (objects.File d)
+is_draft_of (objects.File f) (objects.File d) =
+    same_kind d.kind f.kind && (d.fill == f.fill) && is_object (objects.File d)
 is_draft_of (objects.File f) (objects.Index i) = false
 is_draft_of (objects.Index i) d = false
 

@@ -26,7 +26,8 @@ pub trait Asker {
     /// The answer to a request of a session.
     fn ask(&mut self, alloc: Global, who: Session, request: &Request) -> Reply
         requires words { words self.old < 4294967295 }
-        ensures event { (s : State) → stands self.old s → IsAsked (stands self.new) (seed self.old) s who request.now result }
+        ensures event { (s : State) → stands self.old s
+            → IsAsked (stands self.new) (seed self.old) s who request.now result }
         ensures seed { seed self.new ≡ seed self.old }
         ensures kept { words self.old ≤ words self.new }
         ensures drawn { words self.new ≤ words self.old + draws request.now };

@@ -7,10 +7,12 @@ use cfs_base::Puid;
 use std::collections::BTreeMap;
 
 /// Whether an object has this root block.
-fn is_taken(objects: &BTreeMap<Puid, Object>, block: u32) -> bool
-    requires { block < 4294967295 }
+pub fn is_taken(objects: &BTreeMap<Puid, Object>, block: u32) -> bool
     ensures { result ≡ has_block objects.now.entries block }
 {
+    if block == u32::MAX {
+        return objects.keys().any(|id| id.block == block);
+    }
     let first = Puid { block, word: 0 };
     let past = Puid {
         block: block + 1,

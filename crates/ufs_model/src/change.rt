@@ -1,6 +1,7 @@
 //! A change of one object, made in memory.
 ghost use Rattle.std.specs.Prelude.{◌≡◌, ◌+◌, ◌<◌, IfOk, OnErr, OnOk, length, nat_le, unwrap_or};
-ghost use Rattle.ufs_model.specs.Object.{IsInside, changed_object, cut_leaf, held_leaves, leaves_in, resize_anew, size_of, touched, written_anew};
+ghost use Rattle.ufs_model.specs.Object.{IsInside, changed_object, cut_leaf, held_leaves, leaves_in, resize_anew};
+ghost use Rattle.ufs_model.specs.Object.{size_of, touched, written_anew};
 ghost use Rattle.ufs_model.specs.declared.change.Change.TheVariants as changes;
 ghost use Rattle.ufs_model.specs.declared.object.Object.TheVariants as objects;
 ghost use Rattle.ufs_model.specs.Numbers.{first_level, lacking, parents, shared, with_numbers};
@@ -52,7 +53,8 @@ fn cut_leaf(alloc: Global, size: u64, held: &Numbers) -> Result<Numbers, AllocEr
     Numbers::row(alloc, size / LEAF_BYTES, 1)?.shared(alloc, held)
 }
 
-/// Of the nodes above the leaves that are kept, those that lead to one that is gone, or to one that is new and not fresh.
+/// Of the nodes above the leaves that are kept, those that lead to one that is gone, or to one that is new and not
+/// fresh.
 fn recut_nodes(
     alloc: Global,
     kept: &Numbers,
@@ -60,7 +62,8 @@ fn recut_nodes(
     anew: &Numbers,
     fresh: &Levels,
 ) -> Result<Numbers, AllocError>
-    ensures { IfOk result (λ nodes. nodes ≡ shared (parents kept.now) (parents (with_numbers gone.now (lacking anew.now (first_level fresh.now))))) }
+    ensures { IfOk result (λ nodes. nodes ≡ shared (parents kept.now) (parents (with_numbers gone.now (lacking anew.now
+        (first_level fresh.now))))) }
 {
     let none = Numbers::empty(alloc);
     let fresh_leaves = fresh.as_slice().first().unwrap_or(&none);
@@ -83,7 +86,7 @@ fn recut(alloc: Global, size: u64, held: &Numbers, fresh: &Levels) -> Result<Lev
 
 impl Object {
     /// The leaves that it holds.
-    fn held(&self) -> &Numbers
+    pub fn held(&self) -> &Numbers
         ensures { result.now ≡ held_leaves self.now }
     {
         match self {
@@ -105,7 +108,8 @@ impl Object {
     /// The leaves to be held after a change; nothing where they stay the same.
     pub fn held_after(&self, alloc: Global, change: &Change) -> Result<Option<Numbers>, AllocError>
         requires { IsInside change.now self.now }
-        ensures { IfOk result (λ held. unwrap_or held (held_leaves self.now) ≡ held_leaves (changed_object change.now self.now)) }
+        ensures { IfOk result (λ held. unwrap_or held (held_leaves self.now)
+            ≡ held_leaves (changed_object change.now self.now)) }
     {
         match self {
             Object::Index(index) => match change {
@@ -147,7 +151,8 @@ impl Object {
     /// Puts this into a slot of the index that it is. Takes no memory.
     pub fn fill(&mut self, slot: u64, what: Option<Puid>, held: Option<Numbers>)
         requires inside { IsInside (changes.Fill slot what) self.old }
-        requires held { unwrap_or held (held_leaves self.old) ≡ held_leaves (changed_object (changes.Fill slot what) self.old) }
+        requires held { unwrap_or held (held_leaves self.old)
+            ≡ held_leaves (changed_object (changes.Fill slot what) self.old) }
         ensures { self.new ≡ changed_object (changes.Fill slot what) self.old }
     {
         if let Object::Index(index) = self {
@@ -156,7 +161,7 @@ impl Object {
     }
 
     /// The blocks that a change writes anew, where these are fresh.
-    fn written_anew(
+    pub fn written_anew(
         &self,
         alloc: Global,
         change: &Change,

@@ -1,5 +1,6 @@
 //! What a request does that the slow server doesn't refuse.
-ghost use Rattle.std.specs.Prelude.{◌≡◌, ◌+◌, ◌<◌, ◌≤◌, false, true, length, slice_get, slice_range, set, unwrap_or, IfOk, OnErr, OnOk, None, Some};
+ghost use Rattle.std.specs.Prelude.{◌≡◌, ◌+◌, ◌<◌, ◌≤◌, false, true, length, slice_get, slice_range, set, unwrap_or};
+ghost use Rattle.std.specs.Prelude.{IfOk, OnErr, OnOk, None, Some};
 ghost use Rattle.std.specs.BTreeMap.{insert_entry, is_at};
 ghost use Rattle.std.specs.Map.{lookup};
 ghost use Rattle.ufs_model.specs.Graph.{has_block};
@@ -52,7 +53,8 @@ fn change_draft(
     at: usize,
     change: &Change,
 ) -> Result<(), AllocError>
-    requires { (g : Grant) (d : Draft) → slice_get grants.old.items at ≡ Some g → g.draft ≡ Some d → IsInside change.now d.object }
+    requires { (g : Grant) (d : Draft) → slice_get grants.old.items at ≡ Some g → g.draft ≡ Some d
+        → IsInside change.now d.object }
     ensures ok { OnOk result ((g : Grant) (d : Draft) → slice_get grants.old.items at ≡ Some g → g.draft ≡ Some d
         → grants.new.items ≡ set grants.old.items at (record g { draft = Some (changed_draft change.now d) })) }
     ensures err { OnErr result (grants.new.items ≡ grants.old.items) }
@@ -79,7 +81,9 @@ impl Server {
         requires granted { has_no_such_grant self.old.state who reference ≡ false }
         requires there { goes_nowhere self.old.state reference ≡ false }
         requires inside { IsInside change.now (seen self.old.state who reference).object }
-        ensures ok { OnOk result (self.new ≡ record self.old { state = changed self.old.state who reference change.now }) }
+        ensures ok { OnOk result (self.new ≡ record self.old {
+          state = changed self.old.state who reference change.now;
+        }) }
         ensures err { OnErr result (self.new ≡ self.old) }
     {
         if let Some(at) = self.draft_place(who, reference) {
@@ -108,7 +112,8 @@ impl Server {
         requires no_draft { draft_of self.old.state who index ≡ None }
         requires inside { IsInside (changes.Fill slot None) (seen self.old.state who index).object }
         requires free { has_block self.old.state.graph.objects block ≡ false }
-        ensures ok { IfOk result (λ id. created self.old.seed self.old.state who index slot object block ≡ (replies.Id id, self.new.state)) }
+        ensures ok { IfOk result (λ id. created self.old.seed self.old.state who index slot object block
+            ≡ (replies.Id id, self.new.state)) }
         ensures err { OnErr result (self.new ≡ self.old) }
         ensures seed { self.new.seed ≡ self.old.seed }
     {
@@ -138,7 +143,8 @@ impl Server {
         mode: Mode,
     ) -> Result<Tuid, NoMemory>
         requires words { self.old.state.drawn < 4294967295 }
-        ensures ok { IfOk result (λ t. granted self.old.seed self.old.state who id mode ≡ (replies.Grant t, self.new.state)) }
+        ensures ok { IfOk result (λ t. granted self.old.seed self.old.state who id mode
+            ≡ (replies.Grant t, self.new.state)) }
         ensures err { OnErr result (self.new ≡ self.old) }
         ensures seed { self.new.seed ≡ self.old.seed }
     {
@@ -197,7 +203,8 @@ impl Server {
         count: u64,
     ) -> Result<Bytes, NoMemory>
         requires { offset + count ≤ length (file_seen self.now.state who file).bytes }
-        ensures { IfOk result (λ bytes. bytes ≡ slice_range (file_seen self.now.state who file).bytes offset (offset + count)) }
+        ensures { IfOk result (λ bytes. bytes ≡ slice_range (file_seen self.now.state who file).bytes offset (offset +
+            count)) }
     {
         let all = self.bytes_seen(who, file);
         let part = &all[offset as usize..(offset + count) as usize];
@@ -241,7 +248,8 @@ fn held_once_filled(
     id: Puid,
 ) -> Result<Option<Numbers>, AllocError>
     requires { IsInside (changes.Fill slot (Some id)) object.now }
-    ensures { IfOk result (λ held. unwrap_or held (held_leaves object.now) ≡ held_leaves (changed_object (changes.Fill slot (Some id)) object.now)) }
+    ensures { IfOk result (λ held. unwrap_or held (held_leaves object.now)
+        ≡ held_leaves (changed_object (changes.Fill slot (Some id)) object.now)) }
 {
     object.held_after(
         alloc,
@@ -260,11 +268,13 @@ fn fill_object(
     id: Puid,
     held: Option<Numbers>,
 )
-    requires inside { (o : Object) → lookup (is_at (puid_cmp index)) objects.old.entries ≡ Some o → IsInside (changes.Fill slot (Some id)) o }
+    requires inside { (o : Object) → lookup (is_at (puid_cmp index)) objects.old.entries ≡ Some o
+        → IsInside (changes.Fill slot (Some id)) o }
     requires held { (o : Object) → lookup (is_at (puid_cmp index)) objects.old.entries ≡ Some o
         → unwrap_or held (held_leaves o) ≡ held_leaves (changed_object (changes.Fill slot (Some id)) o) }
     ensures { (o : Object) → lookup (is_at (puid_cmp index)) objects.old.entries ≡ Some o
-        → objects.new.entries ≡ insert_entry puid_cmp objects.old.entries index (changed_object (changes.Fill slot (Some id)) o) }
+        → objects.new.entries ≡ insert_entry puid_cmp objects.old.entries index (changed_object (changes.Fill slot
+        (Some id)) o) }
 {
     if let Some(object) = objects.get_mut(&index) {
         object.fill(slot, Some(id), held);
@@ -275,7 +285,8 @@ fn fill_object(
 fn end_draft(objects: &mut BTreeMap<Puid, Object>, id: Puid, draft: Option<Draft>, commit: bool)
     ensures dropped { commit ≡ false → objects.new.entries ≡ objects.old.entries }
     ensures none { draft ≡ None → objects.new.entries ≡ objects.old.entries }
-    ensures put { (d : Draft) (o : Object) → commit ≡ true → draft ≡ Some d → lookup (is_at (puid_cmp id)) objects.old.entries ≡ Some o
+    ensures put { (d : Draft) (o : Object) → commit ≡ true → draft ≡ Some d
+        → lookup (is_at (puid_cmp id)) objects.old.entries ≡ Some o
         → objects.new.entries ≡ insert_entry puid_cmp objects.old.entries id d.object }
 {
     match draft {

@@ -4,7 +4,8 @@ ghost use Rattle.std.specs.List.{list_all};
 ghost use Rattle.cfs_base.specs.declared.identifier.Puid.{Puid};
 ghost use Rattle.ufs_model.specs.Graph.{Graph, IsClosedGraph, IsGraph, fresh_graph, is_free_root, is_there, object_at};
 ghost use Rattle.ufs_model.specs.Identifier.{is_among};
-ghost use Rattle.ufs_model.specs.Limits.{fan_out, leaf_bytes, leaf_slots, most_at_once, most_bytes, most_grants, most_line, most_name, most_slots, reserve, root_slots};
+ghost use Rattle.ufs_model.specs.Limits.{fan_out, leaf_bytes, leaf_slots, most_at_once, most_bytes, most_grants};
+ghost use Rattle.ufs_model.specs.Limits.{most_line, most_name, most_slots, reserve, root_slots};
 ghost use Rattle.ufs_model.specs.Next.{next};
 ghost use Rattle.ufs_model.specs.Object.{IsObject};
 ghost use Rattle.ufs_model.specs.Outcome.{creates, outcome_of};
@@ -43,7 +44,8 @@ pub fn limits_are_stated()
 /// A well-formed graph: its root leads to what is there, each object is well-formed, and no two have one root block.
 pub fn graphs_are_closed()
     ensures closed { (g : Graph) → IsGraph g → IsClosedGraph g }
-    ensures blocks { (g : Graph) (a b : Puid) → IsGraph g → is_there g a ≡ true → is_there g b ≡ true → a.block ≡ b.block → a ≡ b }
+    ensures blocks { (g : Graph) (a b : Puid) → IsGraph g → is_there g a ≡ true → is_there g b ≡ true
+        → a.block ≡ b.block → a ≡ b }
     ensures not_zero { (g : Graph) (a : Puid) → IsGraph g → is_there g a ≡ true → a.block ≢ 0 }
     ensures objects { (g : Graph) (a : Puid) (o : Object) → IsGraph g → object_at g a ≡ Some o → IsObject o }
 {}
@@ -52,8 +54,10 @@ pub fn graphs_are_closed()
 pub fn next_keeps_graphs()
     ensures fresh { (root : Puid) → root.block ≢ 0 → IsGraph (fresh_graph root) }
     ensures begin { (g : Graph) → IsGraph g → IsState (opening g) }
-    ensures next { (seed : ℕ) (s t : State) (event : Event) → IsState s → IsSpeakable event → next seed s event ≡ Some t → IsState t }
-    ensures run { (seed : ℕ) (s t : State) (trail : List Event) → IsState s → All IsSpeakable trail → replay_from seed s trail ≡ Some t → IsState t }
+    ensures next { (seed : ℕ) (s t : State) (event : Event) → IsState s → IsSpeakable event
+        → next seed s event ≡ Some t → IsState t }
+    ensures run { (seed : ℕ) (s t : State) (trail : List Event) → IsState s → All IsSpeakable trail
+        → replay_from seed s trail ≡ Some t → IsState t }
 {}
 
 /// What the code can ask for is bytes, as `next_keeps_graphs` wants it.
@@ -73,9 +77,11 @@ pub fn requests_store_bytes(request: &Request)
 
 /// What is not refused may be answered by its outcome, whichever free root block a new object takes.
 pub fn outcomes_are_legal()
-    ensures { (seed : ℕ) (s : State) (who : ℕ) (request : Request) (b : ℕ) → is_running s ≡ true → refusal_of s who request ≡ None
+    ensures { (seed : ℕ) (s : State) (who : ℕ) (request : Request) (b : ℕ) → is_running s ≡ true
+        → refusal_of s who request ≡ None
         → (creates request ≡ true → is_free_root s.graph b ≡ true)
-        → next seed s (events.Ask who request (outcome_of seed s who request b).0) ≡ Some (outcome_of seed s who request b).1 }
+        → next seed s (events.Ask who request (outcome_of seed s who request b).0)
+        ≡ Some (outcome_of seed s who request b).1 }
 {}
 
 /// What is reached in so many steps is all that is reached.
@@ -88,9 +94,11 @@ pub fn reached_sets()
 /// A collection takes what was cut off throughout, and nothing that is kept.
 pub fn may_vanish_is()
     ensures exact { (s : State) (ids : List Puid) → IsGraph s.graph → ((may_vanish s ids ≡ true) ↔ MayVanish s ids) }
-    ensures gone { (seed : ℕ) (s t : State) (ids : List Puid) (x : Puid) → IsGraph s.graph → next seed s (events.Vanish ids) ≡ Some t
+    ensures gone { (seed : ℕ) (s t : State) (ids : List Puid) (x : Puid) → IsGraph s.graph
+        → next seed s (events.Vanish ids) ≡ Some t
         → IsCutOff s x → is_there t.graph x ≡ false }
-    ensures kept { (seed : ℕ) (s t : State) (ids : List Puid) (x : Puid) → IsGraph s.graph → next seed s (events.Vanish ids) ≡ Some t
+    ensures kept { (seed : ℕ) (s t : State) (ids : List Puid) (x : Puid) → IsGraph s.graph
+        → next seed s (events.Vanish ids) ≡ Some t
         → IsKept s x → object_at t.graph x ≡ object_at s.graph x }
 {}
 

@@ -1,7 +1,9 @@
 //! The range_with_len of the blocks that an object holds, level by level.
-ghost use Rattle.std.specs.Prelude.{◌≡◌, ◌+◌, ◌<◌, ◌≤◌, [], ◌∷◌, IfOk, IfSome, IfNone, OnOk, OnErr, unwrap_or, insert, length, nat_le, nat_lt, filter};
+ghost use Rattle.std.specs.Prelude.{◌≡◌, ◌+◌, ◌<◌, ◌≤◌, [], ◌∷◌, IfOk, IfSome, IfNone, OnOk, OnErr, unwrap_or, insert};
+ghost use Rattle.std.specs.Prelude.{length, nat_le, nat_lt, filter};
 ghost use Rattle.std.specs.List.{range_with_len};
-ghost use Rattle.ufs_model.specs.Numbers.{branches, has_number, lacking, merged, parents, shared, with_number, with_numbers, within};
+ghost use Rattle.ufs_model.specs.Numbers.{branches, has_number, lacking, merged, missing, parents, shared, with_number};
+ghost use Rattle.ufs_model.specs.Numbers.{with_numbers, within};
 
 use crate::limits::FAN_OUT;
 use std::alloc::{AllocError, Global};
@@ -149,6 +151,16 @@ impl Numbers {
         })
     }
 
+    /// How many are not among the others.
+    fn count_lacking(&self, others: &Numbers) -> usize
+        ensures { result ≡ length (lacking self.now others.now) }
+    {
+        self.numbers
+            .iter()
+            .filter(|n| !others.contains(**n))
+            .count()
+    }
+
     /// Those below a limit.
     pub fn below(&self, alloc: Global, limit: u64) -> Result<Numbers, AllocError>
         ensures { IfOk result (λ kept. kept ≡ filter (λ n. nat_lt n limit) self.now) }
@@ -243,5 +255,19 @@ impl Levels {
             levels.push(numbers.shared(alloc, there)?)?;
         }
         Ok(Levels { levels })
+    }
+
+    /// How many are not among the others.
+    pub fn missing(&self, alloc: Global, others: &Levels) -> u128
+        ensures count { result ≡ missing self.now others.now }
+        ensures small { result < 170141183460469231731687303715884105728 }
+    {
+        let none = Numbers::empty(alloc);
+        let mut count = 0;
+        for (i, numbers) in self.levels.iter().enumerate() {
+            let there = others.levels.get(i).unwrap_or(&none);
+            count += numbers.count_lacking(there) as u128;
+        }
+        count
     }
 }

@@ -1,5 +1,6 @@
 //! Files, indices, drafts and grants.
-ghost use Rattle.std.specs.Prelude.{◌≡◌, ◌+◌, ◌-◌, ◌<◌, ◌≤◌, [], ◌++◌, drop, length, replicate, slice_set, take, IfOk, OnErr, OnOk};
+ghost use Rattle.std.specs.Prelude.{◌≡◌, ◌+◌, ◌-◌, ◌<◌, ◌≤◌, [], ◌++◌, drop, length, replicate, slice_set, take, IfOk};
+ghost use Rattle.std.specs.Prelude.{OnErr, OnOk};
 
 use crate::numbers::{Levels, Numbers};
 use cfs_base::{FileKind, Mode, Puid, Session, Tuid};

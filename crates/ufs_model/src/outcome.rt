@@ -13,7 +13,8 @@ use cfs_base::{Bytes, NoMemory, Session};
 use std::alloc::Global;
 
 impl Server {
-    /// The outcome of the definitions, in which a new object takes this block, or want of memory, which changes nothing.
+    /// The outcome of the definitions, in which a new object takes this block, or want of memory, which changes
+    /// nothing.
     pub fn outcome(
         &mut self,
         alloc: Global,
@@ -25,7 +26,8 @@ impl Server {
         requires state { IsState self.old.state }
         requires refused { refusal_of self.old.state who request.now ≡ None }
         requires free { creates request.now ≡ true → has_block self.old.state.graph.objects block ≡ false }
-        ensures ok { IfOk result (λ reply. outcome_of self.old.seed self.old.state who request.now block ≡ (reply, self.new.state)) }
+        ensures ok { IfOk result (λ reply. outcome_of self.old.seed self.old.state who request.now block
+            ≡ (reply, self.new.state)) }
         ensures err { OnErr result (self.new ≡ self.old) }
         ensures seed { self.new.seed ≡ self.old.seed }
     {

@@ -70,7 +70,8 @@ impl Plain {
         requires { self.old.state.drawn < 4294967295 }
         ensures step { next self.old.seed self.old.state (events.Ask who request.now result) ≡ Some self.new.state }
         ensures plain { IsPlainReply result }
-        ensures answer { result ≢ replies.Memory → IsAnswer self.old.seed self.old.state who request.now result self.new.state }
+        ensures answer { result ≢ replies.Memory → IsAnswer self.old.seed self.old.state who request.now result
+            self.new.state }
         ensures seed { self.new.seed ≡ self.old.seed }
         ensures drawn { self.new.state.drawn ≤ self.old.state.drawn + 1 }
         ensures kept { self.old.state.drawn ≤ self.new.state.drawn }
@@ -89,7 +90,8 @@ impl Plain {
 
     fn answer(&mut self, alloc: Global, who: Session, request: &Request) -> Result<Reply, NoMemory>
         requires { self.old.state.drawn < 4294967295 }
-        ensures answer { IfOk result (λ reply. IsAnswer self.old.seed self.old.state who request.now reply self.new.state) }
+        ensures answer { IfOk result (λ reply. IsAnswer self.old.seed self.old.state who request.now reply
+            self.new.state) }
         ensures memory { OnErr result (self.new ≡ self.old) }
         ensures plain { IfOk result IsPlainReply }
         ensures running { IsTrue (is_running self.old.state) }
@@ -113,7 +115,8 @@ impl Plain {
 
     /// The least free root block for a request that makes an object; any number for the others.
     fn block_for(&self, request: &Request) -> Option<u32>
-        ensures least { IfSome result (λ b. creates request.now ≡ true → IsLeastFreeRoot self.now.state.graph.objects b) }
+        ensures least { IfSome result (λ b. creates request.now ≡ true
+            → IsLeastFreeRoot self.now.state.graph.objects b) }
         ensures fits { IfSome result (λ b. b < 4294967295) }
     {
         if request.creates() {

@@ -1,6 +1,8 @@
 //! When the slow server refuses: the first condition that holds.
 ghost use Rattle.std.specs.Prelude.{◌≡◌, ◌==◌, filter, length};
-ghost use Rattle.ufs_model.specs.Refusal.{finds_empty, goes_nowhere, has_all_grants, has_no_grant, has_no_object, has_no_slot, is_locked, is_open, is_open_for_writing, is_out_of_range, is_range, is_read_only, names_file, names_index, refusal_of, retains_nothing};
+ghost use Rattle.ufs_model.specs.Refusal.{finds_empty, goes_nowhere, has_all_grants, has_no_grant, has_no_object};
+ghost use Rattle.ufs_model.specs.Refusal.{has_no_slot, is_locked, is_open, is_open_for_writing, is_out_of_range};
+ghost use Rattle.ufs_model.specs.Refusal.{is_range, is_read_only, names_file, names_index, refusal_of, retains_nothing};
 
 use crate::asked::{Ref, Reply, Request, Wanted};
 use crate::limits::{MOST_AT_ONCE, MOST_BYTES, MOST_GRANTS, MOST_SLOTS};

@@ -5,7 +5,8 @@ ghost use Rattle.std.specs.Option.{option_copied};
 ghost use Rattle.ufs_model.specs.Graph.{fresh_graph, is_there};
 ghost use Rattle.ufs_model.specs.Object.{new_index, slot_of};
 ghost use Rattle.ufs_model.specs.Plain.{IsDraftPlace, Server};
-ghost use Rattle.ufs_model.specs.State.{draft_of, file_seen, grant_of, index_seen, is_grant, named, object_of, opening, seen};
+ghost use Rattle.ufs_model.specs.State.{draft_of, file_seen, grant_of, index_seen, is_grant, named, object_of, opening};
+ghost use Rattle.ufs_model.specs.State.{seen};
 ghost use Rattle.ufs_model.specs.declared.collection.Collection.TheVariants as collections;
 ghost use Rattle.ufs_model.specs.declared.object.Object.TheVariants as objects;
 
@@ -141,7 +142,8 @@ impl Server {
 
     /// What is seen through it: a draft, or else the object.
     pub fn seen(&self, who: Session, reference: Ref) -> Option<&Object>
-        ensures { unwrap_or (option_copied result) (objects.Index (new_index 0)) ≡ (seen self.now.state who reference).object }
+        ensures { unwrap_or (option_copied result) (objects.Index (new_index 0))
+            ≡ (seen self.now.state who reference).object }
     {
         match self.draft(who, reference) {
             Some(draft) => Some(&draft.object),

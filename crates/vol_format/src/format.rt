@@ -4,7 +4,8 @@ ghost use Rattle.cfs_base.specs.Calls.{HasFailed, MakesAtMost};
 ghost use Rattle.cfs_base.specs.Disk.{Only};
 ghost use Rattle.cfs_base.specs.Run.{IsSettled, Leaves, left_now};
 ghost use Rattle.cyl_map.specs.Volume.{entry_in};
-ghost use Rattle.vol_format.specs.Fresh.{HasBody, IsBlank, IsEmptyIndex, IsFormatted, IsUnlabelled, MayBeFresh, fresh_entry, label_block};
+ghost use Rattle.vol_format.specs.Fresh.{HasBody, IsBlank, IsEmptyIndex, IsFormatted, IsUnlabelled, MayBeFresh};
+ghost use Rattle.vol_format.specs.Fresh.{fresh_entry, label_block};
 
 use crate::map::fresh_map;
 use block_tree::Root;
@@ -110,10 +111,10 @@ fn write_label<D: Disk>(disk: &mut D, cylinders: u32, word: u32) -> Result<(), F
     disk.barrier() // now there is a volume
 }
 
-/// Makes a fresh volume of a disk with 64 blocks a cylinder. Its root index has 64 empty slots, and the identifier of block
-/// 2 and this word. An old label goes first, then come the maps and block 2, and at last the label, with a barrier after
-/// each of the three. No other block is written. Takes no memory. `Failed` where a device call failed: what the disk held
-/// may then be lost, with no volume made.
+/// Makes a fresh volume of a disk with 64 blocks a cylinder. Its root index has 64 empty slots, and the identifier of
+/// block 2 and this word. An old label goes first, then come the maps and block 2, and at last the label, with a
+/// barrier after each of the three. No other block is written. Takes no memory. `Failed` where a device call failed:
+/// what the disk held may then be lost, with no volume made.
 pub fn format_volume<D: Disk>(disk: &mut D, word: u32) -> Result<(), Failed>
     requires whole { D.blocks disk.old % 64 ≡ 0 }
     requires some { 1 ≤ D.blocks disk.old }

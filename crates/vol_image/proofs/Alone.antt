@@ -1,8 +1,6 @@
 -- Of a run of numbers one at most passes a test.
 use Rattle.std.proofs.Common.{◌≡◌, ℕ, zero, suc, ◌+◌, ◌<◌, ◌≤◌, [], ◌∷◌, length, Bool, true, false, cond, inl, inr, refl, sym, ◌∙◌, ap, arith}
-use Rattle.std.proofs.lemmas.Bool.{cases_eq}
-use Rattle.std.specs.Prelude.{filter}
-use Rattle.std.specs.List.{range_with_len}
+use Rattle.vol_image.proofs.Words.{cases_eq, filter, range_with_len}
 
 module _ (P : ℕ → Bool) (s : ℕ) (only : (m : ℕ) → P m ≡ true → m ≡ s) where
   none_after : (a n : ℕ) → s < a → filter P (range_with_len a n) ≡ []

@@ -1,16 +1,6 @@
 -- Blocks that no object holds, though they have its owner.
 use Rattle.std.proofs.Common.{◌≡◌, ◌≢◌, inl, ℕ, refl, sym, ◌∙◌, ap, subst, Some, length}
-use Rattle.std.proofs.lemmas.Option.{same_Some}
-use Rattle.cfs_base.specs.Disk.{Image}
-use Rattle.cfs_base.specs.declared.identifier.Puid.{Puid}
-use Rattle.cyl_map.specs.declared.state.BlockState.TheVariants.{Allocated}
-use Rattle.cyl_map.specs.declared.entry.MapEntry.{MapEntry}
-use Rattle.cyl_map.specs.Volume.{entry_in}
-use Rattle.ufs_model.specs.declared.object.Object.{Object}
-use Rattle.ufs_model.specs.Graph.{Graph, object_at}
-use Rattle.vol_image.specs.Part.{IsTaken, is_committed}
-use Rattle.vol_image.specs.Sound.{Holds}
-use Rattle.vol_image.specs.Frame.{Frames, IsAtRest, IsBlockOf, IsLoose}
+use Rattle.vol_image.proofs.Words.{Allocated, Frames, Graph, Holds, Image, IsAtRest, IsBlockOf, IsLoose, IsTaken, MapEntry, Object, Puid, entry_in, is_committed, object_at, same_Some}
 use Rattle.vol_image.proofs.Law.{framed_sight, same_blocks}
 use Rattle.vol_image.proofs.Parts.{object_taken, taken_apart}
 use Rattle.vol_image.proofs.Steps.{was_held}

@@ -1,29 +1,10 @@
 -- Objects that are read by their roots, and new ones, below whose roots nothing stands.
 use Rattle.std.proofs.Common.{◌≡◌, ℕ, zero, suc, ◌+◌, ◌*◌, ◌/◌, false, List, [], ◌∷◌, ◌++◌, length, get_or, take, replicate, Option, Some, None, refl, sym, ◌∙◌, ap, subst, arith}
-use Rattle.std.proofs.Math.Path.{fun_ext}
-use Rattle.std.proofs.lemmas.List.{drop-replicate, replicate-append-replicate}
-use Rattle.std.proofs.lemmas.Option.{none-some}
-use Rattle.std.specs.Prelude.{map, filter, is_some}
-use Rattle.std.specs.List.{flat_map, range_with_len}
-use Rattle.std.specs.Int.{from_be_bytes, w32}
-use Rattle.cfs_base.specs.Disk.{Image, block_at}
-use Rattle.cfs_base.specs.declared.identifier.Puid.{Puid}
+use Rattle.vol_image.proofs.Words.{BelongsTo, Held, Image, IsBareRoot, IsRootBlock, IsTree, Kind, Level, Object, Puid, ReadsAs, Root, Tree, bare_object, block_at, drop-replicate, end_of, filter, first_or, flat_map, from_be_bytes, fun_ext, held_at, is_committed, is_some, leaf_content, leaf_pointers, leaves_in, levels_of, map, new_file, new_index, node_pointers, none-some, number_at, object_with, part_at, path_to, pointer, pointers_of, range_with_len, replicate-append-replicate, shadows, sight, slot_in, source, tree_in, w32}
 use Rattle.cfs_base.specs.declared.kind.FileKind.TheVariants as file_kinds
-use Rattle.cfs_base.specs.declared.kind.Kind.{Kind}
 use Rattle.cfs_base.specs.declared.kind.Kind.TheVariants as kinds
-use Rattle.cfs_base.specs.declared.kind.Place.TheVariants.{Root}
 use Rattle.block_tree.specs.declared.root.Root as roots
-use Rattle.block_tree.specs.Pointers.{Level, number_at, pointers_of, node_pointers, leaf_pointers}
-use Rattle.block_tree.specs.Root.{IsRootBlock}
-use Rattle.block_tree.specs.Tree.{levels_of, path_to, pointer, end_of}
-use Rattle.ufs_model.specs.declared.object.Object.{Object}
 use Rattle.ufs_model.specs.declared.object.Object.TheVariants as objects
-use Rattle.ufs_model.specs.Object.{leaves_in, new_file, new_index}
-use Rattle.vol_image.specs.Part.{BelongsTo, part_at, is_committed}
-use Rattle.vol_image.specs.Seen.{Held, Tree, held_at, tree_in}
-use Rattle.vol_image.specs.Reading.{IsTree, bare_object, leaf_content, slot_in, object_with}
-use Rattle.vol_image.specs.Sight.{shadows, source, first_or, sight}
-use Rattle.vol_image.specs.Sound.{IsBareRoot, ReadsAs}
 
 -- ---- an object with no commit bit is read by its root
 

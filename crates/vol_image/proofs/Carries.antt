@@ -1,19 +1,10 @@
 -- Runs on a disk that carries a graph.
 use Rattle.std.proofs.Common.{◌≡◌, inl, ℕ, ◌<◌, IsTrue, List, length, set, Some, sym, subst, arith}
-use Rattle.cfs_base.specs.Disk.{Image, IsSameDisk, Nothing, Written}
-use Rattle.cfs_base.specs.Run.{IsSettled, Leaves, left_now}
-use Rattle.cfs_base.specs.declared.disk.Disk.{Ghosts}
-use Rattle.cfs_base.proofs.Runs.{wider}
-use Rattle.cfs_base.specs.declared.identifier.Puid.{Puid}
-use Rattle.ufs_model.specs.declared.object.Object.{Object}
-use Rattle.ufs_model.specs.Graph.{Graph, object_at}
-use Rattle.vol_image.specs.Sound.{Holds}
-use Rattle.vol_image.specs.Frame.{Frames}
+use Rattle.vol_image.proofs.Words.{Carries, Frames, Ghosts, Graph, Holds, Image, IsSameDisk, IsSettled, Leaves, Nothing, Object, Puid, Within, Written, left_now, object_at, wider}
 use Rattle.vol_image.proofs.Changes.{hold_fewer}
 use Rattle.vol_image.proofs.Law.{frames_hold}
 use Rattle.vol_image.proofs.Runs.{stays, tried, wrote}
 use Rattle.vol_image.proofs.Steps.{frames_back, frames_begin, frames_fewer, frames_then}
-use Rattle.vol_image.specs.Run.{Carries, Within}
 
 module _ {D : Type 0} (g : Ghosts D) (graph : Graph) where
   -- it is a run within the frame of its own content

@@ -1,18 +1,7 @@
 -- One object of an image is put in or changed, and all others stay.
 use Rattle.std.proofs.Common.{◌≡◌, ℕ, [], ◌∷◌, length, Bool, true, false, cond, not, ◌||◌, Some, None, refl, sym, ◌∙◌, ap, subst}
-use Rattle.std.proofs.lemmas.Option.{same_Some}
-use Rattle.cfs_base.specs.Disk.{Image, block_at}
-use Rattle.cfs_base.specs.declared.identifier.Puid.{Puid}
+use Rattle.vol_image.proofs.Words.{Frames, Graph, Holds, Image, IsLabelOf, IsLoose, IsRootBlock, IsTaken, MapEntry, Object, Puid, ReadsAs, block_at, object_at, same_Some, same_puid, sight, with_object, without}
 use Rattle.block_tree.specs.declared.root.Root as roots
-use Rattle.block_tree.specs.Root.{IsRootBlock}
-use Rattle.cyl_map.specs.declared.entry.MapEntry.{MapEntry}
-use Rattle.ufs_model.specs.declared.object.Object.{Object}
-use Rattle.ufs_model.specs.Identifier.{same_puid}
-use Rattle.ufs_model.specs.Graph.{Graph, object_at, with_object, without}
-use Rattle.vol_image.specs.Part.{IsTaken}
-use Rattle.vol_image.specs.Sight.{sight}
-use Rattle.vol_image.specs.Sound.{IsLabelOf, ReadsAs, Holds}
-use Rattle.vol_image.specs.Frame.{IsLoose, Frames}
 use Rattle.vol_image.proofs.Reached.{same_puid_is, same_puid_itself}
 use Rattle.vol_image.proofs.Graphs.{object_at-with_object, object_at-without}
 use Rattle.vol_image.proofs.Unique.{one_root_block}

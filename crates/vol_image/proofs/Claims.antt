@@ -1,15 +1,6 @@
 -- Blocks of no object: claimed, written, and given back.
 use Rattle.std.proofs.Common.{◌≡◌, ◌≢◌, ℕ, false, Some, refl, sym, ◌∙◌}
-use Rattle.cfs_base.specs.Disk.{Image}
-use Rattle.cyl_map.specs.declared.state.BlockState.{BlockState}
-use Rattle.cyl_map.specs.declared.state.BlockState.TheVariants.{Free}
-use Rattle.cyl_map.specs.declared.entry.MapEntry.{MapEntry}
-use Rattle.cyl_map.specs.Entry.{IsEntry}
-use Rattle.cyl_map.specs.Volume.{entry_in, with_entry}
-use Rattle.ufs_model.specs.Graph.{Graph}
-use Rattle.vol_image.specs.Part.{OwnsItself, is_fixed}
-use Rattle.vol_image.specs.Sound.{Holds}
-use Rattle.vol_image.specs.Frame.{IsLoose, Frames, StandsForNone}
+use Rattle.vol_image.proofs.Words.{BlockState, Frames, Free, Graph, Holds, Image, IsEntry, IsLoose, MapEntry, OwnsItself, StandsForNone, entry_in, is_fixed, with_entry}
 use Rattle.vol_image.proofs.Parts.{taken_part}
 use Rattle.vol_image.proofs.Steps.{frames_entry}
 

@@ -1,26 +1,6 @@
 -- A commit: its bit is set, the draft's root is copied, and the blocks are settled.
 use Rattle.std.proofs.Common.{◌≡◌, ◌≢◌, inl, inr, ℕ, ◌+◌, ◌<◌, List, [], ◌∷◌, length, set, length-set, Bool, true, Some, refl, sym, ◌∙◌, ap, subst, arith}
-use Rattle.std.proofs.Math.Path.{fun_ext}
-use Rattle.std.proofs.lemmas.List.{get_or-set_same, get_or-set_other}
-use Rattle.std.proofs.lemmas.Option.{same_Some}
-use Rattle.std.specs.Prelude.{filter}
-use Rattle.std.specs.List.{range_with_len}
-use Rattle.cfs_base.specs.Disk.{Image, block_at}
-use Rattle.cfs_base.specs.declared.identifier.Puid.{Puid}
-use Rattle.cfs_base.specs.declared.kind.Place.TheVariants.{Root, ShadowRoot}
-use Rattle.cyl_map.specs.declared.state.BlockState.TheVariants.{Free}
-use Rattle.cyl_map.specs.declared.entry.MapEntry.{MapEntry}
-use Rattle.cyl_map.specs.Entry.{IsEntry}
-use Rattle.cyl_map.specs.Volume.{entry_in, with_entry}
-use Rattle.cyl_map.proofs.Volumes.{same_or_not, entry_in-with_entry_same, entry_in-with_entry_other, block_at-with_entry, length-with_entry, entry_in-set}
-use Rattle.ufs_model.specs.declared.object.Object.{Object}
-use Rattle.ufs_model.specs.Graph.{Graph, object_at, with_object}
-use Rattle.vol_image.specs.Part.{IsTaken, SameAt, part_of, stands_for}
-use Rattle.vol_image.specs.Seen.{Held, Tree, tree_in}
-use Rattle.vol_image.specs.Reading.{IsTree}
-use Rattle.vol_image.specs.Sight.{shadows, source, first_or, sight}
-use Rattle.vol_image.specs.Sound.{ReadsAs, Holds}
-use Rattle.vol_image.specs.Commit.{IsDraft, IsReadBy, committed, root_from_source}
+use Rattle.vol_image.proofs.Words.{Free, Graph, Held, Holds, Image, IsDraft, IsEntry, IsReadBy, IsTaken, IsTree, MapEntry, Object, Puid, ReadsAs, Root, SameAt, ShadowRoot, Tree, block_at, block_at-with_entry, committed, entry_in, entry_in-set, entry_in-with_entry_other, entry_in-with_entry_same, filter, first_or, fun_ext, get_or-set_other, get_or-set_same, length-with_entry, object_at, part_of, range_with_len, root_from_source, same_Some, same_or_not, shadows, sight, source, stands_for, tree_in, with_entry, with_object}
 use Rattle.vol_image.proofs.Alone.{one_passes}
 use Rattle.vol_image.proofs.Views.{same_tree}
 use Rattle.vol_image.proofs.Law.{same_shadows}
@@ -31,9 +11,6 @@ use Rattle.vol_image.proofs.Changes.{others, hold_others, object_put, owned_is_l
 -- ---- the bit
 
 module _ (a : Image) (g : Graph) (id : Puid) (was : Object) (e : MapEntry) (holds : Holds a g) (at : object_at g id ≡ Some was) (here : entry_in a id.block ≡ Some e) (valid : IsEntry (committed e)) where
-  abbrev next : Image
-  next = with_entry a id.block (committed e)
-
   seen : ReadsAs (length a) id (sight a id.block) was
   seen = holds.objects id was at
 

@@ -1,25 +1,7 @@
 -- The blocks of an object by the model are the blocks that its tree holds.
 use Rattle.std.proofs.Common.{◌≡◌, ◌≢◌, ℕ, zero, suc, ◌+◌, ◌*◌, ◌/◌, ◌%◌, ◌<◌, ◌≤◌, List, [], ◌∷◌, ◌++◌, length, take, Bool, true, Option, refl, sym, ◌∙◌, ap, subst, arith}
-use Rattle.std.specs.Prelude.{is_some, filter, map}
-use Rattle.std.specs.List.{sum_by, range_with_len}
-use Rattle.std.proofs.Math.Nat.{div-lt_iff_lt-mul}
-use Rattle.std.proofs.lemmas.Nat.{div-mul-add, mod-mul-add}
-use Rattle.std.proofs.lemmas.List.{take_all, length-append}
-use Rattle.cfs_base.specs.Disk.{Image}
-use Rattle.cfs_base.specs.declared.kind.Kind.{Kind}
-use Rattle.cfs_base.specs.declared.kind.Kind.TheVariants.{Normal, Special, Index}
+use Rattle.vol_image.proofs.Words.{FAN_OUT, Held, Image, Index, IsRoot, IsTree, Kind, Level, Normal, Object, Special, Tree, blocks_held, blocks_of, branches, count_is, div-lt_iff_lt-mul, div-mul-add, filter, has_number, held_at_depth, held_in, held_leaves, held_levels, inner_levels, is_some, leaf_in, leaf_pointers, leaves_in, length-append, levels_held, levels_of, map, mod-mul-add, numbers_rise, object_with, parents, path_to, range_with_len, sum_by, take_all, tree_in, tree_of, width}
 use Rattle.block_tree.specs.declared.root.Root.{Root}
-use Rattle.block_tree.specs.Pointers.{Level, leaf_pointers}
-use Rattle.block_tree.specs.Root.{IsRoot}
-use Rattle.block_tree.specs.Tree.{levels_of, width, path_to, tree_of}
-use Rattle.block_tree.proofs.Walks.{count_is}
-use Rattle.ufs_model.specs.declared.limits.TheConstants.{FAN_OUT}
-use Rattle.ufs_model.specs.declared.object.Object.{Object}
-use Rattle.ufs_model.specs.Numbers.{has_number, numbers_rise, parents, branches}
-use Rattle.ufs_model.specs.Object.{inner_levels, held_leaves, held_levels, blocks_of, leaves_in}
-use Rattle.vol_image.specs.Seen.{Held, Tree, tree_in}
-use Rattle.vol_image.specs.Reading.{IsTree, leaf_in, held_in, object_with}
-use Rattle.vol_image.specs.Count.{held_at_depth, levels_held, blocks_held}
 use Rattle.vol_image.proofs.Views.{held}
 use Rattle.vol_image.proofs.Places.{IsPath, below_is_path}
 use Rattle.vol_image.proofs.Paths.{positive, width_more, path_more, digits_below, length-path_to, last_in, below_before, held_some, some_held, held_there}

@@ -1,29 +1,8 @@
 -- A sound image has none of the faults.
 use Rattle.std.proofs.Common.{◌≡◌, ◌≢◌, inl, inr, ℕ, zero, suc, ◌*◌, ◌≤◌, true, false, ◌==◌, IsTrue, List, [], ◌∷◌, ◌++◌, length, Some, None, Option, refl, sym, ◌∙◌, ap, subst, arith}
-use Rattle.std.proofs.lemmas.Bool.Decides.{nat_tests}
-use Rattle.std.proofs.lemmas.Bool.{or_cases, or_left, or_right}
-use Rattle.std.proofs.lemmas.Option.{same_Some}
-use Rattle.std.specs.Prelude.{slice_get, is_some}
-use Rattle.std.specs.List.{filter_map}
-use Rattle.cfs_base.specs.Disk.{Image, block_at}
-use Rattle.cfs_base.specs.declared.identifier.Puid.{Puid}
-use Rattle.vol_label.specs.declared.label.Label.{Label}
-use Rattle.vol_label.proofs.Labels.{says}
+use Rattle.vol_image.proofs.Words.{Fault, Graph, HasLabel, Held, Image, IsLabelOf, IsReached, IsRootBlock, IsSoundAs, Label, LeavesFour, NamesNothing, Next, Object, Puid, ReadsAs, Shows, TheRoot, block_at, entry_in, filter_map, first_or, has_number, held_at, is_among, is_fixed, is_some, is_there, leaf_in, nat_tests, object_at, object_with, or_cases, or_left, or_right, referred, same_Some, same_puid, says, shadows, shown_tree, sight, slice_get, source, tree_of}
 use Rattle.block_tree.specs.declared.root.Root.{Root}
-use Rattle.block_tree.specs.Root.{IsRootBlock}
-use Rattle.block_tree.specs.Tree.{tree_of}
-use Rattle.cyl_map.specs.Volume.{entry_in}
-use Rattle.ufs_model.specs.declared.object.Object.{Object}
 use Rattle.ufs_model.specs.declared.object.Object.TheVariants as objects
-use Rattle.ufs_model.specs.Identifier.{same_puid, is_among}
-use Rattle.ufs_model.specs.Numbers.{has_number}
-use Rattle.ufs_model.specs.Graph.{Graph, object_at, is_there, referred}
-use Rattle.vol_image.specs.Part.{is_fixed}
-use Rattle.vol_image.specs.Seen.{Held, held_at}
-use Rattle.vol_image.specs.Reading.{object_with, leaf_in}
-use Rattle.vol_image.specs.Sight.{shadows, source, first_or, sight}
-use Rattle.vol_image.specs.Sound.{IsLabelOf, ReadsAs, IsSoundAs, LeavesFour}
-use Rattle.vol_image.specs.Fault.{Shows, HasLabel, IsReached, TheRoot, Next, NamesNothing, Fault, shown_tree}
 use Rattle.vol_image.proofs.Reached.{same_puid_itself}
 use Rattle.vol_image.proofs.Graphs.{object_there, there_from}
 use Rattle.vol_image.proofs.Unique.{one_root_index, one_root_block, found_next, one_reading}

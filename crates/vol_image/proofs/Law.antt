@@ -1,18 +1,6 @@
 -- The law of frames.
 use Rattle.std.proofs.Common.{◌≡◌, inl, inr, ℕ, [], length, Bool, true, false, cond, Some, refl, sym, ◌∙◌, ap, arith}
-use Rattle.std.proofs.Math.Path.{fun_ext}
-use Rattle.std.specs.Prelude.{filter}
-use Rattle.std.specs.List.{range_with_len}
-use Rattle.cfs_base.specs.Disk.{Image, block_at}
-use Rattle.cfs_base.specs.declared.identifier.Puid.{Puid}
-use Rattle.cyl_map.specs.Volume.{entry_in}
-use Rattle.ufs_model.specs.declared.object.Object.{Object}
-use Rattle.ufs_model.specs.Graph.{Graph, object_at}
-use Rattle.vol_image.specs.Part.{SameAt, part_at, is_committed, stands_for}
-use Rattle.vol_image.specs.Seen.{tree_in}
-use Rattle.vol_image.specs.Sight.{Sight, shadows, source, first_or, sight}
-use Rattle.vol_image.specs.Sound.{Holds, IsSoundAs}
-use Rattle.vol_image.specs.Frame.{IsBlockOf, Frames}
+use Rattle.vol_image.proofs.Words.{Frames, Graph, Holds, Image, IsBlockOf, IsSoundAs, Object, Puid, SameAt, Sight, block_at, entry_in, filter, first_or, fun_ext, is_committed, object_at, part_at, range_with_len, shadows, sight, source, stands_for, tree_in}
 use Rattle.vol_image.proofs.Views.{same_tree}
 
 -- the shadow roots that stand

@@ -20,3 +20,4 @@ pub mod Places
 pub mod Paths
 pub mod Counts
 pub mod Carries
+mod Words

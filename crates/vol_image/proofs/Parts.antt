@@ -1,29 +1,7 @@
 -- What the entry says of a block that an object holds, or that is a shadow root.
 use Rattle.std.proofs.Common.{◌≡◌, ◌≢◌, ◌⊎◌, inl, inr, ℕ, ◌+◌, ◌*◌, ◌<◌, List, [], ◌∷◌, length, Bool, true, false, cond, Some, None, Option, refl, sym, ◌∙◌, ap, subst, arith}
-use Rattle.std.proofs.lemmas.Bool.Decides.{nat_tests}
-use Rattle.std.proofs.lemmas.Option.{same_Some}
-use Rattle.std.specs.Prelude.{filter}
-use Rattle.std.specs.List.{range_with_len}
-use Rattle.cfs_base.specs.Disk.{Image, block_at}
-use Rattle.cfs_base.specs.declared.identifier.Puid.{Puid}
-use Rattle.cfs_base.specs.declared.kind.Place.{Place}
-use Rattle.cfs_base.specs.declared.kind.Place.TheVariants.{Root, ShadowRoot, Node, Leaf}
-use Rattle.block_tree.specs.Pointers.{Level}
-use Rattle.block_tree.specs.Tree.{levels_of, tree_of}
+use Rattle.vol_image.proofs.Words.{Allocated, BelongsTo, BlockState, Free, Graph, Held, Holds, Image, IntendAllocate, IntendDeallocate, IsBlockOf, IsHeldBy, IsLoose, IsTaken, IsTree, Leaf, Level, MapEntry, Node, Object, Part, Place, Puid, ReadsAs, Root, ShadowRoot, block_at, entry_in, filter, first_or, is_committed, is_fixed, levels_of, map_in_image, nat_tests, part_at, part_in, part_of, place_at, place_from, range_with_len, same_Some, shadows, sight, source, stands_for, tree_in, tree_of}
 use Rattle.block_tree.specs.declared.root.Root as roots
-use Rattle.cyl_map.specs.declared.state.BlockState.{BlockState}
-use Rattle.cyl_map.specs.declared.state.BlockState.TheVariants.{Free, Allocated, IntendAllocate, IntendDeallocate}
-use Rattle.cyl_map.specs.declared.entry.MapEntry.{MapEntry}
-use Rattle.cyl_map.specs.Volume.{entry_in}
-use Rattle.cyl_map.proofs.Volumes.{map_in_image}
-use Rattle.ufs_model.specs.declared.object.Object.{Object}
-use Rattle.ufs_model.specs.Graph.{Graph}
-use Rattle.vol_image.specs.Part.{IsTaken, Part, part_in, part_of, part_at, BelongsTo, is_committed, is_fixed, stands_for}
-use Rattle.vol_image.specs.Seen.{Held, tree_in, place_at, place_from}
-use Rattle.vol_image.specs.Reading.{IsTree}
-use Rattle.vol_image.specs.Sight.{shadows, source, first_or, sight}
-use Rattle.vol_image.specs.Sound.{ReadsAs, Holds}
-use Rattle.vol_image.specs.Frame.{IsBlockOf, IsHeldBy, IsLoose}
 use Rattle.vol_image.proofs.Views.{held_part}
 
 -- ---- places

@@ -1,13 +1,6 @@
 -- The path of a number with one level more, and what stands along a path.
 use Rattle.std.proofs.Common.{◌≡◌, ◌≢◌, ℕ, zero, suc, ◌+◌, ◌*◌, ◌/◌, ◌%◌, ◌<◌, ◌≤◌, List, [], ◌∷◌, ◌++◌, length, true, Some, refl, sym, ◌∙◌, ap, arith}
-use Rattle.std.specs.Prelude.{is_some}
-use Rattle.std.proofs.Math.Nat.{div-div-eq-div-mul, div-one, mul-le-mul_right, mod-lt, mod-eq_of_lt, div-lt_iff_lt-mul, mul-pos, mul_assoc, mul_comm}
-use Rattle.std.proofs.Math.Arith.{mod-mul}
-use Rattle.std.proofs.lemmas.Nat.{div-mul-add, mod-mul-add}
-use Rattle.cfs_base.specs.Disk.{Image, block_at}
-use Rattle.block_tree.specs.Pointers.{Level}
-use Rattle.block_tree.specs.Tree.{width, path_to, pointer, end_of, below}
-use Rattle.vol_image.specs.Seen.{held_at}
+use Rattle.vol_image.proofs.Words.{Image, Level, below, block_at, div-div-eq-div-mul, div-lt_iff_lt-mul, div-mul-add, div-one, end_of, held_at, is_some, mod-eq_of_lt, mod-lt, mod-mul, mod-mul-add, mul-le-mul_right, mul-pos, mul_assoc, mul_comm, path_to, pointer, width}
 use Rattle.vol_image.proofs.Views.{held}
 use Rattle.vol_image.proofs.Places.{IsPath}
 

@@ -1,21 +1,7 @@
 -- A place names one path, and below a root a block stands at one path.
 use Rattle.std.proofs.Common.{◌≡◌, ◌≢◌, ℕ, zero, suc, ◌+◌, ◌*◌, ◌%◌, ◌/◌, ◌<◌, ◌≤◌, List, [], ◌∷◌, length, inl, inr, Some, refl, sym, ◌∙◌, ap, subst, arith}
-use Rattle.std.proofs.lemmas.Nat.{div-mul-add, mod-mul-add}
-use Rattle.std.proofs.lemmas.Bool.{cases_lt}
-use Rattle.std.proofs.lemmas.List.{get_or_past}
-use Rattle.std.proofs.lemmas.List.FromFn.{length-map-range_with_len}
-use Rattle.std.proofs.lemmas.Option.{same_Some}
-use Rattle.cfs_base.specs.Disk.{Image, block_at}
-use Rattle.cfs_base.specs.declared.kind.Place.{Place}
-use Rattle.cfs_base.specs.declared.kind.Place.TheVariants.{Root, ShadowRoot, Node, Leaf}
+use Rattle.vol_image.proofs.Words.{Held, Image, IsTree, Leaf, Level, Node, Object, Part, Place, Root, ShadowRoot, below, block_at, cases_lt, div-mul-add, end_of, get_or_past, length-map-range_with_len, levels_of, mod-mul-add, number_at, part_at, place_above, place_at, place_from, place_number, pointer, pointers_of, same_Some, tree_in, tree_of}
 use Rattle.block_tree.specs.declared.root.Root as roots
-use Rattle.block_tree.specs.Pointers.{Level, number_at, pointers_of}
-use Rattle.block_tree.specs.Tree.{levels_of, pointer, end_of, below, tree_of}
-use Rattle.cyl_map.specs.Entry.{place_number}
-use Rattle.ufs_model.specs.declared.object.Object.{Object}
-use Rattle.vol_image.specs.Part.{Part, part_at}
-use Rattle.vol_image.specs.Seen.{Held, tree_in, place_above, place_from, place_at}
-use Rattle.vol_image.specs.Reading.{IsTree}
 use Rattle.vol_image.proofs.Views.{held_is, held_part}
 
 -- ---- a place names one path

@@ -1,14 +1,6 @@
 -- An image that holds a closed graph, detached objects too, reads as its rooted part.
 use Rattle.std.proofs.Common.{◌≡◌, ℕ, [], ◌∷◌, length, refl, sym, ◌∙◌, ap, subst, Bool, true, false, cond, ◌&&◌, Option, Some, None}
-use Rattle.std.specs.Prelude.{is_some}
-use Rattle.std.proofs.lemmas.Bool.{and_parts}
-use Rattle.cfs_base.specs.Disk.{Image}
-use Rattle.cfs_base.specs.declared.identifier.Puid.{Puid}
-use Rattle.ufs_model.specs.declared.object.Object.{Object}
-use Rattle.ufs_model.specs.Identifier.{is_among, rises}
-use Rattle.ufs_model.specs.Graph.{Graph, ids_of, object_at, is_there, graph_pairs, has_pair}
-use Rattle.ufs_model.specs.Reach.{reached, rooted}
-use Rattle.vol_image.specs.Sound.{Holds, IsClosedGraph, IsSoundAs, LeavesFour, rooted_part}
+use Rattle.vol_image.proofs.Words.{Graph, Holds, Image, IsClosedGraph, IsSoundAs, LeavesFour, Object, Puid, and_parts, graph_pairs, has_pair, ids_of, is_among, is_some, is_there, object_at, reached, rises, rooted, rooted_part}
 use Rattle.vol_image.proofs.Reached.{IsClosed, among_itself, within_one, reached_within, reached_has, reached_is_closed}
 use Rattle.vol_image.proofs.Graphs.{found-filter, is_there-ids, ids-count, rises-entries, refers, has_pair-refers}
 

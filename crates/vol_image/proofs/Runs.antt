@@ -1,14 +1,6 @@
 -- Runs within a frame: one lemma for each call.
 use Rattle.std.proofs.Common.{◌≡◌, inl, ⊎_elim, ℕ, ◌<◌, IsTrue, List, length, set, Result, Ok, Err, OnOk, sym, ◌∙◌, subst, arith}
-use Rattle.cfs_base.specs.Disk.{Image, IsSameDisk, Nothing, Written}
-use Rattle.cfs_base.specs.Run.{Leaves, left_now, IsSettled}
-use Rattle.cfs_base.specs.declared.disk.Disk.{Ghosts}
-use Rattle.cfs_base.proofs.Runs.{on, then, wider}
-use Rattle.ufs_model.specs.Graph.{Graph}
-use Rattle.vol_image.specs.Sound.{Holds, IsSoundAs}
-use Rattle.vol_image.specs.Frame.{Frames}
-use Rattle.vol_image.specs.Run.{Within}
-use Rattle.vol_image.proofs.Law.{frames_hold, law_of_frames}
+use Rattle.vol_image.proofs.Words.{Frames, Ghosts, Graph, Holds, Image, IsSameDisk, IsSettled, Leaves, Nothing, Within, Written, left_now, on, then}
 use Rattle.vol_image.proofs.Steps.{frames_begin, frames_write}
 
 module _ {D : Type 0} (g : Ghosts D) (a : Image) (graph : Graph) where
@@ -29,13 +21,6 @@ module _ {D : Type 0} (g : Ghosts D) (a : Image) (graph : Graph) where
     here = λ c h. ⊎_elim (λ was. run.here c was) (λ none. absurd none) (images.now c h);
     leaves = on g start old new (Frames a graph) run.leaves images;
   }
-
-  -- the content is sound, and so is all that a crash leaves
-  pub content_holds : (start now : D) → Holds a graph → Within g a graph start now → Holds (g.content now) graph
-  content_holds start now holds run = frames_hold a (g.content now) graph holds run.content
-
-  pub images_sound : (start now : D) → IsSoundAs a graph → Leaves g start now (Frames a graph) → Leaves g start now (λ c. IsSoundAs c graph)
-  images_sound start now sound run = wider g start now (Frames a graph) (λ c. IsSoundAs c graph) run (λ c within. law_of_frames a c graph sound within)
 
 -- one write, of a block with which the content stays within the frame
 module _ {D : Type 0} (g : Ghosts D) (a : Image) (graph : Graph) (start old new : D) (n : ℕ) (block : List ℕ) (run : Within g a graph start old) (below : n < length a) (within : Frames a graph (set (g.content old) n block)) where

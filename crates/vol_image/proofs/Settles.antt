@@ -1,24 +1,6 @@
 -- After the root has its new content: the blocks' states, the shadow root's entry and the bit may be written, in any order.
 use Rattle.std.proofs.Common.{◌≡◌, ◌≢◌, inl, inr, ℕ, ◌<◌, ◌≤◌, List, [], length, set, true, false, cond, Some, refl, sym, ◌∙◌, ap, subst, arith}
-use Rattle.std.proofs.lemmas.List.{get_or-set_same}
-use Rattle.std.specs.Prelude.{filter}
-use Rattle.std.specs.List.{range_with_len}
-use Rattle.cfs_base.specs.Disk.{Image, block_at}
-use Rattle.cfs_base.specs.declared.identifier.Puid.{Puid}
-use Rattle.cfs_base.specs.declared.kind.Place.TheVariants.{Root}
-use Rattle.cyl_map.specs.declared.entry.MapEntry.{MapEntry}
-use Rattle.cyl_map.specs.Entry.{IsEntry}
-use Rattle.cyl_map.specs.Volume.{entry_in, with_entry}
-use Rattle.cyl_map.proofs.Volumes.{same_or_not, entry_in-with_entry_same, entry_in-with_entry_other, block_at-with_entry}
-use Rattle.ufs_model.specs.declared.object.Object.{Object}
-use Rattle.ufs_model.specs.Graph.{Graph, object_at, with_object}
-use Rattle.vol_image.specs.Part.{BelongsTo, OwnsItself, part_of, part_at, is_committed, is_fixed, stands_for}
-use Rattle.vol_image.specs.Seen.{Held, Tree, tree_in}
-use Rattle.vol_image.specs.Reading.{IsTree}
-use Rattle.vol_image.specs.Sight.{shadows, source, sight}
-use Rattle.vol_image.specs.Sound.{ReadsAs, Holds}
-use Rattle.vol_image.specs.Frame.{IsHeldBy, StandsForNone}
-use Rattle.vol_image.specs.Commit.{Settles, MaySettle}
+use Rattle.vol_image.proofs.Words.{BelongsTo, Graph, Held, Holds, Image, IsEntry, IsHeldBy, IsTree, MapEntry, MaySettle, Object, OwnsItself, Puid, ReadsAs, Root, Settles, StandsForNone, Tree, block_at, block_at-with_entry, entry_in, entry_in-with_entry_other, entry_in-with_entry_same, filter, get_or-set_same, is_committed, is_fixed, object_at, part_at, part_of, range_with_len, same_or_not, shadows, sight, source, stands_for, tree_in, with_entry, with_object}
 use Rattle.vol_image.proofs.Alone.{one_at_most}
 use Rattle.vol_image.proofs.Views.{same_tree}
 use Rattle.vol_image.proofs.Parts.{source_is, root_placed, taken_apart, tree_placed}

@@ -1,21 +1,6 @@
 -- Writes that stay within a frame.
 use Rattle.std.proofs.Common.{◌≡◌, ◌≢◌, ◌⊎◌, inl, inr, ℕ, ◌%◌, ◌<◌, List, [], length, set, length-set, true, false, Some, refl, sym, ◌∙◌, ap, subst, arith}
-use Rattle.std.proofs.lemmas.Bool.Decides.{nat_tests}
-use Rattle.std.proofs.lemmas.List.{get_or-set_other, get_or-set_same, set_past}
-use Rattle.std.proofs.lemmas.Option.{same_Some}
-use Rattle.cfs_base.specs.Disk.{Image, block_at}
-use Rattle.cfs_base.specs.declared.identifier.Puid.{Puid}
-use Rattle.cyl_map.specs.declared.entry.MapEntry.{MapEntry}
-use Rattle.cyl_map.specs.Entry.{IsEntry}
-use Rattle.cyl_map.specs.Map.{entry_at}
-use Rattle.cyl_map.specs.Volume.{map_of, entry_in, with_entry, AreMaps}
-use Rattle.std.proofs.lemmas.Bool.{cases_lt}
-use Rattle.cyl_map.proofs.Volumes.{same_or_not, entry_in-with_entry_same, entry_in-with_entry_other, block_at-with_entry, length-with_entry, entry_in-set}
-use Rattle.ufs_model.specs.declared.object.Object.{Object}
-use Rattle.ufs_model.specs.Graph.{Graph, object_at}
-use Rattle.vol_image.specs.Part.{OwnsItself, RootsOwnThemselves, part_of, part_at, is_committed, is_fixed, stands_for}
-use Rattle.vol_image.specs.Sound.{Holds}
-use Rattle.vol_image.specs.Frame.{ChangesMaps, Frames, IsHeldBy, IsLoose, MayChange}
+use Rattle.vol_image.proofs.Words.{AreMaps, ChangesMaps, Frames, Graph, Holds, Image, IsEntry, IsHeldBy, IsLoose, MapEntry, MayChange, Object, OwnsItself, Puid, RootsOwnThemselves, block_at, block_at-with_entry, cases_lt, entry_at, entry_in, entry_in-set, entry_in-with_entry_other, entry_in-with_entry_same, get_or-set_other, get_or-set_same, is_committed, is_fixed, length-with_entry, map_of, nat_tests, object_at, part_at, part_of, same_Some, same_or_not, set_past, stands_for, with_entry}
 use Rattle.vol_image.proofs.Law.{framed_sight, same_blocks}
 use Rattle.vol_image.proofs.Parts.{held_apart}
 

@@ -1,20 +1,7 @@
 -- An image reads as one graph at most.
 use Rattle.std.proofs.Common.{◌≡◌, ℕ, List, refl, sym, ◌∙◌, ap, length, true, false, Option, Some, None}
-use Rattle.std.specs.Prelude.{is_some}
-use Rattle.cfs_base.specs.Disk.{Image, block_at}
-use Rattle.cfs_base.specs.declared.identifier.Puid.{Puid}
-use Rattle.vol_label.proofs.Labels.{says}
+use Rattle.vol_image.proofs.Words.{Graph, Holds, Image, IsClosedGraph, IsLabelOf, IsRootBlock, IsSoundAs, IsTree, Object, Puid, ReadsAs, Sight, Tree, block_at, graph_pairs, is_among, is_some, is_there, leaf_in, object_at, object_with, one_root, referred, rooted, says, sight}
 use Rattle.block_tree.specs.declared.root.Root.{Root}
-use Rattle.block_tree.specs.Root.{IsRootBlock}
-use Rattle.block_tree.proofs.Spellings.{one_root}
-use Rattle.ufs_model.specs.declared.object.Object.{Object}
-use Rattle.ufs_model.specs.Identifier.{is_among}
-use Rattle.ufs_model.specs.Graph.{Graph, object_at, is_there, referred, graph_pairs}
-use Rattle.ufs_model.specs.Reach.{rooted}
-use Rattle.vol_image.specs.Seen.{Tree}
-use Rattle.vol_image.specs.Sight.{Sight, sight}
-use Rattle.vol_image.specs.Reading.{IsTree, leaf_in, object_with}
-use Rattle.vol_image.specs.Sound.{IsLabelOf, ReadsAs, Holds, IsClosedGraph, IsSoundAs}
 use Rattle.vol_image.proofs.Reached.{IsClosed}
 use Rattle.vol_image.proofs.Graphs.{same_entries, object_there, there_from, pair_from_index, index_has_pair}
 use Rattle.vol_image.proofs.Rooted.{rooted_within}

@@ -1,12 +1,6 @@
 -- Two images that agree on what a tree of the first holds have one view of it.
 use Rattle.std.proofs.Common.{◌≡◌, ◌≢◌, ℕ, zero, suc, List, [], ◌∷◌, Some, Option, refl, sym, ◌∙◌, ap, subst}
-use Rattle.std.proofs.Math.Path.{fun_ext}
-use Rattle.std.proofs.lemmas.Option.{same_Some}
-use Rattle.cfs_base.specs.Disk.{Image, block_at}
-use Rattle.block_tree.specs.Pointers.{Level}
-use Rattle.block_tree.specs.Tree.{levels_of, pointer, end_of, below, tree_of}
-use Rattle.vol_image.specs.Part.{SameAt, part_at}
-use Rattle.vol_image.specs.Seen.{Held, held_at, tree_in}
+use Rattle.vol_image.proofs.Words.{Held, Image, Level, SameAt, below, block_at, end_of, fun_ext, held_at, levels_of, part_at, pointer, same_Some, tree_in, tree_of}
 
 -- ---- what is held at a pointer
 

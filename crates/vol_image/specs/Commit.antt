@@ -21,7 +21,8 @@ pub record IsDraft (image : Image) (r s : ℕ) (o : Object) : Type 0 where
   pub alone : (n : ℕ) → stands_for r (entry_in image n) ≡ true → n ≡ s
   pub stands : stands_for r (entry_in image s) ≡ true
   pub shadow : roots.Root
-  pub same : (root : roots.Root) → IsRootBlock (block_at image r) root → (shadow.kind ≡ root.kind) × (shadow.word ≡ root.word)
+  pub same : (root : roots.Root) → IsRootBlock (block_at image r) root
+      → (shadow.kind ≡ root.kind) × (shadow.word ≡ root.word)
   pub tree : IsTree (length image) r (tree_in image (block_at image s)) shadow o
 
 -- In image b the object with root block r is read by s; what stands for it, and the tree of s, are those of image a.
@@ -59,7 +60,8 @@ pub record MaySettle (c : Image) (g : Graph) (id : Puid) (s n : ℕ) (old e : Ma
   -- a root stays one, with the bit or without
   pub root : n ≡ id.block → BelongsTo id.block Root (part_of (Some e))
   -- of a block that the object holds the state may change alone
-  pub inner : (path : List ℕ) (h : Held) → (tree_in c (block_at c id.block)).below path ≡ Some h → h.block ≡ n → part_of (Some e) ≡ part_of (Some old)
+  pub inner : (path : List ℕ) (h : Held) → (tree_in c (block_at c id.block)).below path ≡ Some h → h.block ≡ n
+      → part_of (Some e) ≡ part_of (Some old)
   -- no other shadow root is made, of this object or of another
   pub shadow : stands_for id.block (Some e) ≡ true → n ≡ s
   pub of_others : StandsForNone c (without g (id ∷ [])) e

@@ -4,9 +4,12 @@ use Rattle.std.specs.List.{sum_by, range_with_len}
 use Rattle.block_tree.specs.Tree.{levels_of, width, path_to}
 use Rattle.vol_image.specs.Seen.{Tree}
 
--- the numbers of the blocks that are held so many levels below the root; at the depth of all levels these are the leaves
+-- the numbers of the blocks that are held so many levels below the root; at the depth of all levels these are the
+-- leaves
 abbrev pub held_at_depth : Tree → ℕ → List ℕ
-held_at_depth tree d = filter (λ n. is_some (tree.below (path_to (take d (levels_of tree.root)) n))) (range_with_len 0 (width (take d (levels_of tree.root))))
+held_at_depth tree d =
+    filter (λ n. is_some (tree.below (path_to (take d (levels_of tree.root)) n)))
+    (range_with_len 0 (width (take d (levels_of tree.root))))
 
 -- level by level, from this depth up to the first below the root
 abbrev pub levels_held : Tree → ℕ → List (List ℕ)

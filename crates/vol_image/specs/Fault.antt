@@ -1,5 +1,6 @@
 -- What may be wrong with a volume: each fault with its number, and the block that it names.
-use Rattle.std.specs.Prelude.{◌≡◌, ◌≢◌, ◌⊎◌, ℕ, ◌+◌, ◌*◌, ◌/◌, ◌<◌, ◌≤◌, true, List, [], ◌∷◌, ◌++◌, length, get_or, slice_get, Some, None}
+use Rattle.std.specs.Prelude.{◌≡◌, ◌≢◌, ◌⊎◌, ℕ, ◌+◌, ◌*◌, ◌/◌, ◌<◌, ◌≤◌, true, List, [], ◌∷◌, ◌++◌, length, get_or}
+use Rattle.std.specs.Prelude.{slice_get, Some, None}
 use Rattle.cfs_base.specs.Codes as codes
 use Rattle.cfs_base.specs.Disk.{Image, block_at}
 use Rattle.cfs_base.specs.declared.identifier.Puid.{Puid}
@@ -32,7 +33,8 @@ use Rattle.vol_image.specs.Sound.{Holds, IsClosedGraph, LeavesFour}
 abbrev pub shown_tree : Image → ℕ → Tree
 shown_tree image r = tree_in image (block_at image (source image r))
 
--- The image shows this object: the block by which it is read is a root, and so is its root block, of the same kind and word.
+-- The image shows this object: the block by which it is read is a root, and so is its root block, of the same kind and
+-- word.
 pub record Shows (image : Image) (r : ℕ) (root : Root) (o : Object) : Type 0 where
   pub own : Root
   pub own_spelled : IsRootBlock (block_at image r) own
@@ -54,17 +56,20 @@ pub record Names (image : Image) (x : Puid) : Type 0 where
   pub word : (root : Root) → IsRootBlock (block_at image x.block) root → root.word ≡ x.word
 
 abbrev pub NamesNothing : Image → Puid → Type 0
-NamesNothing image x = (x.block ≡ 0) ⊎ ((length image ≤ x.block) ⊎ ((root : Root) × IsRootBlock (block_at image x.block) root × (root.word ≢ x.word)))
+NamesNothing image x = (x.block ≡ 0)
+    ⊎ ((length image ≤ x.block) ⊎ ((root : Root) × IsRootBlock (block_at image x.block) root × (root.word ≢ x.word)))
 
 -- what is shown of the root index, if anything, is an index of 64 slots
 abbrev pub IsRootIndex : Image → ℕ → Type 0
-IsRootIndex image r = (root : Root) (o : Object) → Shows image r root o → (index : Index) × (o ≡ objects.Index index) × (length index.slots ≡ ROOT_SLOTS)
+IsRootIndex image r = (root : Root) (o : Object) → Shows image r root o
+    → (index : Index) × (o ≡ objects.Index index) × (length index.slots ≡ ROOT_SLOTS)
 
--- The objects that are reached from the root index, each as the image shows it. What names nothing isn't followed, and of
--- a root index of another sort nothing is.
+-- The objects that are reached from the root index, each as the image shows it. What names nothing isn't followed, and
+-- of a root index of another sort nothing is.
 pub data IsReached (image : Image) : Puid → Type 0 where
   TheRoot : (label : Label) → HasLabel image label → IsRootIndex image label.root.block → IsReached image label.root
-  Next : (i x : Puid) (root : Root) (o : Object) → IsReached image i → Shows image i.block root o → is_among x (referred o) ≡ true → Names image x → IsReached image x
+  Next : (i x : Puid) (root : Root) (o : Object) → IsReached image i → Shows image i.block root o
+      → is_among x (referred o) ≡ true → Names image x → IsReached image x
 
 -- the block with the pointer at the end of a path: the root for the first
 abbrev pub holder : Image → ℕ → List ℕ → ℕ
@@ -75,38 +80,63 @@ holder image r (k ∷ path) = tree_of image (block_at image (source image r)) (k
 
 pub data Fault (image : Image) : ℕ → ℕ → Type 0 where
   -- the label's cylinders are not the disk's
-  WrongSize : (label : Label) → HasLabel image label → 64 * label.cylinders ≢ length image → Fault image codes.wrong_size 1
+  WrongSize : (label : Label) → HasLabel image label → 64 * label.cylinders ≢ length image
+      → Fault image codes.wrong_size 1
   -- an entry of a map is none, or of a root whose owner is another block
   NoEntry : (n : ℕ) → n < length image → entry_in image n ≡ None → Fault image codes.no_entry (map_of n)
-  RootOfAnother : (n : ℕ) (e : MapEntry) → entry_in image n ≡ Some e → e.place ≡ Some places.Root → e.owner ≢ n → Fault image codes.no_entry (map_of n)
+  RootOfAnother : (n : ℕ) (e : MapEntry) → entry_in image n ≡ Some e → e.place ≡ Some places.Root → e.owner ≢ n
+      → Fault image codes.no_entry (map_of n)
   -- the root block of a reached object is none
-  NoRoot : (id : Puid) → IsReached image id → ((root : Root) → ¬ IsRootBlock (block_at image id.block) root) → Fault image codes.no_root id.block
+  NoRoot : (id : Puid) → IsReached image id → ((root : Root) → ¬ IsRootBlock (block_at image id.block) root)
+      → Fault image codes.no_root id.block
   -- a shadow root that stands is none, or of another kind or word than the root
-  NoShadow : (id : Puid) (own : Root) (s : ℕ) → IsReached image id → IsRootBlock (block_at image id.block) own → has_number s (shadows image id.block) ≡ true
-      → ((shadow : Root) → IsRootBlock (block_at image s) shadow → shadow.kind ≡ own.kind → shadow.word ≢ own.word) → Fault image codes.no_root s
+  NoShadow : (id : Puid) (own : Root) (s : ℕ) → IsReached image id → IsRootBlock (block_at image id.block) own
+      → has_number s (shadows image id.block) ≡ true
+      → ((shadow : Root) → IsRootBlock (block_at image s) shadow → shadow.kind ≡ own.kind → shadow.word ≢ own.word)
+      → Fault image codes.no_root s
   -- a pointer leads past the disk
-  PastDisk : (id : Puid) (root : Root) (o : Object) (path : List ℕ) (k : ℕ) → IsReached image id → Shows image id.block root o → length image ≤ tree_of image (block_at image (source image id.block)) (path ++ k ∷ []) → Fault image codes.past_disk (holder image id.block path)
+  PastDisk : (id : Puid) (root : Root) (o : Object) (path : List ℕ) (k : ℕ) → IsReached image id
+      → Shows image id.block root o
+      → length image ≤ tree_of image (block_at image (source image id.block)) (path ++ k ∷ [])
+      → Fault image codes.past_disk (holder image id.block path)
   -- the entry of a block of a tree is Free, or has another owner or place
-  NotOwned : (id : Puid) (root : Root) (o : Object) (path : List ℕ) (h : Held) → IsReached image id → Shows image id.block root o → (shown_tree image id.block).below path ≡ Some h → h.block < length image
-      → ¬ BelongsTo id.block (place_at (levels_of (block_at image (source image id.block))) path) h.part → Fault image codes.not_owned h.block
-  RootNotOwned : (id : Puid) (own : Root) → IsReached image id → IsRootBlock (block_at image id.block) own → ¬ BelongsTo id.block places.Root (part_at image id.block) → Fault image codes.not_owned id.block
+  NotOwned : (id : Puid) (root : Root) (o : Object) (path : List ℕ) (h : Held) → IsReached image id
+      → Shows image id.block root o → (shown_tree image id.block).below path ≡ Some h → h.block < length image
+      → ¬ BelongsTo id.block (place_at (levels_of (block_at image (source image id.block))) path) h.part
+      → Fault image codes.not_owned h.block
+  RootNotOwned : (id : Puid) (own : Root) → IsReached image id → IsRootBlock (block_at image id.block) own
+      → ¬ BelongsTo id.block places.Root (part_at image id.block) → Fault image codes.not_owned id.block
   -- a map block or the label is not reserved
-  NotReserved : (n : ℕ) → n < length image → is_fixed n ≡ true → entry_in image n ≢ Some reserved → Fault image codes.not_owned n
+  NotReserved : (n : ℕ) → n < length image → is_fixed n ≡ true → entry_in image n ≢ Some reserved
+      → Fault image codes.not_owned n
   -- an identifier in a slot, or the label's, names no object; or the root index is none of 64 slots
-  SlotNamesNothing : (i x : Puid) (root : Root) (index : Index) (s : ℕ) (h : Held) → IsReached image i → Shows image i.block root (objects.Index index) → slice_get index.slots s ≡ Some (Some x)
-      → leaf_in (shown_tree image i.block) (s / LEAF_SLOTS) ≡ Some h → h.block < length image → NamesNothing image x → Fault image codes.names_nothing h.block
-  LabelNamesNothing : (label : Label) → HasLabel image label → NamesNothing image label.root → Fault image codes.names_nothing 1
+  SlotNamesNothing : (i x : Puid) (root : Root) (index : Index) (s : ℕ) (h : Held) → IsReached image i
+      → Shows image i.block root (objects.Index index) → slice_get index.slots s ≡ Some (Some x)
+      → leaf_in (shown_tree image i.block) (s / LEAF_SLOTS) ≡ Some h → h.block < length image → NamesNothing image x
+      → Fault image codes.names_nothing h.block
+  LabelNamesNothing : (label : Label) → HasLabel image label → NamesNothing image label.root
+      → Fault image codes.names_nothing 1
   NoRootIndex : (label : Label) (root : Root) (o : Object) → HasLabel image label → Shows image label.root.block root o
-      → ((index : Index) → o ≡ objects.Index index → length index.slots ≢ ROOT_SLOTS) → Fault image codes.names_nothing 2
+      → ((index : Index) → o ≡ objects.Index index → length index.slots ≢ ROOT_SLOTS)
+      → Fault image codes.names_nothing 2
   -- two shadow roots stand for one object
-  TwoShadows : (id : Puid) (own : Root) → IsReached image id → IsRootBlock (block_at image id.block) own → 2 ≤ length (shadows image id.block) → Fault image codes.two_shadows id.block
+  TwoShadows : (id : Puid) (own : Root) → IsReached image id → IsRootBlock (block_at image id.block) own
+      → 2 ≤ length (shadows image id.block) → Fault image codes.two_shadows id.block
   -- a leaf is held at or past the size
-  PastSize : (id : Puid) (root : Root) (o : Object) (leaf : ℕ) (h : Held) → IsReached image id → Shows image id.block root o → leaf_in (shown_tree image id.block) leaf ≡ Some h → h.block < length image → leaves_in root.size ≤ leaf → Fault image codes.late_leaf h.block
+  PastSize : (id : Puid) (root : Root) (o : Object) (leaf : ℕ) (h : Held) → IsReached image id
+      → Shows image id.block root o → leaf_in (shown_tree image id.block) leaf ≡ Some h → h.block < length image
+      → leaves_in root.size ≤ leaf → Fault image codes.late_leaf h.block
   -- a byte past the size is no fill byte
-  NotFilled : (id : Puid) (root : Root) (o : Object) (leaf i : ℕ) (h : Held) → IsReached image id → Shows image id.block root o → leaf_in (shown_tree image id.block) leaf ≡ Some h → h.block < length image → i < 512 → root.size ≤ 512 * leaf + i
+  NotFilled : (id : Puid) (root : Root) (o : Object) (leaf i : ℕ) (h : Held) → IsReached image id
+      → Shows image id.block root o → leaf_in (shown_tree image id.block) leaf ≡ Some h → h.block < length image
+      → i < 512 → root.size ≤ 512 * leaf + i
       → get_or h.content i 0 ≢ root.fill → Fault image codes.late_byte h.block
   -- a node that is held leads to no leaf
-  DeadEnd : (id : Puid) (root : Root) (o : Object) (path : List ℕ) (h : Held) → IsReached image id → Shows image id.block root o → (shown_tree image id.block).below path ≡ Some h → h.block < length image → length path < length (levels_of (block_at image (source image id.block)))
+  DeadEnd : (id : Puid) (root : Root) (o : Object) (path : List ℕ) (h : Held) → IsReached image id
+      → Shows image id.block root o → (shown_tree image id.block).below path ≡ Some h → h.block < length image
+      → length path < length (levels_of (block_at image (source image id.block)))
       → ((k : ℕ) → (shown_tree image id.block).below (path ++ k ∷ []) ≡ None) → Fault image codes.dead_end h.block
   -- beside the maps, the label and the objects that are reached, fewer than 4 blocks are left
-  NoRoom : (g : Graph) → Holds image g → IsClosedGraph g → ((x : Puid) → is_there g x ≡ true → is_among x (rooted g) ≡ true) → ¬ LeavesFour (length image) g → Fault image codes.too_full 0
+  NoRoom : (g : Graph) → Holds image g → IsClosedGraph g
+      → ((x : Puid) → is_there g x ≡ true → is_among x (rooted g) ≡ true) → ¬ LeavesFour (length image) g
+      → Fault image codes.too_full 0

@@ -13,7 +13,9 @@ use Rattle.vol_image.specs.Sight.{source, sight}
 
 -- a block of the object with this root block: the root, the block by which it is read, or one that this leads to
 abbrev pub IsBlockOf : Image → ℕ → ℕ → Type 0
-IsBlockOf image r n = (n ≡ r) ⊎ ((n ≡ source image r) ⊎ ((path : List ℕ) × (h : Held) × ((sight image r).tree.below path ≡ Some h) × (h.block ≡ n)))
+IsBlockOf image r n = (n ≡ r)
+    ⊎ ((n ≡ source image r)
+    ⊎ ((path : List ℕ) × (h : Held) × ((sight image r).tree.below path ≡ Some h) × (h.block ≡ n)))
 
 -- a block of some object of the graph
 abbrev pub IsHeldBy : Image → Graph → ℕ → Type 0
@@ -38,7 +40,8 @@ pub record IsLoose (image : Image) (g : Graph) (n : ℕ) : Type 0 where
 
 -- a block with this entry is no shadow root of an object of the graph whose commit bit stands
 abbrev pub StandsForNone : Image → Graph → MapEntry → Type 0
-StandsForNone image g e = (id : Puid) (o : Object) → object_at g id ≡ Some o → is_committed (part_at image id.block) ≡ true → stands_for id.block (Some e) ≡ false
+StandsForNone image g e = (id : Puid) (o : Object) → object_at g id ≡ Some o
+    → is_committed (part_at image id.block) ≡ true → stands_for id.block (Some e) ≡ false
 
 -- One entry may come in place of another: the block is no map block and not the label, a block that is held keeps its
 -- part, and no shadow root of an object whose commit bit stands is made or ended.

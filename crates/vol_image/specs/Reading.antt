@@ -1,5 +1,6 @@
 -- The object that a tree gives, and when a tree is one.
-use Rattle.std.specs.Prelude.{◌≡◌, ℕ, ◌+◌, ◌*◌, ◌/◌, ◌<◌, ◌≤◌, ◌==◌, ◌&&◌, if◌then◌else◌, is_some, IsTrue, List, [], ◌∷◌, ◌++◌, length, take, replicate, get_or, map, filter, Option, Some, None}
+use Rattle.std.specs.Prelude.{◌≡◌, ℕ, ◌+◌, ◌*◌, ◌/◌, ◌<◌, ◌≤◌, ◌==◌, ◌&&◌, if◌then◌else◌, is_some, IsTrue, List, []}
+use Rattle.std.specs.Prelude.{◌∷◌, ◌++◌, length, take, replicate, get_or, map, filter, Option, Some, None}
 use Rattle.std.specs.List.{flat_map, range_with_len}
 use Rattle.cfs_base.specs.declared.identifier.Puid.{Puid}
 use Rattle.cfs_base.specs.declared.kind.Kind.TheVariants as kinds
@@ -43,14 +44,24 @@ abbrev pub file_bytes : Root → (ℕ → Option Held) → List ℕ
 file_bytes root leaf = leaves_content root.fill leaf (range_with_len 0 (leaves_in root.size))
 
 abbrev file_with : FileKind → Root → (ℕ → Option Held) → Object
-file_with kind root leaf = objects.File (record { kind = kind; fill = root.fill; bytes = take root.size (file_bytes root leaf); held = held_in root leaf })
+file_with kind root leaf =
+    objects.File (record {
+      kind = kind;
+      fill = root.fill;
+      bytes = take root.size (file_bytes root leaf);
+      held = held_in root leaf;
+    })
 
 -- the object with this root and these leaves
 unfoldable pub object_with : Root → (ℕ → Option Held) → Object
 object_with root leaf = elim root.kind [
   | kinds.Normal ↦ file_with file_kinds.Normal root leaf
   | kinds.Special ↦ file_with file_kinds.Special root leaf
-  | kinds.Index ↦ objects.Index (record { slots = map (slot_in (file_bytes root leaf)) (range_with_len 0 (root.size / 8)); held = held_in root leaf })
+  | kinds.Index ↦ objects.Index
+      (record {
+        slots = map (slot_in (file_bytes root leaf)) (range_with_len 0 (root.size / 8));
+        held = held_in root leaf;
+      })
 ]
 
 -- what a root reads as where nothing stands below it
@@ -59,7 +70,8 @@ bare_object root = object_with root (λ n. None)
 
 -- ---- when a tree is one
 
--- the tree of an object with this root block, on a disk of so many blocks. Beside each: the number of the fault where it doesn't hold
+-- the tree of an object with this root block, on a disk of so many blocks. Beside each: the number of the fault where
+-- it doesn't hold
 pub record IsTree (size owner : ℕ) (tree : Tree) (root : Root) (o : Object) : Type 0 where
   -- 3: the root is one
   pub spelled : IsRootBlock tree.root root
@@ -67,11 +79,13 @@ pub record IsTree (size owner : ℕ) (tree : Tree) (root : Root) (o : Object) : 
   -- 4: each pointer leads to a block of the disk
   pub on_disk : (path : List ℕ) (h : Held) → tree.below path ≡ Some h → h.block < size
   -- 5: each block has this owner, and its place
-  pub owned : (path : List ℕ) (h : Held) → tree.below path ≡ Some h → BelongsTo owner (place_at (levels_of tree.root) path) h.part
+  pub owned : (path : List ℕ) (h : Held) → tree.below path ≡ Some h
+      → BelongsTo owner (place_at (levels_of tree.root) path) h.part
   -- 8: no leaf is held at or past the size
   pub within : (leaf : ℕ) (h : Held) → leaf_in tree leaf ≡ Some h → leaf < leaves_in root.size
   -- 9: past the size a held leaf has fill bytes
-  pub filled : (leaf i : ℕ) (h : Held) → leaf_in tree leaf ≡ Some h → i < 512 → root.size ≤ 512 * leaf + i → get_or h.content i 0 ≡ root.fill
+  pub filled : (leaf i : ℕ) (h : Held) → leaf_in tree leaf ≡ Some h → i < 512 → root.size ≤ 512 * leaf + i
+      → get_or h.content i 0 ≡ root.fill
   -- 10: a node that is held leads to a leaf
   pub leads_on : (path : List ℕ) (h : Held) → tree.below path ≡ Some h → length path < length (levels_of tree.root)
       → (k : ℕ) × IsTrue (is_some (tree.below (path ++ k ∷ [])))

@@ -6,7 +6,8 @@ use Rattle.ufs_model.specs.Graph.{Graph}
 use Rattle.vol_image.specs.Sound.{Holds}
 use Rattle.vol_image.specs.Frame.{Frames}
 
--- a run from `start` has come to `now` with no failure within the frame of image a: its content, what a crash leaves now, and what one on the way left
+-- a run from `start` has come to `now` with no failure within the frame of image a: its content, what a crash leaves
+-- now, and what one on the way left
 pub record Within {D : Type 0} (g : Ghosts D) (a : Image) (graph : Graph) (start now : D) : Type 0 where
   pub tells : Tells g now
   pub content : Frames a graph (g.content now)

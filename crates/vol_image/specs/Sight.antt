@@ -8,7 +8,8 @@ use Rattle.vol_image.specs.Seen.{Tree, tree_in}
 
 -- the shadow roots that stand for an object, where its commit bit does
 unfoldable pub shadows : Image → ℕ → List ℕ
-shadows image r = if is_committed (part_at image r) then filter (λ n. stands_for r (entry_in image n)) (range_with_len 0 (length image)) else []
+shadows image r = if is_committed (part_at image r) then filter (λ n. stands_for r (entry_in image n))
+    (range_with_len 0 (length image)) else []
 
 abbrev pub first_or : ℕ → List ℕ → ℕ
 first_or r [] = r

@@ -1,5 +1,6 @@
 -- Which images are left of a run by a crash.
-use Rattle.std.specs.Prelude.{◌≡◌, ◌⊎◌, ℕ, ◌*◌, ◌<◌, true, List, ◌++◌, length, take, drop, replicate, slice_get, Option, Some, None}
+use Rattle.std.specs.Prelude.{◌≡◌, ◌⊎◌, ℕ, ◌*◌, ◌<◌, true, List, ◌++◌, length, take, drop, replicate, slice_get, Option}
+use Rattle.std.specs.Prelude.{Some, None}
 use Rattle.cfs_base.specs.Disk.{Image}
 use Rattle.cfs_base.specs.declared.identifier.Puid.{Puid}
 use Rattle.cfs_base.specs.declared.kind.FileKind.TheVariants as kinds
@@ -32,7 +33,8 @@ pub record IsBetween (old new f : File) : Type 0 where
   pub kind : f.kind ≡ old.kind
   pub fill : f.fill ≡ old.fill
   pub size : (length f.bytes ≡ length old.bytes) ⊎ (length f.bytes ≡ length new.bytes)
-  pub leaves : (leaf : ℕ) → (leaf_of_file f leaf ≡ leaf_of_file old leaf) ⊎ (leaf_of_file f leaf ≡ leaf_of_file new leaf)
+  pub leaves : (leaf : ℕ)
+      → (leaf_of_file f leaf ≡ leaf_of_file old leaf) ⊎ (leaf_of_file f leaf ≡ leaf_of_file new leaf)
 
 -- what a write or a resize changes
 abbrev pub change_of : Request → Option Change
@@ -74,14 +76,21 @@ pub data MayRead (seed : ℕ) (g : Graph) (trail : List Event) (m : ℕ) : Graph
   -- that of these events
   Whole : (s : State) → replay seed g (take m trail) ≡ Some s → MayRead seed g trail m s.graph
   -- the next event was under way, and changes a normal file in place
-  CutShort : (s : State) (who : ℕ) (request : Request) (reply : Reply) (id : Puid) (old new f : File) → replay seed g (take m trail) ≡ Some s → slice_get trail m ≡ Some (events.Ask who request reply) → IsDoneOrInDoubt reply
-      → ChangesInPlace s who request id old new → IsBetween old new f → MayRead seed g trail m (with_object s.graph id (objects.File f))
+  CutShort : (s : State) (who : ℕ) (request : Request) (reply : Reply) (id : Puid) (old new f : File)
+      → replay seed g (take m trail) ≡ Some s → slice_get trail m ≡ Some (events.Ask who request reply)
+      → IsDoneOrInDoubt reply
+      → ChangesInPlace s who request id old new → IsBetween old new f
+      → MayRead seed g trail m (with_object s.graph id (objects.File f))
   -- a request among these events is in doubt, and was done
-  Done : (s : State) (k who b moment : ℕ) (request : Request) → k < m → replay seed g (take k trail) ≡ Some s → slice_get trail k ≡ Some (events.Ask who request (replies.Disk (Some moment))) → refusal_of s who request ≡ None
+  Done : (s : State) (k who b moment : ℕ) (request : Request) → k < m → replay seed g (take k trail) ≡ Some s
+      → slice_get trail k ≡ Some (events.Ask who request (replies.Disk (Some moment))) → refusal_of s who request ≡ None
       → MayName s request b → MayRead seed g trail m (outcome_of seed s who request b).1.graph
   -- or was cut short
-  CutInDoubt : (s : State) (k who moment : ℕ) (request : Request) (id : Puid) (old new f : File) → k < m → replay seed g (take k trail) ≡ Some s → slice_get trail k ≡ Some (events.Ask who request (replies.Disk (Some moment)))
-      → ChangesInPlace s who request id old new → IsBetween old new f → MayRead seed g trail m (with_object s.graph id (objects.File f))
+  CutInDoubt : (s : State) (k who moment : ℕ) (request : Request) (id : Puid) (old new f : File) → k < m
+      → replay seed g (take k trail) ≡ Some s
+      → slice_get trail k ≡ Some (events.Ask who request (replies.Disk (Some moment)))
+      → ChangesInPlace s who request id old new → IsBetween old new f
+      → MayRead seed g trail m (with_object s.graph id (objects.File f))
 
 -- the image survives the first m events of the trail on this graph
 pub record Survives (image : Image) (seed : ℕ) (g : Graph) (trail : List Event) (m : ℕ) : Type 0 where

@@ -31,8 +31,10 @@ pub fn entry_written()
         → entry_in (with_entry image n e) n ≡ Some e }
     ensures others { (image : Image) (n m : ℕ) (e old : MapEntry) → entry_in image n ≡ Some old → m ≢ n
         → entry_in (with_entry image n e) m ≡ entry_in image m }
-    ensures blocks { (image : Image) (n m : ℕ) (e : MapEntry) → m ≢ map_of n → block_at (with_entry image n e) m ≡ block_at image m }
-    ensures content { (image : Image) (n m : ℕ) (block : List ℕ) → n % 64 ≢ 0 → entry_in (set image n block) m ≡ entry_in image m }
+    ensures blocks { (image : Image) (n m : ℕ) (e : MapEntry) → m ≢ map_of n
+        → block_at (with_entry image n e) m ≡ block_at image m }
+    ensures content { (image : Image) (n m : ℕ) (block : List ℕ) → n % 64 ≢ 0
+        → entry_in (set image n block) m ≡ entry_in image m }
 {}
 
 /// The law of frames: an image within the frame of a sound one is sound, and reads as the same graph.
@@ -49,21 +51,29 @@ pub fn frames_compose()
     ensures fewer { (a b : Image) (g h : Graph) → Frames a g b
         → ((x : Puid) (o : Object) → object_at h x ≡ Some o → object_at g x ≡ Some o) → Frames a h b }
     ensures back { (a b : Image) (g : Graph) → Holds a g → Frames a g b → Frames b g a }
-    ensures write { (a : Image) (g : Graph) (c content : Image) (n : ℕ) (block : List ℕ) → n < length content → Frames a g c
+    ensures write { (a : Image) (g : Graph) (c content : Image) (n : ℕ) (block : List ℕ) → n < length content
+        → Frames a g c
         → Frames a g (set content n block) → Frames a g (set c n block) }
 {}
 
 /// A block that no object holds may be claimed, written, given back, or made to wait for any of these.
 pub fn loose_blocks_change()
-    ensures free { (a : Image) (g : Graph) (n : ℕ) (e : MapEntry) → Holds a g → entry_in a n ≡ Some e → e.state ≡ Free → IsLoose a g n }
-    ensures content { (a : Image) (g : Graph) (c : Image) (n : ℕ) (block : List ℕ) → Frames a g c → IsLoose a g n → Frames a g (set c n block) }
-    ensures entry { (a : Image) (g : Graph) (c : Image) (n : ℕ) (e old : MapEntry) → Holds a g → Frames a g c → IsLoose a g n
-        → entry_in c n ≡ Some old → IsEntry e → OwnsItself n e → StandsForNone a g e → StandsForNone a g old → Frames a g (with_entry c n e) }
+    ensures free { (a : Image) (g : Graph) (n : ℕ) (e : MapEntry) → Holds a g → entry_in a n ≡ Some e → e.state ≡ Free
+        → IsLoose a g n }
+    ensures content { (a : Image) (g : Graph) (c : Image) (n : ℕ) (block : List ℕ) → Frames a g c → IsLoose a g n
+        → Frames a g (set c n block) }
+    ensures entry { (a : Image) (g : Graph) (c : Image) (n : ℕ) (e old : MapEntry) → Holds a g → Frames a g c
+        → IsLoose a g n
+        → entry_in c n ≡ Some old → IsEntry e → OwnsItself n e → StandsForNone a g e → StandsForNone a g old
+        → Frames a g (with_entry c n e) }
     ensures none { (a : Image) (g : Graph) (e : MapEntry) → e.state ≡ Free → StandsForNone a g e }
     // Of any block that isn't Free, held or not, the state may change to another than Free.
-    ensures state { (a : Image) (g : Graph) (c : Image) (n : ℕ) (old : MapEntry) (s : BlockState) → Holds a g → Frames a g c
-        → is_fixed n ≡ false → entry_in c n ≡ Some old → old.state ≢ Free → s ≢ Free → IsEntry (record old { state = s })
-        → StandsForNone a g (record old { state = s }) → StandsForNone a g old → Frames a g (with_entry c n (record old { state = s })) }
+    ensures state { (a : Image) (g : Graph) (c : Image) (n : ℕ) (old : MapEntry) (s : BlockState) → Holds a g
+        → Frames a g c
+        → is_fixed n ≡ false → entry_in c n ≡ Some old → old.state ≢ Free → s ≢ Free
+        → IsEntry (record old { state = s })
+        → StandsForNone a g (record old { state = s }) → StandsForNone a g old
+        → Frames a g (with_entry c n (record old { state = s })) }
 {}
 
 /// Many entries of maps may change at once, each as it may alone.
@@ -81,8 +91,8 @@ pub fn claims_are_loose()
         → IsAtRest a id.block → ((n : ℕ) → IsBlockOf a id.block n → entry_in b n ≡ entry_in a n) → IsAtRest b id.block }
 {}
 
-/// One object may change while all others stay: its blocks are loose for the others, and an image within their frame has
-/// it as it is then seen.
+/// One object may change while all others stay: its blocks are loose for the others, and an image within their frame
+/// has it as it is then seen.
 pub fn one_object_changes()
     ensures loose { (a : Image) (g : Graph) (id : Puid) (was : Object) (n : ℕ) → Holds a g → object_at g id ≡ Some was
         → IsTaken a n id.block → IsLoose a (without g (id ∷ [])) n }
@@ -109,7 +119,8 @@ pub fn objects_are_made()
 
 /// Once the commit bit is set the object is its draft; once the draft's root is copied it still is.
 pub fn commit_sets_the_bit()
-    ensures bit { (a : Image) (g : Graph) (id : Puid) (was o : Object) (e : MapEntry) (s : ℕ) → Holds a g → object_at g id ≡ Some was
+    ensures bit { (a : Image) (g : Graph) (id : Puid) (was o : Object) (e : MapEntry) (s : ℕ) → Holds a g
+        → object_at g id ≡ Some was
         → entry_in a id.block ≡ Some e → IsEntry (committed e) → IsDraft a id.block s o
         → Holds (with_entry a id.block (committed e)) (with_object g id o) }
     ensures read_by { (a : Image) (g : Graph) (id : Puid) (was o : Object) (e : MapEntry) (s : ℕ) → Holds a g
@@ -121,14 +132,19 @@ pub fn commit_sets_the_bit()
 
 /// After the copy the states of the object's blocks, the shadow root's entry and the bit may change in any order.
 pub fn settling_keeps()
-    ensures holds { (c : Image) (g : Graph) (id : Puid) (o : Object) (s : ℕ) (b : Image) → Holds c g → object_at g id ≡ Some o
+    ensures holds { (c : Image) (g : Graph) (id : Puid) (o : Object) (s : ℕ) (b : Image) → Holds c g
+        → object_at g id ≡ Some o
         → block_at c (source c id.block) ≡ block_at c id.block → Settles c g id s b → Holds b (with_object g id o) }
     ensures begin { (c : Image) (g : Graph) (id : Puid) (o : Object) (s : ℕ) → Holds c g → object_at g id ≡ Some o
-        → block_at c s ≡ block_at c id.block → ((n : ℕ) → stands_for id.block (entry_in c n) ≡ true → n ≡ s) → Settles c g id s c }
-    ensures entry { (c : Image) (g : Graph) (id : Puid) (o : Object) (s : ℕ) (b : Image) (n : ℕ) (old e : MapEntry) → Holds c g → object_at g id ≡ Some o
-        → block_at c (source c id.block) ≡ block_at c id.block → is_fixed s ≡ false → Settles c g id s b → entry_in b n ≡ Some old
+        → block_at c s ≡ block_at c id.block → ((n : ℕ) → stands_for id.block (entry_in c n) ≡ true → n ≡ s)
+        → Settles c g id s c }
+    ensures entry { (c : Image) (g : Graph) (id : Puid) (o : Object) (s : ℕ) (b : Image) (n : ℕ) (old e : MapEntry)
+        → Holds c g → object_at g id ≡ Some o
+        → block_at c (source c id.block) ≡ block_at c id.block → is_fixed s ≡ false → Settles c g id s b
+        → entry_in b n ≡ Some old
         → MaySettle c g id s n old e → Settles c g id s (with_entry b n e) }
-    ensures write { (c : Image) (g : Graph) (id : Puid) (s : ℕ) (b content : Image) (n : ℕ) (block : List ℕ) → n < length content
+    ensures write { (c : Image) (g : Graph) (id : Puid) (s : ℕ) (b content : Image) (n : ℕ) (block : List ℕ)
+        → n < length content
         → Settles c g id s b → Settles c g id s (set content n block) → Settles c g id s (set b n block) }
 {}
 
@@ -150,10 +166,14 @@ pub fn sound_without_fault()
 
 /// The blocks of an object by the model are those that its tree holds, level by level, and each stands at one path.
 pub fn blocks_are_those_held()
-    ensures levels { (image : Image) (size owner : ℕ) (content : List ℕ) (root : roots.Root) (o : Object) → IsTree size owner (tree_in image content) root o
+    ensures levels { (image : Image) (size owner : ℕ) (content : List ℕ) (root : roots.Root) (o : Object)
+        → IsTree size owner (tree_in image content) root o
         → levels_held (tree_in image content) (length (levels_of content)) ≡ held_levels o }
-    ensures blocks { (image : Image) (size owner : ℕ) (content : List ℕ) (root : roots.Root) (o : Object) → IsTree size owner (tree_in image content) root o
+    ensures blocks { (image : Image) (size owner : ℕ) (content : List ℕ) (root : roots.Root) (o : Object)
+        → IsTree size owner (tree_in image content) root o
         → blocks_held (tree_in image content) ≡ blocks_of o }
-    ensures one_path { (image : Image) (size owner : ℕ) (content : List ℕ) (root : roots.Root) (o : Object) → IsTree size owner (tree_in image content) root o
-        → (p q : List ℕ) (g h : Held) → (tree_in image content).below p ≡ Some g → (tree_in image content).below q ≡ Some h → g.block ≡ h.block → p ≡ q }
+    ensures one_path { (image : Image) (size owner : ℕ) (content : List ℕ) (root : roots.Root) (o : Object)
+        → IsTree size owner (tree_in image content) root o
+        → (p q : List ℕ) (g h : Held) → (tree_in image content).below p ≡ Some g
+        → (tree_in image content).below q ≡ Some h → g.block ≡ h.block → p ≡ q }
 {}

@@ -16,7 +16,8 @@ magic = codes "CFS1"
 -- the bytes of a label: magic, version, cylinders, the identifier of the root index, and zeros
 unfoldable pub spelling : Label → List ℕ
 spelling label =
-    magic ++ (to_be_bytes w32 1 ++ (to_be_bytes w32 label.cylinders ++ (to_be_bytes w32 label.root.block ++ (to_be_bytes w32 label.root.word ++ replicate 492 0))))
+    magic ++ (to_be_bytes w32 1 ++ (to_be_bytes w32 label.cylinders ++ (to_be_bytes w32 label.root.block
+    ++ (to_be_bytes w32 label.root.word ++ replicate 492 0))))
 
 -- a label of another version
 pub record IsOtherVersion (block : List ℕ) (found : ℕ) : Type 0 where

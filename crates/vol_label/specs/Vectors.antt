@@ -7,6 +7,11 @@ use Rattle.vol_label.specs.Label.{spelling}
 abbrev small : Label
 small = record { cylinders = 1; root = record { block = 2; word = 0xade0_b876 } }
 
-small_volume : take 20 (spelling small) ≡ 0x43 ∷ 0x46 ∷ 0x53 ∷ 0x31 ∷ 0 ∷ 0 ∷ 0 ∷ 1 ∷ 0 ∷ 0 ∷ 0 ∷ 1 ∷ 0 ∷ 0 ∷ 0 ∷ 2 ∷ 0xad ∷ 0xe0 ∷ 0xb8 ∷ 0x76 ∷ []
+small_volume : take 20 (spelling small) ≡
+    0x43 ∷ 0x46 ∷ 0x53 ∷ 0x31
+    ∷ 0 ∷ 0 ∷ 0 ∷ 1
+    ∷ 0 ∷ 0 ∷ 0 ∷ 1
+    ∷ 0 ∷ 0 ∷ 0 ∷ 2
+    ∷ 0xad ∷ 0xe0 ∷ 0xb8 ∷ 0x76 ∷ []
 unfolding spelling
 small_volume = refl

@@ -1,17 +1,6 @@
 -- A change is made of changes of one entry or of one content.
 use Rattle.std.proofs.Common.{◌≡◌, ◌≢◌, inl, inr, ℕ, List, [], set, length-set, Bool, true, false, Option, Some, refl, sym, ◌∙◌, ap, subst, arith}
-use Rattle.std.proofs.lemmas.Bool.{both_ways}
-use Rattle.std.proofs.lemmas.List.{get_or-set_other}
-use Rattle.cfs_base.specs.Disk.{Image}
-use Rattle.cyl_map.specs.Entry.{IsEntry}
-use Rattle.cyl_map.specs.declared.entry.MapEntry.{MapEntry}
-use Rattle.cyl_map.specs.Volume.{entry_in, with_entry, AreMaps}
-use Rattle.cyl_map.proofs.Volumes.{entry_in-with_entry_same, entry_in-with_entry_other, entry_in-set, block_at-with_entry, length-with_entry, same_or_not}
-use Rattle.ufs_model.specs.Graph.{Graph}
-use Rattle.vol_image.specs.Part.{OwnsItself, RootsOwnThemselves, is_fixed}
-use Rattle.vol_image.specs.Sound.{Holds}
-use Rattle.vol_image.proofs.Steps.{entry_maps, entry_own, not_label, not_map}
-use Rattle.vol_owners.specs.Change.{ChangesOnly, IsOpenTo}
+use Rattle.vol_owners.proofs.Words.{AreMaps, ChangesOnly, Graph, Holds, Image, IsEntry, IsOpenTo, MapEntry, OwnsItself, RootsOwnThemselves, block_at-with_entry, both_ways, entry_in, entry_in-set, entry_in-with_entry_other, entry_in-with_entry_same, entry_maps, entry_own, get_or-set_other, is_fixed, length-with_entry, not_label, not_map, same_or_not, with_entry}
 
 module _ (T : Option MapEntry → Bool) where
   pub changes_begin : (a : Image) (g : Graph) → Holds a g → ChangesOnly T a a

@@ -1,13 +1,6 @@
 -- Lists of different numbers, and runs in which exactly these pass a test.
-use Rattle.std.proofs.Common.{◌≡◌, inl, inr, ℕ, zero, suc, ◌+◌, ◌<◌, ◌≤◌, List, [], ◌∷◌, ◌++◌, length, Bool, true, false, not, ◌||◌, refl, sym, ◌∙◌, ap, subst, arith}
-use Rattle.std.specs.Prelude.{◌==◌, map}
-use Rattle.std.specs.List.{range_with_len}
-use Rattle.std.proofs.lemmas.Bool.{and_parts, both_ways, cases_eq, false_from_ne_true, ne_eqb, eq-eqb, or_cases, not-true}
-use Rattle.std.proofs.lemmas.List.Folds.{list_any-append}
-use Rattle.ufs_model.specs.Numbers.{has_number, numbers_rise}
-use Rattle.vol_image.proofs.Rising.{here, later, above, in_map}
-use Rattle.vol_owners.specs.Account.{numbers_differ}
-use Rattle.vol_owners.specs.Room.{one_of}
+use Rattle.std.proofs.Common.{◌≡◌, inl, inr, ℕ, zero, suc, ◌+◌, ◌<◌, ◌≤◌, List, [], ◌∷◌, ◌++◌, length, Bool, true, false, not, ◌||◌, refl, sym, ◌∙◌, ap, subst, arith, ◌==◌}
+use Rattle.vol_owners.proofs.Words.{above, and_parts, both_ways, cases_eq, eq-eqb, false_from_ne_true, has_number, here, in_map, later, list_any-append, map, ne_eqb, not-true, numbers_differ, numbers_rise, one_of, or_cases, range_with_len}
 use Rattle.vol_owners.proofs.Sums.{count_in, run-suc, run_same, run_zeros, sum_both, sum_each, sum_run}
 
 -- ---- which lists are such

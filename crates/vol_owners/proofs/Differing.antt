@@ -1,29 +1,6 @@
 -- Fresh blocks of a draft are those whose pointers differ from the object's own.
-use Rattle.std.proofs.Common.{◌≡◌, ◌≢◌, inl, inr, ℕ, zero, suc, ◌-◌, ◌<◌, List, [], length, take, Bool, true, false, ◌==◌, Some, refl, sym, ◌∙◌, ap}
-use Rattle.std.specs.Prelude.{filter, is_some}
-use Rattle.std.specs.List.{range_with_len}
-use Rattle.std.proofs.Math.Path.{fun_ext}
-use Rattle.std.proofs.lemmas.Bool.{and_left, and_parts, both_ways, cases_Bool, eq-eqb, ne_eqb}
-use Rattle.cfs_base.specs.Disk.{Image, block_at}
-use Rattle.cfs_base.specs.declared.identifier.Puid.{Puid}
-use Rattle.block_tree.specs.Tree.{levels_of, width, path_to, tree_of}
-use Rattle.cyl_map.specs.declared.state.BlockState.{BlockState}
-use Rattle.cyl_map.specs.declared.state.BlockState.TheVariants.{Free, Allocated, IntendAllocate, IntendDeallocate}
-use Rattle.cyl_map.specs.declared.entry.MapEntry.{MapEntry}
-use Rattle.cyl_map.specs.Volume.{entry_in}
-use Rattle.ufs_model.specs.declared.object.Object.{Object}
-use Rattle.ufs_model.specs.Graph.{Graph, object_at}
-use Rattle.vol_image.specs.Seen.{Held, held_at, tree_in}
-use Rattle.vol_image.specs.Sight.{first_or, sight, source}
-use Rattle.vol_image.specs.Sound.{Holds}
-use Rattle.vol_image.specs.Frame.{IsAtRest, IsBlockOf}
-use Rattle.vol_image.proofs.AtRoot.{no_shadows}
-use Rattle.vol_image.proofs.Parts.{below_apart, root_placed, tree_placed}
-use Rattle.vol_image.proofs.Paths.{held_there}
-use Rattle.vol_image.proofs.Places.{same_levels, same_path}
-use Rattle.vol_image.proofs.Views.{held, held_block, held_is}
-use Rattle.vol_owners.specs.Owner.{is_had, is_of, is_placed}
-use Rattle.vol_owners.specs.Account.{HasDraft, HasItsBlocks, Opened, content_of, differing_at, differs_at, is_meant_for, passes, standing_at}
+use Rattle.std.proofs.Common.{◌≡◌, ◌≢◌, inl, inr, ℕ, List, length, true, false, ◌==◌, Some, refl, sym, ◌∙◌, ap}
+use Rattle.vol_owners.proofs.Words.{Allocated, BlockState, Free, Graph, HasDraft, HasItsBlocks, Held, Holds, Image, IntendAllocate, IntendDeallocate, IsAtRest, IsBlockOf, MapEntry, Object, Opened, Puid, and_left, and_parts, below_apart, block_at, both_ways, content_of, entry_in, first_or, held, held_at, held_block, held_is, held_there, is_had, is_meant_for, is_of, is_placed, is_some, no_shadows, object_at, root_placed, same_levels, same_path, sight, source, tree_in, tree_of, tree_placed}
 use Rattle.vol_owners.proofs.Entries.{had_not_meant, had_or_meant, taken_of}
 
 module _ (image : Image) (g : Graph) (holds : Holds image g) (id : Puid) (o : Object) (at : object_at g id ≡ Some o) (has : HasItsBlocks image id.block) (d : Opened) (draft : HasDraft image id d) where
@@ -65,29 +42,6 @@ module _ (image : Image) (g : Graph) (holds : Holds image g) (id : Puid) (o : Ob
   meant_differs path n some meant same =
       let had = has.each n (own_tree path (held image n) (ap (held_at image) same ∙ held_there image n some)) in
       both_ways _ (and_left _ _ (had_not_meant id.block (entry_in image n) had)) meant
-
-  -- so the pointers that differ lead to exactly the fresh blocks, level by level
-  pub differs_is_meant : (path : List ℕ) → passes (is_meant_for image id.block) ((tree_in image (content_of d)).below path) ≡ differs_at image own (content_of d) path
-  differs_is_meant path = by (tree_of image (content_of d) path) refl
-    where
-      some : (n : ℕ) → (suc n == 0) ≡ false
-      some n = ne_eqb (suc n) 0 (λ (z : suc n ≡ 0). cc)
-
-      by : (n : ℕ) → tree_of image (content_of d) path ≡ n → passes (is_meant_for image id.block) (held_at image (tree_of image (content_of d) path)) ≡ differs_at image own (content_of d) path
-      by zero is = rw is refl
-      by (suc n) is = elim (cases_Bool (is_meant_for image id.block (suc n))) [
-        | inl meant ↦
-            let other : (tree_of image own path == suc n) ≡ false = ne_eqb (tree_of image own path) (suc n) (meant_differs path (suc n) (λ (z : suc n ≡ 0). cc) meant) in
-            rw (is, meant, other, some n) refl
-        | inr not_meant ↦
-            let there : (tree_in image (content_of d)).below path ≡ Some (held image (suc n)) = ap (held_at image) is in
-            let same : (tree_of image own path == suc n) ≡ true = eq-eqb (tree_of image own path) (suc n) (not_meant_is_own path (held image (suc n)) there not_meant) in
-            rw (is, not_meant, same, some n) refl
-      ]
-
-  pub differing_are_fresh : (depth : ℕ) → standing_at (is_meant_for image id.block) (tree_in image (content_of d)) depth ≡ differing_at image own (content_of d) depth
-  differing_are_fresh depth =
-      ap (λ (P : ℕ → Bool). filter P (range_with_len 0 (width (take depth (levels_of (content_of d)))))) (fun_ext (λ k. differs_is_meant (path_to (take depth (levels_of (content_of d))) k)))
 
 -- an object that has its blocks is at rest
 pub at_rest : (image : Image) (r : ℕ) → HasItsBlocks image r → IsAtRest image r

@@ -1,16 +1,6 @@
 -- What tests say of an entry.
-use Rattle.std.proofs.Common.{◌≡◌, ◌≢◌, ◌⊎◌, inl, inr, ℕ, Bool, true, false, ◌&&◌, Option, Some, None, refl, sym, ◌∙◌, ap}
-use Rattle.std.specs.Prelude.{◌==◌, is_some}
-use Rattle.std.proofs.lemmas.Bool.{and_parts, and_from, and_left, both_ways, eqb-true, eq-eqb}
-use Rattle.cfs_base.specs.Disk.{Image}
-use Rattle.cfs_base.specs.declared.kind.Place.{Place}
-use Rattle.cfs_base.specs.declared.kind.Place.TheVariants.{Root, ShadowRoot, Node, Leaf}
-use Rattle.cyl_map.specs.declared.state.BlockState.{BlockState}
-use Rattle.cyl_map.specs.declared.state.BlockState.TheVariants.{Free, Allocated, IntendAllocate, IntendDeallocate}
-use Rattle.cyl_map.specs.declared.entry.MapEntry.{MapEntry}
-use Rattle.cyl_map.specs.Volume.{entry_in, is_free_entry}
-use Rattle.vol_image.specs.Part.{IsTaken, RootsOwnThemselves, stands_for}
-use Rattle.vol_owners.specs.Owner.{is_had, is_meant, is_leaving, is_taken, is_placed, owner_of, is_of, is_root, is_root_place, is_made}
+use Rattle.std.proofs.Common.{◌≡◌, ◌≢◌, ◌⊎◌, inl, inr, ℕ, Bool, true, false, ◌&&◌, Option, Some, None, refl, sym, ◌∙◌, ap, ◌==◌}
+use Rattle.vol_owners.proofs.Words.{Allocated, BlockState, Free, Image, IntendAllocate, IntendDeallocate, IsTaken, Leaf, MapEntry, Node, Place, Root, RootsOwnThemselves, ShadowRoot, and_from, and_left, and_parts, both_ways, entry_in, eq-eqb, eqb-true, is_free_entry, is_had, is_leaving, is_made, is_meant, is_of, is_placed, is_root, is_root_place, is_some, is_taken, owner_of, stands_for}
 
 -- ---- a test that no Free block passes
 

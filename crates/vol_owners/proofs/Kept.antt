@@ -1,26 +1,6 @@
 -- What a change misses stays: the blocks of an object, and its draft.
 use Rattle.std.proofs.Common.{◌≡◌, ◌⊎◌, inl, inr, ℕ, List, [], ◌∷◌, length, Bool, true, false, Option, Some, refl, sym, ◌∙◌, ap, subst}
-use Rattle.std.proofs.Math.Path.{fun_ext}
-use Rattle.std.proofs.lemmas.Bool.{both_ways}
-use Rattle.cfs_base.specs.Disk.{Image}
-use Rattle.cfs_base.specs.declared.identifier.Puid.{Puid}
-use Rattle.block_tree.specs.Root.{IsRootBlock}
-use Rattle.cyl_map.specs.declared.state.BlockState.{BlockState}
-use Rattle.cyl_map.specs.declared.state.BlockState.TheVariants.{Free}
-use Rattle.cyl_map.specs.declared.entry.MapEntry.{MapEntry}
-use Rattle.cyl_map.specs.Volume.{entry_in}
-use Rattle.ufs_model.specs.declared.object.Object.{Object}
-use Rattle.ufs_model.specs.Graph.{Graph, object_at}
-use Rattle.vol_image.specs.Part.{IsTaken, SameAt, part_of, is_committed, stands_for}
-use Rattle.vol_image.specs.Seen.{Tree, tree_in}
-use Rattle.vol_image.specs.Sight.{sight}
-use Rattle.vol_image.specs.Frame.{Frames, IsBlockOf}
-use Rattle.vol_image.proofs.Law.{same_blocks, same_shadows, same_sight}
-use Rattle.vol_image.proofs.Parts.{object_taken, taken_apart, tree_placed}
-use Rattle.vol_image.proofs.Views.{same_tree}
-use Rattle.vol_owners.specs.Owner.{is_had, is_meant, is_leaving, is_of}
-use Rattle.vol_owners.specs.Account.{Accounts, HasDraft, HasDrafts, HasItsBlocks, Opened, StandsIn, content_of, is_meant_for}
-use Rattle.vol_owners.specs.Change.{ChangesOnly, IsOpenTo, Misses}
+use Rattle.vol_owners.proofs.Words.{Accounts, BlockState, ChangesOnly, Frames, Free, Graph, HasDraft, HasDrafts, HasItsBlocks, Image, IsBlockOf, IsOpenTo, IsRootBlock, IsTaken, MapEntry, Misses, Object, Opened, Puid, SameAt, StandsIn, Tree, both_ways, content_of, entry_in, fun_ext, is_committed, is_had, is_leaving, is_meant, is_meant_for, is_of, object_at, object_taken, part_of, same_blocks, same_shadows, same_sight, same_tree, sight, stands_for, taken_apart, tree_in, tree_placed}
 use Rattle.vol_owners.proofs.Entries.{free_unowned, had_or_meant, stands_meant, taken_of}
 
 -- an entry that is open to what misses an owner is no block of the owner

@@ -1,27 +1,6 @@
 -- The objects of a graph, each found by its identifier: their root blocks differ, and what is summed over them.
-use Rattle.std.proofs.Common.{◌≡◌, ◌≢◌, inl, inr, ℕ, ◌+◌, ◌≤◌, List, [], ◌∷◌, length, Bool, true, false, cond, ◌&&◌, ◌||◌, Some, refl, sym, ◌∙◌, ap, subst, arith}
-use Rattle.std.specs.Prelude.{◌==◌, filter}
-use Rattle.std.specs.List.{list_all, list_any, range_with_len, sum_by}
-use Rattle.std.specs.Ordering.{is_lt, is_eq}
-use Rattle.std.specs.declared.cmp.Ordering.{Ordering}
-use Rattle.std.specs.declared.cmp.Ordering.TheVariants.{Less, Equal, Greater}
-use Rattle.std.specs.Map.{keys_of}
-use Rattle.std.proofs.lemmas.Bool.{and_parts, eqb-true, eq-eqb, false_from_ne_true, or_cases, or_left, or_right, or_parts}
-use Rattle.std.proofs.lemmas.List.Sums.{sum_by-cons}
-use Rattle.cfs_base.specs.Disk.{Image}
-use Rattle.cfs_base.specs.declared.identifier.Puid.{Puid}
-use Rattle.cyl_map.specs.declared.state.BlockState.{BlockState}
-use Rattle.cyl_map.specs.Volume.{entry_in}
-use Rattle.ufs_model.specs.declared.object.Object.{Object}
-use Rattle.ufs_model.specs.Identifier.{puid_cmp, same_puid, is_among, rises}
-use Rattle.ufs_model.specs.Graph.{Graph, ids_of, is_there, object_at, has_block}
-use Rattle.vol_image.specs.Sound.{Holds}
-use Rattle.vol_image.proofs.Reached.{same_puid_is, same_puid_itself}
-use Rattle.vol_image.proofs.Graphs.{found, is_there-ids, there_from}
-use Rattle.vol_image.proofs.Changes.{same_block}
-use Rattle.vol_owners.specs.Owner.{is_placed, owner_of}
-use Rattle.vol_owners.specs.Account.{Opened, drafts_of}
-use Rattle.vol_owners.specs.Room.{one_of}
+use Rattle.std.proofs.Common.{◌≡◌, ◌≢◌, inl, inr, ℕ, ◌+◌, List, [], ◌∷◌, length, Bool, true, false, cond, ◌&&◌, ◌||◌, Some, refl, sym, ◌∙◌, ap, subst, arith, ◌==◌}
+use Rattle.vol_owners.proofs.Words.{BlockState, Equal, Graph, Greater, Holds, Image, Less, Object, Opened, Ordering, Puid, and_parts, drafts_of, entry_in, eq-eqb, eqb-true, false_from_ne_true, found, has_block, ids_of, is_among, is_eq, is_lt, is_placed, is_there, is_there-ids, keys_of, list_all, list_any, object_at, one_of, or_cases, or_left, or_parts, or_right, owner_of, puid_cmp, range_with_len, rises, same_block, same_puid, same_puid_is, same_puid_itself, sum_by, sum_by-cons, there_from}
 use Rattle.vol_owners.proofs.Sums.{count_in, run_zeros, sum_both, sum_each}
 use Rattle.vol_owners.proofs.Owned.{count_of}
 
@@ -206,13 +185,3 @@ module _ (f : Opened → ℕ) where
       step : (b : Bool) (rest : List Opened) → sum_by f (cond b (d ∷ rest) rest) ≡ cond b (f d) 0 + sum_by f rest
       step true rest = sum_by-cons f d rest
       step false rest = omega arith
-
--- a part of the objects
-pub sum_filter : (f : Puid × Object → ℕ) (P : Puid × Object → Bool) (es : List (Puid × Object)) → sum_by f (filter P es) ≤ sum_by f es
-sum_filter f P [] = omega arith
-sum_filter f P (e ∷ es) =
-    let rest = sum_filter f P es in
-    elim (P e) as (λ b. sum_by f (cond b (e ∷ filter P es) (filter P es)) ≤ sum_by f (e ∷ es)) [
-      | true ↦ omega (arith, sum_by-cons f e (filter P es), sum_by-cons f e es)
-      | false ↦ omega (arith, sum_by-cons f e es)
-    ]

@@ -11,3 +11,4 @@ pub mod Owners
 pub mod Steps
 pub mod Strays
 pub mod Differing
+mod Words

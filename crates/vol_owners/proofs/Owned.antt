@@ -1,38 +1,11 @@
 -- How many blocks an object and its draft have, by the entries.
 use Rattle.std.proofs.Common.{◌≡◌, ◌⊎◌, inl, inr, ℕ, suc, ◌+◌, ◌<◌, List, [], ◌∷◌, length, get_or, Bool, true, Option, Some, None, refl, sym, ◌∙◌, ap, subst, arith}
-use Rattle.std.specs.List.{sum_by}
-use Rattle.std.specs.Prelude.{option_to_list}
-use Rattle.std.proofs.lemmas.Bool.{both_ways, false_from_ne_true}
-use Rattle.std.proofs.lemmas.List.Sums.{sum_by-cons}
-use Rattle.std.proofs.lemmas.Option.{same_Some}
-use Rattle.cfs_base.specs.Disk.{Image, block_at}
-use Rattle.cfs_base.specs.declared.identifier.Puid.{Puid}
+use Rattle.vol_owners.proofs.Words.{BlockState, Graph, HasDraft, HasDrafts, HasItsBlocks, Holds, Image, IsBlockOf, IsTree, MapEntry, Object, Opened, Puid, StandsIn, Tree, below_apart, block_at, blocks_are, blocks_of, both_ways, content_of, entry_in, false_from_ne_true, first_or, has_number, here, in_cons, in_image, is_had, is_inner, is_meant, is_meant_for, is_of, later, levels_of, levels_standing, no_shadows, object_at, one_of, option_to_list, place_inner, root_placed, same_Some, shadow_taken, sight, source, stands_for, sum_by, sum_by-cons, tree_in, tree_placed}
 use Rattle.block_tree.specs.declared.root.Root as roots
-use Rattle.block_tree.specs.Tree.{levels_of}
-use Rattle.cyl_map.specs.declared.state.BlockState.{BlockState}
-use Rattle.cyl_map.specs.declared.entry.MapEntry.{MapEntry}
-use Rattle.cyl_map.specs.Volume.{entry_in}
-use Rattle.ufs_model.specs.declared.object.Object.{Object}
-use Rattle.ufs_model.specs.Object.{blocks_of}
-use Rattle.ufs_model.specs.Graph.{Graph, object_at}
-use Rattle.ufs_model.specs.Numbers.{has_number}
-use Rattle.vol_image.specs.Part.{stands_for}
-use Rattle.vol_image.specs.Seen.{Tree, tree_in}
-use Rattle.vol_image.specs.Reading.{IsTree}
-use Rattle.vol_image.specs.Sight.{first_or, source, sight}
-use Rattle.vol_image.specs.Sound.{Holds}
-use Rattle.vol_image.specs.Frame.{IsBlockOf}
-use Rattle.vol_image.proofs.AtRoot.{no_shadows}
-use Rattle.vol_image.proofs.Parts.{is_inner, place_inner, tree_placed, root_placed, below_apart, shadow_taken, in_image}
-use Rattle.vol_image.proofs.Counts.{blocks_are}
-use Rattle.vol_image.proofs.Rising.{here, later, in_cons}
-use Rattle.vol_owners.specs.Owner.{is_had, is_meant, is_of}
-use Rattle.vol_owners.specs.Account.{HasItsBlocks, HasDraft, HasDrafts, Opened, StandsIn, content_of, is_meant_for, levels_standing}
 use Rattle.vol_owners.proofs.Sums.{count_in, run_zeros}
 use Rattle.vol_owners.proofs.Differ.{count_of_these}
 use Rattle.vol_owners.proofs.Entries.{stands_meant}
 use Rattle.vol_owners.proofs.Standing.{blocks_standing, is_standing, length-down, levels_all, standing_differ, standing_is}
-use Rattle.vol_owners.specs.Room.{one_of}
 
 abbrev pub count_of : (BlockState → Bool) → Image → ℕ → ℕ
 count_of test image r = count_in (λ n. is_of test r (entry_in image n)) 0 (length image)

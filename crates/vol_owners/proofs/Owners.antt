@@ -1,25 +1,6 @@
 -- What becomes of the owners whose blocks a change touches, and what it keeps of all others.
 use Rattle.std.proofs.Common.{◌≡◌, ◌≢◌, ◌⊎◌, inl, inr, ℕ, List, length, Bool, true, false, ◌&&◌, ◌==◌, Option, Some, None, refl, sym, ◌∙◌, ap, subst}
-use Rattle.std.specs.Prelude.{is_some}
-use Rattle.std.specs.List.{list_all}
-use Rattle.std.proofs.lemmas.Bool.{and_parts, both_ways, cases_Bool, false_from_ne_true}
-use Rattle.cfs_base.specs.Disk.{Image}
-use Rattle.cfs_base.specs.declared.identifier.Puid.{Puid}
-use Rattle.cfs_base.specs.declared.kind.Place.{Place}
-use Rattle.cfs_base.specs.declared.kind.Place.TheVariants.{Root}
-use Rattle.cyl_map.specs.declared.state.BlockState.{BlockState}
-use Rattle.cyl_map.specs.declared.state.BlockState.TheVariants.{Free, Allocated, IntendAllocate, IntendDeallocate}
-use Rattle.cyl_map.specs.declared.entry.MapEntry.{MapEntry}
-use Rattle.cyl_map.specs.Volume.{entry_in, is_free_entry}
-use Rattle.ufs_model.specs.declared.object.Object.{Object}
-use Rattle.ufs_model.specs.Graph.{Graph, object_at, is_there}
-use Rattle.ufs_model.specs.Numbers.{has_number}
-use Rattle.vol_image.specs.Part.{is_fixed}
-use Rattle.vol_image.specs.Sound.{Holds}
-use Rattle.vol_image.proofs.Parts.{root_placed}
-use Rattle.vol_owners.specs.Owner.{is_had, is_meant, is_leaving, is_taken, is_placed, owner_of, is_of, is_root, is_root_place, is_made}
-use Rattle.vol_owners.specs.Account.{Accounts, HasDrafts, HasItsBlocks, IsMade, Opened, created_of, drafts_of, numbers_differ}
-use Rattle.vol_owners.specs.Change.{ChangesOnly, IsOpenTo, MakesOrNot, Misses}
+use Rattle.vol_owners.proofs.Words.{Accounts, Allocated, BlockState, ChangesOnly, Free, Graph, HasDrafts, HasItsBlocks, Holds, Image, IntendAllocate, IntendDeallocate, IsMade, IsOpenTo, MakesOrNot, MapEntry, Misses, Object, Opened, Place, Puid, Root, and_parts, both_ways, cases_Bool, created_of, drafts_of, entry_in, false_from_ne_true, has_number, is_fixed, is_free_entry, is_had, is_leaving, is_made, is_meant, is_of, is_placed, is_root, is_root_place, is_some, is_taken, is_there, list_all, numbers_differ, object_at, owner_of, root_placed}
 use Rattle.vol_owners.proofs.Entries as entries
 use Rattle.vol_owners.proofs.Entries.{free_unplaced, had_not_meant, made_taken, of_its_owner, owner_is, root_owner, root_real}
 use Rattle.vol_owners.proofs.Kept.{blocks_kept, drafts_kept, entry_kept}

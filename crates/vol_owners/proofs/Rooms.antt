@@ -1,31 +1,11 @@
 -- Each block has one use, and so the Free blocks are all but what is fixed and what objects, drafts and strays have.
-use Rattle.std.proofs.Common.{◌≡◌, inl, ℕ, zero, suc, ◌+◌, ◌*◌, ◌/◌, ◌<◌, ◌≤◌, List, [], ◌∷◌, length, Bool, true, false, not, ◌&&◌, ◌||◌, Option, Some, None, refl, sym, ◌∙◌, ap, subst, arith, length-append}
-use Rattle.std.specs.Prelude.{◌==◌, is_some, option_to_list, IsSome}
-use Rattle.std.specs.List.{range_with_len, sum_by}
-use Rattle.std.proofs.lemmas.Bool.{and_parts, both_ways, eqb-true, eq-eqb, false_from_ne_true}
-use Rattle.std.proofs.lemmas.Bool.Decides.{nat_tests}
-use Rattle.std.proofs.lemmas.List.Sums.{sum_by-cons}
-use Rattle.cfs_base.specs.Disk.{Image}
-use Rattle.cfs_base.specs.declared.kind.Place.{Place}
-use Rattle.cyl_map.specs.declared.state.BlockState.{BlockState}
-use Rattle.cyl_map.specs.declared.state.BlockState.TheVariants.{Free, Allocated, IntendAllocate, IntendDeallocate}
-use Rattle.cyl_map.specs.declared.entry.MapEntry.{MapEntry}
-use Rattle.cyl_map.specs.Volume.{entry_in, is_free_in, is_free_entry, free_from}
-use Rattle.ufs_model.specs.Identifier.{is_among, rises}
-use Rattle.ufs_model.specs.Object.{blocks_of}
-use Rattle.ufs_model.specs.Graph.{Graph, ids_of, has_block, is_free_root}
-use Rattle.ufs_model.specs.Reach.{rooted}
-use Rattle.vol_image.specs.Part.{is_fixed}
-use Rattle.vol_image.specs.Sound.{LeavesFour, graph_blocks, rooted_part}
-use Rattle.vol_image.proofs.Parts.{in_image}
-use Rattle.vol_owners.specs.Owner.{is_had, is_meant, is_leaving, is_taken, is_placed, owner_of, is_of, is_root, is_root_place, is_made, is_stray, stray_blocks}
-use Rattle.vol_owners.specs.Account.{Accounts, IsSwept, Opened, created_of, drafts_of}
-use Rattle.vol_owners.specs.Room.{blocks_taken, draft_blocks, is_of_draft, is_of_object, one_of}
+use Rattle.std.proofs.Common.{◌≡◌, inl, ℕ, zero, suc, ◌+◌, ◌*◌, ◌/◌, ◌<◌, ◌≤◌, List, [], ◌∷◌, length, Bool, true, false, not, ◌&&◌, ◌||◌, Option, Some, None, refl, sym, ◌∙◌, ap, subst, arith, length-append, ◌==◌}
+use Rattle.vol_owners.proofs.Words.{Accounts, Allocated, BlockState, Free, Graph, Image, IntendAllocate, IntendDeallocate, IsSome, IsSwept, MapEntry, Opened, Place, and_parts, blocks_of, blocks_taken, both_ways, created_of, draft_blocks, drafts_of, entry_in, eq-eqb, eqb-true, false_from_ne_true, free_from, graph_blocks, has_block, ids_of, in_image, is_fixed, is_free_entry, is_free_in, is_free_root, is_had, is_leaving, is_made, is_meant, is_of, is_of_draft, is_of_object, is_placed, is_root, is_root_place, is_some, is_stray, is_taken, nat_tests, one_of, option_to_list, owner_of, range_with_len, rises, rooted, stray_blocks, sum_by, sum_by-cons}
 use Rattle.vol_owners.proofs.Sums.{count_in, run-suc, run_none, run_same, run_split, run_ones, run_zeros, sum_both, sum_each, sum_run}
 use Rattle.vol_owners.proofs.Differ.{count_of_these, differ_from}
 use Rattle.vol_owners.proofs.Entries.{free_unplaced, had_not_meant, made_taken, of_taken, owner_is, root_owner, root_placed, the_entry}
 use Rattle.vol_owners.proofs.Owned.{count_drafts, count_had, count_of, own_blocks}
-use Rattle.vol_owners.proofs.Keys.{drafts_sum, object_of_block, owned_sum, sum_filter, sum_objects}
+use Rattle.vol_owners.proofs.Keys.{drafts_sum, object_of_block, owned_sum, sum_objects}
 
 -- ---- fixed blocks
 
@@ -184,12 +164,6 @@ module _ (image : Image) (g : Graph) (ds : List Opened) (has : Accounts image g 
       let wide = has.holds.label.size_is in
       let fixed = ap (λ (n : ℕ). sum_run fixed_one 0 n) (sym wide) ∙ fixed_count has.holds.label.label.cylinders has.holds.label.is_label.some in
       omega (arith, all_used, objects_have, drafts_have, fixed, wide)
-
-  -- 4 Free blocks are enough for the rooted part
-  pub leaves_four : 4 ≤ free_from image 0 (length image) → LeavesFour (length image) (rooted_part g)
-  leaves_four four =
-      let part = sum_filter (λ e. blocks_of e.1) (λ e. is_among e.0 (rooted g)) g.objects in
-      omega (arith, room, part)
 
   -- ---- a Free block may become the root of a new object
 

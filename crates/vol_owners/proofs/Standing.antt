@@ -1,26 +1,7 @@
 -- The blocks that stand in a tree and pass a test, as a list of different numbers.
 use Rattle.std.proofs.Common.{◌≡◌, inl, inr, ℕ, zero, suc, ◌+◌, ◌*◌, ◌%◌, ◌<◌, ◌≤◌, List, [], ◌∷◌, ◌++◌, length, take, Bool, true, Option, Some, None, refl, sym, ◌∙◌, ap, subst, arith, length-append}
-use Rattle.std.specs.Prelude.{map, filter, is_some}
-use Rattle.std.specs.List.{sum_by, range_with_len}
-use Rattle.std.proofs.Math.Path.{fun_ext}
-use Rattle.std.proofs.lemmas.Bool.{or_cases, or_left, or_right, cases_lt}
-use Rattle.std.proofs.lemmas.Nat.{div-mul-add, mod-mul-add}
-use Rattle.std.proofs.lemmas.List.{length-map}
-use Rattle.std.proofs.lemmas.List.Sums.{sum_by-cons}
-use Rattle.cfs_base.specs.Disk.{Image}
+use Rattle.vol_owners.proofs.Words.{Held, Image, IsPath, IsTree, Level, Object, StandsIn, Tree, below_is_path, cases_lt, digits_below, div-mul-add, filter, filter-rises, fun_ext, has_number, held_at_depth, held_is, in_filter, in_map, in_numbers, is_some, length-map, length-path_to, levels_held, levels_of, levels_standing, map, mod-mul-add, numbers-rise, one_path, or_cases, or_left, or_right, passes, path_to, range_with_len, standing_at, sum_by, sum_by-cons, to_filter, to_map, to_numbers, tree_in, tree_of, width}
 use Rattle.block_tree.specs.declared.root.Root.{Root}
-use Rattle.block_tree.specs.Pointers.{Level}
-use Rattle.block_tree.specs.Tree.{levels_of, width, path_to, tree_of}
-use Rattle.ufs_model.specs.declared.object.Object.{Object}
-use Rattle.ufs_model.specs.Numbers.{has_number}
-use Rattle.vol_image.specs.Seen.{Held, Tree, tree_in}
-use Rattle.vol_image.specs.Reading.{IsTree}
-use Rattle.vol_image.specs.Count.{held_at_depth, levels_held}
-use Rattle.vol_image.proofs.Views.{held_is}
-use Rattle.vol_image.proofs.Places.{IsPath, below_is_path, one_path}
-use Rattle.vol_image.proofs.Paths.{digits_below, length-path_to}
-use Rattle.vol_image.proofs.Rising.{in_map, to_map, in_filter, to_filter, in_numbers, to_numbers, filter-rises, numbers-rise}
-use Rattle.vol_owners.specs.Account.{StandsIn, passes, standing_at, levels_standing}
 use Rattle.vol_owners.proofs.Differ.{Differ, append_differ, has-append, map_differ, rising_differ}
 
 -- ---- each path has a number at its depth

@@ -1,27 +1,6 @@
 -- Each step of the store keeps the accounts.
 use Rattle.std.proofs.Common.{◌≡◌, ◌⊎◌, inl, inr, ℕ, List, [], ◌∷◌, length, Bool, true, false, cond, not, ◌==◌, Option, Some, None, refl, sym, ◌∙◌, ap, subst}
-use Rattle.std.specs.List.{list_all}
-use Rattle.std.proofs.lemmas.Bool.{and_parts, both_ways, eqb-true, eq-eqb, false_from_ne_true, ne_eqb, not-true, or_cases, or_parts}
-use Rattle.std.proofs.lemmas.Option.{same_Some}
-use Rattle.cfs_base.specs.Disk.{Image}
-use Rattle.cfs_base.specs.declared.identifier.Puid.{Puid}
-use Rattle.cyl_map.specs.declared.state.BlockState.{BlockState}
-use Rattle.cyl_map.specs.declared.state.BlockState.TheVariants.{Free}
-use Rattle.cyl_map.specs.declared.entry.MapEntry.{MapEntry}
-use Rattle.cyl_map.specs.Volume.{entry_in}
-use Rattle.ufs_model.specs.declared.object.Object.{Object}
-use Rattle.ufs_model.specs.Identifier.{same_puid, is_among}
-use Rattle.ufs_model.specs.Graph.{Graph, object_at, has_block, is_there, with_object, without}
-use Rattle.ufs_model.specs.Numbers.{has_number}
-use Rattle.vol_image.specs.Sight.{sight}
-use Rattle.vol_image.specs.Sound.{Holds, ReadsAs}
-use Rattle.vol_image.proofs.Changes.{hold_fewer, object_put, other_is, others, same_block}
-use Rattle.vol_image.proofs.Graphs.{object_at-with_object, object_at-without, object_there}
-use Rattle.vol_image.proofs.Law.{frames_hold}
-use Rattle.vol_image.proofs.Reached.{same_puid_is, same_puid_itself}
-use Rattle.vol_owners.specs.Owner.{is_had, is_leaving, is_meant, is_taken, is_placed, is_of, owner_of, is_made, is_stray}
-use Rattle.vol_owners.specs.Account.{Accounts, HasDrafts, HasItsBlocks, Opened, created_of, drafts_of, is_meant_for, numbers_differ}
-use Rattle.vol_owners.specs.Change.{ChangesOnly, IsOpenTo, MakesOrNot, Misses, SameBut, SameOthers, Sweeps, of_draft, of_drafts, of_owner, of_owners}
+use Rattle.vol_owners.proofs.Words.{Accounts, BlockState, ChangesOnly, Free, Graph, HasDrafts, HasItsBlocks, Holds, Image, IsOpenTo, MakesOrNot, MapEntry, Misses, Object, Opened, Puid, ReadsAs, SameBut, SameOthers, Sweeps, and_parts, both_ways, created_of, drafts_of, entry_in, eq-eqb, eqb-true, false_from_ne_true, frames_hold, has_block, has_number, hold_fewer, is_among, is_had, is_leaving, is_made, is_meant, is_meant_for, is_of, is_placed, is_stray, is_taken, is_there, list_all, ne_eqb, not-true, numbers_differ, object_at, object_at-with_object, object_at-without, object_put, object_there, of_draft, of_drafts, of_owner, of_owners, or_cases, or_parts, other_is, others, owner_of, same_Some, same_block, same_puid, same_puid_is, same_puid_itself, sight, with_object, without}
 use Rattle.vol_owners.proofs.Entries.{free_unowned, made_not_free, owner_is}
 use Rattle.vol_owners.proofs.Keys.{block_there}
 use Rattle.vol_owners.proofs.Kept.{blocks_kept, entry_kept, frames_others}

@@ -1,13 +1,6 @@
 -- Blocks of objects that are gone.
-use Rattle.std.proofs.Common.{◌≡◌, inl, inr, ℕ, ◌+◌, ◌≤◌, length, Bool, true, false, not, ◌&&◌, Option, refl, ap, subst, arith}
-use Rattle.std.proofs.lemmas.Bool.{and_parts, and_from, both_ways, false_from_ne_true, not-true, not_from_false}
-use Rattle.cfs_base.specs.Disk.{Image}
-use Rattle.cyl_map.specs.declared.entry.MapEntry.{MapEntry}
-use Rattle.cyl_map.specs.Volume.{entry_in}
-use Rattle.ufs_model.specs.Graph.{Graph, has_block}
-use Rattle.vol_owners.specs.Owner.{is_taken, is_placed, owner_of, is_made, is_stray, stray_blocks}
-use Rattle.vol_owners.specs.Account.{IsSwept}
-use Rattle.vol_owners.specs.Change.{ChangesOnly, IsOfThese}
+use Rattle.std.proofs.Common.{◌≡◌, inl, inr, ℕ, ◌≤◌, length, Bool, true, false, not, ◌&&◌, Option, refl, ap, subst, arith}
+use Rattle.vol_owners.proofs.Words.{ChangesOnly, Graph, Image, IsOfThese, IsSwept, MapEntry, and_from, and_parts, both_ways, entry_in, false_from_ne_true, has_block, is_made, is_placed, is_stray, is_taken, not-true, not_from_false, owner_of, stray_blocks}
 use Rattle.vol_owners.proofs.Entries.{free_unplaced}
 use Rattle.vol_owners.proofs.Sums.{ones_le}
 

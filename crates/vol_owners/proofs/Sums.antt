@@ -1,8 +1,6 @@
 -- Sums over lists and runs of numbers, and how many numbers of a run pass a test.
 use Rattle.std.proofs.Common.{◌≡◌, ℕ, zero, suc, ◌+◌, ◌<◌, ◌≤◌, List, [], ◌∷◌, Bool, true, false, count_by, refl, ap, arith}
-use Rattle.std.specs.List.{range_with_len, sum_by}
-use Rattle.std.proofs.lemmas.List.Sums.{sum_by-cons}
-use Rattle.vol_owners.specs.Room.{one_of}
+use Rattle.vol_owners.proofs.Words.{one_of, range_with_len, sum_by, sum_by-cons}
 
 pub sum_both : {X : Type 0} (f k : X → ℕ) (xs : List X) → sum_by (λ x. f x + k x) xs ≡ sum_by f xs + sum_by k xs
 sum_both f k [] = refl

@@ -1,12 +1,13 @@
 -- Each block of an image has one use, and its entry says which: Free, fixed, of the tree of one object, of one draft,
 -- or of an object that is gone.
-use Rattle.std.specs.Prelude.{◌≡◌, ◌⊎◌, ℕ, zero, suc, Bool, true, false, not, ◌&&◌, ◌==◌, List, [], ◌∷◌, ◌++◌, length, take, get_or, filter, Option, Some, None, option_to_list}
+use Rattle.std.specs.Prelude.{◌≡◌, ◌⊎◌, ℕ, zero, suc, Bool, true, false, not, ◌&&◌, List, [], ◌∷◌, ◌++◌, length}
+use Rattle.std.specs.Prelude.{take, get_or, filter, Option, Some, None, option_to_list}
 use Rattle.std.specs.List.{list_all, range_with_len}
 use Rattle.cfs_base.specs.Disk.{Image, block_at}
 use Rattle.cfs_base.specs.declared.identifier.Puid.{Puid}
 use Rattle.block_tree.specs.declared.root.Root as roots
 use Rattle.block_tree.specs.Root.{IsRootBlock, root_spelling}
-use Rattle.block_tree.specs.Tree.{levels_of, width, path_to, tree_of}
+use Rattle.block_tree.specs.Tree.{levels_of, width, path_to}
 use Rattle.cyl_map.specs.declared.entry.MapEntry.{MapEntry}
 use Rattle.cyl_map.specs.Volume.{entry_in}
 use Rattle.ufs_model.specs.declared.object.Draft.{Draft}
@@ -19,7 +20,8 @@ use Rattle.vol_image.specs.Seen.{Held, Tree, tree_in}
 use Rattle.vol_image.specs.Reading.{IsTree}
 use Rattle.vol_image.specs.Frame.{IsBlockOf}
 use Rattle.vol_image.specs.Sound.{Holds}
-use Rattle.vol_owners.specs.Owner.{is_had, is_meant, is_leaving, is_taken, is_placed, owner_of, is_of, is_root, is_made, is_stray}
+use Rattle.vol_owners.specs.Owner.{is_had, is_meant, is_leaving, is_taken, is_placed, owner_of, is_of, is_root, is_made}
+use Rattle.vol_owners.specs.Owner.{is_stray}
 
 -- ---- an object
 
@@ -82,7 +84,8 @@ pub record HasDraft (image : Image) (id : Puid) (d : Opened) : Type 0 where
   pub tree : IsTree (length image) id.block (tree_in image (content_of d)) d.root d.draft.object
   pub shadow : (s : ℕ) → d.shadow ≡ Some s → stands_for id.block (entry_in image s) ≡ true
   pub fresh : (k : ℕ) → get_or d.draft.fresh k []
-      ≡ get_or (levels_standing (is_meant_for image id.block) (tree_in image (content_of d)) (length (levels_of (content_of d)))) k []
+      ≡ get_or (levels_standing (is_meant_for image id.block) (tree_in image (content_of d))
+      (length (levels_of (content_of d)))) k []
   pub no_other : (n : ℕ) → is_meant_for image id.block n ≡ true
       → (d.shadow ≡ Some n) ⊎ StandsIn (tree_in image (content_of d)) n
 
@@ -95,17 +98,6 @@ abbrev pub HasDrafts : Image → Puid → List Opened → Type 0
 HasDrafts image id [] = (n : ℕ) → is_meant_for image id.block n ≡ false
 HasDrafts image id (d ∷ []) = HasDraft image id d
 HasDrafts image id (d ∷ e ∷ more) = ⊥
-
--- ---- fresh blocks, told by comparing pointers
-
--- at the end of this path a root of content `new` leads to a block, and one of content `own` to another or to none
-abbrev pub differs_at : Image → (own new : List ℕ) → List ℕ → Bool
-differs_at image own new path =
-    not (tree_of image new path == 0) && not (tree_of image own path == tree_of image new path)
-
--- the numbers of those that are so many levels below the root
-abbrev pub differing_at : Image → (own new : List ℕ) → ℕ → List ℕ
-differing_at image own new d = numbers_at (differs_at image own new) new d
 
 -- ---- objects that drafts make
 

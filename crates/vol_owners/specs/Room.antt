@@ -7,7 +7,8 @@ use Rattle.vol_image.specs.Sound.{graph_blocks}
 use Rattle.vol_owners.specs.Owner.{is_had, is_meant, is_placed, owner_of, is_made}
 use Rattle.vol_owners.specs.Account.{Opened}
 
--- the blocks of a draft: its shadow root if it has one, what is fresh by the model, and the root of the object that it makes
+-- the blocks of a draft: its shadow root if it has one, what is fresh by the model, and the root of the object that it
+-- makes
 abbrev pub draft_blocks : Opened → ℕ
 draft_blocks d = length (option_to_list d.shadow) + sum_by length d.draft.fresh + length (option_to_list d.created)
 

@@ -1,8 +1,5 @@
 use Rattle.std.proofs.Common.{◌≡◌, ◌∙◌, ◌/◌, ◌%◌, ◌<◌, ◌^◌, ℕ, [], ◌∷◌, IfOk, get_or, ap, sym, subst, arith}
-use Rattle.std.proofs.lemmas.Result.{on_ok_weaker}
-use Rattle.block_tree.specs.Pointers.{leaf_pointers, node_pointers}
-use Rattle.block_tree.specs.Root.{root_spelling}
-use Rattle.block_tree.specs.Tree.{end_of, leaf_block, pointer, PastAbove}
+use Rattle.block_tree.proofs.Words.{PastAbove, end_of, leaf_block, leaf_pointers, node_pointers, on_ok_weaker, pointer, root_spelling}
 use Rattle.block_tree.proofs.Trees.{node_is, leaf_is, is_past, none_past}
 use Rattle.block_tree.proofs.Faults.{refused_as}
 use Rattle.block_tree.proofs.leaf.leaf_at.Goals as goal

@@ -1,6 +1,5 @@
 use Rattle.std.proofs.Common.{◌∙◌, sym, arith}
-use Rattle.std.proofs.lemmas.Result.{on_ok_weaker}
-use Rattle.block_tree.specs.Root.{root_spelling}
+use Rattle.block_tree.proofs.Words.{on_ok_weaker, root_spelling}
 use Rattle.block_tree.proofs.Trees.{leaf_absent, none_past_on}
 use Rattle.block_tree.proofs.leaf.read_leaf.Goals as goal
 

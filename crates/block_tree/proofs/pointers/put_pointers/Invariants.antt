@@ -1,5 +1,5 @@
 use Rattle.std.proofs.Common.{◌≡◌, ◌+◌, ◌*◌, ◌++◌, take, drop}
-use Rattle.block_tree.specs.Pointers.{numbers_spelling}
+use Rattle.block_tree.proofs.Words.{numbers_spelling}
 use Rattle.block_tree.proofs.pointers.put_pointers.Given as goal
 
 abbrev pub invariant-loop-i : goal.invariant-loop-i

@@ -1,7 +1,5 @@
 use Rattle.std.proofs.Common.{◌∙◌, ◌+◌, ◌<◌, ◌^◌, ap, sym, arith, length, ℕ, zero-add}
-use Rattle.std.proofs.lemmas.List.Elements.{All-from_get_or}
-use Rattle.std.proofs.lemmas.List.FromFn.{fill_by_all}
-use Rattle.block_tree.specs.Pointers.{number_at, numbers_spelling}
+use Rattle.block_tree.proofs.Words.{All-from_get_or, fill_by_all, number_at, numbers_spelling}
 use Rattle.block_tree.proofs.Numbers.{numbers_again}
 use Rattle.block_tree.proofs.pointers.read_pointers.Goals as goal
 

@@ -1,5 +1,5 @@
 use Rattle.std.proofs.Common.{◌≡◌, ◌<◌, ◌^◌, ℕ, get_or}
-use Rattle.block_tree.specs.Pointers.{number_at}
+use Rattle.block_tree.proofs.Words.{number_at}
 use Rattle.block_tree.proofs.pointers.read_pointers.Given as goal
 
 abbrev pub invariant-loop-i : goal.invariant-loop-i

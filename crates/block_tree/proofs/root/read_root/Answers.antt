@@ -1,9 +1,5 @@
 use Rattle.std.proofs.Common.{◌≡◌, ◌∙◌, ◌+◌, ℕ, List, length, take, drop, replicate, get_or, ap, sym, subst, arith, length-drop}
-use Rattle.std.specs.Int.{w64, to_be_bytes}
-use Rattle.std.proofs.lemmas.List.{length-take, take_all}
-use Rattle.block_tree.specs.declared.root.Root.{Root}
-use Rattle.block_tree.specs.Prefix.{IsFirstBad}
-use Rattle.block_tree.specs.Root.{IsSize, IsFirstBadByte, IsRootBlock}
+use Rattle.block_tree.proofs.Words.{IsFirstBad, IsFirstBadByte, IsRootBlock, IsSize, Root, length-take, take_all, to_be_bytes, w64}
 use Rattle.block_tree.proofs.Fields.{begins, begins_eight, begins_sixteen, kind_bad, fill_bad, gap_bad, size_bad, tail_bad, root_block}
 use Rattle.block_tree.proofs.root.read_root.Goals as goal
 

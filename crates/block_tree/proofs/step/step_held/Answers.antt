@@ -1,18 +1,5 @@
-use Rattle.std.proofs.Common.{◌≡◌, ◌+◌, ◌*◌, ◌/◌, ◌%◌, ℕ, get_or, subst, arith, inl, inr}
-use Rattle.std.specs.Prelude.{Option, Some, Result, Ok, Err, IfOk, IfErr, IfSome}
-use Rattle.std.proofs.lemmas.Bool.{cases_lt}
-use Rattle.std.proofs.lemmas.Result.{err_from_is_err_and, IfOk-weaker}
-use Rattle.cfs_base.specs.Disk.{Image, block_at}
-use Rattle.cfs_base.proofs.Calls.{tells_on}
-use Rattle.block_tree.specs.declared.step.HeldStep.{HeldStep}
-use Rattle.block_tree.specs.Pointers.{pointers_of, leaf_pointers}
-use Rattle.cfs_base.specs.Calls.{OnlyReads}
-use Rattle.cfs_base.specs.declared.disk.Disk.{Ghosts}
-use Rattle.block_tree.specs.declared.fault.TreeFault.{TreeFault}
-use Rattle.block_tree.specs.Reads.{IsFault, IsPast}
-use Rattle.block_tree.specs.Root.{root_spelling}
-use Rattle.block_tree.specs.Tree.{leaf_block}
-use Rattle.block_tree.specs.Step.{IsPastFrom, IsStepIn, IsStepped}
+use Rattle.std.proofs.Common.{◌≡◌, ◌+◌, ◌*◌, ◌/◌, ◌%◌, ℕ, get_or, subst, arith, inl, inr, Option, Some, IfOk}
+use Rattle.block_tree.proofs.Words.{Err, Ghosts, HeldStep, IfErr, IfOk-weaker, IfSome, Image, IsFault, IsPast, IsPastFrom, IsStepIn, IsStepped, Ok, OnlyReads, Result, TreeFault, block_at, cases_lt, err_from_is_err_and, leaf_block, leaf_pointers, pointers_of, root_spelling, tells_on}
 use Rattle.block_tree.proofs.Faults.{fault_after, refused_as}
 use Rattle.block_tree.proofs.Steps.{none_from, none_of_first, none_first, second_step, begins_on, past_first, past_at, step_is, leaf_there, some_there}
 use Rattle.block_tree.proofs.step.step_held.Goals as goal

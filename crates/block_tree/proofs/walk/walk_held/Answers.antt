@@ -1,17 +1,6 @@
-use Rattle.std.proofs.Common.{◌≡◌, ◌∙◌, ◌+◌, ◌*◌, ◌-◌, ◌/◌, ◌%◌, ◌<◌, ◌≤◌, ℕ, [], ◌∷◌, get_or, sym, subst, arith, inl, inr}
-use Rattle.std.specs.Prelude.{Option, Some, None, IfSome}
-use Rattle.std.proofs.lemmas.Bool.{cases_lt, cases_eq}
-use Rattle.std.proofs.lemmas.Result.{err_from_is_err_and}
-use Rattle.cfs_base.specs.Disk.{Image}
-use Rattle.cfs_base.specs.Run.{Tells}
-use Rattle.block_tree.specs.declared.walk.HeldLeaf.{HeldLeaf}
-use Rattle.block_tree.specs.Pointers.{leaf_pointers, node_pointers}
-use Rattle.block_tree.specs.Reads.{IsPast}
-use Rattle.block_tree.specs.Root.{root_spelling}
-use Rattle.block_tree.specs.Tree.{end_of, pointer}
-use Rattle.block_tree.specs.Walk.{IsFirstPast, IsFirstOf, IsLaterIn}
+use Rattle.std.proofs.Common.{◌≡◌, ◌∙◌, ◌+◌, ◌*◌, ◌-◌, ◌/◌, ◌%◌, ◌<◌, ◌≤◌, ℕ, [], ◌∷◌, get_or, sym, subst, arith, inl, inr, Option, Some, None}
+use Rattle.block_tree.proofs.Words.{HeldLeaf, IfSome, Image, IsFirstOf, IsFirstPast, IsLaterIn, IsPast, Tells, cases_eq, cases_lt, end_of, err_from_is_err_and, leaf_pointers, node_pointers, pointer, reads_then, reads_within, root_spelling, tells_on}
 use Rattle.block_tree.proofs.Trees.{node_is}
-use Rattle.cfs_base.proofs.Calls.{tells_on, reads_then, reads_within}
 use Rattle.block_tree.proofs.Faults.{fault_after}
 use Rattle.block_tree.proofs.Walks.{count_is, quiet_join, quiet_part, found_here, past_here, leads_on}
 use Rattle.block_tree.proofs.walk.walk_held.Goals as goal

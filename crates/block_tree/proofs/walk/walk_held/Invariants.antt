@@ -1,8 +1,5 @@
 use Rattle.std.proofs.Common.{◌≡◌, ◌+◌, ◌-◌, ◌/◌, ◌%◌, ◌<◌, ◌≤◌, min}
-use Rattle.cfs_base.specs.Run.{Tells}
-use Rattle.cfs_base.specs.Calls.{OnlyReads}
-use Rattle.block_tree.specs.Root.{root_spelling}
-use Rattle.block_tree.specs.Tree.{AreQuiet, HasNoDeadEnd}
+use Rattle.block_tree.proofs.Words.{AreQuiet, HasNoDeadEnd, OnlyReads, Tells, root_spelling}
 use Rattle.block_tree.proofs.walk.walk_held.Given as goal
 
 abbrev pub invariant-loop-node : goal.invariant-loop-node

@@ -1,7 +1,5 @@
 use Rattle.std.proofs.Common.{◌≡◌, [], Err, refl, sym, subst, arith}
-use Rattle.std.proofs.lemmas.Bool.{both_ways}
-use Rattle.cfs_base.specs.Refusals.{refused_by}
-use Rattle.collector_steps.specs.Collecting.{colours_in, waiting_in}
+use Rattle.cfs_core.proofs.Words.{both_ways, colours_in, refused_by, waiting_in}
 use Rattle.cfs_core.specs.declared.collecting.Step.TheVariants as steps
 use Rattle.cfs_core.specs.Collect.{StepsSo}
 use Rattle.cfs_core.proofs.Answering.{reads_none}
@@ -11,16 +9,17 @@ use Rattle.cfs_core.proofs.collecting.mark.Goals as goal
 pub returns-then-has_rescue : goal.returns-then-has_rescue
 returns-then-has_rescue g c = λ kept.
     let d = c.args.disk.now in
-    steps_read g.D.Disk d kept c.args.names.now c.args.collector.now c.take.new.self c.take.ensures.volume 0 d (reads_none g.D.Disk 0 d) (omega arith) c.requires.marks c.take.ensures.phase steps.Took refl
-    (c.requires.marks, c.has_rescue.ensures.0 c.if-has_rescue.true) (c.take.ensures.steps, c.take.ensures.added)
-    (λ s ds serves col. c.take.ensures.keeps s (g.D.Disk.content d) serves.state serves.named col)
+    steps_read g.D.Disk d kept c.args.names.now c.args.collector.now c.take.new.self c.take.ensures.volume 0 d (reads_none g.D.Disk 0 d) (omega arith) c.requires.marks c.take.ensures.phase
+    (λ s ds serves col. c.take.ensures.keeps s (g.D.Disk.content d) serves.state serves.named col) steps.Took
+    (λ core moves. record { moves = moves; due = (c.requires.marks, c.has_rescue.ensures.0 c.if-has_rescue.true); counted = (c.take.ensures.steps, c.take.ensures.added, refl); over = λ s serves. tt })
 
 pub returns-in-Ok : goal.returns-in-Ok
 returns-in-Ok g c = λ kept.
     let k = c.args.collector.now in
     let taken : waiting_in k ≡ [] = none_left (waiting_in k) (λ some. both_ways _ c.if-has_rescue.false (c.has_rescue.ensures.1 some)) in
-    steps_read g.D.Disk c.args.disk.now kept c.args.names.now k c.scan.new.self c.scan.ensures.volume 4 c.scan.new.disk c.scan.ensures.reads (omega arith) c.requires.marks c.scan.ensures.phase steps.Scanned refl
-    (c.requires.marks, taken, c.has_grey.ensures.0 c.if-has_grey.true) (c.in-Ok.ensures.steps, c.scan.ensures.added) (λ s ds serves col. c.in-Ok.ensures.keeps s ds serves col)
+    steps_read g.D.Disk c.args.disk.now kept c.args.names.now k c.scan.new.self c.scan.ensures.volume 4 c.scan.new.disk c.scan.ensures.reads (omega arith) c.requires.marks c.scan.ensures.phase
+    (λ s ds serves col. c.in-Ok.ensures.keeps s ds serves col) steps.Scanned
+    (λ core moves. record { moves = moves; due = (c.requires.marks, taken, c.has_grey.ensures.0 c.if-has_grey.true); counted = (c.in-Ok.ensures.steps, c.scan.ensures.added, refl); over = λ s serves. tt })
 
 pub returns-in-Err : goal.returns-in-Err
 returns-in-Err g c = λ kept.

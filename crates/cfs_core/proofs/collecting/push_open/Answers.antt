@@ -1,8 +1,5 @@
-use Rattle.std.proofs.Common.{◌≡◌, ℕ, ◌+◌, ◌++◌, List, ◌∷◌, [], Some, length, map, take, ◌∙◌, ap, arith}
-use Rattle.std.specs.Prelude.{slice_get}
-use Rattle.std.proofs.lemmas.Grind.{common_steps}
-use Rattle.std.proofs.lemmas.List.{append_assoc, map-append, take_all, take_more}
-use Rattle.std.proofs.lemmas.Option.{get_or_from_slice_get, slice_get_within}
+use Rattle.std.proofs.Common.{◌≡◌, ℕ, ◌+◌, ◌++◌, List, ◌∷◌, [], Some, length, map, take, ◌∙◌, ap, arith, slice_get}
+use Rattle.cfs_core.proofs.Words.{append_assoc, common_steps, get_or_from_slice_get, map-append, slice_get_within, take_all, take_more}
 use Rattle.open_table.specs.declared.grant.Grant.{Grant}
 use Rattle.cfs_core.proofs.collecting.push_open.Goals as goal
 

@@ -1,6 +1,6 @@
 use Rattle.std.proofs.Common.{sym, ◌∙◌, ap, subst}
 use Rattle.collector_marks.specs.Kept.{blocks_of}
-use Rattle.collector_steps.specs.Swept.{IsPhaseOf}
+use Rattle.cfs_core.proofs.Words.{IsPhaseOf}
 use Rattle.collector_steps.specs.declared.sweep.Pass.TheVariants as passes
 use Rattle.cfs_core.proofs.Stepping.{steps_swept}
 use Rattle.cfs_core.proofs.collecting.sweep.Goals as goal

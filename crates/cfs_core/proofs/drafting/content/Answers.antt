@@ -1,10 +1,7 @@
-use Rattle.std.proofs.Common.{◌≡◌, ℕ, ◌+◌, ◌++◌, take, drop, length, true, false, refl, sym, ◌∙◌, ap, subst}
-use Rattle.std.specs.Prelude.{slice_range}
-use Rattle.std.proofs.Math.Seq.{take-append_seam}
-use Rattle.ufs_model.specs.Refusal.{is_range}
+use Rattle.std.proofs.Common.{◌≡◌, ℕ, ◌+◌, ◌++◌, take, drop, length, true, false, refl, sym, ◌∙◌, ap, subst, slice_range}
+use Rattle.cfs_core.proofs.Words.{is_damaged, is_range, take-append_seam}
 use Rattle.ufs_model.specs.declared.asked.Reply.TheVariants as replies
 use Rattle.cfs_core.specs.Looks.{IsCalmCause}
-use Rattle.special_files.specs.Refusal.{is_damaged}
 use Rattle.cfs_core.proofs.Rewritten.{calm_trouble, sound_trouble}
 use Rattle.cfs_core.proofs.drafting.content.Goals as goal
 

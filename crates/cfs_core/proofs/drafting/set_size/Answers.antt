@@ -6,12 +6,14 @@ pub returns : goal.returns
 returns g c =
     let stays = resized_stays c.args.size c.args.draft.now c.resize.new.self c.resize.result c.resize.ensures.stays in
     record {
-      done = λ graph ds id d knows. c.resize.ensures.resized graph ds id knows.object d knows.file knows.store knows.there knows.is_open knows.is_file;
-      room = λ graph ds id d knows. c.resize.ensures.room graph ds id knows.object d knows.file knows.store knows.there knows.is_open knows.is_file;
-      leaves = λ graph ds id d knows. c.resize.ensures.leaves graph ds id knows.object d knows.store knows.there knows.is_open;
-      full = λ graph ds id d knows. c.resize.ensures.full graph ds id knows.object d knows.file knows.store knows.there knows.is_open knows.is_file;
-      sound = λ graph ds id d knows. c.resize.ensures.sound graph ds id knows.object d knows.store knows.there knows.is_open;
-      spared = λ graph ds id d knows. spared_one g.D.Disk 0 0 0 0 c.args.disk.now c.resize.new.disk c.args.space.now c.resize.new.space c.args.draft.now c.resize.new.self c.resize.result c.resize.ensures.spared;
+      alters = λ graph ds id d knows. record {
+        done = c.resize.ensures.resized graph ds id knows.object d knows.file knows.store knows.there knows.is_open knows.is_file;
+        room = c.resize.ensures.room graph ds id knows.object d knows.file knows.store knows.there knows.is_open knows.is_file;
+        leaves = c.resize.ensures.leaves graph ds id knows.object d knows.store knows.there knows.is_open;
+        full = c.resize.ensures.full graph ds id knows.object d knows.file knows.store knows.there knows.is_open knows.is_file;
+        sound = c.resize.ensures.sound graph ds id knows.object d knows.store knows.there knows.is_open;
+        spared = spared_one g.D.Disk 0 0 0 0 c.args.disk.now c.resize.new.disk c.args.space.now c.resize.new.space c.args.draft.now c.resize.new.self c.resize.result c.resize.ensures.spared;
+      };
       untried = untried_so g.D.Disk c.args.draft.now.at _ _ _ c.args.disk.now c.resize.new.disk c.args.space.now c.resize.new.space c.args.draft.now c.resize.new.self c.resize.result (omega arith) c.resize.ensures.ends c.resize.ensures.kept;
       refused = c.resize.ensures.ends.refused;
       at = stays.0;

@@ -1,5 +1,4 @@
-use Rattle.std.proofs.Common.{ℕ, ap}
-use Rattle.std.specs.Prelude.{nat_lt}
+use Rattle.std.proofs.Common.{ℕ, ap, nat_lt}
 use Rattle.cfs_core.proofs.looking.has_slot.Goals as goal
 
 pub returns-in-Ok-clause-exact : goal.returns-in-Ok-clause-exact

@@ -1,11 +1,6 @@
-use Rattle.std.proofs.Common.{◌≡◌, ◌<◌, ◌≤◌, ℕ, true, false, Option, Some, None, length, refl, sym, ◌∙◌, ap, arith}
-use Rattle.std.specs.Prelude.{nat_le}
-use Rattle.std.proofs.lemmas.Bool.Decides.{nat_tests}
-use Rattle.cfs_base.specs.declared.identifier.Puid.{Puid}
+use Rattle.std.proofs.Common.{◌≡◌, ◌<◌, ◌≤◌, ℕ, true, false, Option, Some, None, length, refl, sym, ◌∙◌, ap, arith, nat_le}
+use Rattle.cfs_core.proofs.Words.{Index, nat_tests, Puid, slot_of, slot_reply}
 use Rattle.ufs_model.specs.declared.asked.Reply.TheVariants as replies
-use Rattle.ufs_model.specs.declared.object.Index.{Index}
-use Rattle.ufs_model.specs.Object.{slot_of}
-use Rattle.ufs_model.specs.Outcome.{slot_reply}
 use Rattle.cfs_core.specs.Calls.{looked}
 use Rattle.cfs_core.proofs.looking.look.Goals as goal
 

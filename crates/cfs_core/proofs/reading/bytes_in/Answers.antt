@@ -1,9 +1,7 @@
 use Rattle.std.proofs.Common.{◌≡◌, false, Err, refl, sym, subst, arith}
-use Rattle.cfs_base.specs.Refusals.{had_tried, refused_by, trouble_had_tried}
-use Rattle.cfs_base.specs.declared.refusal.Trouble.{Trouble}
+use Rattle.cfs_core.proofs.Words.{had_tried, is_damaged, refused_by, Trouble, trouble_had_tried}
 use Rattle.cfs_base.specs.declared.refusal.Trouble.TheVariants as trouble
 use Rattle.normal_files.specs.Refusal.{is_damage}
-use Rattle.special_files.specs.Refusal.{is_damaged}
 use Rattle.ufs_model.specs.declared.object.Object.TheVariants as objects
 use Rattle.cfs_core.specs.Looks.{IsCalm}
 use Rattle.cfs_core.proofs.Answering.{reads_none}

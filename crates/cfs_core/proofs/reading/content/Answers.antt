@@ -1,6 +1,5 @@
 use Rattle.std.proofs.Common.{◌≡◌, ℕ, ◌+◌, length, true, refl, sym, ◌∙◌, ap, arith}
-use Rattle.normal_files.specs.Touched.{leaves_touched, nodes_touched}
-use Rattle.ufs_model.specs.Refusal.{is_range}
+use Rattle.cfs_core.proofs.Words.{is_range, leaves_touched, nodes_touched}
 use Rattle.ufs_model.specs.declared.asked.Reply.TheVariants as replies
 use Rattle.ufs_model.specs.declared.object.Object.TheVariants as objects
 use Rattle.cfs_core.proofs.Calm.{calm_after, knows_on, range_parts}

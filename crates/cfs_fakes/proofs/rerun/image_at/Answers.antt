@@ -2,9 +2,10 @@ use Rattle.std.proofs.Common.{List, take, get_or, sym, subst, ap, arith}
 use Rattle.std.proofs.lemmas.List.{take_all}
 use Rattle.cfs_fakes.specs.declared.kept.Kept.{Kept}
 use Rattle.cfs_fakes.specs.Picks.{choice_of}
-use Rattle.cfs_fakes.specs.Replay.{State, zeros, replay, IsChoice}
+use Rattle.cfs_fakes.specs.Replay.{State, zeros, made, made_at, replay, IsChoice}
 use Rattle.cfs_fakes.specs.Rerun.{Follows}
-use Rattle.cfs_fakes.proofs.Replays.{replay_take, same_choice}
+use Rattle.cfs_base.proofs.Replays.{replay_take}
+use Rattle.cfs_fakes.proofs.Images.{same_choice}
 use Rattle.cfs_fakes.proofs.rerun.image_at.Goals as goal
 
 pub loop-kept-preserved : goal.loop-kept-preserved
@@ -12,7 +13,7 @@ loop-kept-preserved c =
     let i = c.loop-kept.invariant in
     let start = zeros c.args.blocks in
     let calls = c.args.calls.now in
-    let at = replay_take start c.args.at calls c.loop-kept.kept-index c.kept-item.result c.loop-kept-test.true c.kept-item.is in
+    let at = replay_take made_at made start c.args.at calls c.loop-kept.kept-index c.kept-item.result c.loop-kept-test.true c.kept-item.is in
     record {
       follows = subst (λ (s : State). Follows c.make_before.new.self s) (sym at) (c.make_before.ensures.follows (replay start c.args.at (take c.loop-kept.kept-index calls)) i.follows);
       wanted = rw c.make_before.ensures.wanted i.wanted;

@@ -1,4 +1,4 @@
-use Rattle.std.proofs.Common.{◌≡◌, ℕ, ◌<◌, ◌≤◌, ◌+◌}
+use Rattle.std.proofs.Common.{◌≡◌, ◌+◌}
 use Rattle.cfs_floor.proofs.workers.run_share.Given as goal
 
 abbrev pub invariant-loop-share : goal.invariant-loop-share

@@ -1,4 +1,4 @@
-use Rattle.std.proofs.Common.{◌≡◌, ℕ}
+use Rattle.std.proofs.Common.{◌≡◌}
 use Rattle.cfs_floor.specs.Shares.{shares_from}
 use Rattle.cfs_floor.proofs.workers.shares_of.Given as goal
 

@@ -1,6 +1,5 @@
 use Rattle.std.proofs.Common.{refl}
-use Rattle.cfs_recover.specs.Grounds.{IsOpenFault}
-use Rattle.cfs_recover.specs.Stored.{Stores}
+use Rattle.cfs_recover.proofs.Words.{IsOpenFault, Stores}
 use Rattle.cfs_recover.proofs.Refused.{if_err, sound_refused}
 use Rattle.cfs_recover.proofs.check.check_volume.Goals as goal
 

@@ -1,5 +1,5 @@
-use Rattle.std.proofs.Common.{◌≡◌, ◌≢◌, inl, inr, ◌<◌, ◌≤◌, ◌++◌, ◌∙◌, sym, refl, ℕ, length, get_or, arith}
-use Rattle.std.proofs.lemmas.Bool.{cases_eq}
+use Rattle.std.proofs.Common.{inl, inr, ◌<◌, ◌≤◌, ◌∙◌, sym, refl, length, get_or, arith}
+use Rattle.cfs_recover.proofs.Words.{cases_eq}
 use Rattle.cfs_recover.proofs.Pieces.{first_none, first_some, head_fill, head_is, head_rest, head_size, node_fits, none_is, read_all, read_begin, read_one, read_skip, some_is}
 use Rattle.cfs_recover.proofs.copies.first_root.Goals as goal
 

@@ -1,7 +1,5 @@
 use Rattle.std.proofs.Common.{◌≡◌, ◌++◌, List}
-use Rattle.block_tree.specs.declared.root.Root.{Root}
-use Rattle.block_tree.specs.Root.{IsGoodRoot}
-use Rattle.cfs_recover.specs.Copies.{BeginsAnew, Piece, pieces_of}
+use Rattle.cfs_recover.proofs.Words.{BeginsAnew, IsGoodRoot, Piece, Root, pieces_of}
 use Rattle.cfs_recover.proofs.Pieces.{AreReadTo}
 use Rattle.cfs_recover.proofs.copies.first_root.Given as goal
 

@@ -1,5 +1,5 @@
 use Rattle.std.proofs.Common.{◌<◌, ◌≤◌, ◌++◌, ◌∷◌, [], ◌∙◌, ap, ℕ, List, length, arith}
-use Rattle.cfs_recover.specs.Copies.{pieces_of}
+use Rattle.cfs_recover.proofs.Words.{pieces_of}
 use Rattle.cfs_recover.proofs.Pieces.{kept_all, kept_begin, kept_push, kept_skip}
 use Rattle.cfs_recover.proofs.copies.keep_root.Goals as goal
 

@@ -1,5 +1,5 @@
 use Rattle.std.proofs.Common.{◌≡◌, ◌++◌, drop}
-use Rattle.cfs_recover.specs.Copies.{node_pieces, pieces_of}
+use Rattle.cfs_recover.proofs.Words.{node_pieces, pieces_of}
 use Rattle.cfs_recover.proofs.copies.keep_root.Given as goal
 
 abbrev pub invariant-loop-number : goal.invariant-loop-number

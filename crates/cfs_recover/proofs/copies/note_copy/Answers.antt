@@ -1,5 +1,5 @@
 use Rattle.std.proofs.Common.{◌∙◌, ap, sym}
-use Rattle.vol_image.specs.Sight.{source}
+use Rattle.cfs_recover.proofs.Words.{source}
 use Rattle.cfs_recover.proofs.Copyings.{kept_more, kept_same}
 use Rattle.cfs_recover.proofs.copies.note_copy.Goals as goal
 

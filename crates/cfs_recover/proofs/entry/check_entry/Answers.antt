@@ -1,5 +1,5 @@
 use Rattle.std.proofs.Common.{rules}
-use Rattle.cfs_recover.specs.Entries.{EntryFault}
+use Rattle.cfs_recover.proofs.Words.{EntryFault}
 use Rattle.cfs_recover.proofs.entry.check_entry.Goals as goal
 
 pub returns-then-entry-block : goal.returns-then-entry-block

@@ -1,6 +1,5 @@
 use Rattle.std.proofs.Common.{refl, sym, ◌∙◌, ap, rules}
-use Rattle.block_tree.specs.declared.root.Root.{Root}
-use Rattle.vol_image.proofs.Unique.{one_root_block}
+use Rattle.cfs_recover.proofs.Words.{Root, one_root_block}
 use Rattle.cfs_recover.proofs.head.check_shadow.Goals as goal
 use Rattle.cfs_recover.proofs.head.check_shadow.Goals.{then-ne-via-then-ne, then-ne-via-else-ne+then-root-own}
 

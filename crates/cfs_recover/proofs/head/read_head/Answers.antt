@@ -1,5 +1,5 @@
 use Rattle.std.proofs.Common.{◌<◌, sym, subst, arith, length, List}
-use Rattle.cfs_recover.specs.Checks.{HeadFault, HasNoneLike, IsLike}
+use Rattle.cfs_recover.proofs.Words.{HasNoneLike, HeadFault, IsLike}
 use Rattle.cfs_recover.proofs.Refused.{told_err}
 use Rattle.cfs_recover.proofs.Heads.{no_bit, stands_as, head_own, head_shadow, none_like}
 use Rattle.cfs_recover.proofs.head.read_head.Goals as goal

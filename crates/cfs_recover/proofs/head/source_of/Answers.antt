@@ -1,5 +1,5 @@
-use Rattle.std.proofs.Common.{◌<◌, ◌≡◌, ◌*◌, ap, sym, length, arith}
-use Rattle.vol_image.specs.Sight.{first_or}
+use Rattle.std.proofs.Common.{◌<◌, ap, sym, length, arith}
+use Rattle.cfs_recover.proofs.Words.{first_or}
 use Rattle.cfs_recover.proofs.Heads.{no_bit, stands_as}
 use Rattle.cfs_recover.proofs.head.source_of.Goals as goal
 

@@ -1,7 +1,5 @@
 use Rattle.std.proofs.Common.{◌≡◌, ◌+◌, ◌*◌, ◌<◌, ℕ, Some}
-use Rattle.std.specs.Prelude.{slice_get}
-use Rattle.cyl_map.specs.declared.entry.MapEntry.{MapEntry}
-use Rattle.cfs_recover.specs.Entries.{MayStand}
+use Rattle.cfs_recover.proofs.Words.{MapEntry, MayStand, slice_get}
 use Rattle.cfs_recover.proofs.maps.check_map.Given as goal
 
 abbrev pub invariant-loop-entry : goal.invariant-loop-entry

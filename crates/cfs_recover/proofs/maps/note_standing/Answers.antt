@@ -1,7 +1,5 @@
 use Rattle.std.proofs.Common.{inl, inr, ℕ, length, Some, sym, ◌∙◌, ap, arith, length-set}
-use Rattle.std.proofs.lemmas.Bool.{cases_eq}
-use Rattle.vol_image.specs.Part.{stands_for}
-use Rattle.cfs_recover.specs.Standing.{Shadow}
+use Rattle.cfs_recover.proofs.Words.{Shadow, cases_eq, stands_for}
 use Rattle.cfs_recover.proofs.Stood.{its_owner_alone, stands_for_none, stands_for_one}
 use Rattle.cfs_recover.proofs.maps.note_standing.Goals as goal
 use Rattle.cfs_recover.proofs.maps.note_standing.Goals.{else-stands-via-then-stands+else-root-blocks, else-stands-via-else-stands}

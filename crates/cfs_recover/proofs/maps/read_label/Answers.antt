@@ -1,6 +1,5 @@
 use Rattle.std.proofs.Common.{List, ℕ, Err, sym, ◌∙◌, ap, subst, arith}
-use Rattle.vol_image.specs.Fault.{Fault, HasLabel}
-use Rattle.vol_label.specs.Label.{IsOtherVersion}
+use Rattle.cfs_recover.proofs.Words.{Fault, HasLabel, IsOtherVersion}
 use Rattle.cfs_recover.proofs.maps.read_label.Goals as goal
 
 pub returns-then-label-blocks-clause-told : goal.returns-then-label-blocks-clause-told

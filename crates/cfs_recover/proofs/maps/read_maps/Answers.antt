@@ -1,9 +1,5 @@
 use Rattle.std.proofs.Common.{◌≡◌, ◌+◌, ◌*◌, ◌<◌, ℕ, List, length, ap, arith, length-append}
-use Rattle.cfs_base.specs.Disk.{block_at}
-use Rattle.cfs_base.proofs.Calls.{reads_then}
-use Rattle.cyl_map.specs.declared.entry.MapEntry.{MapEntry}
-use Rattle.cyl_map.specs.Map.{IsMap, map_spelling}
-use Rattle.cfs_recover.specs.Grounds.{AllMayStand}
+use Rattle.cfs_recover.proofs.Words.{AllMayStand, IsMap, MapEntry, block_at, map_spelling, reads_then}
 use Rattle.cfs_recover.proofs.Grounded.{one_more_map}
 use Rattle.cfs_recover.proofs.Refused.{stored_on}
 use Rattle.cfs_recover.proofs.maps.read_maps.Goals as goal

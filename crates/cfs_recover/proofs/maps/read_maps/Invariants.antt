@@ -1,9 +1,5 @@
 use Rattle.std.proofs.Common.{◌≡◌, ◌*◌, ◌<◌, ℕ, [], length, get_or}
-use Rattle.cfs_base.specs.Calls.{OnlyReads}
-use Rattle.cfs_base.specs.Disk.{Image, block_at}
-use Rattle.cyl_map.specs.Map.{IsMap, map_spelling}
-use Rattle.cfs_recover.specs.Grounds.{AllMayStand}
-use Rattle.cfs_recover.specs.Stored.{Stores}
+use Rattle.cfs_recover.proofs.Words.{AllMayStand, Image, IsMap, OnlyReads, Stores, block_at, map_spelling}
 use Rattle.cfs_recover.proofs.maps.read_maps.Given as goal
 
 abbrev pub invariant-loop-cylinder : goal.invariant-loop-cylinder

@@ -1,9 +1,5 @@
 use Rattle.std.proofs.Common.{◌≡◌, Some, length}
-use Rattle.cfs_base.specs.Disk.{Image}
-use Rattle.cyl_map.specs.Volume.{entry_in}
-use Rattle.vol_image.specs.Part.{reserved}
-use Rattle.cfs_recover.specs.Entries.{AreStanding}
-use Rattle.cfs_recover.specs.Stored.{AreMapsOf}
+use Rattle.cfs_recover.proofs.Words.{AreMapsOf, AreStanding, Image, entry_in, reserved}
 use Rattle.cfs_recover.proofs.maps.standing_in.Given as goal
 
 abbrev pub invariant-loop-block : goal.invariant-loop-block

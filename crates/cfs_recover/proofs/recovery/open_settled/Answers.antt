@@ -1,9 +1,5 @@
 use Rattle.std.proofs.Common.{sym, subst, arith}
-use Rattle.cyl_alloc.specs.Space.{Kept}
-use Rattle.puid_space.specs.Directory.{Listing}
-use Rattle.vol_image.specs.Sound.{IsSoundAs}
-use Rattle.vol_label.specs.declared.label.Label.{Label}
-use Rattle.cfs_recover.specs.Recovered.{IsRecovered}
+use Rattle.cfs_recover.proofs.Words.{IsRecovered, IsSoundAs, Kept, Label, Listing}
 use Rattle.cfs_recover.proofs.Opening.{leads_reads, settled_reads, stores_content}
 use Rattle.cfs_recover.proofs.Writing.{writes_after}
 use Rattle.cfs_recover.proofs.recovery.open_settled.Goals as goal

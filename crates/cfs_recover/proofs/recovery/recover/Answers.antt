@@ -1,8 +1,5 @@
 use Rattle.std.proofs.Common.{◌≡◌, ◌⊎◌, inl, inr, sym, subst, arith}
-use Rattle.cfs_base.specs.Disk.{Image}
-use Rattle.vol_image.specs.Sound.{IsSoundAs}
-use Rattle.cfs_recover.specs.Grounds.{IsOpenFault}
-use Rattle.cfs_recover.specs.Recovered.{IsRecovered, WritesWhatDiffers}
+use Rattle.cfs_recover.proofs.Words.{Image, IsOpenFault, IsRecovered, IsSoundAs, WritesWhatDiffers}
 use Rattle.cfs_recover.specs.declared.fault.RecoverFault.TheVariants as faults
 use Rattle.cfs_recover.proofs.Opening.{err_as, ok_as, on_ok, untouched_then}
 use Rattle.cfs_recover.proofs.Refused.{sound_refused}

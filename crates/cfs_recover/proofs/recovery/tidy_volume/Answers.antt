@@ -1,14 +1,5 @@
 use Rattle.std.proofs.Common.{◌+◌, ◌≤◌, Bool, List, length, refl, sym, ◌∙◌, ap, subst, arith}
-use Rattle.cfs_base.specs.Disk.{Image}
-use Rattle.cyl_map.specs.declared.entry.MapEntry.{MapEntry}
-use Rattle.ufs_model.specs.Graph.{Graph}
-use Rattle.vol_image.specs.Sound.{IsSoundAs}
-use Rattle.vol_image.proofs.Unique.{reading_is_one}
-use Rattle.cfs_recover.specs.Copies.{AreCopies}
-use Rattle.cfs_recover.specs.Keeps.{AreKeptFor, Leads}
-use Rattle.cfs_recover.specs.Recovered.{changed_maps}
-use Rattle.cfs_recover.specs.Stored.{AreMapsOf}
-use Rattle.cfs_recover.specs.Tidy.{AreTidied, IsTidying}
+use Rattle.cfs_recover.proofs.Words.{AreCopies, AreKeptFor, AreMapsOf, AreTidied, Graph, Image, IsSoundAs, IsTidying, Leads, MapEntry, changed_maps, reading_is_one}
 use Rattle.cfs_recover.proofs.Recovering.{kept_for, map_kept, maps_b, recovers, roots_lead, tidies_lead, tidying}
 use Rattle.cfs_recover.proofs.Writing.{changed_from, writes_these}
 use Rattle.cfs_recover.proofs.recovery.tidy_volume.Goals as goal

@@ -1,6 +1,5 @@
 use Rattle.std.proofs.Common.{◌<◌, length, sym, subst, arith, rules, Option}
-use Rattle.vol_image.specs.Part.{Part, BelongsTo}
-use Rattle.cfs_recover.specs.Checks.{SpotFault}
+use Rattle.cfs_recover.proofs.Words.{BelongsTo, Part, SpotFault}
 use Rattle.cfs_recover.proofs.InMemory.{part_is}
 use Rattle.cfs_recover.proofs.spot.check_spot.Goals as goal
 

@@ -1,6 +1,5 @@
-use Rattle.std.proofs.Common.{sym, subst, ◌∙◌}
-use Rattle.std.specs.Prelude.{Result, Ok, Err, MatchResult}
-use Rattle.cfs_recover.specs.Found.{IsFault}
+use Rattle.std.proofs.Common.{sym, subst, ◌∙◌, Err}
+use Rattle.cfs_recover.proofs.Words.{IsFault, MatchResult, Ok, Result}
 use Rattle.cfs_recover.proofs.Counted.{four_are_left, too_few_left}
 use Rattle.cfs_recover.proofs.Finished.{held_in, in_held, walk_full, walk_sound}
 use Rattle.cfs_recover.proofs.survey.check_walked.Goals as goal

@@ -1,6 +1,5 @@
 use Rattle.std.proofs.Common.{◌<◌, List, length, refl, sym, ◌∙◌, subst, arith}
-use Rattle.cyl_map.specs.declared.entry.MapEntry.{MapEntry}
-use Rattle.cfs_recover.specs.Stored.{AreMapsOf}
+use Rattle.cfs_recover.proofs.Words.{AreMapsOf, MapEntry}
 use Rattle.cfs_recover.proofs.Good.{noted_on}
 use Rattle.cfs_recover.proofs.Refused.{caused_err}
 use Rattle.cfs_recover.proofs.survey.walk_volume.Goals as goal

@@ -1,7 +1,5 @@
 use Rattle.std.proofs.Common.{ℕ, ◌+◌, ◌*◌, ◌≤◌, List, sym, ◌∙◌, subst, arith}
-use Rattle.cfs_base.specs.Disk.{block_at}
-use Rattle.cyl_map.specs.Map.{map_spelling}
-use Rattle.cfs_recover.specs.Recovered.{changed}
+use Rattle.cfs_recover.proofs.Words.{block_at, changed, map_spelling}
 use Rattle.cfs_recover.proofs.TidyCylinders.{free_most, given_here, given_others, given_size, written_here, written_others}
 use Rattle.cfs_recover.proofs.tidy.tidy_cylinder.Goals as goal
 

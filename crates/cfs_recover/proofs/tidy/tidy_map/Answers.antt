@@ -1,11 +1,5 @@
 use Rattle.std.proofs.Common.{◌≡◌, ◌≢◌, ◌+◌, ◌*◌, ◌<◌, inl, inr, false, List, length, get_or, Some, sym, ◌∙◌, ap, subst, arith}
-use Rattle.std.specs.Prelude.{slice_get}
-use Rattle.std.proofs.lemmas.Bool.{cases_lt}
-use Rattle.std.proofs.lemmas.Option.{same_Some, slice_get_within}
-use Rattle.cyl_map.specs.declared.entry.MapEntry.{MapEntry}
-use Rattle.cyl_map.specs.Entry.{IsEntry}
-use Rattle.vol_image.specs.Part.{is_fixed}
-use Rattle.cfs_recover.specs.Tidy.{tidied}
+use Rattle.cfs_recover.proofs.Words.{IsEntry, MapEntry, cases_lt, is_fixed, same_Some, slice_get, slice_get_within, tidied}
 use Rattle.cfs_recover.proofs.TidiedEntries.{tidied_entry}
 use Rattle.cfs_recover.proofs.TidyMaps.{entry_of_map, set_here, set_there}
 use Rattle.cfs_recover.proofs.tidy.tidy_map.Goals as goal

@@ -1,9 +1,5 @@
 use Rattle.std.proofs.Common.{◌≡◌, ◌⊎◌, ◌+◌, ◌*◌, ◌<◌, ◌≤◌, ℕ, false, get_or, Some}
-use Rattle.std.specs.Prelude.{slice_get}
-use Rattle.cyl_map.specs.Map.{IsMap}
-use Rattle.cyl_map.specs.declared.entry.MapEntry.{MapEntry}
-use Rattle.vol_image.specs.Part.{is_fixed}
-use Rattle.cfs_recover.specs.Tidy.{tidied}
+use Rattle.cfs_recover.proofs.Words.{IsMap, MapEntry, is_fixed, slice_get, tidied}
 use Rattle.cfs_recover.proofs.tidy.tidy_map.Given as goal
 
 abbrev pub invariant-loop-entry : goal.invariant-loop-entry

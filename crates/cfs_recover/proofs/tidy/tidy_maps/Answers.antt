@@ -1,7 +1,5 @@
 use Rattle.std.proofs.Common.{length, sym, ap, subst, arith}
-use Rattle.cfs_base.specs.Disk.{Image}
-use Rattle.cfs_recover.specs.Recovered.{changed_maps}
-use Rattle.cfs_recover.specs.Tidy.{AreTidied, Tidies}
+use Rattle.cfs_recover.proofs.Words.{AreTidied, Image, Tidies, changed_maps}
 use Rattle.cfs_recover.proofs.Keepings.{leads_on}
 use Rattle.cfs_recover.proofs.tidy.tidy_maps.Goals as goal
 

@@ -1,10 +1,5 @@
 use Rattle.std.proofs.Common.{◌≡◌, ℕ, ◌+◌, ◌*◌, ◌<◌, ◌≤◌, List, [], length, get_or, sym, ◌∙◌, ap, subst, arith}
-use Rattle.cfs_base.specs.Disk.{Image, block_at}
-use Rattle.cfs_base.proofs.Calls.{makes_then}
-use Rattle.cyl_map.specs.declared.entry.MapEntry.{MapEntry}
-use Rattle.cyl_map.specs.Map.{map_spelling}
-use Rattle.cfs_recover.specs.Recovered.{changed_maps}
-use Rattle.cfs_recover.specs.Tidy.{HasTidied, IsMapIn, Tidies}
+use Rattle.cfs_recover.proofs.Words.{HasTidied, Image, IsMapIn, MapEntry, Tidies, block_at, changed_maps, makes_then, map_spelling}
 use Rattle.cfs_recover.proofs.Keepings.{keeps_begin, keeps_lead, makes_none}
 use Rattle.cfs_recover.proofs.TidyCylinders.{changed_more, map_in, none_counted, none_size, the_map, tidied_more}
 use Rattle.cfs_recover.proofs.Tidyings.{tidies_begin}

@@ -1,12 +1,5 @@
 use Rattle.std.proofs.Common.{◌≡◌, ◌+◌, ◌*◌, ◌≤◌, ℕ, length, get_or}
-use Rattle.cfs_base.specs.Calls.{MakesAtMost}
-use Rattle.cfs_base.specs.Disk.{Image, block_at}
-use Rattle.cfs_base.specs.Run.{IsSettled}
-use Rattle.ufs_model.specs.Graph.{Graph}
-use Rattle.cfs_recover.specs.Keeps.{Keeps}
-use Rattle.cfs_recover.specs.Recovered.{changed_maps}
-use Rattle.cfs_recover.specs.Stored.{AreMapsOf}
-use Rattle.cfs_recover.specs.Tidy.{AreTidied, IsTidying, Tidies}
+use Rattle.cfs_recover.proofs.Words.{AreMapsOf, AreTidied, Graph, Image, IsSettled, IsTidying, Keeps, MakesAtMost, Tidies, block_at, changed_maps}
 use Rattle.cfs_recover.proofs.tidy.write_maps.Given as goal
 
 abbrev pub invariant-loop-cylinder : goal.invariant-loop-cylinder

@@ -1,7 +1,5 @@
 use Rattle.std.proofs.Common.{◌≡◌, inr, Bool, cond, refl, sym, ◌∙◌, ap, arith}
-use Rattle.std.specs.Cmp.Lexicographic.{same_text}
-use Rattle.cyl_map.specs.Map.{map_spelling}
-use Rattle.cfs_recover.specs.Recovered.{changed}
+use Rattle.cfs_recover.proofs.Words.{changed, map_spelling, same_text}
 use Rattle.cfs_recover.proofs.TidyMaps.{tidy_map_comes}
 use Rattle.cfs_recover.proofs.tidy.write_tidy.Goals as goal
 

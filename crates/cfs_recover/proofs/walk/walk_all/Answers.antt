@@ -1,10 +1,5 @@
 use Rattle.std.proofs.Common.{rules, ◌≡◌, ◌+◌, ◌*◌, ◌<◌, ℕ, List, length, get_or, Some, refl, sym, ◌∙◌, ap, subst, arith}
-use Rattle.std.specs.Prelude.{slice_get}
-use Rattle.std.proofs.lemmas.Option.{slice_get-get_or}
-use Rattle.cfs_base.proofs.Calls.{reads_then}
-use Rattle.cfs_recover.specs.Copies.{HasKept}
-use Rattle.cfs_recover.specs.Walk.{Walks}
-use Rattle.cfs_recover.specs.declared.found.Found.{Found}
+use Rattle.cfs_recover.proofs.Words.{Found, HasKept, Walks, reads_then, slice_get, slice_get-get_or}
 use Rattle.cfs_recover.proofs.Copyings.{kept_none, kept_on}
 use Rattle.cfs_recover.proofs.Noting.{grows_then}
 use Rattle.cfs_recover.proofs.Refused.{told_on}

@@ -1,12 +1,5 @@
 use Rattle.std.proofs.Common.{◌*◌, length}
-use Rattle.cfs_base.specs.Calls.{OnlyReads}
-use Rattle.cfs_base.specs.Disk.{Image}
-use Rattle.vol_image.specs.Fault.{HasLabel}
-use Rattle.vol_label.specs.declared.label.Label.{Label}
-use Rattle.cfs_recover.specs.Copies.{HasKept}
-use Rattle.cfs_recover.specs.Entries.{AreStanding}
-use Rattle.cfs_recover.specs.Found.{Grows}
-use Rattle.cfs_recover.specs.Walk.{Walks}
+use Rattle.cfs_recover.proofs.Words.{AreStanding, Grows, HasKept, HasLabel, Image, Label, OnlyReads, Walks}
 use Rattle.cfs_recover.proofs.walk.walk_all.Given as goal
 
 abbrev pub invariant-loop-next : goal.invariant-loop-next

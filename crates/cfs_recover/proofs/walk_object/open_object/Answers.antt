@@ -1,5 +1,5 @@
 use Rattle.std.proofs.Common.{◌<◌, length, sym, subst, arith}
-use Rattle.cfs_recover.specs.Found.{IsFault}
+use Rattle.cfs_recover.proofs.Words.{IsFault}
 use Rattle.cfs_recover.proofs.Opened.{no_head, no_root_index, not_its_own, opened}
 use Rattle.cfs_recover.proofs.Refused.{told_err, told_on}
 use Rattle.cfs_recover.proofs.walk_object.open_object.Goals as goal

@@ -1,7 +1,5 @@
 use Rattle.std.proofs.Common.{◌<◌, length, List, ℕ, sym, ◌∙◌, subst, arith}
-use Rattle.block_tree.specs.Root.{IsRootBlock}
-use Rattle.cfs_recover.specs.Checks.{HasNoRoot}
-use Rattle.cfs_recover.specs.Found.{IsFault}
+use Rattle.cfs_recover.proofs.Words.{HasNoRoot, IsFault, IsRootBlock}
 use Rattle.cfs_recover.proofs.Opened.{item_no_root, item_other_word}
 use Rattle.cfs_recover.proofs.Refused.{told_err}
 use Rattle.cfs_recover.proofs.walk_object.own_root.Goals as goal

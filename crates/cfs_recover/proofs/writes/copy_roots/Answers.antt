@@ -1,6 +1,5 @@
 use Rattle.std.proofs.Common.{sym, subst, arith}
-use Rattle.cfs_base.specs.Disk.{Image}
-use Rattle.cfs_recover.specs.Tidy.{AreCopied, CopiesRoots}
+use Rattle.cfs_recover.proofs.Words.{AreCopied, CopiesRoots, Image}
 use Rattle.cfs_recover.proofs.Keepings.{all_copied, keeps_begin, leads_on}
 use Rattle.cfs_recover.proofs.Tidyings.{copies_begin}
 use Rattle.cfs_recover.proofs.writes.copy_roots.Goals as goal

@@ -1,5 +1,5 @@
 use Rattle.std.proofs.Common.{◌*◌, ◌<◌, inr, List, ℕ, length, sym, subst, arith}
-use Rattle.cfs_recover.specs.Tidy.{IsTidyMap, Tidies}
+use Rattle.cfs_recover.proofs.Words.{IsTidyMap, Tidies}
 use Rattle.cfs_recover.proofs.Keepings.{keeps_wrote, leads_tried}
 use Rattle.cfs_recover.proofs.Tidyings.{tidies_write}
 use Rattle.cfs_recover.proofs.writes.write_map.Goals as goal

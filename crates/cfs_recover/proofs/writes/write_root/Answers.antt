@@ -1,5 +1,5 @@
 use Rattle.std.proofs.Common.{◌<◌, inr, length, arith}
-use Rattle.cfs_recover.specs.Tidy.{CopiesRoots}
+use Rattle.cfs_recover.proofs.Words.{CopiesRoots}
 use Rattle.cfs_recover.proofs.Keepings.{keeps_wrote, leads_tried, root_step}
 use Rattle.cfs_recover.proofs.writes.write_root.Goals as goal
 

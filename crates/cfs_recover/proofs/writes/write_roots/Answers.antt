@@ -1,13 +1,5 @@
-use Rattle.std.proofs.Common.{◌≡◌, ◌≢◌, inl, inr, ℕ, ◌+◌, ◌<◌, ◌≤◌, length, get_or, drop, Some, sym, ◌∙◌, ap, subst, arith}
-use Rattle.std.specs.Prelude.{slice_get}
-use Rattle.std.proofs.lemmas.Bool.{cases_eq}
-use Rattle.cfs_base.proofs.Calls.{makes_then}
-use Rattle.vol_image.specs.Sight.{source}
-use Rattle.cfs_recover.specs.Copies.{all_pieces, copies_before}
-use Rattle.cfs_recover.specs.Keeps.{AreWritten, IsCopyOf, Keeps}
-use Rattle.cfs_recover.specs.Tidy.{CopiesRoots}
-use Rattle.cfs_recover.specs.declared.copies.Copied.{Copied}
-use Rattle.cfs_recover.specs.declared.found.Found.{Found}
+use Rattle.std.proofs.Common.{◌≡◌, inl, inr, ℕ, ◌+◌, ◌<◌, ◌≤◌, length, get_or, drop, Some, sym, ◌∙◌, ap, subst, arith}
+use Rattle.cfs_recover.proofs.Words.{AreWritten, Copied, CopiesRoots, Found, IsCopyOf, Keeps, all_pieces, cases_eq, copies_before, makes_then, slice_get, source}
 use Rattle.cfs_recover.proofs.Keepings.{makes_none, written_more}
 use Rattle.cfs_recover.proofs.Kept.{copy_next, item_at, own_next}
 use Rattle.cfs_recover.proofs.Pieces.{none_is, pieces_anew, some_is}

@@ -1,11 +1,5 @@
 use Rattle.std.proofs.Common.{◌≡◌, ◌+◌, ◌≤◌, List, drop}
-use Rattle.cfs_base.specs.Calls.{MakesAtMost}
-use Rattle.cfs_base.specs.Disk.{Image}
-use Rattle.ufs_model.specs.Graph.{Graph}
-use Rattle.cfs_recover.specs.Copies.{all_pieces, copies_before}
-use Rattle.cfs_recover.specs.Keeps.{AreKeptFor, AreWritten, Keeps}
-use Rattle.cfs_recover.specs.Tidy.{CopiesRoots}
-use Rattle.cfs_recover.specs.declared.copies.Copied.{Copied}
+use Rattle.cfs_recover.proofs.Words.{AreKeptFor, AreWritten, Copied, CopiesRoots, Graph, Image, Keeps, MakesAtMost, all_pieces, copies_before}
 use Rattle.cfs_recover.proofs.writes.write_roots.Given as goal
 
 abbrev pub invariant-loop-item : goal.invariant-loop-item

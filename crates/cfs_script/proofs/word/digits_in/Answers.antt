@@ -1,4 +1,4 @@
-use Rattle.std.proofs.Common.{◌≡◌, ◌∙◌, sym, refl}
+use Rattle.std.proofs.Common.{◌∙◌, sym, refl}
 use Rattle.cfs_script.proofs.WordLemmas.{digits_in-decoded}
 use Rattle.cfs_script.proofs.word.digits_in.Goals as goal
 

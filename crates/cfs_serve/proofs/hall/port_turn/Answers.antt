@@ -1,6 +1,6 @@
 use Rattle.std.proofs.Common.{rules, ◌∙◌, inl, subst, sym}
+use Rattle.cfs_serve.proofs.Cited.{TakesLine}
 use Rattle.ufs_model.specs.declared.asked.Event.TheVariants as events
-use Rattle.cfs_ports.specs.Port.{TakesLine}
 use Rattle.cfs_serve.proofs.Sessions.{turned_unread}
 use Rattle.cfs_serve.proofs.hall.port_turn.Goals as goal
 

@@ -1,5 +1,5 @@
 use Rattle.std.proofs.Common.{◌∙◌, sym}
-use Rattle.std.proofs.lemmas.List.{append-nil}
+use Rattle.cfs_serve.proofs.Cited.{append-nil}
 use Rattle.cfs_serve.proofs.Wording.{none_left}
 use Rattle.cfs_serve.proofs.paths.session_paths.Goals as goal
 

@@ -1,6 +1,5 @@
 use Rattle.std.proofs.Common.{◌≡◌, ◌++◌, length, map}
-use Rattle.std.specs.Prelude.{string_bytes}
-use Rattle.cfs_serve.specs.Words.{inputs_in, outputs_in}
+use Rattle.cfs_serve.proofs.Cited.{inputs_in, outputs_in, string_bytes}
 use Rattle.cfs_serve.proofs.paths.session_paths.Given as goal
 
 -- the names that were made and those that are left are all

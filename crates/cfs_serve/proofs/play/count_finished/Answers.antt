@@ -1,5 +1,5 @@
 use Rattle.std.proofs.Common.{ℕ, cond, ap, arith}
-use Rattle.cfs_serve.specs.Events.{is_finish}
+use Rattle.cfs_serve.proofs.Cited.{is_finish}
 use Rattle.cfs_serve.proofs.Counting.{counts}
 use Rattle.cfs_serve.proofs.play.count_finished.Goals as goal
 use Rattle.cfs_serve.proofs.play.count_finished.Goals.{then-is_finish, else-is_finish}

@@ -1,5 +1,5 @@
 use Rattle.std.proofs.Common.{ℕ, cond, ap, arith}
-use Rattle.cfs_serve.specs.Events.{is_reply}
+use Rattle.cfs_serve.proofs.Cited.{is_reply}
 use Rattle.cfs_serve.proofs.Counting.{counts}
 use Rattle.cfs_serve.proofs.play.count_replies.Goals as goal
 use Rattle.cfs_serve.proofs.play.count_replies.Goals.{then-is_reply, else-is_reply}

@@ -1,5 +1,5 @@
 use Rattle.std.proofs.Common.{◌≡◌, ◌≤◌, filter, length, take}
-use Rattle.cfs_serve.specs.Events.{is_reply}
+use Rattle.cfs_serve.proofs.Cited.{is_reply}
 use Rattle.cfs_serve.proofs.play.count_replies.Given as goal
 
 -- the replies of the events before this one were counted

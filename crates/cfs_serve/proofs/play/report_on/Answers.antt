@@ -1,6 +1,5 @@
 use Rattle.std.proofs.Common.{◌≡◌, ap, arith}
-use Rattle.std.specs.List.{sum_by}
-use Rattle.cfs_core.specs.Room.{draft_blocks}
+use Rattle.cfs_serve.proofs.Cited.{draft_blocks, sum_by}
 use Rattle.cfs_serve.proofs.play.report_on.Goals as goal
 
 pub returns-clause-free : goal.returns-clause-free

@@ -1,8 +1,5 @@
-use Rattle.std.proofs.Common.{◌∙◌, ◌≡◌, ℕ, List, map, length, inl, sym, subst, arith}
-use Rattle.std.proofs.lemmas.List.{length-map}
-use Rattle.ufs_model.specs.Script.{request_lines}
-use Rattle.cfs_ports.specs.Port.{Reading}
-use Rattle.cfs_serve.specs.Hall.{AreNew, seat_of}
+use Rattle.std.proofs.Common.{◌∙◌, ◌≡◌, ◌⊎◌, ℕ, List, ap, map, length, inl, inr, sym, subst, arith}
+use Rattle.cfs_serve.proofs.Cited.{AreNew, Ending, Event, Ghosts, Intake, IsUnserved, Kernel, Reading, Report, ServesScripts, ServesSessions, length-map, request_lines, seat_of}
 use Rattle.cfs_serve.proofs.Lists.{new_work, same_length, seat_lines, seat_sinks}
 use Rattle.cfs_serve.proofs.play.serve_scripts.Goals as goal
 
@@ -14,6 +11,28 @@ as_many before after scripts lines count = count ∙ length-map before seat_of �
 pub returns-in_default-make_ports-clause-count : goal.returns-in_default-make_ports-clause-count
 returns-in_default-make_ports-clause-count g c =
     same_length g.K.Sink.intake g.K.Sink.intake c.make_ports.new.sinks.items c.args.sinks.now.items c.in_default-make_ports.ensures.none
+
+-- there are as many ports as before
+module _ {D : Type 0} (g : Ghosts D) (core : Kernel D) (collections : ℕ) (before after : List Reading) (report : Report) (ending : Ending) (trail : List Event) (moments : List ℕ) (disk : D) where
+  abbrev Ended : Type 0
+  Ended = ServesSessions g core collections (map seat_of before) after report ending trail moments disk ⊎ IsUnserved core before after report ending trail disk
+
+  same_count : Ended → length after ≡ length (map seat_of before)
+  same_count (inl s) = s.played.over.count
+  same_count (inr u) = ap length u.ports ∙ sym (length-map before seat_of)
+
+  serves : (scripts : List (List ℕ)) (sinks left : List Intake) → map (λ p. p.lines) before ≡ map request_lines scripts → map (λ p. p.sink) before ≡ sinks
+      → left ≡ map (λ p. p.sink) after → Ended → ServesScripts g core collections scripts sinks left report ending trail moments disk
+  serves scripts sinks left lines begun is (inl s) = inl (record {
+    seats = map seat_of before;
+    ports = after;
+    seated = record { lines = seat_lines before ∙ lines; begun = seat_sinks before ∙ begun; left = sym is };
+    serves = s;
+  })
+  serves scripts sinks left lines begun is (inr u) = inr (
+    record { no_event = u.no_event; no_end = u.no_end; untouched = is ∙ ap (map (λ p. p.sink)) u.ports ∙ begun; told = u.told },
+    u.disk_is,
+  )
 
 -- the ports' turns are the lines, and a leave each
 pub serve_ports-played-requires-clause-room : goal.serve_ports-played-requires-clause-room
@@ -40,22 +59,19 @@ pub take_sinks-requires-clause-room : goal.take_sinks-requires-clause-room
 take_sinks-requires-clause-room g c =
     let made = c.in-Some.ensures in
     let after = c.serve_ports-played in
-    omega (arith, as_many c.in-Some.ports.items after.result.1.items c.args.scripts.scripts.items made.lines after.ensures.played.over.count, c.requires.count, made.room)
+    let count = same_count g.D.Disk c.args.core c.args.collections c.in-Some.ports.items after.result.1.items after.result.0.report after.result.0.ending after.result.0.trail.events after.result.0.trail.moments after.result.2 after.ensures in
+    omega (arith, as_many c.in-Some.ports.items after.result.1.items c.args.scripts.scripts.items made.lines count, c.requires.count, made.room)
 
 pub returns-clause-served : goal.returns-clause-served
 returns-clause-served g c =
     let made = c.in-Some.ensures in
-    let before = c.in-Some.ports.items in
-    let after = c.serve_ports-played.result.1.items in
-    inl (record {
-      seats = map seat_of before;
-      ports = after;
-      seated = record { lines = seat_lines before ∙ made.lines; begun = seat_sinks before ∙ made.sinks; left = sym c.take_sinks.ensures };
-      serves = c.serve_ports-played.ensures;
-    })
+    let after = c.serve_ports-played in
+    serves g.D.Disk c.args.core c.args.collections c.in-Some.ports.items after.result.1.items after.result.0.report after.result.0.ending after.result.0.trail.events after.result.0.trail.moments after.result.2
+    c.args.scripts.scripts.items (map g.K.Sink.intake c.args.sinks.now.items) (map g.K.Sink.intake c.take_sinks.new.sinks.items) made.lines made.sinks c.take_sinks.ensures after.ensures
 
 pub returns-clause-count : goal.returns-clause-count
 returns-clause-count g c =
     let after = c.serve_ports-played in
+    let count = same_count g.D.Disk c.args.core c.args.collections c.in-Some.ports.items after.result.1.items after.result.0.report after.result.0.ending after.result.0.trail.events after.result.0.trail.moments after.result.2 after.ensures in
     same_length g.K.Sink.intake (λ (p : Reading). p.sink) c.take_sinks.new.sinks.items after.result.1.items c.take_sinks.ensures
-    ∙ as_many c.in-Some.ports.items after.result.1.items c.args.scripts.scripts.items c.in-Some.ensures.lines after.ensures.played.over.count ∙ c.requires.count
+    ∙ as_many c.in-Some.ports.items after.result.1.items c.args.scripts.scripts.items c.in-Some.ensures.lines count ∙ c.requires.count

@@ -1,7 +1,4 @@
-use Rattle.std.specs.Prelude.{codes}
-use Rattle.std.specs.Fmt.{decimal}
-use Rattle.std.proofs.lemmas.Result.{err_from_is_err_and}
-use Rattle.cfs_streams.proofs.WriteLaws.{cut, then_whole}
+use Rattle.cfs_serve.proofs.Cited.{codes, cut, decimal, err_from_is_err_and, then_whole}
 use Rattle.cfs_serve.proofs.report.write_block.Goals as goal
 
 pub returns-in_err-write_whole : goal.returns-in_err-write_whole

@@ -1,9 +1,5 @@
 use Rattle.std.proofs.Common.{◌≡◌, ◌++◌, rules}
-use Rattle.std.specs.Prelude.{codes}
-use Rattle.std.specs.Fmt.{decimal}
-use Rattle.std.proofs.lemmas.Result.{err_from_is_err_and}
-use Rattle.cfs_streams.proofs.WriteLaws.{cut, then_whole}
-use Rattle.cfs_serve.specs.Told.{told}
+use Rattle.cfs_serve.proofs.Cited.{codes, cut, decimal, err_from_is_err_and, then_whole, told}
 use Rattle.cfs_serve.proofs.report.write_damage.Goals as goal
 
 pub returns-in_err-write_block : goal.returns-in_err-write_block

@@ -1,6 +1,4 @@
-use Rattle.std.specs.Prelude.{codes}
-use Rattle.std.specs.Fmt.{decimal}
-use Rattle.std.proofs.lemmas.Result.{err_from_is_err_and}
+use Rattle.cfs_serve.proofs.Cited.{codes, decimal, err_from_is_err_and}
 use Rattle.cfs_serve.proofs.Texts.{first_of_four, second_of_four, third_of_four, last_of_four}
 use Rattle.cfs_serve.proofs.report.write_number.Goals as goal
 

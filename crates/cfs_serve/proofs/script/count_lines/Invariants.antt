@@ -1,5 +1,5 @@
 use Rattle.std.proofs.Common.{◌≡◌, ◌+◌, ◌≤◌, length}
-use Rattle.ufs_model.specs.Script.{request_lines}
+use Rattle.cfs_serve.proofs.Cited.{request_lines}
 use Rattle.cfs_serve.proofs.script.count_lines.Given as goal
 
 -- what was counted and what is left are all

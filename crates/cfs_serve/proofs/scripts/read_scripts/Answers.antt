@@ -1,8 +1,6 @@
 use Rattle.std.proofs.Common.{◌∙◌, ◌<◌, map, set, slice_get, length, length-set, ap, subst, sym, arith}
-use Rattle.std.proofs.lemmas.List.{length-map}
-use Rattle.std.proofs.lemmas.Result.{err_from_is_err_and}
-use Rattle.cfs_serve.specs.Scripts.{HaveFirst, lines_in}
-use Rattle.cfs_serve.proofs.Scripted.{one_cause, one_counted, one_read, rest_stays, source_after, source_at, total_cause}
+use Rattle.cfs_serve.proofs.Cited.{HaveFirst, err_from_is_err_and, length-map, lines_in}
+use Rattle.cfs_serve.proofs.Scripted.{behind, one_cause, one_counted, one_read, rest_stays, source_after, source_at, total_cause}
 use Rattle.cfs_serve.proofs.scripts.read_scripts.Goals as goal
 
 pub returns-in_err-script-clause-cause : goal.returns-in_err-script-clause-cause
@@ -18,6 +16,7 @@ returns-in_err-script-clause-cause g c =
     let p = err_from_is_err_and c.from_residual.result c.from_residual.ensures.1 in
     rw (p.1, p.2) (one_cause (map supply first) (map supply (set now at after)) at (supply source) (supply after)
     (source_at supply first now at before.rest source within c.index_mut.ensures.value) (source_after supply first now at before.rest after within)
+    (record { scripts = c.sources.scripts.items; before = before.read; count = before.count; behind = behind supply first now at before.rest after })
     c.in_err-script.field-0.0 c.in_err-script.ensures.cause)
 
 pub sources-preserved : goal.sources-preserved

@@ -1,6 +1,5 @@
 use Rattle.std.proofs.Common.{◌≡◌, ◌*◌, ◌≤◌, ℕ, length, map, slice_get}
-use Rattle.std.specs.Prelude.{vec_capacity}
-use Rattle.cfs_serve.specs.Scripts.{HaveFirst, lines_in}
+use Rattle.cfs_serve.proofs.Cited.{HaveFirst, lines_in, vec_capacity}
 use Rattle.cfs_serve.proofs.scripts.read_scripts.Given as goal
 
 -- the sources before this one were read, and the others are as they were

@@ -1,7 +1,5 @@
 use Rattle.std.proofs.Common.{◌++◌, ◌∙◌, ◌≡◌, [], map, ap, refl, sym, length, arith}
-use Rattle.std.specs.Prelude.{reverse}
-use Rattle.std.proofs.lemmas.List.{append-nil}
-use Rattle.ufs_model.specs.Script.{request_lines}
+use Rattle.cfs_serve.proofs.Cited.{append-nil, request_lines, reverse}
 use Rattle.cfs_serve.proofs.Lists.{no_new, one_moved, one_new}
 use Rattle.cfs_serve.proofs.seats.stack_ports.Goals as goal
 

@@ -1,7 +1,5 @@
 use Rattle.std.proofs.Common.{◌≡◌, ◌+◌, ◌≤◌, ◌++◌, length, map}
-use Rattle.std.specs.Prelude.{reverse, vec_capacity}
-use Rattle.ufs_model.specs.Script.{request_lines}
-use Rattle.cfs_serve.specs.Hall.{AreNew}
+use Rattle.cfs_serve.proofs.Cited.{AreNew, request_lines, reverse, vec_capacity}
 use Rattle.cfs_serve.proofs.seats.stack_ports.Given as goal
 
 -- the scripts and sinks that are left, and those of the ports, are those that there were

@@ -1,6 +1,5 @@
 use Rattle.std.proofs.Common.{◌∙◌, ap, map}
-use Rattle.std.specs.Prelude.{reverse}
-use Rattle.std.proofs.lemmas.List.{reverse-reverse}
+use Rattle.cfs_serve.proofs.Cited.{reverse, reverse-reverse}
 use Rattle.cfs_serve.proofs.seats.take_sinks.Goals as goal
 
 pub returns : goal.returns

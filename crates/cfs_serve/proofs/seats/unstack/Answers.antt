@@ -1,5 +1,5 @@
 use Rattle.std.proofs.Common.{◌++◌, ◌∙◌, ap, map, sym, arith}
-use Rattle.std.specs.Prelude.{reverse}
+use Rattle.cfs_serve.proofs.Cited.{reverse}
 use Rattle.cfs_serve.proofs.Lists.{one_moved}
 use Rattle.cfs_serve.proofs.seats.unstack.Goals as goal
 

@@ -1,5 +1,5 @@
 use Rattle.std.proofs.Common.{◌≡◌, ◌+◌, ◌≤◌, ◌++◌, length, map}
-use Rattle.std.specs.Prelude.{reverse, vec_capacity}
+use Rattle.cfs_serve.proofs.Cited.{reverse, vec_capacity}
 use Rattle.cfs_serve.proofs.seats.unstack.Given as goal
 
 -- the sinks that are here, and those of the ports that are left, are those that there were

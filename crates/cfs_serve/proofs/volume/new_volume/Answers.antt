@@ -1,5 +1,5 @@
 use Rattle.std.proofs.Common.{◌≡◌, ◌*◌, refl, sym, ◌∙◌, length, rules}
-use Rattle.cfs_serve.specs.Ground.{opened}
+use Rattle.cfs_serve.proofs.Cited.{opened}
 use Rattle.cfs_serve.proofs.Volumes.{both_ok, both_some, new_core}
 use Rattle.cfs_serve.proofs.volume.new_volume.Goals as goal
 

@@ -1,6 +1,5 @@
 use Rattle.std.proofs.Common.{map, arith}
-use Rattle.std.specs.Prelude.{string_bytes}
-use Rattle.std.proofs.lemmas.List.{length-map}
+use Rattle.cfs_serve.proofs.Cited.{length-map, string_bytes}
 use Rattle.cfs_serve.proofs.Wording.{two_words}
 use Rattle.cfs_serve.proofs.words.are_files.Goals as goal
 

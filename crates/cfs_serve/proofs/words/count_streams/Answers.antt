@@ -1,6 +1,5 @@
 use Rattle.std.proofs.Common.{◌≡◌, map, refl, arith}
-use Rattle.std.specs.Prelude.{string_bytes}
-use Rattle.cfs_serve.specs.Words.{inputs_in, outputs_in, streams_in}
+use Rattle.cfs_serve.proofs.Cited.{inputs_in, outputs_in, streams_in, string_bytes}
 use Rattle.cfs_serve.proofs.Wording.{none_left}
 use Rattle.cfs_serve.proofs.words.count_streams.Goals as goal
 

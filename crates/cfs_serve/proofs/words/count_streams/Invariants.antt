@@ -1,6 +1,5 @@
 use Rattle.std.proofs.Common.{◌≡◌, ◌+◌, ◌≤◌, length, map}
-use Rattle.std.specs.Prelude.{string_bytes}
-use Rattle.cfs_serve.specs.Words.{inputs_in, outputs_in, streams_in}
+use Rattle.cfs_serve.proofs.Cited.{inputs_in, outputs_in, streams_in, string_bytes}
 use Rattle.cfs_serve.proofs.words.count_streams.Given as goal
 
 -- what was counted and what is left are all

@@ -1,9 +1,5 @@
 use Rattle.std.proofs.Common.{◌∙◌, Global, rules, tests, sym}
-use Rattle.std.specs.Prelude.{String, string_bytes}
-use Rattle.std.proofs.lemmas.Iterator.{YieldsList-from_slice}
-use Rattle.std.proofs.lemmas.Iterator.Search.{all_from_yields_List}
-use Rattle.std.proofs.lemmas.List.Folds.{list_all-map}
-use Rattle.cfs_serve.specs.Words.{is_file_word}
+use Rattle.cfs_serve.proofs.Cited.{String, YieldsList-from_slice, all_from_yields_List, is_file_word, list_all-map, string_bytes}
 use Rattle.cfs_serve.proofs.words.name_files.Goals as goal
 
 pub returns : goal.returns

@@ -1,4 +1,4 @@
-use Rattle.collect_bench.proofs.Emptied.{emptied}
+use Rattle.cfs_base.proofs.Emptied.{emptied}
 use Rattle.collect_bench.proofs.Volume.mark.Goals as goal
 
 pub condemn-requires-clause-read : goal.condemn-requires-clause-read

@@ -1,7 +1,5 @@
 use Rattle.std.proofs.Common.{◌≡◌, ◌∙◌, ◌+◌, ℕ, ap, sym, arith}
-use Rattle.marking.specs.Colours.{all_shaded}
-use Rattle.collector_marks.specs.Kept.{colours_of}
-use Rattle.collector_steps.specs.Scan.{ids_from}
+use Rattle.collector_steps.proofs.Words.{all_shaded, colours_of, ids_from}
 use Rattle.collector_steps.proofs.Shaded.{shaded_from, shaded_last}
 use Rattle.collector_steps.proofs.leaf.shade_leaf.Goals as goal
 

@@ -1,7 +1,5 @@
 use Rattle.std.proofs.Common.{◌≡◌}
-use Rattle.collector_marks.specs.Kept.{blocks_of, colours_of}
-use Rattle.marking.specs.Colours.{all_shaded}
-use Rattle.collector_steps.specs.Scan.{ids_from}
+use Rattle.collector_steps.proofs.Words.{all_shaded, blocks_of, colours_of, ids_from}
 use Rattle.collector_steps.proofs.leaf.shade_leaf.Given as goal
 
 abbrev pub invariant-loop-slot : goal.invariant-loop-slot

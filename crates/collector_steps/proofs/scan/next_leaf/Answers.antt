@@ -1,12 +1,5 @@
-use Rattle.std.proofs.Common.{◌≡◌, subst, arith}
-use Rattle.std.specs.Prelude.{◌<◌, ◌≢◌, IfSome, Option}
-use Rattle.std.proofs.lemmas.Result.{err_from_is_err_and}
-use Rattle.cfs_base.proofs.Calls.{reads_then, tells_on}
-use Rattle.cfs_base.specs.Disk.{Image}
-use Rattle.cfs_base.specs.Run.{Tells}
-use Rattle.block_tree.specs.Root.{root_spelling}
-use Rattle.block_tree.specs.Tree.{leaf_block}
-use Rattle.block_tree.specs.declared.step.HeldStep.{HeldStep}
+use Rattle.std.proofs.Common.{◌≡◌, subst, arith, ◌<◌, ◌≢◌, Option}
+use Rattle.collector_steps.proofs.Words.{HeldStep, IfSome, Image, Tells, err_from_is_err_and, leaf_block, reads_then, root_spelling, tells_on}
 use Rattle.collector_steps.proofs.Damage.{step_refused, leaf_refused}
 use Rattle.collector_steps.proofs.scan.next_leaf.Goals as goal
 

@@ -1,7 +1,5 @@
 use Rattle.std.proofs.Common.{◌∙◌, ◌+◌, ap, sym, drop}
-use Rattle.marking.specs.Colours.{all_shaded}
-use Rattle.collector_marks.specs.Kept.{colours_of}
-use Rattle.std.proofs.lemmas.List.{at_drop_more}
+use Rattle.collector_steps.proofs.Words.{all_shaded, at_drop_more, colours_of}
 use Rattle.collector_steps.proofs.shading.shade_all.Goals as goal
 
 pub loop-id-preserved : goal.loop-id-preserved

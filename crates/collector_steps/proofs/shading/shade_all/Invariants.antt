@@ -1,6 +1,5 @@
 use Rattle.std.proofs.Common.{◌≡◌, drop}
-use Rattle.collector_marks.specs.Kept.{blocks_of, colours_of}
-use Rattle.marking.specs.Colours.{all_shaded}
+use Rattle.collector_steps.proofs.Words.{all_shaded, blocks_of, colours_of}
 use Rattle.collector_steps.proofs.shading.shade_all.Given as goal
 
 abbrev pub invariant-loop-id : goal.invariant-loop-id

@@ -1,10 +1,5 @@
 use Rattle.std.proofs.Common.{◌∙◌, ◌+◌, ◌*◌, ◌/◌, ℕ, ap, arith, length, sym}
-use Rattle.std.proofs.lemmas.List.{length-set}
-use Rattle.std.proofs.lemmas.Result.{err_from_is_err_and}
-use Rattle.cfs_base.specs.Run.{Tells}
-use Rattle.cyl_alloc.specs.Space.{Kept, free_in_cylinder}
-use Rattle.cyl_map.specs.Map.{map_spelling}
-use Rattle.collector_steps.specs.Sweep.{IsSweptOf}
+use Rattle.collector_steps.proofs.Words.{IsSweptOf, Kept, Tells, err_from_is_err_and, free_in_cylinder, length-set, map_spelling}
 use Rattle.collector_steps.proofs.Cylinders.{done, none_went, read_refused, write_refused}
 use Rattle.collector_steps.proofs.Written.{unswept_so}
 use Rattle.collector_steps.proofs.sweep.sweep_cylinder.Goals as goal

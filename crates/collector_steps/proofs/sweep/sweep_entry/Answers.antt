@@ -1,8 +1,5 @@
 use Rattle.std.proofs.Common.{◌≡◌, ◌∙◌, ap, get_or, set, sym, cond, Bool, false}
-use Rattle.std.proofs.lemmas.List.{set-get_or}
-use Rattle.cyl_alloc.specs.Space.{free_entry}
-use Rattle.collector_steps.specs.Sweep.{goes}
-use Rattle.std.proofs.lemmas.Option.{get_or_from_slice_get}
+use Rattle.collector_steps.proofs.Words.{free_entry, get_or_from_slice_get, goes, set-get_or}
 use Rattle.collector_steps.proofs.sweep.sweep_entry.Goals as goal
 
 pub returns-else-goes-clause-goes : goal.returns-else-goes-clause-goes

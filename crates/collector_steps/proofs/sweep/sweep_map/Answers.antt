@@ -1,7 +1,5 @@
 use Rattle.std.proofs.Common.{◌∙◌, ◌+◌, ◌++◌, ◌≤◌, ℕ, List, ap, ap₂, arith, count_by, length, map, sym}
-use Rattle.std.proofs.lemmas.List.{append-nil, drop_all, take_all}
-use Rattle.cyl_map.specs.declared.entry.MapEntry.{MapEntry}
-use Rattle.collector_steps.specs.Sweep.{goes, swept}
+use Rattle.collector_steps.proofs.Words.{MapEntry, append-nil, drop_all, goes, swept, take_all}
 use Rattle.collector_steps.proofs.Maps.{next_swept, none_more, one_more, whole}
 use Rattle.collector_steps.proofs.sweep.sweep_map.Goals.{then-sweep_entry, else-sweep_entry}
 use Rattle.collector_steps.proofs.sweep.sweep_map.Goals as goal

@@ -1,5 +1,5 @@
 use Rattle.std.proofs.Common.{◌≡◌, ◌++◌, ◌<◌, ◌≤◌, count_by, drop, length, map, take}
-use Rattle.collector_steps.specs.Sweep.{goes, swept}
+use Rattle.collector_steps.proofs.Words.{goes, swept}
 use Rattle.collector_steps.proofs.sweep.sweep_map.Given as goal
 
 abbrev pub invariant-loop-place : goal.invariant-loop-place

@@ -1,6 +1,5 @@
 use Rattle.std.proofs.Common.{arith}
-use Rattle.vol_image.proofs.Runs.{both_ok}
-use Rattle.vol_image.proofs.Carries.{carries_write, write_leaves}
+use Rattle.collector_steps.proofs.Words.{both_ok, carries_write, write_leaves}
 use Rattle.collector_steps.proofs.sweep.write_block.Goals as goal
 
 pub returns-clause-carries : goal.returns-clause-carries

@@ -1,9 +1,6 @@
 use Rattle.std.proofs.Common.{◌≡◌, ◌↔◌, ◌/◌, ℕ, length, ◌∙◌, sym, ap, subst, position, arith}
-use Rattle.std.specs.Prelude.{IsNone}
-use Rattle.std.specs.Simd.{first_chunks}
+use Rattle.cyl_alloc.proofs.Words.{IsNone, first_chunks, none_counted, position-map, said_by}
 use Rattle.cyl_map.specs.Map as spec
-use Rattle.cyl_map.specs.Reading.{said_by}
-use Rattle.cyl_map.proofs.FreeEntries.{position-map, none_counted}
 use Rattle.cyl_alloc.proofs.maps.first_free.Goals as goal
 use Rattle.cyl_alloc.proofs.maps.first_free.Goals.{After-first_saying_free}
 

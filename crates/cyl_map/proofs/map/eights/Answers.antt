@@ -1,5 +1,5 @@
 use Rattle.std.proofs.Common.{◌≡◌, ◌/◌, ℕ, length, ◌∙◌, ap, arith}
-use Rattle.std.specs.Simd.{first_chunks}
+use Rattle.cyl_map.proofs.Words.{first_chunks}
 use Rattle.cyl_map.specs.Map as spec
 use Rattle.cyl_map.proofs.map.eights.Goals as goal
 

@@ -1,7 +1,5 @@
 use Rattle.std.proofs.Common.{refl, sym, subst, below_more, arith}
-use Rattle.std.specs.Prelude.{IsSome}
-use Rattle.cyl_map.specs.Map.{entry_at}
-use Rattle.cyl_map.specs.Reading.{IsFirstBad, entry_of}
+use Rattle.cyl_map.proofs.Words.{IsFirstBad, IsSome, entry_at, entry_of}
 use Rattle.cyl_map.proofs.Maps.{at_eight}
 use Rattle.cyl_map.proofs.map.first_bad.Goals as goal
 

@@ -1,7 +1,5 @@
 use Rattle.std.proofs.Common.{◌≡◌, ◌↔◌, true, below_more, arith}
-use Rattle.std.specs.Prelude.{IsSome}
-use Rattle.cyl_map.specs.Map.{entry_at}
-use Rattle.cyl_map.specs.Reading.{entry_of}
+use Rattle.cyl_map.proofs.Words.{IsSome, entry_at, entry_of}
 use Rattle.cyl_map.proofs.Maps.{at_eight}
 use Rattle.cyl_map.proofs.Rows.{and_true, and_left, and_right}
 use Rattle.cyl_map.proofs.map.is_spelled.Goals as goal

@@ -1,6 +1,5 @@
 use Rattle.std.proofs.Common.{◌≡◌, ◌↔◌, ℕ, ◌<◌, true}
-use Rattle.std.specs.Prelude.{IsSome}
-use Rattle.cyl_map.specs.Map.{entry_at}
+use Rattle.cyl_map.proofs.Words.{IsSome, entry_at}
 use Rattle.cyl_map.proofs.map.is_spelled.Given as goal
 
 abbrev pub invariant-loop-bytes : goal.invariant-loop-bytes

@@ -1,4 +1,4 @@
-use Rattle.std.proofs.lemmas.Nat.{be_bytes_8}
+use Rattle.cyl_map.proofs.Words.{be_bytes_8}
 use Rattle.cyl_map.proofs.map.number_of.Goals as goal
 
 pub returns : goal.returns

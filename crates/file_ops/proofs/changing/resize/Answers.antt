@@ -1,10 +1,6 @@
-use Rattle.std.proofs.Common.{inl, inr, Ok, Err, sym, ◌∙◌, subst, arith}
-use Rattle.cfs_base.proofs.Calls.{reads_within}
-use Rattle.cfs_base.specs.declared.kind.FileKind.{FileKind}
+use Rattle.file_ops.proofs.Words.{inl, inr, Ok, Err, sym, ◌∙◌, subst, arith, reads_within, FileKind, makes_within, SetSize}
 use Rattle.file_ops.specs.Changes.{ChangesFile, OfDrops, OfFile}
 use Rattle.file_ops.proofs.InPlace.{place_full, place_refusal, same_damaged}
-use Rattle.normal_files.proofs.Come.{makes_within}
-use Rattle.ufs_model.specs.declared.change.Change.TheVariants.{SetSize}
 use Rattle.file_ops.proofs.changing.resize.Goals as goal
 
 pub returns-in-Ok : goal.returns-in-Ok

@@ -1,11 +1,6 @@
-use Rattle.std.proofs.Common.{inl, inr, Ok, Err, length, sym, ◌∙◌, subst, arith}
-use Rattle.cfs_base.proofs.Calls.{reads_within}
-use Rattle.cfs_base.specs.declared.kind.FileKind.{FileKind}
+use Rattle.file_ops.proofs.Words.{inl, inr, Ok, Err, length, sym, ◌∙◌, subst, arith, reads_within, FileKind, makes_within, needs, Overwrite}
 use Rattle.file_ops.specs.Changes.{ChangesFile, OfClaims, OfFile}
 use Rattle.file_ops.proofs.InPlace.{place_full, place_refusal, same_damaged}
-use Rattle.normal_files.proofs.Come.{makes_within}
-use Rattle.normal_files.specs.WriteRefusal.{needs}
-use Rattle.ufs_model.specs.declared.change.Change.TheVariants.{Overwrite}
 use Rattle.file_ops.proofs.changing.write.Goals as goal
 
 pub returns-in-Ok : goal.returns-in-Ok

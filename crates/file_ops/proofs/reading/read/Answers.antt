@@ -1,8 +1,4 @@
-use Rattle.std.proofs.Common.{◌≡◌, ℕ, ◌+◌, ◌++◌, length, take, drop, sym, ◌∙◌, ap, arith}
-use Rattle.std.specs.Prelude.{slice_range}
-use Rattle.std.proofs.Math.Seq.{take-append_seam}
-use Rattle.normal_files.proofs.FileCalls.{file_of}
-use Rattle.special_files.specs.Refusal.{is_damaged}
+use Rattle.file_ops.proofs.Words.{◌≡◌, ℕ, ◌+◌, ◌++◌, length, take, drop, sym, ◌∙◌, ap, arith, slice_range, take-append_seam, file_of, is_damaged}
 use Rattle.file_ops.proofs.InPlace.{sound_by}
 use Rattle.file_ops.proofs.reading.read.Goals as goal
 

@@ -1,8 +1,4 @@
-use Rattle.std.proofs.Common.{sym, ◌∙◌, ap}
-use Rattle.block_tree.specs.declared.root.Root.{Root}
-use Rattle.leaf_changes.proofs.Given.{file_to_leaves}
-use Rattle.normal_files.proofs.FileCalls.{file_of}
-use Rattle.vol_image.proofs.Unique.{one_root_block}
+use Rattle.file_ops.proofs.Words.{sym, ◌∙◌, ap, Root, file_to_leaves, file_of, one_root_block}
 use Rattle.file_ops.proofs.reading.size.Goals as goal
 
 pub returns-in-Ok-clause-size : goal.returns-in-Ok-clause-size

@@ -1,8 +1,6 @@
-use Rattle.std.proofs.Common.{None, sym, ◌∙◌, ap, subst}
-use Rattle.cfs_base.specs.declared.refusal.Refused.{Refused}
+use Rattle.file_ops.proofs.Words.{None, sym, ◌∙◌, ap, subst, Refused, is_damaged}
 use Rattle.file_ops.specs.Changes.{IsCommitRefusal}
 use Rattle.file_ops.proofs.Since.{refused_since, sound_since, untried_since}
-use Rattle.special_files.specs.Refusal.{is_damaged}
 use Rattle.file_ops.proofs.special.commit.Goals as goal
 
 pub returns-in-Ok-clause-done : goal.returns-in-Ok-clause-done

@@ -1,13 +1,8 @@
-use Rattle.std.proofs.Common.{List, refl}
-use Rattle.cfs_base.specs.declared.identifier.Puid.{Puid}
-use Rattle.cfs_base.specs.declared.kind.FileKind.TheVariants as kinds
+use Rattle.file_ops.proofs.Words.{List, refl, Puid, Graph, SetSize, File, Opened}
 use Rattle.file_ops.specs.Changes.{MayChange}
 use Rattle.file_ops.proofs.Beside.{begun, ended, err_change, none_fresh, opens}
-use Rattle.ufs_model.specs.Graph.{Graph}
-use Rattle.ufs_model.specs.declared.change.Change.TheVariants.{SetSize}
-use Rattle.ufs_model.specs.declared.object.File.{File}
+use Rattle.cfs_base.specs.declared.kind.FileKind.TheVariants as kinds
 use Rattle.ufs_model.specs.declared.object.Object.TheVariants as objects
-use Rattle.vol_owners.specs.Account.{Opened}
 use Rattle.file_ops.proofs.special.resize_beside.Goals as goal
 
 pub returns-in-Err-resize : goal.returns-in-Err-resize

@@ -1,21 +1,8 @@
-use Rattle.std.proofs.Common.{inl, ◌+◌, ◌-◌, ◌/◌, ◌<◌, true, List, length, Ok, Err, refl, sym, ap, subst, arith}
-use Rattle.std.specs.Prelude.{sum}
-use Rattle.cfs_base.specs.Calls.{OnlyReads}
-use Rattle.cfs_base.specs.declared.identifier.Puid.{Puid}
-use Rattle.cfs_base.specs.declared.kind.FileKind.TheVariants as kinds
-use Rattle.cfs_base.proofs.Calls.{reads_within}
-use Rattle.claims.specs.Claims.{AreClaimed}
+use Rattle.file_ops.proofs.Words.{inl, ◌+◌, ◌-◌, ◌/◌, ◌<◌, true, List, length, Ok, Err, refl, sym, ap, subst, arith, sum, OnlyReads, Puid, reads_within, AreClaimed, reads_none, Drafting, claims_from, Graph, leaves_in, Overwrite, File, Opened}
 use Rattle.file_ops.specs.Changes.{MayChange}
 use Rattle.file_ops.proofs.Beside.{any_id, any_open, begun, ended, ends_more, err_change, err_read, opens, short_not, short_why}
-use Rattle.normal_files.proofs.Come.{reads_none}
-use Rattle.special_files.specs.Drafting.{Drafting}
-use Rattle.special_files.specs.Order.{claims_from}
-use Rattle.ufs_model.specs.Graph.{Graph}
-use Rattle.ufs_model.specs.Object.{leaves_in}
-use Rattle.ufs_model.specs.declared.change.Change.TheVariants.{Overwrite}
-use Rattle.ufs_model.specs.declared.object.File.{File}
+use Rattle.cfs_base.specs.declared.kind.FileKind.TheVariants as kinds
 use Rattle.ufs_model.specs.declared.object.Object.TheVariants as objects
-use Rattle.vol_owners.specs.Account.{Opened}
 use Rattle.file_ops.proofs.special.write_beside.Goals as goal
 
 pub returns-then-size-offset : goal.returns-then-size-offset

@@ -1,18 +1,7 @@
-use Rattle.std.proofs.Common.{ℕ, List, ◌+◌, ◌*◌, ◌/◌, ◌<◌, Err, None, length, refl, sym, ◌∙◌, ap, subst, arith}
-use Rattle.std.specs.Prelude.{is_some, sum}
-use Rattle.cfs_base.specs.Refusals.{refused_by}
-use Rattle.cfs_base.specs.declared.refusal.Refused.{Refused}
-use Rattle.cfs_base.specs.declared.identifier.Puid.{Puid}
-use Rattle.cyl_alloc.specs.Space.{Kept}
+use Rattle.index_ops.proofs.Words.{ℕ, List, ◌+◌, ◌*◌, ◌/◌, ◌<◌, Err, None, length, refl, sym, ◌∙◌, ap, subst, arith, is_some, sum, refused_by, Refused, Puid, Kept, Graph, Index, Opened, Drafting, filled_draft, IsTrouble}
 use Rattle.index_ops.specs.Changes.{HasSlot, PutsSlot, short_at}
-use Rattle.ufs_model.specs.Graph.{Graph}
-use Rattle.ufs_model.specs.declared.object.Index.{Index}
-use Rattle.vol_owners.specs.Account.{Opened}
-use Rattle.special_files.specs.Drafting.{Drafting}
-use Rattle.special_files.specs.Fills.{filled_draft}
-use Rattle.special_files.specs.Refusal.{IsTrouble}
-use Rattle.ufs_model.specs.declared.object.Object.TheVariants as objects
 use Rattle.index_ops.proofs.Putting.{begun_draft, begun_open, commit_done, commit_leaf, ends_settled, err_commit, err_fill, err_read, from_begin, ok_commit, settle_done, short_not, short_why, takes_two}
+use Rattle.ufs_model.specs.declared.object.Object.TheVariants as objects
 use Rattle.index_ops.proofs.changing.put.Goals as goal
 
 pub returns-in-Err : goal.returns-in-Err

@@ -1,5 +1,5 @@
-use Rattle.std.proofs.Common.{refl}
-use Rattle.index_ops.proofs.NewObjects.{bare_is, bare_made}
+use Rattle.index_ops.proofs.Words.{refl}
+use Rattle.index_ops.proofs.NewEnds.{bare_is, bare_made}
 use Rattle.index_ops.proofs.creating.bare_root.Goals as goal
 
 pub returns : goal.returns

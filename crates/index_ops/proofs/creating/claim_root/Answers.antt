@@ -1,13 +1,7 @@
-use Rattle.std.proofs.Common.{◌≡◌, false, length, Err, sym, ◌∙◌, ap, subst, arith}
-use Rattle.std.proofs.Math.ListN.{length-set}
-use Rattle.cfs_base.specs.declared.kind.Place.TheVariants as places
-use Rattle.cfs_base.specs.declared.refusal.Refused.{Refused}
-use Rattle.cyl_alloc.specs.Space.{Kept, intended}
-use Rattle.cyl_map.specs.Volume.{with_entry}
+use Rattle.index_ops.proofs.Words.{◌≡◌, false, length, Err, sym, ◌∙◌, ap, subst, arith, length-set, Refused, Kept, intended, with_entry, Ends, is_full}
 use Rattle.index_ops.specs.Creates.{RootEnds}
 use Rattle.index_ops.proofs.NewObjects.{claim_done, claim_failed, claimed, not_full, root_entry, unclaimed}
-use Rattle.special_files.specs.Ends.{Ends}
-use Rattle.special_files.specs.Refusal.{is_full}
+use Rattle.cfs_base.specs.declared.kind.Place.TheVariants as places
 use Rattle.index_ops.proofs.creating.claim_root.Goals as goal
 
 pub returns-in-Ok : goal.returns-in-Ok

@@ -1,8 +1,5 @@
-use Rattle.std.proofs.Common.{◌≡◌, ℕ, true, inl, inr, refl, subst}
-use Rattle.cyl_alloc.specs.Space.{IsLeastFree}
-use Rattle.cyl_map.specs.Volume.{is_free_in}
+use Rattle.index_ops.proofs.Words.{◌≡◌, ℕ, true, inl, inr, refl, subst, IsLeastFree, is_free_in, find_sound}
 use Rattle.index_ops.proofs.NewObjects.{find_why, zero_taken}
-use Rattle.special_files.proofs.PutCall.{find_sound}
 use Rattle.index_ops.proofs.creating.least.Goals as goal
 
 pub returns-in-Err : goal.returns-in-Err

@@ -1,29 +1,11 @@
-use Rattle.std.proofs.Common.{◌≡◌, ℕ, ◌+◌, ◌*◌, ◌<◌, List, length, true, false, None, Ok, Err, inl, inr, ⊎_elim, sym, ◌∙◌, ap, subst, arith}
-use Rattle.std.specs.Prelude.{IfErr, IfOk, Result}
-use Rattle.cfs_base.specs.Calls.{MakesAtMost, OnlyReads}
-use Rattle.cfs_base.specs.Disk.{Image}
-use Rattle.cfs_base.specs.declared.disk.Disk.{Ghosts}
-use Rattle.cfs_base.specs.declared.identifier.Puid.{Puid}
-use Rattle.cfs_base.specs.declared.refusal.Refused.TheVariants as refusals
-use Rattle.cfs_base.proofs.Calls.{reads_then, tells_on}
-use Rattle.block_tree.specs.declared.root.Root as roots
-use Rattle.cyl_alloc.specs.Space.{AreCounts, IsLeastFree, Kept}
-use Rattle.cyl_map.specs.Volume.{is_free_in}
-use Rattle.cfs_base.specs.declared.refusal.Refused.{Refused}
+use Rattle.index_ops.proofs.Words.{◌≡◌, ℕ, ◌+◌, ◌*◌, ◌<◌, List, length, true, false, None, Ok, Err, inl, inr, ⊎_elim, sym, ◌∙◌, ap, subst, arith, IfErr, IfOk, Result, MakesAtMost, OnlyReads, Image, Ghosts, Puid, reads_then, tells_on, AreCounts, IsLeastFree, Kept, is_free_in, Refused, named, Drafting, IsRefusal, is_full, store_reads, refusal_after_reads, Graph, Index, Opened, bare_object}
 use Rattle.index_ops.specs.Changes.{HasSlot, short_at}
 use Rattle.index_ops.specs.Creates.{IsOpenMap, MakeEnds, PutsObject}
-use Rattle.special_files.specs.Committing.{named}
-use Rattle.special_files.specs.Drafting.{Drafting}
-use Rattle.special_files.specs.Refusal.{IsRefusal, is_full}
-use Rattle.special_files.proofs.Begun.{store_reads}
-use Rattle.special_files.proofs.Refusals.{refusal_after_reads}
-use Rattle.ufs_model.specs.Graph.{Graph}
-use Rattle.ufs_model.specs.declared.object.Index.{Index}
-use Rattle.vol_owners.specs.Account.{Opened}
-use Rattle.ufs_model.specs.declared.object.Object.TheVariants as objects
-use Rattle.vol_image.specs.Reading.{bare_object}
-use Rattle.index_ops.proofs.NewObjects.{err_reads, made_done, made_err}
+use Rattle.index_ops.proofs.NewEnds.{err_reads, made_done, made_err}
 use Rattle.index_ops.proofs.Putting.{from_begin, from_refusal, short_not, short_why}
+use Rattle.cfs_base.specs.declared.refusal.Refused.TheVariants as refusals
+use Rattle.block_tree.specs.declared.root.Root as roots
+use Rattle.ufs_model.specs.declared.object.Object.TheVariants as objects
 use Rattle.index_ops.proofs.creating.make.Goals as goal
 
 pub returns-in-Err : goal.returns-in-Err

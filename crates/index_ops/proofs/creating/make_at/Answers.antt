@@ -1,28 +1,10 @@
-use Rattle.std.proofs.Common.{◌≡◌, ◌⊎◌, inl, ℕ, ◌/◌, ◌∷◌, false, None, Some, Ok, Err, refl, sym, ◌∙◌, ap, subst, arith}
-use Rattle.std.specs.Prelude.{Option, is_some}
-use Rattle.block_tree.specs.Root.{root_spelling}
-use Rattle.cfs_base.specs.Disk.{Image}
-use Rattle.cfs_base.specs.Refusals.{after_try, refused_by}
-use Rattle.cfs_base.specs.declared.refusal.Refused.{Refused}
-use Rattle.cfs_base.specs.declared.refusal.Refused.TheVariants as refusals
-use Rattle.cfs_base.proofs.Calls.{makes_then}
-use Rattle.cfs_base.proofs.Runs.{then, wider}
-use Rattle.claims.specs.Claims.{AreClaimed}
+use Rattle.index_ops.proofs.Words.{◌≡◌, ◌⊎◌, inl, ℕ, ◌/◌, ◌∷◌, false, None, Some, Ok, Err, refl, sym, ◌∙◌, ap, subst, arith, Option, is_some, root_spelling, Image, after_try, refused_by, Refused, makes_then, then, wider, AreClaimed, Making, named, Drafting, IsOpen, begun_at, leaf_takes, opened_as, Ends, filled_draft, Swap, SameBeside, leaf_claims, IsRefusal, IsTrouble, is_damaged, is_full, bare_object, tree_in, Holds}
 use Rattle.index_ops.specs.Creates.{begun_of, with_made}
-use Rattle.special_files.specs.Committing.{Making, named}
-use Rattle.special_files.specs.Drafting.{Drafting, IsOpen, begun_at, leaf_takes, opened_as}
-use Rattle.special_files.specs.Ends.{Ends}
-use Rattle.special_files.specs.Fills.{filled_draft}
-use Rattle.special_files.specs.declared.fill.Swap.{Swap}
-use Rattle.special_files.specs.Leaves.{SameBeside}
-use Rattle.special_files.specs.Order.{leaf_claims}
-use Rattle.special_files.specs.Refusal.{IsRefusal, IsTrouble, is_damaged, is_full}
-use Rattle.ufs_model.specs.declared.object.Object.TheVariants as objects
-use Rattle.vol_image.specs.Reading.{bare_object}
-use Rattle.vol_image.specs.Seen.{tree_in}
-use Rattle.vol_image.specs.Sound.{Holds}
-use Rattle.index_ops.proofs.NewObjects.{commit_refused, created, fill_refused, open_now, root_entry, still_makes, store_makes}
+use Rattle.index_ops.proofs.NewObjects.{created, open_now, root_entry, still_makes, store_makes}
+use Rattle.index_ops.proofs.NewEnds.{commit_refused, fill_refused}
 use Rattle.index_ops.proofs.Putting.{sound_by, takes_two}
+use Rattle.cfs_base.specs.declared.refusal.Refused.TheVariants as refusals
+use Rattle.ufs_model.specs.declared.object.Object.TheVariants as objects
 use Rattle.index_ops.proofs.creating.make_at.Goals as goal
 
 tried_sound : (e : Refused) → is_damaged e ≡ false → is_damaged (after_try e) ≡ false

@@ -1,4 +1,4 @@
-use Rattle.std.proofs.Common.{arith}
+use Rattle.index_ops.proofs.Words.{arith}
 use Rattle.index_ops.proofs.NewObjects.{make_ends, make_stops, root_entry, root_made}
 use Rattle.index_ops.proofs.creating.make_root.Goals as goal
 

@@ -1,4 +1,4 @@
-use Rattle.std.proofs.Common.{sym, subst}
+use Rattle.index_ops.proofs.Words.{sym, subst}
 use Rattle.index_ops.specs.Causes.{IsLeafTrouble}
 use Rattle.index_ops.proofs.Indices.{far_node}
 use Rattle.index_ops.proofs.reading.read_leaf.Goals as goal

@@ -1,11 +1,6 @@
-use Rattle.std.proofs.Common.{ℕ, ◌/◌, ◌%◌, sym, ◌∙◌, ap, subst, List}
-use Rattle.cfs_base.specs.Disk.{Image, block_at}
-use Rattle.cfs_base.proofs.Calls.{tells_on}
-use Rattle.block_tree.specs.Root.{IsRootBlock, root_spelling}
-use Rattle.block_tree.specs.Tree.{bytes_in, leaf_block}
+use Rattle.index_ops.proofs.Words.{ℕ, ◌/◌, ◌%◌, sym, ◌∙◌, ap, subst, List, Image, block_at, tells_on, IsRootBlock, root_spelling, bytes_in, leaf_block, slot_in}
 use Rattle.index_ops.specs.Causes.{IsRootTrouble, IsSlotTrouble}
 use Rattle.index_ops.proofs.Indices.{root_sound, slot_after_root, slot_is, slot_sound}
-use Rattle.vol_image.specs.Reading.{slot_in}
 use Rattle.index_ops.proofs.reading.retrieve.Goals as goal
 
 pub returns-in-Err-clause-sound : goal.returns-in-Err-clause-sound

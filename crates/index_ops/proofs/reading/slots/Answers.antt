@@ -1,6 +1,4 @@
-use Rattle.std.proofs.Common.{ℕ, sym, subst}
-use Rattle.cfs_base.specs.Disk.{block_at}
-use Rattle.block_tree.specs.Root.{IsRootBlock}
+use Rattle.index_ops.proofs.Words.{ℕ, sym, subst, block_at, IsRootBlock}
 use Rattle.index_ops.specs.Causes.{IsRootTrouble}
 use Rattle.index_ops.proofs.Indices.{root_sound, slots_are}
 use Rattle.index_ops.proofs.reading.slots.Goals as goal

@@ -1,9 +1,5 @@
 use Rattle.std.proofs.Common.{◌≡◌, subst, rules}
-use Rattle.std.specs.Prelude.{OnOk}
-use Rattle.cfs_base.specs.Run.{Leaves}
-use Rattle.cyl_map.specs.Map.{entries_of}
-use Rattle.cyl_map.specs.Volume.{with_entry}
-use Rattle.cyl_map.specs.declared.entry.MapEntry.{MapEntry}
+use Rattle.intentions.proofs.Words.{Leaves, MapEntry, OnOk, entries_of, with_entry}
 use Rattle.intentions.specs.Entries as entries
 use Rattle.intentions.proofs.Changes.{nothing_more, rewrites_bit}
 use Rattle.intentions.proofs.bit.change_bit.Goals as goal

@@ -1,6 +1,5 @@
 use Rattle.std.proofs.Common.{ℕ, sym, subst}
-use Rattle.intentions.specs.Calls.{ChangesBit}
-use Rattle.intentions.specs.Entries.{with_bit}
+use Rattle.intentions.proofs.Words.{ChangesBit, with_bit}
 use Rattle.intentions.proofs.Committed.{commits_by}
 use Rattle.intentions.proofs.bit.commit.Goals as goal
 

@@ -1,7 +1,5 @@
 use Rattle.std.proofs.Common.{List, ℕ, set, ◌∙◌, ap, subst}
-use Rattle.cfs_base.specs.Disk.{Image, Written}
-use Rattle.cfs_base.specs.Run.{Leaves, left_now}
-use Rattle.cfs_base.proofs.Runs.{on}
+use Rattle.intentions.proofs.Words.{Image, Leaves, Written, left_now, on}
 use Rattle.intentions.proofs.Changes.{after_nothing, all_ok}
 use Rattle.intentions.proofs.Committed.{copies_by, copy_holds_by}
 use Rattle.intentions.proofs.bit.copy_root.Goals as goal

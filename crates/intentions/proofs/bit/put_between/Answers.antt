@@ -1,8 +1,5 @@
 use Rattle.std.proofs.Common.{sym, subst}
-use Rattle.cfs_base.specs.Disk.{Image}
-use Rattle.cfs_base.proofs.Runs.{on}
-use Rattle.cyl_map.specs.Map.{entries_of}
-use Rattle.cyl_alloc.specs.Maps.{IsMapOf}
+use Rattle.intentions.proofs.Words.{Image, IsMapOf, entries_of, on}
 use Rattle.intentions.proofs.Changes.{put_settled}
 use Rattle.intentions.proofs.bit.put_between.Goals as goal
 

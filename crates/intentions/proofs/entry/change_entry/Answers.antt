@@ -1,10 +1,5 @@
 use Rattle.std.proofs.Common.{◌≡◌, sym, subst, rules}
-use Rattle.cfs_base.specs.Disk.{Image, Written}
-use Rattle.cfs_base.specs.Run.{Leaves, left_now}
-use Rattle.cyl_map.specs.declared.entry.MapEntry.{MapEntry}
-use Rattle.cyl_map.specs.Map.{entries_of}
-use Rattle.cyl_map.specs.Volume.{map_of, map_with, with_entry}
-use Rattle.cyl_alloc.specs.Maps.{IsMapOf}
+use Rattle.intentions.proofs.Words.{Image, IsMapOf, Leaves, MapEntry, Written, entries_of, left_now, map_of, map_with, with_entry}
 use Rattle.intentions.specs.Entries as entries
 use Rattle.intentions.proofs.Changes.{nothing_more, refused_after_reads, rewrites}
 use Rattle.intentions.proofs.entry.change_entry.Goals as goal

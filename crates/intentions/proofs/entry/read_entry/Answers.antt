@@ -1,8 +1,5 @@
 use Rattle.std.proofs.Common.{◌%◌, Some, refl, ◌∙◌, ap, sym, subst, arith}
-use Rattle.cyl_map.specs.Entry.{IsEntry}
-use Rattle.cyl_map.specs.Map.{entries_of}
-use Rattle.cyl_map.proofs.Maps.{get_or-entries_of, length-entries_of}
-use Rattle.cyl_alloc.proofs.Entries.{entry_is}
+use Rattle.intentions.proofs.Words.{IsEntry, entries_of, entry_is, get_or-entries_of, length-entries_of}
 use Rattle.intentions.proofs.entry.read_entry.Goals as goal
 
 pub returns-clause-entry : goal.returns-clause-entry

@@ -1,6 +1,5 @@
 use Rattle.std.proofs.Common.{◌≡◌, ◌-◌, ◌%◌, replicate, arith}
-use Rattle.std.proofs.lemmas.List.{places, same_lists}
-use Rattle.leaf_changes.specs.Bytes.{cut}
+use Rattle.leaf_changes.proofs.Words.{cut, places, same_lists}
 use Rattle.leaf_changes.proofs.parts.cut_leaf.Goals as goal
 
 pub returns-clause-cut : goal.returns-clause-cut

@@ -1,6 +1,5 @@
 use Rattle.std.proofs.Common.{arith}
-use Rattle.std.proofs.lemmas.List.{places, same_lists}
-use Rattle.leaf_changes.specs.Bytes.{overlaid}
+use Rattle.leaf_changes.proofs.Words.{overlaid, places, same_lists}
 use Rattle.leaf_changes.proofs.parts.lay_over.Goals as goal
 
 pub returns-then-count-gt0 : goal.returns-then-count-gt0

@@ -1,6 +1,5 @@
 use Rattle.std.proofs.Common.{◌≡◌, ℕ, ◌*◌, ◌+◌, ◌<◌, ◌^◌, List, ◌++◌, take, drop, sym, ap, ◌∙◌, arith}
-use Rattle.std.specs.Int.{to_be_bytes, w64}
-use Rattle.leaf_changes.specs.Bytes.{slot_spelling, with_slot}
+use Rattle.leaf_changes.proofs.Words.{slot_spelling, to_be_bytes, w64, with_slot}
 use Rattle.leaf_changes.proofs.SlotBytes.{halves}
 use Rattle.leaf_changes.proofs.slots.put_slot.Goals as goal
 use Rattle.leaf_changes.proofs.slots.put_slot.Goals.{in-Some, in-None}

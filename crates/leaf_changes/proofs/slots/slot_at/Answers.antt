@@ -1,10 +1,5 @@
-use Rattle.std.proofs.Common.{◌≡◌, ℕ, ◌+◌, ◌*◌, ◌-◌, false, ◌&&◌, ◌==◌, List, take, drop, Some, Option, refl, sym, ◌∙◌, arith}
-use Rattle.std.specs.Prelude.{slice_range}
-use Rattle.std.specs.Int.{from_be_bytes, w32}
-use Rattle.std.proofs.lemmas.Bool.{and_parts, eqb-true, false_from_ne_true}
-use Rattle.cfs_base.specs.declared.identifier.Puid.{Puid}
-use Rattle.block_tree.specs.Pointers.{number_at}
-use Rattle.vol_image.specs.Reading.{slot_in}
+use Rattle.std.proofs.Common.{◌≡◌, ℕ, ◌+◌, ◌*◌, ◌-◌, false, ◌&&◌, ◌==◌, List, take, drop, Some, Option, refl, sym, ◌∙◌, arith, slice_range}
+use Rattle.leaf_changes.proofs.Words.{Puid, and_parts, eqb-true, false_from_ne_true, from_be_bytes, number_at, slot_in, w32}
 use Rattle.leaf_changes.proofs.slots.slot_at.Goals as goal
 use Rattle.leaf_changes.proofs.slots.slot_at.Goals.{else-block_no-eq0-via-then-block_no-eq0+else-word-eq0, else-block_no-eq0-via-else-block_no-eq0}
 

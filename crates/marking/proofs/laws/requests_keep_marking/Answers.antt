@@ -1,8 +1,5 @@
 use Rattle.std.proofs.Common.{subst, [], List}
-use Rattle.std.proofs.lemmas.List.{append-nil}
-use Rattle.marking.specs.declared.memory.Rescue.{Rescue}
-use Rattle.marking.specs.Marking.{IsMarking}
-use Rattle.marking.specs.Meanwhile.{rescues_of}
+use Rattle.marking.proofs.Words.{IsMarking, Rescue, append-nil, rescues_of}
 use Rattle.marking.proofs.Wells.{well}
 use Rattle.marking.proofs.Changed.{changes_keep}
 use Rattle.marking.proofs.Condemned.{marks}

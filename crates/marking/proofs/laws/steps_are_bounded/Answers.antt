@@ -1,4 +1,4 @@
-use Rattle.marking.specs.Steps.{scanned}
+use Rattle.marking.proofs.Words.{scanned}
 use Rattle.marking.proofs.Wells.{well}
 use Rattle.marking.proofs.Asked.{ask_changes}
 use Rattle.marking.proofs.Condemned.{marks}

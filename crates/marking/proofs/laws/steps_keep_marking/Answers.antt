@@ -1,7 +1,5 @@
 use Rattle.std.proofs.Common.{subst, []}
-use Rattle.ufs_model.specs.State.{State}
-use Rattle.marking.specs.Colours.{all_shaded, none_marked}
-use Rattle.marking.specs.Marking.{IsMarking}
+use Rattle.marking.proofs.Words.{IsMarking, State, all_shaded, none_marked}
 use Rattle.marking.proofs.Wells.{well}
 use Rattle.marking.proofs.Steps.{begun, begin_keeps, take_keeps, scan_keeps}
 use Rattle.marking.proofs.Asked.{allowed}

@@ -1,6 +1,4 @@
-use Rattle.std.proofs.Common.{◌≡◌, ℕ, ◌<◌, ◌≤◌}
-use Rattle.std.specs.Prelude.{slice_index}
-use Rattle.leaf_changes.specs.Changes.{SetsSize}
+use Rattle.normal_files.proofs.Words.{◌≡◌, ℕ, ◌<◌, ◌≤◌, slice_index, SetsSize}
 use Rattle.normal_files.proofs.cut.cut_root.Given as goal
 
 abbrev pub invariant-loop-number : goal.invariant-loop-number

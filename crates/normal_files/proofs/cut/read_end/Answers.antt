@@ -1,7 +1,4 @@
-use Rattle.std.proofs.Common.{ℕ, inl, inr, sym, ap, ◌∙◌, subst, arith}
-use Rattle.cfs_base.specs.Disk.{Image}
-use Rattle.block_tree.specs.Tree.{bytes_in}
-use Rattle.leaf_changes.specs.Bytes.{cut}
+use Rattle.normal_files.proofs.Words.{ℕ, inl, inr, sym, ap, ◌∙◌, subst, arith, Image, bytes_in, cut}
 use Rattle.normal_files.specs.Laid.{node_of}
 use Rattle.normal_files.specs.Nodes.{IsNear, leaves_at}
 use Rattle.normal_files.proofs.Refusals.{stopped_undamaged, tells_after}

@@ -1,5 +1,4 @@
-use Rattle.std.proofs.Common.{◌≡◌, ℕ, ◌<◌, ◌≤◌}
-use Rattle.std.specs.Prelude.{slice_index}
+use Rattle.normal_files.proofs.Words.{◌≡◌, ℕ, ◌<◌, ◌≤◌, slice_index}
 use Rattle.normal_files.proofs.cut.shortened.Given as goal
 
 abbrev pub invariant-loop-place : goal.invariant-loop-place

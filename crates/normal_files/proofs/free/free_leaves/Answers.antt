@@ -1,6 +1,6 @@
-use Rattle.std.proofs.Common.{◌≡◌, ℕ, ◌+◌, ◌*◌, Ok, subst, arith}
+use Rattle.normal_files.proofs.Words.{◌≡◌, ℕ, ◌+◌, ◌*◌, Ok, subst, arith}
 use Rattle.normal_files.specs.Frees.{FreesTo, GivesLeaves}
-use Rattle.normal_files.proofs.Freed.{frees_err, leaves_follow, leaves_on}
+use Rattle.normal_files.proofs.FreedRun.{frees_err, leaves_follow, leaves_on}
 use Rattle.normal_files.proofs.free.free_leaves.Goals as goal
 
 pub returns-in-Err-clause-frees : goal.returns-in-Err-clause-frees

@@ -1,4 +1,4 @@
-use Rattle.std.proofs.Common.{◌+◌, ◌*◌, ◌-◌, Ok}
+use Rattle.normal_files.proofs.Words.{◌+◌, ◌*◌, ◌-◌, Ok}
 use Rattle.normal_files.specs.Frees.{Follows, FreesTo, GivesLeaves}
 use Rattle.normal_files.proofs.free.free_leaves.Given as goal
 

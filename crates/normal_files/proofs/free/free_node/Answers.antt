@@ -1,7 +1,7 @@
-use Rattle.std.proofs.Common.{◌+◌, ◌*◌, Err, sym, subst, arith}
-use Rattle.cfs_base.specs.declared.refusal.Trouble.{Trouble}
+use Rattle.normal_files.proofs.Words.{◌+◌, ◌*◌, Err, sym, subst, arith, Trouble}
 use Rattle.normal_files.specs.Frees.{Follows, FreesTo, GivesNode}
-use Rattle.normal_files.proofs.Freed.{after_read, follows_on, node_err, node_on, node_unread, read_follows, unread_follows}
+use Rattle.normal_files.proofs.Freed.{follows_on}
+use Rattle.normal_files.proofs.FreedRun.{after_read, node_err, node_on, node_unread, read_follows, unread_follows}
 use Rattle.normal_files.proofs.free.free_node.Goals as goal
 
 pub returns-in-Err-clause-frees : goal.returns-in-Err-clause-frees

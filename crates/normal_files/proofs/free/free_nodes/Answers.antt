@@ -1,6 +1,7 @@
-use Rattle.std.proofs.Common.{◌≡◌, ℕ, ◌+◌, ◌*◌, Ok, subst, arith}
+use Rattle.normal_files.proofs.Words.{◌≡◌, ℕ, ◌+◌, ◌*◌, Ok, subst, arith}
 use Rattle.normal_files.specs.Frees.{FreesTo, GivesNodes}
-use Rattle.normal_files.proofs.Freed.{follows_on, frees_err, nodes_on}
+use Rattle.normal_files.proofs.Freed.{follows_on}
+use Rattle.normal_files.proofs.FreedRun.{frees_err, nodes_on}
 use Rattle.normal_files.proofs.free.free_nodes.Goals as goal
 
 pub returns-in-Err-clause-frees : goal.returns-in-Err-clause-frees

@@ -1,5 +1,6 @@
-use Rattle.std.proofs.Common.{arith}
-use Rattle.normal_files.proofs.Freed.{end_err, end_first, end_node, end_rest, follows_on}
+use Rattle.normal_files.proofs.Words.{arith}
+use Rattle.normal_files.proofs.Freed.{follows_on}
+use Rattle.normal_files.proofs.FreedRun.{end_err, end_first, end_node, end_rest}
 use Rattle.normal_files.proofs.free.free_past.Goals as goal
 
 pub returns-in-Err-clause-frees : goal.returns-in-Err-clause-frees

@@ -1,9 +1,6 @@
-use Rattle.std.proofs.Common.{length, subst}
-use Rattle.cfs_base.specs.Disk.{block_at}
-use Rattle.ufs_model.specs.declared.object.Object.TheVariants as objects
-use Rattle.vol_image.specs.Reading.{IsTree}
-use Rattle.vol_image.specs.Seen.{tree_in}
+use Rattle.normal_files.proofs.Words.{length, subst, block_at, IsTree, tree_in}
 use Rattle.normal_files.proofs.Laid.{rooted_is, tree_of_laid}
+use Rattle.ufs_model.specs.declared.object.Object.TheVariants as objects
 use Rattle.normal_files.proofs.laws.files_are_read_by_their_roots.Goals as goal
 
 pub returns : goal.returns

@@ -1,5 +1,4 @@
-use Rattle.std.proofs.Common.{◌≡◌, ℕ, replicate, refl, sym, ◌∙◌, subst}
-use Rattle.block_tree.specs.Tree.{bytes_in}
+use Rattle.normal_files.proofs.Words.{◌≡◌, ℕ, replicate, refl, sym, ◌∙◌, subst, bytes_in}
 use Rattle.normal_files.proofs.nodes.read_leaf.Goals as goal
 
 pub returns-then-block-eq0-clause-content : goal.returns-then-block-eq0-clause-content

@@ -1,8 +1,4 @@
-use Rattle.std.proofs.lemmas.List.{length-replicate}
-use Rattle.std.proofs.Common.{List, length, ℕ, ◌<◌, get_or, sym, ◌∙◌, ap, subst, below_more, arith}
-use Rattle.std.specs.List.{All}
-use Rattle.std.proofs.lemmas.List.Elements.{All-from_get_or, All-replicate}
-use Rattle.block_tree.specs.Pointers.{leaf_pointers, pointers_of}
+use Rattle.normal_files.proofs.Words.{length-replicate, List, length, ℕ, ◌<◌, get_or, sym, ◌∙◌, ap, subst, below_more, arith, All, All-from_get_or, All-replicate, leaf_pointers, pointers_of}
 use Rattle.normal_files.proofs.Trees.{leaves_there}
 use Rattle.normal_files.proofs.nodes.read_node.Goals as goal
 

@@ -1,4 +1,4 @@
-use Rattle.std.proofs.Common.{ℕ, ◌<◌, get_or}
+use Rattle.normal_files.proofs.Words.{ℕ, ◌<◌, get_or}
 use Rattle.normal_files.proofs.nodes.read_node.Given as goal
 
 abbrev pub invariant-loop-leaf : goal.invariant-loop-leaf

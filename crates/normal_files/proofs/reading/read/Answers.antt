@@ -1,17 +1,10 @@
-use Rattle.std.proofs.Common.{◌≡◌, ℕ, ◌+◌, ◌*◌, false, length, sym, ◌∙◌, ap, subst, arith}
-use Rattle.std.specs.Prelude.{slice_index, slice_range}
-use Rattle.cfs_base.specs.Disk.{Image, block_at}
-use Rattle.cfs_base.proofs.Calls.{reads_then}
-use Rattle.leaf_changes.specs.Leaves.{IsReadTo}
-use Rattle.vol_image.specs.Reading.{leaf_in}
-use Rattle.vol_image.specs.Seen.{tree_in}
-use Rattle.ufs_model.specs.Object.{leaves_in}
-use Rattle.ufs_model.specs.declared.object.Object.TheVariants as objects
+use Rattle.normal_files.proofs.Words.{◌≡◌, ℕ, ◌+◌, ◌*◌, false, length, sym, ◌∙◌, ap, subst, arith, slice_index, slice_range, Image, block_at, reads_then, IsReadTo, leaf_in, tree_in, leaves_in}
 use Rattle.normal_files.specs.Nodes.{IsNear}
 use Rattle.normal_files.specs.Refusal.{IsTrouble, is_damage}
 use Rattle.normal_files.proofs.LeafReads.{node_leads, part_is, read_on}
 use Rattle.normal_files.proofs.Refusals.{passed, reads_one, stopped_is, stopped_undamaged, tells_after, trouble_after_reads}
 use Rattle.normal_files.proofs.Trees.{near}
+use Rattle.ufs_model.specs.declared.object.Object.TheVariants as objects
 use Rattle.normal_files.proofs.reading.read.Goals as goal
 
 pub returns-in_err-node-clause-sound : goal.returns-in_err-node-clause-sound

@@ -1,12 +1,4 @@
-use Rattle.std.proofs.Common.{◌≡◌, ◌+◌, ◌*◌, ◌-◌, ◌/◌, length}
-use Rattle.std.specs.Prelude.{min}
-use Rattle.cfs_base.specs.Calls.{OnlyReads}
-use Rattle.cfs_base.specs.Disk.{block_at}
-use Rattle.cfs_base.specs.Run.{Tells}
-use Rattle.leaf_changes.specs.Leaves.{IsReadTo}
-use Rattle.ufs_model.specs.Object.{leaves_in}
-use Rattle.vol_image.specs.Reading.{leaf_in}
-use Rattle.vol_image.specs.Seen.{tree_in}
+use Rattle.normal_files.proofs.Words.{◌≡◌, ◌+◌, ◌*◌, ◌-◌, ◌/◌, length, min, OnlyReads, block_at, Tells, IsReadTo, leaves_in, leaf_in, tree_in}
 use Rattle.normal_files.proofs.reading.read.Given as goal
 
 abbrev pub invariant-loop-number : goal.invariant-loop-number

@@ -1,9 +1,4 @@
-use Rattle.std.proofs.Common.{ℕ, ◌+◌, ◌*◌, ◌<◌, ◌≤◌, List, length, sym, ◌∙◌, ap, subst, arith}
-use Rattle.cfs_base.proofs.Calls.{reads_then, reads_within}
-use Rattle.leaf_changes.specs.Bytes.{with_leaf}
-use Rattle.leaf_changes.specs.Leaves.{IsReadTo}
-use Rattle.leaf_changes.proofs.Overlays.{length-overlaid}
-use Rattle.leaf_changes.proofs.ReadParts.{read_more}
+use Rattle.normal_files.proofs.Words.{ℕ, ◌+◌, ◌*◌, ◌<◌, ◌≤◌, List, length, sym, ◌∙◌, ap, subst, arith, reads_then, reads_within, with_leaf, IsReadTo, length-overlaid, read_more}
 use Rattle.normal_files.specs.Steps.{HasStoppedBy}
 use Rattle.normal_files.proofs.LeafReads.{one_leaf, read_on}
 use Rattle.normal_files.proofs.Refusals.{passed, stopped_later, tells_after}

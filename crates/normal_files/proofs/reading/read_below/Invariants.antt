@@ -1,10 +1,4 @@
-use Rattle.std.proofs.Common.{◌≡◌, ℕ, ◌+◌, ◌*◌, ◌-◌, ◌≤◌, ◌/◌, length, Option}
-use Rattle.std.specs.Prelude.{max, min}
-use Rattle.cfs_base.specs.Calls.{OnlyReads}
-use Rattle.cfs_base.specs.Run.{Tells}
-use Rattle.leaf_changes.specs.Leaves.{IsReadTo}
-use Rattle.ufs_model.specs.Object.{leaves_in}
-use Rattle.vol_image.specs.Seen.{Held}
+use Rattle.normal_files.proofs.Words.{◌≡◌, ℕ, ◌+◌, ◌*◌, ◌-◌, ◌≤◌, ◌/◌, length, Option, max, min, OnlyReads, Tells, IsReadTo, leaves_in, Held}
 use Rattle.normal_files.specs.Nodes.{LeadTo}
 use Rattle.normal_files.proofs.reading.read_below.Given as goal
 

@@ -1,50 +1,32 @@
-use Rattle.std.proofs.Common.{arith}
-use Rattle.cfs_base.proofs.Calls.{makes_then, reads_within}
-use Rattle.normal_files.proofs.Come.{come_begins, come_on, makes_none}
-use Rattle.normal_files.proofs.WriteParts.{both_put, high_leaves, low_leaves}
+use Rattle.normal_files.proofs.Words.{Bool, ◌∙◌, sym, subst, arith, ◌*◌, ◌-◌, false}
+use Rattle.normal_files.specs.Steps.{HasCome, Stops}
+use Rattle.normal_files.proofs.Come.{come_err, come_none, come_then, come_within}
+use Rattle.normal_files.proofs.WriteParts.{amid_at}
 use Rattle.normal_files.proofs.writing.put_both.Goals as goal
 
-pub returns-in-Err-clause-images : goal.returns-in-Err-clause-images
-returns-in-Err-clause-images g c = λ graph ds id f root at kept is.
-    low_leaves g.D.Disk graph ds id f root at c.args.offset c.args.bytes.now c.args.low.now c.args.high.now c.args.disk.now kept is c.requires.first c.requires.next c.requires.last c.put.new.disk _ c.in-Err.ensures.goes
+pub returns-in-Err-clause-puts : goal.returns-in-Err-clause-puts
+returns-in-Err-clause-puts g c = λ r w kept amid low_is high_is. c.in-Err.ensures.puts r w kept low_is (amid_at (sym c.requires.parts.first) amid)
 
-pub returns-in-Err-clause-stopped : goal.returns-in-Err-clause-stopped
-returns-in-Err-clause-stopped g c = c.in-Err.ensures.ends.stopped c.args.disk.now 0 0 (come_begins g.D.Disk c.args.disk.now)
+pub returns-in-Err-clause-ends : goal.returns-in-Err-clause-ends
+returns-in-Err-clause-ends g c = come_err false (come_none g.D.Disk c.args.disk.now 0 0) c.in-Err.ensures.ends (omega (arith, c.requires.parts.next, c.requires.parts.high_read.some)) (omega (arith, c.requires.parts.next, c.requires.parts.high_read.some))
 
-pub returns-in-Ok-put-clause-written : goal.returns-in-Ok-put-clause-written
-returns-in-Ok-put-clause-written g c = λ graph ds id f root at kept is.
-    both_put g.D.Disk graph ds id f root at c.args.offset c.args.bytes.now c.args.low.now c.args.high.now c.args.disk.now kept is c.requires.first c.requires.next c.requires.last c.put.new.disk c.in-Ok.ensures.goes c.put-in-Ok.new.disk c.in-Ok-put.ensures.goes
+pub returns-in-Ok-put-clause-puts : goal.returns-in-Ok-put-clause-puts
+returns-in-Ok-put-clause-puts g c = λ r w kept amid low_is high_is.
+    let low = c.in-Ok.ensures.puts r w kept low_is (amid_at (sym c.requires.parts.first) amid) in
+    let high = c.in-Ok-put.ensures.puts r w kept high_is (amid_at (sym c.requires.parts.next) low.0) in
+    (amid_at c.requires.parts.last high.0, λ m. high.1 m ∙ low.1 m)
 
-pub returns-in-Ok-put-clause-images : goal.returns-in-Ok-put-clause-images
-returns-in-Ok-put-clause-images g c = λ graph ds id f root at kept is.
-    high_leaves g.D.Disk graph ds id f root at c.args.offset c.args.bytes.now c.args.low.now c.args.high.now c.args.disk.now kept is c.requires.first c.requires.next c.requires.last c.put.new.disk c.in-Ok.ensures.goes c.put-in-Ok.new.disk _ c.in-Ok-put.ensures.goes
+pub returns-in-Ok-put-clause-ends : goal.returns-in-Ok-put-clause-ends
+returns-in-Ok-put-clause-ends g c =
+    let parts = c.requires.parts in
+    subst (λ (b : Bool). HasCome g.D.Disk (2 * (c.args.high.now.leaves.to - c.args.low.now.leaves.from)) (c.args.high.now.leaves.to - c.args.low.now.leaves.from) b c.args.disk.now c.put-in-Ok.new.disk) (sym c.either.ensures)
+    (come_within (come_then c.in-Ok.tried c.in-Ok-put.now c.in-Ok.ensures.ends c.in-Ok-put.ensures.ends) (omega (arith, parts.next, parts.low_read.some, parts.high_read.some)) (omega (arith, parts.next, parts.low_read.some, parts.high_read.some)))
 
-pub returns-in-Err-put-clause-images : goal.returns-in-Err-put-clause-images
-returns-in-Err-put-clause-images g c = λ graph ds id f root at kept is.
-    high_leaves g.D.Disk graph ds id f root at c.args.offset c.args.bytes.now c.args.low.now c.args.high.now c.args.disk.now kept is c.requires.first c.requires.next c.requires.last c.put.new.disk c.in-Ok.ensures.goes c.put-in-Ok.new.disk _ c.in-Err-put.ensures.goes
+pub returns-in-Err-put-clause-puts : goal.returns-in-Err-put-clause-puts
+returns-in-Err-put-clause-puts g c = λ r w kept amid low_is high_is. c.in-Err-put.ensures.puts r w kept high_is (amid_at (sym c.requires.parts.next) (c.in-Ok.ensures.puts r w kept low_is (amid_at (sym c.requires.parts.first) amid)).0)
 
-pub returns-in-Ok-put-clause-come : goal.returns-in-Ok-put-clause-come
-returns-in-Ok-put-clause-come g c =
-    come_on g.D.Disk c.args.disk.now c.put-in-Ok.new.disk c.put-in-Ok.new.disk _ _ _ (omega (arith, c.requires.next, c.requires.low.some, c.requires.high.some)) (omega (arith, c.requires.next, c.requires.low.some, c.requires.high.some))
-    (c.in-Ok-put.ensures.ends.come c.args.disk.now _ _ (c.in-Ok.ensures.ends.come c.args.disk.now 0 0 (come_begins g.D.Disk c.args.disk.now)))
-
-pub returns-in-Err-put-clause-stopped : goal.returns-in-Err-put-clause-stopped
-returns-in-Err-put-clause-stopped g c = c.in-Err-put.ensures.ends.stopped c.args.disk.now _ _ (c.in-Ok.ensures.ends.come c.args.disk.now 0 0 (come_begins g.D.Disk c.args.disk.now))
-
-pub returns-in-Err-clause-untried : goal.returns-in-Err-clause-untried
-returns-in-Err-clause-untried g c = λ same.
-    reads_within g.D.Disk c.args.disk.now c.put.new.disk _ _ (omega (arith, c.requires.next, c.requires.low.some, c.requires.high.some)) (c.in-Err.ensures.ends.untried c.args.disk.now 0 0 (come_begins g.D.Disk c.args.disk.now) same)
-
-pub returns-in-Err-put-clause-untried : goal.returns-in-Err-put-clause-untried
-returns-in-Err-put-clause-untried g c = λ same.
-    reads_within g.D.Disk c.args.disk.now c.put-in-Ok.new.disk _ _ (omega (arith, c.requires.next, c.requires.low.some, c.requires.high.some))
-    (c.in-Err-put.ensures.ends.untried c.args.disk.now _ _ (c.in-Ok.ensures.ends.come c.args.disk.now 0 0 (come_begins g.D.Disk c.args.disk.now)) same)
-
-pub returns-in-Err-clause-calls : goal.returns-in-Err-clause-calls
-returns-in-Err-clause-calls g c = makes_then g.D.Disk c.args.disk.now c.args.disk.now c.put.new.disk 0 _ _ 0 _ _ (makes_none g.D.Disk c.args.disk.now 0 0) c.in-Err.ensures.makes (omega (arith, c.requires.next, c.requires.low.some, c.requires.high.some)) (omega (arith, c.requires.next, c.requires.low.some, c.requires.high.some))
-
-pub returns-in-Ok-put-clause-calls : goal.returns-in-Ok-put-clause-calls
-returns-in-Ok-put-clause-calls g c = makes_then g.D.Disk c.args.disk.now c.put.new.disk c.put-in-Ok.new.disk _ _ _ _ _ _ c.in-Ok.ensures.makes c.in-Ok-put.ensures.makes (omega (arith, c.requires.next, c.requires.low.some, c.requires.high.some)) (omega (arith, c.requires.next, c.requires.low.some, c.requires.high.some))
-
-pub returns-in-Err-put-clause-calls : goal.returns-in-Err-put-clause-calls
-returns-in-Err-put-clause-calls g c = makes_then g.D.Disk c.args.disk.now c.put.new.disk c.put-in-Ok.new.disk _ _ _ _ _ _ c.in-Ok.ensures.makes c.in-Err-put.ensures.makes (omega (arith, c.requires.next, c.requires.low.some, c.requires.high.some)) (omega (arith, c.requires.next, c.requires.low.some, c.requires.high.some))
+pub returns-in-Err-put-clause-ends : goal.returns-in-Err-put-clause-ends
+returns-in-Err-put-clause-ends g c =
+    let parts = c.requires.parts in
+    subst (Stops g.D.Disk (2 * (c.args.high.now.leaves.to - c.args.low.now.leaves.from)) (c.args.high.now.leaves.to - c.args.low.now.leaves.from) c.args.disk.now c.put-in-Ok.new.disk) (sym c.after.ensures)
+    (come_err c.in-Ok.tried c.in-Ok.ensures.ends c.in-Err-put.ensures.ends (omega (arith, parts.next, parts.low_read.some, parts.high_read.some)) (omega (arith, parts.next, parts.low_read.some, parts.high_read.some)))

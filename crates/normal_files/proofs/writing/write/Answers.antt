@@ -1,18 +1,12 @@
-use Rattle.std.proofs.Common.{◌≡◌, ◌∙◌, length, true, false, refl, ap, sym, subst, arith}
-use Rattle.cfs_base.specs.Disk.{Image}
-use Rattle.cfs_base.specs.Refusals.{had_tried, refused_by, trouble_had_tried}
-use Rattle.cfs_base.specs.declared.refusal.Refused.TheVariants as refusals
-use Rattle.cfs_base.specs.declared.refusal.Trouble.{Trouble}
-use Rattle.cfs_base.specs.declared.refusal.Trouble.TheVariants as trouble
-use Rattle.cfs_base.proofs.Calls.{makes_then, reads_make, reads_then, reads_within}
-use Rattle.ufs_model.specs.Object.{written}
-use Rattle.claims.specs.Claims.{AreClaimed}
+use Rattle.normal_files.proofs.Words.{◌≡◌, ◌∙◌, length, true, false, refl, ap, sym, subst, arith, had_tried, refused_by, trouble_had_tried, Trouble, makes_then, reads_make, reads_within, written}
 use Rattle.normal_files.specs.Ends.{is_damaged}
-use Rattle.normal_files.specs.Order.{claims_of}
 use Rattle.normal_files.specs.WriteRefusal.{IsWriteRefusal, TellsNeed, needs}
-use Rattle.normal_files.proofs.Come.{makes_within}
-use Rattle.normal_files.proofs.FileCalls.{becomes_on, damage_same, file_of, images_on, images_read, parts_refused, parts_tell, parts_untried, read_refused, room_refused, room_tells, stop_on, trouble_tells, writes_on}
+use Rattle.normal_files.proofs.Come.{come_reads, makes_within}
+use Rattle.normal_files.proofs.Ending.{gone_come, gone_err}
+use Rattle.normal_files.proofs.FileCalls.{becomes_as, damage_same, file_of, images_read, partly_as, parts_refused, parts_tell, parts_untried, read_refused, room_refused, room_tells, trouble_tells, view, writable_on, wrote_on, view_on}
 use Rattle.normal_files.proofs.NeedOf.{parts_need}
+use Rattle.cfs_base.specs.declared.refusal.Refused.TheVariants as refusals
+use Rattle.cfs_base.specs.declared.refusal.Trouble.TheVariants as trouble
 use Rattle.normal_files.proofs.writing.write.Goals as goal
 
 never : (t : Trouble) → trouble_had_tried t ≡ false → refused_by t ≡ refusals.Disk true → ⊥
@@ -20,7 +14,7 @@ never (trouble.Disk tried) none is = (let no : false ≡ true = sym none ∙ ap 
 never (trouble.Damaged damage) none is = cc
 
 pub returns-in-Err-clause-images : goal.returns-in-Err-clause-images
-returns-in-Err-clause-images g c = λ graph ds id f store there no_draft here inside. images_read g.D.Disk c.args.disk.now c.read.new.disk c.in-Err.ensures.reads _
+returns-in-Err-clause-images g c = λ graph ds id f store there no_draft here inside. images_read c.in-Err.ensures.reads _
 
 pub returns-in-Err-clause-sound : goal.returns-in-Err-clause-sound
 returns-in-Err-clause-sound g c = λ graph ds id f store there no_draft here inside. ap is_damaged c.from.ensures ∙ damage_same c.in-Err.trouble ∙ c.in-Err.ensures.sound f store.carries.tells (file_of (g.D.Disk.content c.args.disk.now) graph ds id f c.args.at.0 store.account there here)
@@ -35,7 +29,7 @@ pub returns-in-Err-clause-calls : goal.returns-in-Err-clause-calls
 returns-in-Err-clause-calls g c = makes_within g.D.Disk c.args.disk.now c.read.new.disk 3 0 _ _ (omega arith) (omega arith) (reads_make g.D.Disk c.args.disk.now c.read.new.disk _ c.in-Err.ensures.reads)
 
 pub returns-in-Err-has_room-clause-images : goal.returns-in-Err-has_room-clause-images
-returns-in-Err-has_room-clause-images g c = λ graph ds id f store there no_draft here inside. images_read g.D.Disk c.args.disk.now c.read.new.disk c.in-Ok.ensures.reads _
+returns-in-Err-has_room-clause-images g c = λ graph ds id f store there no_draft here inside. images_read c.in-Ok.ensures.reads _
 
 pub returns-in-Err-has_room-clause-sound : goal.returns-in-Err-has_room-clause-sound
 returns-in-Err-has_room-clause-sound g c = λ graph ds id f store there no_draft here inside. ap is_damaged c.in-Err-has_room.ensures.full.0
@@ -51,59 +45,69 @@ returns-in-Err-has_room-clause-calls g c = makes_within g.D.Disk c.args.disk.now
 
 pub returns-in-Ok-write_parts-clause-written : goal.returns-in-Ok-write_parts-clause-written
 returns-in-Ok-write_parts-clause-written g c = λ graph ds id f store there no_draft here inside.
-    let done = c.in-Ok-write_parts.ensures.written graph ds id f (writes_on g.D.Disk c.args.disk.now c.read.new.disk c.in-Ok.ensures.reads graph ds id f c.args.space.now c.args.at.0 c.in-Ok.file.root store there no_draft here (g.met.D.Disk.of_blocks c.args.disk.now store.carries.tells.honest) (c.in-Ok.ensures.root store.carries.tells) c.args.offset c.args.bytes.now c.in-Ok.file.low c.in-Ok.file.high inside (c.in-Ok.ensures.low_is store.carries.tells) (c.in-Ok.ensures.high_is store.carries.tells)) in
-    (becomes_on g.D.Disk c.args.disk.now c.read.new.disk c.in-Ok.ensures.reads graph ds id (written f c.args.offset c.args.bytes.now) c.write_parts.new.disk c.write_parts.new.space done.0, done.1)
+    let v = view g.D.Disk c.args.disk.now graph ds id f c.args.space.now c.args.at.0 c.in-Ok.file.root store there no_draft here (g.met.D.Disk.of_blocks c.args.disk.now store.carries.tells.honest) (c.in-Ok.ensures.root store.carries.tells) in
+    let w = wrote_on c.in-Ok.ensures.reads v (c.in-Ok-write_parts.ensures.writes (view_on c.in-Ok.ensures.reads v) (writable_on c.in-Ok.ensures.reads v inside (c.in-Ok.ensures.low_is store.carries.tells) (c.in-Ok.ensures.high_is store.carries.tells))) in
+    (becomes_as id c.args.at.0 here w.file.done, w.settled)
 
 pub returns-in-Ok-write_parts-clause-order : goal.returns-in-Ok-write_parts-clause-order
 returns-in-Ok-write_parts-clause-order g c = λ graph ds id f store there no_draft here inside.
-    subst (λ (i : Image). AreClaimed (claims_of c.args.at.0 f c.args.offset (length c.args.bytes.now)) i (g.D.Disk.content c.write_parts.new.disk)) c.in-Ok.ensures.reads.content
-    (c.in-Ok-write_parts.ensures.order graph ds id f (writes_on g.D.Disk c.args.disk.now c.read.new.disk c.in-Ok.ensures.reads graph ds id f c.args.space.now c.args.at.0 c.in-Ok.file.root store there no_draft here (g.met.D.Disk.of_blocks c.args.disk.now store.carries.tells.honest) (c.in-Ok.ensures.root store.carries.tells) c.args.offset c.args.bytes.now c.in-Ok.file.low c.in-Ok.file.high inside (c.in-Ok.ensures.low_is store.carries.tells) (c.in-Ok.ensures.high_is store.carries.tells)) c.in-Ok.ensures.some)
+    let v = view g.D.Disk c.args.disk.now graph ds id f c.args.space.now c.args.at.0 c.in-Ok.file.root store there no_draft here (g.met.D.Disk.of_blocks c.args.disk.now store.carries.tells.honest) (c.in-Ok.ensures.root store.carries.tells) in
+    (wrote_on c.in-Ok.ensures.reads v (c.in-Ok-write_parts.ensures.writes (view_on c.in-Ok.ensures.reads v) (writable_on c.in-Ok.ensures.reads v inside (c.in-Ok.ensures.low_is store.carries.tells) (c.in-Ok.ensures.high_is store.carries.tells)))).order
 
 pub returns-in-Ok-write_parts-clause-images : goal.returns-in-Ok-write_parts-clause-images
-returns-in-Ok-write_parts-clause-images g c = λ graph ds id f store there no_draft here inside. images_on g.D.Disk c.args.disk.now c.read.new.disk c.in-Ok.ensures.reads c.write_parts.new.disk _ (c.in-Ok-write_parts.ensures.images graph ds id f (writes_on g.D.Disk c.args.disk.now c.read.new.disk c.in-Ok.ensures.reads graph ds id f c.args.space.now c.args.at.0 c.in-Ok.file.root store there no_draft here (g.met.D.Disk.of_blocks c.args.disk.now store.carries.tells.honest) (c.in-Ok.ensures.root store.carries.tells) c.args.offset c.args.bytes.now c.in-Ok.file.low c.in-Ok.file.high inside (c.in-Ok.ensures.low_is store.carries.tells) (c.in-Ok.ensures.high_is store.carries.tells)))
+returns-in-Ok-write_parts-clause-images g c = λ graph ds id f store there no_draft here inside.
+    let v = view g.D.Disk c.args.disk.now graph ds id f c.args.space.now c.args.at.0 c.in-Ok.file.root store there no_draft here (g.met.D.Disk.of_blocks c.args.disk.now store.carries.tells.honest) (c.in-Ok.ensures.root store.carries.tells) in
+    partly_as g.D.Disk graph id c.args.at.0 f (written f c.args.offset c.args.bytes.now) c.args.disk.now c.write_parts.new.disk here (wrote_on c.in-Ok.ensures.reads v (c.in-Ok-write_parts.ensures.writes (view_on c.in-Ok.ensures.reads v) (writable_on c.in-Ok.ensures.reads v inside (c.in-Ok.ensures.low_is store.carries.tells) (c.in-Ok.ensures.high_is store.carries.tells)))).file.images
 
 pub returns-in-Ok-write_parts-clause-calls : goal.returns-in-Ok-write_parts-clause-calls
-returns-in-Ok-write_parts-clause-calls g c = makes_then g.D.Disk c.args.disk.now c.read.new.disk c.write_parts.new.disk 3 _ _ 0 _ _ (reads_make g.D.Disk c.args.disk.now c.read.new.disk _ c.in-Ok.ensures.reads) c.in-Ok-write_parts.ensures.calls (omega (arith, c.in-Ok.ensures.few)) (omega (arith, c.in-Ok.ensures.few))
+returns-in-Ok-write_parts-clause-calls g c = makes_then g.D.Disk c.args.disk.now c.read.new.disk c.write_parts.new.disk 3 _ _ 0 _ _ (reads_make g.D.Disk c.args.disk.now c.read.new.disk _ c.in-Ok.ensures.reads) c.in-Ok-write_parts.ensures.ends.come.makes (omega (arith, c.in-Ok.ensures.few)) (omega (arith, c.in-Ok.ensures.few))
 
 pub returns-in-Err-write_parts-clause-images : goal.returns-in-Err-write_parts-clause-images
-returns-in-Err-write_parts-clause-images g c = λ graph ds id f store there no_draft here inside. images_on g.D.Disk c.args.disk.now c.read.new.disk c.in-Ok.ensures.reads c.write_parts.new.disk _ (c.in-Err-write_parts.ensures.images graph ds id f (writes_on g.D.Disk c.args.disk.now c.read.new.disk c.in-Ok.ensures.reads graph ds id f c.args.space.now c.args.at.0 c.in-Ok.file.root store there no_draft here (g.met.D.Disk.of_blocks c.args.disk.now store.carries.tells.honest) (c.in-Ok.ensures.root store.carries.tells) c.args.offset c.args.bytes.now c.in-Ok.file.low c.in-Ok.file.high inside (c.in-Ok.ensures.low_is store.carries.tells) (c.in-Ok.ensures.high_is store.carries.tells)))
+returns-in-Err-write_parts-clause-images g c = λ graph ds id f store there no_draft here inside.
+    let v = view g.D.Disk c.args.disk.now graph ds id f c.args.space.now c.args.at.0 c.in-Ok.file.root store there no_draft here (g.met.D.Disk.of_blocks c.args.disk.now store.carries.tells.honest) (c.in-Ok.ensures.root store.carries.tells) in
+    partly_as g.D.Disk graph id c.args.at.0 f (written f c.args.offset c.args.bytes.now) c.args.disk.now c.write_parts.new.disk here (wrote_on c.in-Ok.ensures.reads v (c.in-Err-write_parts.ensures.writes (view_on c.in-Ok.ensures.reads v) (writable_on c.in-Ok.ensures.reads v inside (c.in-Ok.ensures.low_is store.carries.tells) (c.in-Ok.ensures.high_is store.carries.tells)))).file.images
 
 pub returns-in-Err-write_parts-clause-sound : goal.returns-in-Err-write_parts-clause-sound
-returns-in-Err-write_parts-clause-sound g c = λ graph ds id f store there no_draft here inside. c.in-Err-write_parts.ensures.sound graph ds id f (writes_on g.D.Disk c.args.disk.now c.read.new.disk c.in-Ok.ensures.reads graph ds id f c.args.space.now c.args.at.0 c.in-Ok.file.root store there no_draft here (g.met.D.Disk.of_blocks c.args.disk.now store.carries.tells.honest) (c.in-Ok.ensures.root store.carries.tells) c.args.offset c.args.bytes.now c.in-Ok.file.low c.in-Ok.file.high inside (c.in-Ok.ensures.low_is store.carries.tells) (c.in-Ok.ensures.high_is store.carries.tells))
+returns-in-Err-write_parts-clause-sound g c = λ graph ds id f store there no_draft here inside.
+    let v = view g.D.Disk c.args.disk.now graph ds id f c.args.space.now c.args.at.0 c.in-Ok.file.root store there no_draft here (g.met.D.Disk.of_blocks c.args.disk.now store.carries.tells.honest) (c.in-Ok.ensures.root store.carries.tells) in
+    (c.in-Err-write_parts.ensures.writes (view_on c.in-Ok.ensures.reads v) (writable_on c.in-Ok.ensures.reads v inside (c.in-Ok.ensures.low_is store.carries.tells) (c.in-Ok.ensures.high_is store.carries.tells))).sound
 
 pub returns-in-Err-write_parts-clause-refused : goal.returns-in-Err-write_parts-clause-refused
-returns-in-Err-write_parts-clause-refused g c = parts_refused g.D.Disk c.args.at.0 c.args.floor c.args.disk.now c.write_parts.new.disk c.args.space.now c.write_parts.new.space c.in-Err-write_parts.error (stop_on g.D.Disk c.args.disk.now c.read.new.disk c.in-Ok.ensures.reads c.write_parts.new.disk c.write_parts.new.space c.in-Err-write_parts.error c.in-Err-write_parts.ensures.refused)
+returns-in-Err-write_parts-clause-refused g c =
+    parts_refused g.D.Disk c.args.at.0 c.args.floor c.args.disk.now c.write_parts.new.disk c.args.space.now c.write_parts.new.space c.in-Err-write_parts.error ((gone_err false c.in-Err-write_parts.error (gone_come (come_reads c.in-Ok.ensures.reads) c.args.space.now) c.in-Err-write_parts.ensures.ends).refused (omega (arith, c.need-low.ensures.count, c.need-high.ensures.count, c.in-Ok-has_room.ensures.room)))
 
 pub returns-in-Err-write_parts-clause-untried : goal.returns-in-Err-write_parts-clause-untried
 returns-in-Err-write_parts-clause-untried g c = λ h.
-    let two = parts_untried g.D.Disk c.read.new.disk c.write_parts.new.disk _ c.in-Err-write_parts.error c.in-Err-write_parts.ensures.refused c.in-Err-write_parts.ensures.untried h in
-    (two.0, reads_then g.D.Disk c.args.disk.now c.read.new.disk c.write_parts.new.disk 3 _ 73 c.in-Ok.ensures.reads two.1 (omega (arith, c.in-Ok.ensures.few)))
+    let halts = gone_err false c.in-Err-write_parts.error (gone_come (come_reads c.in-Ok.ensures.reads) c.args.space.now) c.in-Err-write_parts.ensures.ends in
+    let two = parts_untried g.D.Disk c.args.disk.now c.write_parts.new.disk _ c.in-Err-write_parts.error (halts.refused (omega (arith, c.need-low.ensures.count, c.need-high.ensures.count, c.in-Ok-has_room.ensures.room))) halts.untried h in
+    (two.0, reads_within g.D.Disk c.args.disk.now c.write_parts.new.disk _ 73 (omega (arith, c.in-Ok.ensures.few, c.in-Ok.ensures.parts.first)) two.1)
 
 pub returns-in-Err-write_parts-clause-calls : goal.returns-in-Err-write_parts-clause-calls
-returns-in-Err-write_parts-clause-calls g c = makes_then g.D.Disk c.args.disk.now c.read.new.disk c.write_parts.new.disk 3 _ _ 0 _ _ (reads_make g.D.Disk c.args.disk.now c.read.new.disk _ c.in-Ok.ensures.reads) c.in-Err-write_parts.ensures.calls (omega (arith, c.in-Ok.ensures.few)) (omega (arith, c.in-Ok.ensures.few))
+returns-in-Err-write_parts-clause-calls g c = makes_within g.D.Disk c.args.disk.now c.write_parts.new.disk _ _ 73 43 (omega (arith, c.in-Ok.ensures.few)) (omega (arith, c.in-Ok.ensures.few)) (gone_err false c.in-Err-write_parts.error (gone_come (come_reads c.in-Ok.ensures.reads) c.args.space.now) c.in-Err-write_parts.ensures.ends).calls
 
 pub returns-in-Err-clause-full : goal.returns-in-Err-clause-full
 returns-in-Err-clause-full g c = λ graph ds id f store there no_draft here inside. subst (TellsNeed (needs f c.args.offset (length c.args.bytes.now))) (sym c.from.ensures) (trouble_tells (needs f c.args.offset (length c.args.bytes.now)) c.in-Err.trouble)
 
 pub returns-in-Err-has_room-clause-full : goal.returns-in-Err-has_room-clause-full
 returns-in-Err-has_room-clause-full g c = λ graph ds id f store there no_draft here inside.
-    let w = (writes_on g.D.Disk c.args.disk.now c.read.new.disk c.in-Ok.ensures.reads graph ds id f c.args.space.now c.args.at.0 c.in-Ok.file.root store there no_draft here (g.met.D.Disk.of_blocks c.args.disk.now store.carries.tells.honest) (c.in-Ok.ensures.root store.carries.tells) c.args.offset c.args.bytes.now c.in-Ok.file.low c.in-Ok.file.high inside (c.in-Ok.ensures.low_is store.carries.tells) (c.in-Ok.ensures.high_is store.carries.tells)) in
-    let is = (parts_need (g.D.Disk.content c.read.new.disk) id f c.in-Ok.file.root w.starts.rooted w.starts.same _ c.args.offset (length c.args.bytes.now) c.in-Ok.file.low c.in-Ok.file.high c.in-Ok.ensures.low c.in-Ok.ensures.high w.low_is w.high_is c.in-Ok.ensures.first c.in-Ok.ensures.next c.in-Ok.ensures.last c.in-Ok.ensures.apart c.in-Ok.ensures.some c.requires.least) in
-    room_tells _ _ _ c.in-Err-has_room.error c.in-Err-has_room.ensures.full.0 (omega (arith, is, c.need-low.ensures.count, c.need-high.ensures.count))
+    let v = view g.D.Disk c.args.disk.now graph ds id f c.args.space.now c.args.at.0 c.in-Ok.file.root store there no_draft here (g.met.D.Disk.of_blocks c.args.disk.now store.carries.tells.honest) (c.in-Ok.ensures.root store.carries.tells) in
+    let need = parts_need v.has c.in-Ok.ensures.parts (c.in-Ok.ensures.low_is store.carries.tells) (c.in-Ok.ensures.high_is store.carries.tells) c.requires.least in
+    room_tells _ _ _ c.in-Err-has_room.error c.in-Err-has_room.ensures.full.0 (omega (arith, need, c.need-low.ensures.count, c.need-high.ensures.count))
 
 pub returns-in-Ok-write_parts-clause-room : goal.returns-in-Ok-write_parts-clause-room
 returns-in-Ok-write_parts-clause-room g c = λ graph ds id f store there no_draft here inside.
-    let w = (writes_on g.D.Disk c.args.disk.now c.read.new.disk c.in-Ok.ensures.reads graph ds id f c.args.space.now c.args.at.0 c.in-Ok.file.root store there no_draft here (g.met.D.Disk.of_blocks c.args.disk.now store.carries.tells.honest) (c.in-Ok.ensures.root store.carries.tells) c.args.offset c.args.bytes.now c.in-Ok.file.low c.in-Ok.file.high inside (c.in-Ok.ensures.low_is store.carries.tells) (c.in-Ok.ensures.high_is store.carries.tells)) in
-    let is = (parts_need (g.D.Disk.content c.read.new.disk) id f c.in-Ok.file.root w.starts.rooted w.starts.same _ c.args.offset (length c.args.bytes.now) c.in-Ok.file.low c.in-Ok.file.high c.in-Ok.ensures.low c.in-Ok.ensures.high w.low_is w.high_is c.in-Ok.ensures.first c.in-Ok.ensures.next c.in-Ok.ensures.last c.in-Ok.ensures.apart c.in-Ok.ensures.some c.requires.least) in
-    omega (arith, is, c.need-low.ensures.count, c.need-high.ensures.count, c.in-Ok-has_room.ensures.room)
+    let v = view g.D.Disk c.args.disk.now graph ds id f c.args.space.now c.args.at.0 c.in-Ok.file.root store there no_draft here (g.met.D.Disk.of_blocks c.args.disk.now store.carries.tells.honest) (c.in-Ok.ensures.root store.carries.tells) in
+    let need = parts_need v.has c.in-Ok.ensures.parts (c.in-Ok.ensures.low_is store.carries.tells) (c.in-Ok.ensures.high_is store.carries.tells) c.requires.least in
+    omega (arith, need, c.need-low.ensures.count, c.need-high.ensures.count, c.in-Ok-has_room.ensures.room)
 
 pub returns-in-Err-write_parts-clause-full : goal.returns-in-Err-write_parts-clause-full
-returns-in-Err-write_parts-clause-full g c = λ graph ds id f store there no_draft here inside. parts_tell g.D.Disk (needs f c.args.offset (length c.args.bytes.now)) c.read.new.disk c.write_parts.new.disk _ c.in-Err-write_parts.error c.in-Err-write_parts.ensures.refused
+returns-in-Err-write_parts-clause-full g c = λ graph ds id f store there no_draft here inside.
+    parts_tell g.D.Disk (needs f c.args.offset (length c.args.bytes.now)) c.read.new.disk c.write_parts.new.disk _ c.in-Err-write_parts.error (c.in-Err-write_parts.ensures.ends.refused (omega (arith, c.need-low.ensures.count, c.need-high.ensures.count, c.in-Ok-has_room.ensures.room)))
 
 pub returns-in-Err-write_parts-clause-begun : goal.returns-in-Err-write_parts-clause-begun
 returns-in-Err-write_parts-clause-begun g c = λ graph ds id f store there no_draft here inside is.
-    let w = (writes_on g.D.Disk c.args.disk.now c.read.new.disk c.in-Ok.ensures.reads graph ds id f c.args.space.now c.args.at.0 c.in-Ok.file.root store there no_draft here (g.met.D.Disk.of_blocks c.args.disk.now store.carries.tells.honest) (c.in-Ok.ensures.root store.carries.tells) c.args.offset c.args.bytes.now c.in-Ok.file.low c.in-Ok.file.high inside (c.in-Ok.ensures.low_is store.carries.tells) (c.in-Ok.ensures.high_is store.carries.tells)) in
-    let need = (parts_need (g.D.Disk.content c.read.new.disk) id f c.in-Ok.file.root w.starts.rooted w.starts.same _ c.args.offset (length c.args.bytes.now) c.in-Ok.file.low c.in-Ok.file.high c.in-Ok.ensures.low c.in-Ok.ensures.high w.low_is w.high_is c.in-Ok.ensures.first c.in-Ok.ensures.next c.in-Ok.ensures.last c.in-Ok.ensures.apart c.in-Ok.ensures.some c.requires.least) in
+    let v = view g.D.Disk c.args.disk.now graph ds id f c.args.space.now c.args.at.0 c.in-Ok.file.root store there no_draft here (g.met.D.Disk.of_blocks c.args.disk.now store.carries.tells.honest) (c.in-Ok.ensures.root store.carries.tells) in
+    let need = parts_need v.has c.in-Ok.ensures.parts (c.in-Ok.ensures.low_is store.carries.tells) (c.in-Ok.ensures.high_is store.carries.tells) c.requires.least in
     omega (arith, need, c.need-low.ensures.count, c.need-high.ensures.count, c.in-Ok-has_room.ensures.room)
 
 pub returns-in-Err-has_room-clause-begun : goal.returns-in-Err-has_room-clause-begun

@@ -1,14 +1,6 @@
 use Rattle.std.proofs.Common.{◌≡◌, ◌∙◌, ℕ, ◌&&◌, ap, sym, not, length, eqb, leb}
-use Rattle.cfs_base.specs.declared.identifier.Puid.{Puid}
-use Rattle.cfs_base.specs.declared.kind.Mode.{Mode}
-use Rattle.cfs_base.specs.declared.kind.Mode.TheVariants.{Reading, Writing}
+use Rattle.open_table.proofs.Words.{MOST_GRANTS, Mode, Puid, Reading, State, Writing, collides, conflicts, is_grant, is_locked, list_any, same_puid}
 use Rattle.ufs_model.specs.declared.asked.Request.TheVariants as asks
-use Rattle.ufs_model.specs.declared.limits.TheConstants.{MOST_GRANTS}
-use Rattle.ufs_model.specs.Identifier.{same_puid}
-use Rattle.ufs_model.specs.State.{State}
-use Rattle.ufs_model.specs.Refusal.{is_locked}
-use Rattle.std.specs.List.{list_any}
-use Rattle.open_table.specs.Grants.{is_grant, conflicts, collides}
 use Rattle.open_table.proofs.Models.{find-table, filter-table, length-table, found-any, met-reading, met-writing, open_for_writing}
 use Rattle.open_table.proofs.laws.table_follows_the_model.Goals as goal
 

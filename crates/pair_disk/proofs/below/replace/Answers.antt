@@ -1,8 +1,6 @@
-use Rattle.std.proofs.Common.{◌≡◌, ℕ, Result, Ok, Err, List, OnOk, set, ◌∙◌, ap, subst}
-use Rattle.cfs_base.specs.Disk.{Image}
-use Rattle.pair_disk.specs.Below.{PutsBelow}
-use Rattle.pair_disk.specs.Pair.{gate_at, half_at, pairs_in}
-use Rattle.pair_disk.proofs.Calls.{half_changes, replaced, replaces}
+use Rattle.std.proofs.Common.{◌≡◌, ℕ, List, set, ◌∙◌, ap, subst}
+use Rattle.pair_disk.proofs.Words.{Image, PutsBelow, gate_at, half_at, pairs_in}
+use Rattle.pair_disk.proofs.Calls.{half_changes, on_ok, replaced, replaces}
 use Rattle.pair_disk.proofs.below.replace.Goals as goal
 
 pub returns-in_err-write_through-clause-changes : goal.returns-in_err-write_through-clause-changes
@@ -24,10 +22,6 @@ returns-clause-changes g c =
     let written : g.T.TornDisk.content mid ≡ put (half_at c.args.hidden c.args.at.0) = subst (λ (k : ℕ). g.T.TornDisk.content mid ≡ put k) c.at.ensures c.in_ok-write_through.ensures.written in
     replaces g.T.TornDisk laws.only_honest laws.may_stay laws.sized c.args.at.0 c.args.from.now c.args.hidden old mid new c.requires.on_disk c.requires.flushed c.requires.hidden first written c.in_ok-write_through.ensures.flushed
     (subst (λ (k : ℕ). PutsBelow g.T.TornDisk k mid new) c.gate_of.ensures c.write_through-2.ensures.writes)
-
-on_ok : {V E P Q : Type 0} (r : Result V E) → OnOk r P → (P → Q) → OnOk r Q
-on_ok (Ok v) p to = to p
-on_ok (Err e) p to = tt
 
 pub returns-clause-replaced : goal.returns-clause-replaced
 returns-clause-replaced g c =

@@ -1,4 +1,4 @@
-use Rattle.pair_disk.specs.Below.{PutsBelow}
+use Rattle.pair_disk.proofs.Words.{PutsBelow}
 use Rattle.pair_disk.proofs.Calls.{then_stays}
 use Rattle.pair_disk.proofs.below.write_through.Goals as goal
 

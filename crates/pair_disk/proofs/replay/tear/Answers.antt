@@ -1,10 +1,5 @@
 use Rattle.std.proofs.Common.{◌≡◌, ◌+◌, ◌<◌, ℕ, suc, IsTrue, List, ◌∷◌, length, drop, get_or, sym, ◌∙◌, ap, subst, length-set, add-one}
-use Rattle.std.proofs.Math.Seq.{drop-cons}
-use Rattle.std.proofs.lemmas.Bool.{and_parts}
-use Rattle.std.proofs.lemmas.List.{drop_all}
-use Rattle.cfs_base.specs.Disk.{Image, AreBlocks}
-use Rattle.pair_disk.specs.declared.kept.TornPick.{TornPick}
-use Rattle.pair_disk.specs.Replay.{IsImage, may_tear, picked}
+use Rattle.pair_disk.proofs.Words.{AreBlocks, Image, IsImage, TornPick, and_parts, drop-cons, drop_all, may_tear, picked}
 use Rattle.pair_disk.proofs.Images.{blocks_set, image_set}
 use Rattle.pair_disk.proofs.replay.tear.Goals as goal
 

@@ -1,6 +1,5 @@
 use Rattle.std.proofs.Common.{◌≡◌, IsTrue, length, drop}
-use Rattle.cfs_base.specs.Disk.{AreBlocks}
-use Rattle.pair_disk.specs.Replay.{IsImage, State, may_tear, picked}
+use Rattle.pair_disk.proofs.Words.{AreBlocks, IsImage, State, may_tear, picked}
 use Rattle.pair_disk.proofs.replay.tear.Given as goal
 
 abbrev pub invariant-loop-pick : goal.invariant-loop-pick

@@ -1,8 +1,5 @@
 use Rattle.std.proofs.Common.{◌∙◌, ap, not}
-use Rattle.std.specs.List.{list_any}
-use Rattle.std.specs.Prelude.{◌==◌}
-use Rattle.ufs_model.specs.Identifier.{is_among, rises}
-use Rattle.puid_space.specs.Kinds.{kind_of}
+use Rattle.puid_space.proofs.Words.{is_among, kind_of, list_any, rises, ◌==◌}
 use Rattle.puid_space.proofs.Graphs.{keys_of-kinds_in, kind_in-kinds_in, kinds_in-insert_entry, insert_entry-same, kinds_in-filter}
 use Rattle.puid_space.proofs.laws.kinds_follow_the_graph.Goals as goal
 

@@ -1,28 +1,21 @@
 use Rattle.std.proofs.Common.{◌≡◌, ◌≢◌, ℕ, ◌+◌, ◌*◌, ◌<◌, false, length, refl, sym, ◌∙◌, ap, subst, arith}
-use Rattle.std.specs.List.{All}
-use Rattle.cfs_base.specs.Disk.{Image}
-use Rattle.cfs_base.specs.declared.refusal.Trouble.{Trouble}
+use Rattle.special_files.proofs.Words.{All, AreOnDisk, AreTaken, Image, IsTrouble, Trouble, all_ok, is_damage, makes_then, opened_as, reads_make, still_tells, tells_on, then, tried_then}
 use Rattle.cfs_base.specs.declared.refusal.Trouble.TheVariants as troubles
-use Rattle.cfs_base.proofs.Calls.{makes_then, reads_make, tells_on, tried_then}
-use Rattle.cfs_base.proofs.Runs.{still_tells, then}
-use Rattle.intentions.proofs.Changes.{all_ok}
-use Rattle.special_files.specs.Changed.{AreOnDisk, AreTaken}
-use Rattle.special_files.specs.Drafting.{opened_as}
-use Rattle.special_files.specs.Refusal.{IsTrouble, is_damage}
 use Rattle.special_files.proofs.Begun.{store_reads}
 use Rattle.special_files.proofs.CommitAbort.{abort_since, abort_stops, store_still}
 use Rattle.special_files.proofs.CommitDone.{makes_more}
 use Rattle.special_files.proofs.CommitDraft.{after_damage, below_all, far_apart, far_trouble, finish_apart, finish_tried, known_apart, nothing_made, shadow_below, tried_apart}
 use Rattle.special_files.proofs.CommitStore.{made_below}
 use Rattle.special_files.proofs.Endings.{trouble_after_tried}
+use Rattle.special_files.proofs.View.{view}
 use Rattle.special_files.proofs.abort.abort_parts.Goals as goal
 
 pub returns-in-Err : goal.returns-in-Err
 returns-in-Err g c = record {
-  ends = λ graph ds id o was d store at opened parts.
+  ends = λ was v parts.
       let far = c.in-Err.ensures.far.0 in
-      let below = shadow_below g.D.Disk graph ds id o c.args.disk.now c.args.space.now was d far.n store at opened (parts.shadow_is ∙ far.is) in
-      let size = g.met.D.Disk.sized c.args.disk.now store.carries.tells.honest in
+      let below = shadow_below g.D.Disk v.graph v.ds v.id v.object c.args.disk.now c.args.space.now was v.draft far.n v.store v.at v.opened (parts.shadow_is ∙ far.is) in
+      let size = g.met.D.Disk.sized c.args.disk.now v.store.carries.tells.honest in
       absurd (omega (arith, below, size, far.far));
   refused = far_trouble g.D.Disk c.args.at.0 c.args.disk.now c.args.space.now c.in-Err.trouble c.in-Err.ensures.far.1;
   tried = far_apart c.args.at.0 c.in-Err.trouble c.in-Err.ensures.far.1;
@@ -33,10 +26,10 @@ returns-in-Err g c = record {
 
 pub returns-in-Err-part_on_disk : goal.returns-in-Err-part_on_disk
 returns-in-Err-part_on_disk g c = record {
-  ends = λ graph ds id o was d store at opened parts.
+  ends = λ was v parts.
       let far = c.in-Err-part_on_disk.ensures.far.0 in
-      let below = made_below g.D.Disk graph ds id o c.args.disk.now c.args.space.now was d far.n store opened (parts.created_is ∙ far.is) in
-      let size = g.met.D.Disk.sized c.args.disk.now store.carries.tells.honest in
+      let below = made_below g.D.Disk v.graph v.ds v.id v.object c.args.disk.now c.args.space.now was v.draft far.n v.store v.opened (parts.created_is ∙ far.is) in
+      let size = g.met.D.Disk.sized c.args.disk.now v.store.carries.tells.honest in
       absurd (omega (arith, below, size, far.far));
   refused = far_trouble g.D.Disk c.args.at.0 c.args.disk.now c.args.space.now c.in-Err-part_on_disk.trouble c.in-Err-part_on_disk.ensures.far.1;
   tried = far_apart c.args.at.0 c.in-Err-part_on_disk.trouble c.in-Err-part_on_disk.ensures.far.1;
@@ -47,7 +40,7 @@ returns-in-Err-part_on_disk g c = record {
 
 pub returns-in-Err-barrier : goal.returns-in-Err-barrier
 returns-in-Err-barrier g c = record {
-  ends = λ graph ds id o was d store at opened parts. abort_stops g.D.Disk graph ds id was.created c.args.disk.now c.barrier.new.disk c.args.space.now c.in-Err-barrier.trouble c.barrier.ensures.images (ap is_damage c.in-Err-barrier.ensures.refused);
+  ends = λ was v parts. abort_stops g.D.Disk v.graph v.ds v.id was.created c.args.disk.now c.barrier.new.disk c.args.space.now c.in-Err-barrier.trouble c.barrier.ensures.images (ap is_damage c.in-Err-barrier.ensures.refused);
   refused = subst (IsTrouble g.D.Disk c.args.at.0 c.args.disk.now c.barrier.new.disk c.args.space.now) (sym c.in-Err-barrier.ensures.refused) c.in-Err-barrier.ensures.stopped;
   tried = known_apart c.in-Err-barrier.trouble c.in-Err-barrier.ensures.refused;
   made = tt;
@@ -62,9 +55,9 @@ pub returns-in-Err-changed : goal.returns-in-Err-changed
 returns-in-Err-changed g c =
     let reads = c.changed.ensures.reads in
     record {
-      ends = λ graph ds id o was d store at opened parts. abort_stops g.D.Disk graph ds id was.created c.args.disk.now c.changed.new.disk c.args.space.now _
+      ends = λ was v parts. abort_stops g.D.Disk v.graph v.ds v.id was.created c.args.disk.now c.changed.new.disk c.args.space.now _
           (then g.D.Disk c.args.disk.now c.barrier.new.disk c.changed.new.disk (λ k. ⊥) (λ k. ⊥) c.barrier.ensures.images reads.images (λ k no. no))
-          (subst (λ (t : Trouble). is_damage t ≡ false) (sym c.after_try.ensures) (after_damage c.in-Err-changed.trouble (c.in-Err-changed.ensures.sound graph ds c.args.space.now id o was d (store_still g.D.Disk graph ds c.args.disk.now c.barrier.new.disk c.args.space.now store c.barrier.ensures.content c.barrier.ensures.told c.barrier.ensures.images c.barrier.ensures.calls.same) at opened parts.own_is parts.root_is)));
+          (subst (λ (t : Trouble). is_damage t ≡ false) (sym c.after_try.ensures) (after_damage c.in-Err-changed.trouble (c.in-Err-changed.ensures.sound c.args.space.now was (view (store_still g.D.Disk v.graph v.ds c.args.disk.now c.barrier.new.disk c.args.space.now v.store c.barrier.ensures.content c.barrier.ensures.told c.barrier.ensures.images c.barrier.ensures.calls.same) v.at v.opened) parts.own_is parts.root_is)));
       refused = subst (λ (t : Trouble). IsTrouble g.D.Disk c.args.at.0 c.args.disk.now c.changed.new.disk c.args.space.now t) (sym c.after_try.ensures)
           (trouble_after_tried g.D.Disk c.args.at.0 0 c.args.disk.now c.barrier.new.disk c.changed.new.disk c.args.space.now 1 1 c.barrier.ensures.calls c.barrier.ensures.made c.barrier.ensures.told c.in-Err-changed.trouble (c.in-Err-changed.ensures.refused c.args.space.now));
       tried = subst (λ (t : Trouble). t ≢ troubles.Disk false) (sym c.after_try.ensures) (tried_apart c.in-Err-changed.trouble);
@@ -92,13 +85,13 @@ returns g c =
     let tried = tried_then g.D.Disk c.args.disk.now c.barrier.new.disk c.changed.new.disk 240 0 c.barrier.ensures.made (reads_make g.D.Disk c.barrier.new.disk c.changed.new.disk 240 reads) in
     let all_tried = tried_then g.D.Disk c.args.disk.now c.changed.new.disk c.give_up.new.disk (2 * nt + (2 + 2)) (nt + (1 + 1)) tried c.give_up.ensures.calls in
     record {
-      ends = λ graph ds id o was d store at opened parts.
-          let still = store_still g.D.Disk graph ds c.args.disk.now c.barrier.new.disk c.args.space.now store c.barrier.ensures.content c.barrier.ensures.told c.barrier.ensures.images c.barrier.ensures.calls.same in
-          let lists = (c.in-Ok-changed.ensures.changed graph ds c.args.space.now id o was d still at opened parts.own_is parts.root_is).takes in
-          abort_since g.D.Disk graph ds id was.created c.args.disk.now c.changed.new.disk c.give_up.new.disk c.give_up.new.space (reads.content ∙ c.barrier.ensures.content)
+      ends = λ was v parts.
+          let still = store_still g.D.Disk v.graph v.ds c.args.disk.now c.barrier.new.disk c.args.space.now v.store c.barrier.ensures.content c.barrier.ensures.told c.barrier.ensures.images c.barrier.ensures.calls.same in
+          let lists = (c.in-Ok-changed.ensures.changed c.args.space.now was (view still v.at v.opened) parts.own_is parts.root_is).takes in
+          abort_since g.D.Disk v.graph v.ds v.id was.created c.args.disk.now c.changed.new.disk c.give_up.new.disk c.give_up.new.space (reads.content ∙ c.barrier.ensures.content)
           (then g.D.Disk c.args.disk.now c.barrier.new.disk c.changed.new.disk (λ k. ⊥) (λ k. ⊥) c.barrier.ensures.images reads.images (λ k no. no)) c.give_up.result
-          (c.give_up.ensures.ends graph ds id o was d (store_reads g.D.Disk graph ds c.barrier.new.disk c.changed.new.disk c.args.space.now 240 still reads) at opened parts.shadow_is parts.created_is
-          (subst (λ (i : Image). AreTaken i id (opened_as id was d) c.as_slice.result.now) (sym reads.content) (subst (AreTaken (g.D.Disk.content c.barrier.new.disk) id (opened_as id was d)) (sym c.as_slice.ensures) lists)));
+          (c.give_up.ensures.ends was (view (store_reads g.D.Disk v.graph v.ds c.barrier.new.disk c.changed.new.disk c.args.space.now 240 still reads) v.at v.opened) parts.shadow_is parts.created_is
+          (subst (λ (i : Image). AreTaken i v.id (opened_as v.id was v.draft) c.as_slice.result.now) (sym reads.content) (subst (AreTaken (g.D.Disk.content c.barrier.new.disk) v.id (opened_as v.id was v.draft)) (sym c.as_slice.ensures) lists)));
       refused = finish_tried g.D.Disk c.args.at.0 c.args.disk.now c.changed.new.disk c.give_up.new.disk c.give_up.new.space 241 1 (2 * nt + (2 + 2)) (nt + (1 + 1)) first (λ tells. tells_on g.D.Disk c.barrier.new.disk c.changed.new.disk c.give_up.new.disk 240 reads (still_tells g.D.Disk tells c.barrier.ensures.told c.barrier.ensures.calls.same)) c.give_up.ensures.calls all_tried c.give_up.result (c.give_up.ensures.fails c.args.at.0);
       tried = finish_apart g.D.Disk c.args.at.0 c.changed.new.disk c.give_up.new.disk c.give_up.new.space c.give_up.result (c.give_up.ensures.fails c.args.at.0);
       made = all_ok c.give_up.result all_tried;

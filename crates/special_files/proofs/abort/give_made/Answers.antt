@@ -1,5 +1,5 @@
 use Rattle.std.proofs.Common.{ap}
-use Rattle.special_files.specs.Drafting.{number_of}
+use Rattle.special_files.proofs.Words.{number_of}
 use Rattle.special_files.proofs.abort.give_made.Goals as goal
 
 pub gave-requires : goal.gave-requires

@@ -1,8 +1,5 @@
 use Rattle.std.proofs.Common.{◌+◌, ◌*◌, ◌++◌, length, arith}
-use Rattle.std.specs.Prelude.{option_to_list}
-use Rattle.intentions.specs.declared.change.Change.TheVariants.{Undo}
-use Rattle.special_files.specs.Committing.{flips, undoing}
-use Rattle.special_files.specs.Drafting.{number_of}
+use Rattle.special_files.proofs.Words.{Undo, flips, number_of, option_to_list, undoing}
 use Rattle.special_files.proofs.CommitRuns.{flips_passed, flips_stop, flips_then}
 use Rattle.special_files.proofs.abort.undo_all.Goals as goal
 

@@ -1,10 +1,5 @@
 use Rattle.std.proofs.Common.{◌≡◌, ℕ, ◌+◌, ◌*◌, ◌<◌, false, length, sym, ◌∙◌, subst, arith}
-use Rattle.std.specs.List.{All}
-use Rattle.cfs_base.proofs.Calls.{makes_then}
-use Rattle.ufs_model.specs.Graph.{with_object}
-use Rattle.special_files.specs.Committing.{Fails, named}
-use Rattle.special_files.specs.Drafting.{number_of}
-use Rattle.special_files.specs.Refusal.{is_damage}
+use Rattle.special_files.proofs.Words.{All, Fails, is_damage, makes_then, named, number_of, with_object}
 use Rattle.special_files.proofs.CommitDone.{committed1, done_by, fails_then, leaves_then, makes_more, passed_done, settle_leaves, settle_sound}
 use Rattle.special_files.proofs.CommitRuns.{fails_after}
 use Rattle.special_files.proofs.Refusals.{passed}

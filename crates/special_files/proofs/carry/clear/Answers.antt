@@ -1,7 +1,5 @@
 use Rattle.std.proofs.Common.{Err, [], ◌∷◌, sym, subst}
-use Rattle.cfs_base.specs.declared.refusal.Trouble.{Trouble}
-use Rattle.intentions.specs.declared.change.Change.TheVariants.{ClearBit}
-use Rattle.special_files.specs.Committing.{Flips, flips}
+use Rattle.special_files.proofs.Words.{ClearBit, Flips, Trouble, flips}
 use Rattle.special_files.proofs.CommitRuns.{bit_done, bit_failed}
 use Rattle.special_files.proofs.carry.clear.Goals as goal
 

@@ -1,8 +1,5 @@
-use Rattle.std.proofs.Common.{refl, sym, subst}
-use Rattle.cfs_base.specs.declared.refusal.Trouble.{Trouble}
-use Rattle.special_files.specs.Committing.{Fails, named}
-use Rattle.special_files.specs.Refusal.{is_damage}
-use Rattle.std.proofs.Common.{◌≡◌, false}
+use Rattle.std.proofs.Common.{refl, sym, subst, ◌≡◌, false}
+use Rattle.special_files.proofs.Words.{Fails, Trouble, is_damage, named}
 use Rattle.special_files.proofs.CommitDone.{stopped_fails, stopped_sound}
 use Rattle.special_files.proofs.carry.copy.Goals as goal
 

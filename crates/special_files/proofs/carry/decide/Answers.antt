@@ -1,8 +1,5 @@
 use Rattle.std.proofs.Common.{◌≡◌, ◌+◌, ◌*◌, false, length, Ok, Err, sym, subst, arith}
-use Rattle.cfs_base.specs.declared.refusal.Trouble.{Trouble}
-use Rattle.cfs_base.proofs.Calls.{makes_then}
-use Rattle.special_files.specs.Committing.{Fails, named}
-use Rattle.special_files.specs.Refusal.{is_damage}
+use Rattle.special_files.proofs.Words.{Fails, Trouble, is_damage, makes_then, named}
 use Rattle.special_files.proofs.CommitDone.{bit_leaves, bit_put, bit_sound, leaves_then, makes_more, release_leaves, release_sound}
 use Rattle.special_files.proofs.CommitRuns.{fails_after, map_fails}
 use Rattle.special_files.proofs.Refusals.{passed}

@@ -1,9 +1,5 @@
 use Rattle.std.proofs.Common.{ℕ, ◌+◌, ◌*◌, ◌<◌, [], ◌∷◌, ◌++◌, length, sym, subst, arith}
-use Rattle.std.specs.Prelude.{option_to_list}
-use Rattle.std.specs.List.{All}
-use Rattle.intentions.specs.declared.change.Change.TheVariants.{Finish, Undo}
-use Rattle.special_files.specs.Committing.{flips, settling}
-use Rattle.special_files.specs.Drafting.{number_of}
+use Rattle.special_files.proofs.Words.{All, Finish, Undo, flips, number_of, option_to_list, settling}
 use Rattle.special_files.proofs.CommitRuns.{flips_passed, flips_stop, flips_then}
 use Rattle.special_files.proofs.carry.finish_all.Goals as goal
 

@@ -1,8 +1,5 @@
 use Rattle.std.proofs.Common.{Ok, Option, ap, subst, sym}
-use Rattle.std.specs.Prelude.{option_to_list}
-use Rattle.cfs_base.specs.declared.identifier.BlockNo.{BlockNo}
-use Rattle.special_files.specs.Committing.{Flips, flips}
-use Rattle.special_files.specs.Drafting.{number_of}
+use Rattle.special_files.proofs.Words.{BlockNo, Flips, flips, number_of, option_to_list}
 use Rattle.special_files.proofs.CommitRuns.{no_flips}
 use Rattle.special_files.proofs.carry.flip_made.Goals as goal
 

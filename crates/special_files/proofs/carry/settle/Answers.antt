@@ -1,8 +1,5 @@
 use Rattle.std.proofs.Common.{◌+◌, ◌*◌, [], ◌∷◌, ◌++◌, length, arith}
-use Rattle.std.specs.Prelude.{option_to_list}
-use Rattle.intentions.specs.declared.change.Change.TheVariants.{ClearBit}
-use Rattle.special_files.specs.Committing.{flips, settling}
-use Rattle.special_files.specs.Drafting.{number_of}
+use Rattle.special_files.proofs.Words.{ClearBit, flips, number_of, option_to_list, settling}
 use Rattle.special_files.proofs.CommitRuns.{flips_passed, flips_stop, flips_then}
 use Rattle.special_files.proofs.carry.settle.Goals as goal
 

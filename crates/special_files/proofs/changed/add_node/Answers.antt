@@ -1,5 +1,5 @@
 use Rattle.std.proofs.Common.{List, ℕ, ◌++◌, sym, ◌∙◌, ap}
-use Rattle.special_files.specs.Changed.{table}
+use Rattle.special_files.proofs.Words.{table}
 use Rattle.special_files.proofs.ChangedRun.{leaf_more, leaf_room}
 use Rattle.special_files.proofs.Unlike.{first_unlike}
 use Rattle.special_files.proofs.changed.add_node.Goals as goal

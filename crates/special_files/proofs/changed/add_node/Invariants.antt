@@ -1,5 +1,5 @@
 use Rattle.std.proofs.Common.{◌≡◌, ◌+◌, ◌++◌}
-use Rattle.special_files.specs.Changed.{all_unlike, table}
+use Rattle.special_files.proofs.Words.{all_unlike, table}
 use Rattle.special_files.proofs.changed.add_node.Given as goal
 
 abbrev pub invariant-loop-leaf : goal.invariant-loop-leaf

@@ -1,8 +1,6 @@
 use Rattle.std.proofs.Common.{ℕ, ◌∙◌, ap, subst, arith}
-use Rattle.cfs_base.specs.Disk.{Image}
-use Rattle.cfs_base.proofs.Calls.{tells_on}
+use Rattle.special_files.proofs.Words.{Image, leaves_at, tells_on}
 use Rattle.special_files.specs.Changed.{Adds}
-use Rattle.special_files.specs.Nodes.{leaves_at}
 use Rattle.special_files.proofs.ChangedRun.{node_adds, node_told}
 use Rattle.special_files.proofs.Refusals.{trouble_after_reads}
 use Rattle.special_files.proofs.changed.add_nodes.Goals as goal

@@ -1,9 +1,6 @@
 use Rattle.std.proofs.Common.{ℕ, ◌<◌, ◌*◌, length, Ok, refl, sym, ◌∙◌, ap, subst}
+use Rattle.special_files.proofs.Words.{All, Finishes, Kept, after_giving, number_of}
 use Rattle.std.proofs.Math.ListN.{length-set}
-use Rattle.std.specs.List.{All}
-use Rattle.cyl_alloc.specs.Space.{Kept, after_giving}
-use Rattle.special_files.specs.Committing.{Finishes}
-use Rattle.special_files.specs.Drafting.{number_of}
 use Rattle.special_files.proofs.commit.finish.Goals as goal
 
 pub give_all-requires : goal.give_all-requires

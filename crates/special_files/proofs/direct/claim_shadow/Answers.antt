@@ -1,9 +1,6 @@
 use Rattle.std.proofs.Common.{Err, subst, sym}
-use Rattle.cfs_base.specs.declared.kind.Place.TheVariants.{ShadowRoot}
-use Rattle.cfs_base.specs.declared.refusal.Refused.{Refused}
-use Rattle.cyl_alloc.specs.Enters.{Enters}
-use Rattle.cyl_alloc.specs.Space.{intended}
-use Rattle.special_files.proofs.CommitDirect.{claim_real}
+use Rattle.special_files.proofs.Words.{Enters, Refused, ShadowRoot, intended}
+use Rattle.special_files.proofs.Endings.{claim_real}
 use Rattle.special_files.proofs.direct.claim_shadow.Goals as goal
 
 pub trouble_of-requires : goal.trouble_of-requires

@@ -1,53 +1,48 @@
 use Rattle.std.proofs.Common.{ℕ, Ok, Err, refl, ◌∙◌, ap, subst, sym}
-use Rattle.block_tree.specs.Root.{root_spelling}
-use Rattle.cfs_base.specs.Refusals.{refused_by}
-use Rattle.cfs_base.specs.declared.kind.Place.TheVariants.{ShadowRoot}
-use Rattle.cyl_alloc.specs.Enters.{Enters}
-use Rattle.cyl_alloc.specs.Space.{intended}
-use Rattle.special_files.specs.Drafting.{number_of, opened_as}
+use Rattle.special_files.proofs.Words.{Enters, ShadowRoot, intended, number_of, opened_as, refused_by, root_spelling}
 use Rattle.special_files.proofs.CommitDirect.{amid2, direct_claim, direct_leaves, direct_ready, direct_sound, direct_write_leaves}
 use Rattle.special_files.proofs.CommitStore.{commit_ends, commit_stops}
 use Rattle.special_files.proofs.direct.commit_listed.Goals as goal
 
 pub returns-in-Err-clause-commits : goal.returns-in-Err-clause-commits
-returns-in-Err-clause-commits g c = λ graph ds id o was d made store at opened parts makes lists.
+returns-in-Err-clause-commits g c = λ was v made parts makes lists.
     let d0 = c.args.disk.now in
     let d1 = c.claim_shadow.new.disk in
     let k0 = c.args.space.now in
     let k1 = c.claim_shadow.new.space in
     let result = Err (refused_by c.in-Err.trouble) in
-    let enters = subst (λ (r : ℕ). Enters g.D.Disk (intended ShadowRoot r) d0 d1 k0 k1 result) (sym (opened.at ∙ parts.at_is)) c.in-Err.ensures.enters in
-    commit_stops g.D.Disk graph ds id d.object made d0 d1 k1 c.in-Err.trouble
-    (direct_leaves g.D.Disk graph ds id o d0 d1 d1 k0 k1 was d store at opened parts.shadow_is result enters)
-    (direct_sound g.D.Disk graph ds id o d0 d1 d1 k0 k1 was d store at opened parts.shadow_is c.in-Err.trouble enters)
+    let enters = subst (λ (r : ℕ). Enters g.D.Disk (intended ShadowRoot r) d0 d1 k0 k1 result) (sym (v.opened.at ∙ parts.at_is)) c.in-Err.ensures.enters in
+    commit_stops g.D.Disk v.graph v.ds v.id v.draft.object made d0 d1 k1 c.in-Err.trouble
+    (direct_leaves g.D.Disk v.graph v.ds v.id v.object d0 d1 d1 k0 k1 was v.draft v.store v.at v.opened parts.shadow_is result enters)
+    (direct_sound g.D.Disk v.graph v.ds v.id v.object d0 d1 d1 k0 k1 was v.draft v.store v.at v.opened parts.shadow_is c.in-Err.trouble enters)
 
 pub returns-in-Err-write_own-clause-commits : goal.returns-in-Err-write_own-clause-commits
-returns-in-Err-write_own-clause-commits g c = λ graph ds id o was d made store at opened parts makes lists.
+returns-in-Err-write_own-clause-commits g c = λ was v made parts makes lists.
     let d0 = c.args.disk.now in
     let d1 = c.claim_shadow.new.disk in
     let d2 = c.write_own.new.disk in
     let k0 = c.args.space.now in
     let k1 = c.claim_shadow.new.space in
     let block = c.in-Ok.block in
-    let enters = subst (λ (r : ℕ). Enters g.D.Disk (intended ShadowRoot r) d0 d1 k0 k1 (Ok block)) (sym (opened.at ∙ parts.at_is)) c.in-Ok.ensures.enters in
-    commit_stops g.D.Disk graph ds id d.object made d0 d2 k1 _
-    (direct_write_leaves g.D.Disk graph ds id o d0 d1 d2 k0 k1 was d store at opened parts.shadow_is block enters c.encode.result c.write_own.ensures.images) refl
+    let enters = subst (λ (r : ℕ). Enters g.D.Disk (intended ShadowRoot r) d0 d1 k0 k1 (Ok block)) (sym (v.opened.at ∙ parts.at_is)) c.in-Ok.ensures.enters in
+    commit_stops g.D.Disk v.graph v.ds v.id v.draft.object made d0 d2 k1 _
+    (direct_write_leaves g.D.Disk v.graph v.ds v.id v.object d0 d1 d2 k0 k1 was v.draft v.store v.at v.opened parts.shadow_is block enters c.encode.result c.write_own.ensures.images) refl
 
 pub returns-clause-commits : goal.returns-clause-commits
-returns-clause-commits g c = λ graph ds id o was d made store at opened parts makes lists.
+returns-clause-commits g c = λ was v made parts makes lists.
     let d0 = c.args.disk.now in
     let d1 = c.claim_shadow.new.disk in
     let d2 = c.write_own.new.disk in
     let k0 = c.args.space.now in
     let k1 = c.claim_shadow.new.space in
     let block = c.in-Ok.block in
-    let enters = subst (λ (r : ℕ). Enters g.D.Disk (intended ShadowRoot r) d0 d1 k0 k1 (Ok block)) (sym (opened.at ∙ parts.at_is)) c.in-Ok.ensures.enters in
+    let enters = subst (λ (r : ℕ). Enters g.D.Disk (intended ShadowRoot r) d0 d1 k0 k1 (Ok block)) (sym (v.opened.at ∙ parts.at_is)) c.in-Ok.ensures.enters in
     let told = c.in-Ok-write_own.ensures.told in
     let same = c.write_own.ensures.calls.same in
     let written = c.in-Ok-write_own.ensures.written in
-    let ready = direct_ready g.D.Disk graph ds id o d0 d1 d2 k0 k1 was d store at opened parts.shadow_is block enters c.encode.result c.write_own.ensures.images written told same c.args.taken.now c.args.dropped.now
+    let ready = direct_ready g.D.Disk v.graph v.ds v.id v.object d0 d1 d2 k0 k1 was v.draft v.store v.at v.opened parts.shadow_is block enters c.encode.result c.write_own.ensures.images written told same c.args.taken.now c.args.dropped.now
     (c.encode.ensures.spelled ∙ ap root_spelling (sym parts.root_is)) lists in
-    commit_ends g.D.Disk graph ds id o d.object (opened_as id was d) (number_of c.args.created) d0 d2 k0 k1 block.0 c.args.taken.now c.args.dropped.now store at opened.alone parts.created_is
-    (amid2 g.D.Disk graph ds id o d0 d1 d2 k0 k1 was d store at opened parts.shadow_is block enters c.encode.result c.write_own.ensures.images written told same)
-    ready.0 ready.1 (λ none. direct_claim g.D.Disk graph ds id o d0 d1 d2 k0 k1 was d store at opened parts.shadow_is block enters c.encode.result c.write_own.ensures.images written told same
-    (c.encode.ensures.spelled ∙ ap root_spelling (sym parts.root_is))) made makes c.args.at.0 (opened.at ∙ parts.at_is) c.finish.new.disk c.finish.new.space c.finish.result c.finish.ensures.finishes
+    commit_ends g.D.Disk v.graph v.ds v.id v.object v.draft.object (opened_as v.id was v.draft) (number_of c.args.created) d0 d2 k0 k1 block.0 c.args.taken.now c.args.dropped.now v.store v.at v.opened.alone parts.created_is
+    (amid2 g.D.Disk v.graph v.ds v.id v.object d0 d1 d2 k0 k1 was v.draft v.store v.at v.opened parts.shadow_is block enters c.encode.result c.write_own.ensures.images written told same)
+    ready.0 ready.1 (λ none. direct_claim g.D.Disk v.graph v.ds v.id v.object d0 d1 d2 k0 k1 was v.draft v.store v.at v.opened parts.shadow_is block enters c.encode.result c.write_own.ensures.images written told same
+    (c.encode.ensures.spelled ∙ ap root_spelling (sym parts.root_is))) made makes c.args.at.0 (v.opened.at ∙ parts.at_is) c.finish.new.disk c.finish.new.space c.finish.result c.finish.ensures.finishes

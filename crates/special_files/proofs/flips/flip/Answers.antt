@@ -1,7 +1,5 @@
 use Rattle.std.proofs.Common.{Err, sym, subst}
-use Rattle.cfs_base.specs.declared.refusal.Trouble.{Trouble}
-use Rattle.cyl_map.specs.declared.entry.MapEntry.{MapEntry}
-use Rattle.special_files.specs.Committing.{Flips}
+use Rattle.special_files.proofs.Words.{Flips, MapEntry, Trouble}
 use Rattle.special_files.proofs.CommitRuns.{one, one_done, one_failed}
 use Rattle.special_files.proofs.flips.flip.Goals as goal
 

@@ -1,6 +1,5 @@
 use Rattle.std.proofs.Common.{◌≡◌, ℕ, ◌*◌, List, length, take, Ok, subst, ap, ◌∙◌, arith}
-use Rattle.std.proofs.Math.Seq.{take-length}
-use Rattle.special_files.specs.Committing.{Flip, Flips, flips}
+use Rattle.special_files.proofs.Words.{Flip, Flips, flips, take-length}
 use Rattle.special_files.proofs.CommitRuns.{flips_fail, flips_on, flips_passed, more_calls, no_flips}
 use Rattle.special_files.proofs.flips.flip_all.Goals as goal
 

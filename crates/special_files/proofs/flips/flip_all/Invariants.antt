@@ -1,5 +1,5 @@
 use Rattle.std.proofs.Common.{◌*◌, take, Ok}
-use Rattle.special_files.specs.Committing.{Flips, flips}
+use Rattle.special_files.proofs.Words.{Flips, flips}
 use Rattle.special_files.proofs.flips.flip_all.Given as goal
 
 abbrev pub invariant-loop-block : goal.invariant-loop-block

@@ -1,10 +1,6 @@
 use Rattle.std.proofs.Common.{◌≡◌, ℕ, ◌<◌, ◌+◌, ◌*◌, length, get_or, drop, sym, ◌∙◌, ap, subst, arith}
-use Rattle.std.proofs.lemmas.List.{at_drop_more}
-use Rattle.std.proofs.Math.Seq.{drop-length}
+use Rattle.special_files.proofs.Words.{All-get_or, Kept, at_drop_more, drop-length, given_all}
 use Rattle.std.proofs.Math.ListN.{length-set}
-use Rattle.std.proofs.lemmas.List.Elements.{All-get_or}
-use Rattle.cyl_alloc.specs.Space.{Kept}
-use Rattle.special_files.specs.Committing.{given_all}
 use Rattle.special_files.proofs.flips.give_all.Goals as goal
 
 pub gave-requires : goal.gave-requires

@@ -1,5 +1,5 @@
 use Rattle.std.proofs.Common.{◌≡◌, length, drop}
-use Rattle.special_files.specs.Committing.{given_all}
+use Rattle.special_files.proofs.Words.{given_all}
 use Rattle.special_files.proofs.flips.give_all.Given as goal
 
 abbrev pub invariant-loop-block : goal.invariant-loop-block

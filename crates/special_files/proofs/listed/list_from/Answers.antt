@@ -1,9 +1,7 @@
-use Rattle.std.proofs.Common.{◌≡◌, ℕ, false, List, [], ◌++◌, ◌+◌, ◌/◌, ◌-◌, sym, ◌∙◌, ap, subst, arith}
-use Rattle.std.specs.Prelude.{◌==◌, get_or, slice_index}
-use Rattle.std.proofs.lemmas.Bool.{both_ways}
-use Rattle.special_files.specs.Shed.{fresh_in, one_if}
+use Rattle.std.proofs.Common.{◌≡◌, ℕ, false, List, [], ◌++◌, ◌+◌, ◌/◌, ◌-◌, sym, ◌∙◌, ap, subst, arith, get_or}
+use Rattle.special_files.proofs.Words.{both_ways, fresh_in, one_if, slice_index, tells_on, ◌==◌}
 use Rattle.special_files.proofs.Refusals.{trouble_after_reads}
-use Rattle.special_files.proofs.ShedListing.{ListRun, near_now, run_all, run_lists, run_skips, run_tells}
+use Rattle.special_files.proofs.ShedListing.{ListRun, near_now, run_all, run_lists, run_skips}
 use Rattle.special_files.proofs.listed.list_from.Goals as goal
 use Rattle.special_files.proofs.listed.list_from.Goals.{then-has+in-Ok, else-has}
 
@@ -12,11 +10,10 @@ returns-in-Err-clause-refused g c = λ kept.
     trouble_after_reads g.D.Disk c.args.at.0 c.args.disk.now c.loop-number.disk c.node_again.new.disk kept (c.loop-number.number - c.args.from / 128) c.in-Err.trouble c.loop-number.invariant.run.reads (c.in-Err.ensures.refused kept)
 
 pub returns-in-Err-clause-sound : goal.returns-in-Err-clause-sound
-returns-in-Err-clause-sound g c = λ graph ds space id o was d store at opened parts.
+returns-in-Err-clause-sound g c = λ space was v parts.
     let run = c.loop-number.invariant.run in
-    let size = g.met.D.Disk.sized c.args.disk.now store.carries.tells.honest in
-    c.in-Err.ensures.sound (run_tells g.D.Disk c.args.root.now c.args.leaves.now c.args.nodes.now c.args.read.now c.args.from c.loop-number.number c.args.disk.now c.loop-number.disk c.loop-number.list run c.loop-number-test.true store.carries.tells)
-    (near_now g.D.Disk c.args.root.now c.args.leaves.now c.args.nodes.now c.args.read.now c.args.from c.loop-number.number c.args.disk.now c.loop-number.disk c.loop-number.list run graph ds space id o was d store at opened parts size c.requires.some)
+    let tells = v.store.carries.tells in
+    c.in-Err.ensures.sound (tells_on g.D.Disk c.args.disk.now c.loop-number.disk c.loop-number.disk _ run.reads tells) (near_now run v parts (g.met.D.Disk.sized c.args.disk.now tells.honest) c.requires.some)
 
 pub loop-number-preserved : goal.loop-number-preserved
 loop-number-preserved g c =
@@ -32,17 +29,15 @@ loop-number-preserved g c =
           let block = slice_index c.args.root.now.nodes n in
           subst (λ (disk : g.row.D.Denot). Run disk c.if-has.list) (sym w.disk-is) (subst (Run w.node_again.new.disk) (sym w.list-is) (record {
             none = λ stale. absurd (both_ways _ (stale n) (sym c.has.ensures ∙ w.if-has.true));
-            run = run_lists g.D.Disk c.args.root.now c.args.leaves.now c.args.nodes.now c.args.read.now f n c.args.disk.now c.loop-number.disk c.loop-number.list c.loop-number.invariant.run c.loop-number-test.true w.node_again.new.disk node w.list_node.new.list
+            run = run_lists c.loop-number.invariant.run c.loop-number-test.true w.node_again.new.disk node w.list_node.new.list
                 (sym c.has.ensures ∙ w.if-has.true) w.in-Ok.ensures.reads w.in-Ok.ensures.there w.in-Ok.ensures.leaves c.requires.some w.in-Ok.ensures.node
                 (w.list_node.ensures ∙ ap (λ (place : ℕ). c.loop-number.list ++ (one_if (place == 0) block ++ fresh_in c.args.leaves.now node n place (128 - place))) w.saturating_sub-place.ensures);
           }))
       | else-has w ↦ subst (λ (disk : g.row.D.Denot). Run disk c.if-has.list) (sym w.disk-is) (subst (Run c.loop-number.disk) (sym w.list-is) (record {
         none = c.loop-number.invariant.none;
-        run = run_skips g.D.Disk c.args.root.now c.args.leaves.now c.args.nodes.now c.args.read.now c.args.from n c.args.disk.now c.loop-number.disk c.loop-number.list c.loop-number.invariant.run c.loop-number-test.true (sym c.has.ensures ∙ w.if-has.false);
+        run = run_skips c.loop-number.invariant.run c.loop-number-test.true (sym c.has.ensures ∙ w.if-has.false);
       }))
     ]
 
 pub returns-clause-listed : goal.returns-clause-listed
-returns-clause-listed g c = λ graph ds space id o was d store at opened parts read.
-    run_all g.D.Disk c.args.root.now c.args.leaves.now c.args.nodes.now c.args.read.now c.args.from c.loop-number.number c.args.disk.now c.loop-number.disk c.loop-number.list c.loop-number.invariant.run (omega (arith, c.loop-number-test.false, c.requires.limit, c.loop-number.auto.number-end))
-    graph ds space id o was d store at opened parts read
+returns-clause-listed g c = λ space was v parts. run_all c.loop-number.invariant.run v parts (omega (arith, c.loop-number-test.false, c.requires.limit, c.loop-number.auto.number-end))

@@ -1,5 +1,4 @@
-use Rattle.std.proofs.Common.{◌≡◌, ℕ, false, []}
-use Rattle.std.specs.Prelude.{get_or}
+use Rattle.std.proofs.Common.{◌≡◌, ℕ, false, [], get_or}
 use Rattle.special_files.proofs.ShedListing.{ListRun}
 use Rattle.special_files.proofs.listed.list_from.Given as goal
 

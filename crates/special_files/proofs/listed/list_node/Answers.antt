@@ -1,6 +1,5 @@
 use Rattle.std.proofs.Common.{◌+◌, ◌-◌, ◌++◌, ◌∙◌, ap, arith}
-use Rattle.std.specs.Prelude.{◌==◌, slice_index}
-use Rattle.special_files.specs.Shed.{one_if}
+use Rattle.special_files.proofs.Words.{one_if, slice_index, ◌==◌}
 use Rattle.special_files.proofs.ShedLists.{list_more, list_room, list_starts}
 use Rattle.special_files.proofs.listed.list_node.Goals as goal
 

@@ -1,6 +1,5 @@
 use Rattle.std.proofs.Common.{◌≡◌, ◌-◌, ◌++◌}
-use Rattle.std.specs.Prelude.{◌==◌}
-use Rattle.special_files.specs.Shed.{fresh_in, one_if}
+use Rattle.special_files.proofs.Words.{fresh_in, one_if, ◌==◌}
 use Rattle.special_files.proofs.listed.list_node.Given as goal
 
 abbrev pub invariant-loop-place : goal.invariant-loop-place

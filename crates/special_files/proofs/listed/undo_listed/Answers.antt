@@ -1,12 +1,6 @@
 use Rattle.std.proofs.Common.{◌≡◌, ◌*◌, ◌<◌, if◌then◌else◌, Bool, true, false, length, get_or, Err, refl, sym, ◌∙◌, ap, subst, arith}
-use Rattle.std.proofs.lemmas.List.Elements.{All-get_or}
-use Rattle.cfs_base.specs.Refusals.{trouble_after_try}
-use Rattle.cfs_base.specs.declared.refusal.Trouble.{Trouble}
+use Rattle.special_files.proofs.Words.{All-get_or, Flips, MapEntry, Trouble, Undo, flips, then_tried, trouble_after_try}
 use Rattle.cfs_base.specs.declared.refusal.Trouble.TheVariants as trouble
-use Rattle.cfs_base.proofs.Calls.{then_tried}
-use Rattle.cyl_map.specs.declared.entry.MapEntry.{MapEntry}
-use Rattle.intentions.specs.declared.change.Change.TheVariants.{Undo}
-use Rattle.special_files.specs.Committing.{Flips, flips}
 use Rattle.special_files.proofs.CommitRuns.{flips_fail, flips_on, one_done, one_failed}
 use Rattle.special_files.proofs.listed.undo_listed.Goals as goal
 

@@ -1,7 +1,5 @@
 use Rattle.std.proofs.Common.{◌≡◌, ℕ, ◌*◌, IsTrue, true, false, take, Ok}
-use Rattle.cfs_base.specs.Calls.{HasTried}
-use Rattle.intentions.specs.declared.change.Change.TheVariants.{Undo}
-use Rattle.special_files.specs.Committing.{Flips, flips}
+use Rattle.special_files.proofs.Words.{Flips, HasTried, Undo, flips}
 use Rattle.special_files.proofs.listed.undo_listed.Given as goal
 
 abbrev pub invariant-loop-block : goal.invariant-loop-block

@@ -1,5 +1,5 @@
 use Rattle.std.proofs.Common.{◌≡◌, ℕ, replicate, refl, sym, ◌∙◌, subst}
-use Rattle.block_tree.specs.Tree.{bytes_in}
+use Rattle.special_files.proofs.Words.{bytes_in}
 use Rattle.special_files.proofs.node.read_block.Goals as goal
 
 pub returns-then-block-eq0-clause-content : goal.returns-then-block-eq0-clause-content

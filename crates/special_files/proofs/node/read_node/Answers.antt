@@ -1,9 +1,5 @@
 use Rattle.std.proofs.Common.{◌≡◌, List, ℕ, zero, suc, ◌<◌, ◌≢◌, get_or, refl, sym, ◌∙◌, ap, subst, below_more, arith}
-use Rattle.std.specs.List.{All}
-use Rattle.std.proofs.lemmas.List.Elements.{All-from_get_or, All-replicate}
-use Rattle.cfs_base.specs.Disk.{Image, block_at}
-use Rattle.block_tree.specs.Pointers.{leaf_pointers, pointers_of}
-use Rattle.special_files.specs.Nodes.{leaves_at}
+use Rattle.special_files.proofs.Words.{All, All-from_get_or, All-replicate, Image, block_at, leaf_pointers, leaves_at, pointers_of}
 use Rattle.special_files.proofs.node.read_node.Goals as goal
 
 pub returns-then-block-eq0-clause-leaves : goal.returns-then-block-eq0-clause-leaves

@@ -1,5 +1,5 @@
 use Rattle.std.proofs.Common.{◌≡◌, ℕ, ◌<◌, ◌≤◌, length}
-use Rattle.std.specs.Prelude.{slice_index}
+use Rattle.special_files.proofs.Words.{slice_index}
 use Rattle.special_files.proofs.shrink.clear_pointers.Given as goal
 
 abbrev pub invariant-loop-node : goal.invariant-loop-node

@@ -1,5 +1,5 @@
 use Rattle.std.proofs.Common.{◌≡◌, ℕ, ◌<◌, ◌≤◌}
-use Rattle.std.specs.Prelude.{slice_index}
+use Rattle.special_files.proofs.Words.{slice_index}
 use Rattle.special_files.proofs.shrink.shortened.Given as goal
 
 abbrev pub invariant-loop-place : goal.invariant-loop-place

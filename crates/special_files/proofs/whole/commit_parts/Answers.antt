@@ -1,8 +1,5 @@
-use Rattle.std.proofs.Common.{◌≡◌, Option, refl, ◌∙◌, ap, subst, arith}
-use Rattle.cfs_base.specs.declared.identifier.BlockNo.{BlockNo}
-use Rattle.cfs_base.specs.declared.refusal.Trouble.TheVariants as troubles
-use Rattle.special_files.specs.Committing.{AreParts}
-use Rattle.special_files.specs.Drafting.{number_of}
+use Rattle.std.proofs.Common.{Option, refl, ◌∙◌, ap, subst, arith}
+use Rattle.special_files.proofs.Words.{AreParts, BlockNo, number_of}
 use Rattle.special_files.proofs.CommitDraft.{far_apart, far_trouble, nothing_made, shadow_below}
 use Rattle.special_files.proofs.CommitStore.{made_below}
 use Rattle.special_files.proofs.whole.commit_parts.Goals as goal
@@ -15,10 +12,10 @@ commit_begun-requires g c = record { on_disk = c.requires.on_disk; size = c.requ
 
 pub returns-in-Err : goal.returns-in-Err
 returns-in-Err g c = record {
-  commits = λ graph ds id o was d made store at opened parts makes.
+  commits = λ was v made parts makes.
       let far = c.in-Err.ensures.far.0 in
-      let below = made_below g.D.Disk graph ds id o c.args.disk.now c.args.space.now was d far.n store opened (parts.created_is ∙ far.is) in
-      let size = g.met.D.Disk.sized c.args.disk.now store.carries.tells.honest in
+      let below = made_below g.D.Disk v.graph v.ds v.id v.object c.args.disk.now c.args.space.now was v.draft far.n v.store v.opened (parts.created_is ∙ far.is) in
+      let size = g.met.D.Disk.sized c.args.disk.now v.store.carries.tells.honest in
       absurd (omega (arith, below, size, far.far));
   refused = far_trouble g.D.Disk c.args.at.0 c.args.disk.now c.args.space.now c.in-Err.trouble c.in-Err.ensures.far.1;
   made = tt;
@@ -30,9 +27,9 @@ returns-in-Err g c = record {
 
 pub returns-in-Err-is_on_disk : goal.returns-in-Err-is_on_disk
 returns-in-Err-is_on_disk g c = record {
-  commits = λ graph ds id o was d made store at opened parts makes.
-      let below = shadow_below g.D.Disk graph ds id o c.args.disk.now c.args.space.now was d c.in-Some.block.0 store at opened (parts.shadow_is ∙ ap number_of c.in-Some.is) in
-      let size = g.met.D.Disk.sized c.args.disk.now store.carries.tells.honest in
+  commits = λ was v made parts makes.
+      let below = shadow_below g.D.Disk v.graph v.ds v.id v.object c.args.disk.now c.args.space.now was v.draft c.in-Some.block.0 v.store v.at v.opened (parts.shadow_is ∙ ap number_of c.in-Some.is) in
+      let size = g.met.D.Disk.sized c.args.disk.now v.store.carries.tells.honest in
       absurd (omega (arith, below, size, c.in-Err-is_on_disk.ensures.far.0));
   refused = far_trouble g.D.Disk c.args.at.0 c.args.disk.now c.args.space.now c.in-Err-is_on_disk.trouble c.in-Err-is_on_disk.ensures.far.1;
   made = tt;
@@ -43,11 +40,11 @@ returns-in-Err-is_on_disk g c = record {
 }
 
 pub returns-in_default-clause-commits : goal.returns-in_default-clause-commits
-returns-in_default-clause-commits g c = λ graph ds id o was d made store at opened parts makes. c.commit_direct.ensures.commits graph ds id o was d made store at opened
+returns-in_default-clause-commits g c = λ was v made parts makes. c.commit_direct.ensures.commits was v made
     (subst (λ (x : Option BlockNo). AreParts was c.args.at.0 (number_of x) c.args.own.now c.args.root.now (number_of c.args.created)) c.in_default.is parts) makes
 
 pub returns-in-Ok-is_on_disk-clause-commits : goal.returns-in-Ok-is_on_disk-clause-commits
-returns-in-Ok-is_on_disk-clause-commits g c = λ graph ds id o was d made store at opened parts makes. c.commit_begun.ensures.commits graph ds id o was d made store at opened
+returns-in-Ok-is_on_disk-clause-commits g c = λ was v made parts makes. c.commit_begun.ensures.commits was v made
     (subst (λ (x : Option BlockNo). AreParts was c.args.at.0 (number_of x) c.args.own.now c.args.root.now (number_of c.args.created)) c.in-Some.is parts) makes
 
 pub returns-in_default-clause-tried : goal.returns-in_default-clause-tried

@@ -1,8 +1,6 @@
 use Rattle.std.proofs.Common.{◌≡◌, drop, map, ◌++◌}
-use Rattle.std.specs.String.{string_bytes}
+use Rattle.trail_text.proofs.Words.{event_line, id_word, spaced, string_bytes}
 use Rattle.ufs_model.specs.declared.asked.Event.TheVariants as events
-use Rattle.trail_text.specs.EventLine.{event_line, id_word}
-use Rattle.trail_text.specs.Spaced.{spaced}
 use Rattle.trail_text.proofs.print.print_vanish.Given as goal
 
 -- what is left is still to be put

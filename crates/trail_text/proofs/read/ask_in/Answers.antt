@@ -1,6 +1,5 @@
 use Rattle.std.proofs.Common.{ap, ◌∙◌, drop}
-use Rattle.trail_text.specs.Likely.{read_32}
-use Rattle.trail_text.specs.Read.{texts}
+use Rattle.trail_text.proofs.Words.{read_32, texts}
 use Rattle.trail_text.proofs.Parts.{ask_is}
 use Rattle.trail_text.proofs.read.ask_in.Goals as goal
 

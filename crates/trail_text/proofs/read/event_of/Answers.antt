@@ -1,6 +1,5 @@
 use Rattle.std.proofs.Common.{sym, ap, ◌∙◌, ◌≡◌}
-use Rattle.trail_text.specs.Likely.{event_read}
-use Rattle.trail_text.specs.Read.{texts, words_in}
+use Rattle.trail_text.proofs.Words.{event_read, texts, words_in}
 use Rattle.trail_text.proofs.Found.{line_of, no_line}
 use Rattle.trail_text.proofs.read.event_of.Goals as goal
 

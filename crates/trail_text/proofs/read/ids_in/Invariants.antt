@@ -1,6 +1,5 @@
 use Rattle.std.proofs.Common.{◌≡◌, ◌++◌, drop, map}
-use Rattle.trail_text.specs.Likely.{id_read}
-use Rattle.trail_text.specs.Read.{texts}
+use Rattle.trail_text.proofs.Words.{id_read, texts}
 use Rattle.trail_text.proofs.read.ids_in.Given as goal
 
 -- what is left is still to be read

@@ -1,6 +1,5 @@
 use Rattle.std.proofs.Common.{rules, ◌≡◌, true, false, refl}
-use Rattle.std.specs.Prelude.{codes}
-use Rattle.trail_text.specs.Likely.{is}
+use Rattle.trail_text.proofs.Words.{codes, is}
 use Rattle.trail_text.proofs.read_request.request_of.Goals as goal
 
 pub returns-then-eq-2 : goal.returns-then-eq-2

@@ -1,6 +1,5 @@
 use Rattle.std.proofs.Common.{rules, tests}
-use Rattle.std.proofs.lemmas.Iterator.Consumers.{map_from_collect}
-use Rattle.std.proofs.lemmas.Iterator.Splits.{YieldsList-from_slice_split}
+use Rattle.trail_text.proofs.Words.{YieldsList-from_slice_split, map_from_collect}
 use Rattle.trail_text.proofs.read_word.words_in.Goals as goal
 
 pub returns : goal.returns

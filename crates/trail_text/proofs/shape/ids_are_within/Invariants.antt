@@ -1,6 +1,5 @@
 use Rattle.std.proofs.Common.{◌≡◌, drop}
-use Rattle.std.specs.List.{list_all}
-use Rattle.trail_text.specs.Fits.{id_within}
+use Rattle.trail_text.proofs.Words.{id_within, list_all}
 use Rattle.trail_text.proofs.shape.ids_are_within.Given as goal
 
 -- what is left decides

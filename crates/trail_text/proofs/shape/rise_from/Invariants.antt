@@ -1,5 +1,5 @@
 use Rattle.std.proofs.Common.{◌≡◌, drop}
-use Rattle.trail_text.specs.Fits.{rise_from}
+use Rattle.trail_text.proofs.Words.{rise_from}
 use Rattle.trail_text.proofs.shape.rise_from.Given as goal
 
 -- what is left decides

@@ -1,6 +1,5 @@
 use Rattle.std.proofs.Common.{◌≡◌, drop}
-use Rattle.std.specs.String.{string_bytes}
-use Rattle.trail_text.specs.Spaced.{with_words}
+use Rattle.trail_text.proofs.Words.{string_bytes, with_words}
 use Rattle.trail_text.proofs.word.put_words.Given as goal
 
 -- what is left is still to be put

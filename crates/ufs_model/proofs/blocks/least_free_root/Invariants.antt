@@ -1,5 +1,5 @@
 use Rattle.std.proofs.Common.{◌≡◌, ◌<◌, ◌≤◌, ℕ, true}
-use Rattle.ufs_model.specs.Graph.{has_block}
+use Rattle.ufs_model.proofs.Words.{has_block}
 use Rattle.ufs_model.proofs.blocks.least_free_root.Given as goal
 
 -- each block so far is taken

@@ -1,8 +1,5 @@
 use Rattle.std.proofs.Common.{◌≡◌, ℕ, List, [], ◌∷◌, refl}
-use Rattle.std.specs.Prelude.{filter, nat_le, nat_lt}
-use Rattle.std.proofs.lemmas.Result.{IfOk-weaker}
-use Rattle.ufs_model.specs.Numbers.{first_level, lacking, parents, shared, with_numbers}
-use Rattle.ufs_model.specs.Object.{cut_leaf, leaves_in, resize_anew}
+use Rattle.ufs_model.proofs.Words.{IfOk-weaker, cut_leaf, filter, first_level, lacking, leaves_in, nat_le, nat_lt, parents, resize_anew, shared, with_numbers}
 use Rattle.ufs_model.proofs.change.recut.Goals as goal
 
 two_levels : (size limit : ℕ) (held kept gone anew nodes : List ℕ) (fresh levels : List (List ℕ)) → limit ≡ leaves_in size → kept ≡ filter (λ n. nat_lt n limit) held

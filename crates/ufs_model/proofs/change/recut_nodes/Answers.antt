@@ -1,8 +1,5 @@
-use Rattle.std.proofs.Common.{◌≡◌, ◌∙◌, ap, refl, List, ℕ, [], ◌∷◌, Option, Some, None, Bor}
-use Rattle.std.specs.Prelude.{unwrap_or, slice_get}
-use Rattle.std.specs.Option.{option_copied}
-use Rattle.std.proofs.lemmas.Result.{IfOk-weaker}
-use Rattle.ufs_model.specs.Numbers.{first_level}
+use Rattle.std.proofs.Common.{◌≡◌, ◌∙◌, ap, refl, List, ℕ, [], ◌∷◌, Option, Some, None, Bor, slice_get}
+use Rattle.ufs_model.proofs.Words.{IfOk-weaker, first_level, option_copied, unwrap_or}
 use Rattle.ufs_model.proofs.change.recut_nodes.Goals as goal
 
 first_is : (levels : List (List ℕ)) → unwrap_or (slice_get levels 0) [] ≡ first_level levels

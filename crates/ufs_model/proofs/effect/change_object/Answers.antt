@@ -1,10 +1,5 @@
 use Rattle.std.proofs.Common.{◌≡◌, ◌∙◌, sym, ap, Some}
-use Rattle.std.specs.Prelude.{Result, Ok, Err, OnErr}
-use Rattle.std.specs.BTreeMap.{insert_entry}
-use Rattle.std.proofs.lemmas.Option.{same_Some}
-use Rattle.std.proofs.lemmas.Result.{on_ok_weaker, on_err_weaker}
-use Rattle.ufs_model.specs.Identifier.{puid_cmp}
-use Rattle.ufs_model.specs.Object.{changed_object}
+use Rattle.ufs_model.proofs.Words.{Err, Ok, OnErr, Result, changed_object, insert_entry, on_err_weaker, on_ok_weaker, puid_cmp, same_Some}
 use Rattle.ufs_model.proofs.Entries.{insert_entry-there, put_back}
 use Rattle.ufs_model.proofs.effect.change_object.Goals as goal
 

@@ -1,8 +1,5 @@
 use Rattle.std.proofs.Common.{◌≡◌, ◌∙◌, sym, ap, Some}
-use Rattle.std.specs.BTreeMap.{insert_entry}
-use Rattle.std.proofs.lemmas.Option.{same_Some}
-use Rattle.ufs_model.specs.Identifier.{puid_cmp}
-use Rattle.ufs_model.specs.Object.{Fill, changed_object}
+use Rattle.ufs_model.proofs.Words.{Fill, changed_object, insert_entry, puid_cmp, same_Some}
 use Rattle.ufs_model.proofs.Entries.{insert_entry-there}
 use Rattle.ufs_model.proofs.effect.fill_object.Goals as goal
 

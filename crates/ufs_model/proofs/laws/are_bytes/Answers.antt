@@ -1,8 +1,5 @@
 use Rattle.std.proofs.Common.{refl, get_or, arith}
-use Rattle.std.specs.Prelude.{nat_lt}
-use Rattle.std.specs.List.{list_all}
-use Rattle.std.proofs.lemmas.Bool.{lt-ltb}
-use Rattle.std.proofs.lemmas.List.Recursion.{and_from_places}
+use Rattle.ufs_model.proofs.Words.{and_from_places, list_all, lt-ltb, nat_lt}
 use Rattle.ufs_model.proofs.laws.are_bytes.Goals as goal
 
 -- each byte fits its type

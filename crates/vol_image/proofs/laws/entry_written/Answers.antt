@@ -1,4 +1,4 @@
-use Rattle.cyl_map.proofs.Volumes.{entry_in-with_entry_same, entry_in-with_entry_other, block_at-with_entry, entry_in-set}
+use Rattle.vol_image.proofs.Words.{block_at-with_entry, entry_in-set, entry_in-with_entry_other, entry_in-with_entry_same}
 use Rattle.vol_image.proofs.laws.entry_written.Goals as goal
 
 pub returns-clause-here : goal.returns-clause-here

@@ -1,6 +1,5 @@
 use Rattle.std.proofs.Common.{◌∙◌, ℕ, List, ap, sym, arith}
-use Rattle.std.proofs.lemmas.List.{take_all}
-use Rattle.block_tree.specs.Pointers.{numbers_from, pointers_of, leaf_pointers}
+use Rattle.block_tree.proofs.Words.{leaf_pointers, numbers_from, pointers_of, take_all}
 use Rattle.block_tree.proofs.Spellings.{leaves_of}
 use Rattle.block_tree.proofs.node.Node.decode.Goals as goal
 

@@ -1,7 +1,5 @@
 use Rattle.std.proofs.Common.{◌∙◌, ap, sym, arith}
-use Rattle.std.proofs.lemmas.Grind.{common_steps}
-use Rattle.block_tree.specs.Node.{IsNode}
-use Rattle.block_tree.specs.Pointers.{pointers_of, leaf_pointers}
+use Rattle.block_tree.proofs.Words.{IsNode, common_steps, leaf_pointers, pointers_of}
 use Rattle.block_tree.proofs.Spellings.{leaves_of}
 use Rattle.block_tree.proofs.node.Node.encode.Goals as goal
 

@@ -1,7 +1,5 @@
 use Rattle.std.proofs.Common.{◌∙◌, ap, sym, arith}
-use Rattle.std.proofs.lemmas.Grind.{common_steps}
-use Rattle.block_tree.specs.Root.{Fits, root_spelling}
-use Rattle.block_tree.specs.Pointers.{pointers_of, node_pointers}
+use Rattle.block_tree.proofs.Words.{Fits, common_steps, node_pointers, pointers_of, root_spelling}
 use Rattle.block_tree.proofs.Spellings.{nodes_of}
 use Rattle.block_tree.proofs.root.Root.encode.Goals as goal
 

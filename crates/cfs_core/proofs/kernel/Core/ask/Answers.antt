@@ -1,5 +1,4 @@
-use Rattle.std.proofs.Common.{sym, ◌∙◌, ap, subst}
-use Rattle.std.specs.Prelude.{option_to_list}
+use Rattle.std.proofs.Common.{sym, ◌∙◌, ap, subst, option_to_list}
 use Rattle.ufs_model.specs.declared.asked.Reply.TheVariants as replies
 use Rattle.cfs_core.specs.Asked.{Asks, told}
 use Rattle.cfs_core.specs.Kernel.{Kernel}
@@ -17,7 +16,7 @@ returns-in-Err g c =
     (asks_starved g.D.Disk k c.make_room.new.self c.make_room.ensures.same c.make_room.ensures.called c.make_room.ensures.finished c.args.who c.args.request.now c.in_default.is)
 
 pub tell-requires : goal.tell-requires
-tell-requires g c = record { room = subst (λ x. HasRoomFor c.args.request.now x.collector) (sym c.answer.ensures.collections) c.in_default-make_room.ensures.room }
+tell-requires g c = record { room = subst (λ x. HasRoomFor c.args.request.now x.collector) (sym c.answer.ensures.went.collections) c.in_default-make_room.ensures.room }
 
 pub returns-in-Ok : goal.returns-in-Ok
 returns-in-Ok g c =
@@ -33,4 +32,4 @@ returns-in-Err-answer g c =
     let k : Kernel _ = record { disk = c.self.inside.disk; root = c.self.inside.root; names = c.self.inside.names; space = c.self.inside.space; words = c.self.inside.words; seats = c.self.inside.seats.seats; collections = c.self.inside.collections; stop = c.self.inside.stop } in
     subst (λ r. Asks g.D.Disk c.args.self.now c.refuse.new.self c.args.who c.args.request.now r) (sym c.refuse.ensures.told)
     (subst (λ x. Asks g.D.Disk x c.refuse.new.self c.args.who c.args.request.now (told c.in-Err-answer.refused (g.D.Disk.moment c.answer.new.self.disk))) c.self.view_is
-    (asks_refused g.D.Disk g.met.D.Disk.left_sized g.met.D.Disk.sized k c.make_room.new.self c.make_room.ensures.same c.make_room.ensures.called c.make_room.ensures.finished c.answer.new.self c.answer.ensures.size c.args.who c.args.request.now c.in_default.is c.in-Err-answer.refused c.refuse.new.self c.refuse.ensures.stop c.in-Err-answer.ensures))
+    (asks_refused g.D.Disk g.met.D.Disk.left_sized g.met.D.Disk.sized k c.make_room.new.self c.make_room.ensures.same c.make_room.ensures.called c.make_room.ensures.finished c.answer.new.self c.answer.ensures.went.size c.args.who c.args.request.now c.in_default.is c.in-Err-answer.refused c.refuse.new.self c.refuse.ensures.stop c.in-Err-answer.ensures))

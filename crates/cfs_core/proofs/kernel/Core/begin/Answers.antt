@@ -1,8 +1,13 @@
-use Rattle.std.proofs.Common.{◌≡◌, ◌<◌, ◌∷◌, map, Some, Ok, sym, ◌∙◌, ap, subst}
+use Rattle.std.proofs.Common.{◌≡◌, ◌<◌, ◌∷◌, map, [], Some, Ok, Err, refl, sym, ◌∙◌, ap, subst}
 use Rattle.cfs_core.specs.declared.collecting.Step.TheVariants as steps
 use Rattle.cfs_core.specs.Collect.{HasBegun, TriesStep, phase_of}
 use Rattle.cfs_core.specs.Kernel.{Kernel, Seat}
-use Rattle.cfs_core.proofs.Stepped.{steps_begun}
+use Rattle.cfs_core.proofs.Stepped.{steps_begun, steps_starved}
+use Rattle.cfs_core.proofs.Collected.{as_before, same_rescued}
+use Rattle.cfs_core.specs.Rescues.{AreRescued}
+use Rattle.cfs_core.specs.declared.collecting.Collections.{Collections}
+use Rattle.cfs_base.specs.declared.refusal.Refused.TheVariants as refusals
+use Rattle.cfs_core.proofs.Words.{err_from_is_err_and}
 use Rattle.cfs_core.proofs.kernel.Core.begin.Goals as goal
 
 pub returns-in-Some : goal.returns-in-Some
@@ -26,3 +31,23 @@ returns g c =
     let roots = subst (λ x. c.in_ok-roots.roots.items ≡ x.root ∷ map (λ (y : Seat). y.grant.id) x.seats) (sym c.self.view_is) c.in_ok-roots.ensures in
     subst (λ x. TriesStep g.D.Disk x (record k { collections = record k.collections { collector = Some l } }) (Ok steps.Began)) c.self.view_is
     (steps_begun g.D.Disk k c.deref-2.result.now (c.deref-2.ensures.value ∙ roots) l c.in_ok-collector.ensures.begun idle more)
+
+pub returns-in_err-begin : goal.returns-in_err-begin
+returns-in_err-begin g c =
+    let k : Kernel _ = record { disk = c.self.inside.disk; root = c.self.inside.root; names = c.self.inside.names; space = c.self.inside.space; words = c.self.inside.words; seats = c.self.inside.seats.seats; collections = c.self.inside.collections; stop = c.self.inside.stop } in
+    let now : Collections = record k.collections { collector = Some c.begin.new.self } in
+    let idle = ap (λ x. phase_of x.collections.collector) c.self.view_is ∙ c.requires.idle in
+    let more = subst (λ x. x.collections.finished < x.collections.called) (sym c.self.view_is) c.requires.more in
+    let told = err_from_is_err_and c.from_residual-in_err-begin.result c.from_residual-in_err-begin.ensures.1 in
+    subst (λ r. TriesStep g.D.Disk c.args.self.now (record k { collections = now }) r) (sym (told.1 ∙ ap Err told.2))
+    (subst (λ x. TriesStep g.D.Disk x (record k { collections = now }) (Err refusals.Memory)) c.self.view_is (steps_starved g.D.Disk k now idle more (subst (λ o. AreRescued o (Some c.begin.new.self) []) (sym c.in-Some.is) (as_before c.in-Some.collector c.begin.new.self c.in_err-begin.ensures.same)) refl refl))
+
+pub returns-in_err-collector : goal.returns-in_err-collector
+returns-in_err-collector g c =
+    let k : Kernel _ = record { disk = c.self.inside.disk; root = c.self.inside.root; names = c.self.inside.names; space = c.self.inside.space; words = c.self.inside.words; seats = c.self.inside.seats.seats; collections = c.self.inside.collections; stop = c.self.inside.stop } in
+    let now : Collections = k.collections in
+    let idle = ap (λ x. phase_of x.collections.collector) c.self.view_is ∙ c.requires.idle in
+    let more = subst (λ x. x.collections.finished < x.collections.called) (sym c.self.view_is) c.requires.more in
+    let told = err_from_is_err_and c.from_residual-in_err-collector.result c.from_residual-in_err-collector.ensures.1 in
+    subst (λ r. TriesStep g.D.Disk c.args.self.now (record k { collections = now }) r) (sym (told.1 ∙ ap Err told.2))
+    (subst (λ x. TriesStep g.D.Disk x (record k { collections = now }) (Err refusals.Memory)) c.self.view_is (steps_starved g.D.Disk k now idle more (same_rescued k.collections.collector) refl refl))

@@ -1,18 +1,15 @@
-use Rattle.std.proofs.Common.{◌≡◌, Option, Some, None, Ok, refl, sym, ◌∙◌, ap, subst, true, false, not}
-use Rattle.std.specs.Prelude.{IsSome, is_some}
-use Rattle.std.specs.List.{list_all}
-use Rattle.open_table.specs.Grants.{grant_in}
+use Rattle.std.proofs.Common.{◌≡◌, Option, Some, None, Ok, refl, sym, ◌∙◌, ap, subst, true, false, not, IsSome, is_some}
+use Rattle.cfs_core.proofs.Words.{grant_in, grant_of}
 use Rattle.open_table.specs.declared.grant.Grant as seats
 use Rattle.ufs_model.specs.declared.asked.Reply.TheVariants as replies
 use Rattle.ufs_model.specs.declared.asked.Request.TheVariants as asks
-use Rattle.ufs_model.specs.State.{grant_of}
 use Rattle.cfs_core.specs.Calls.{Tries}
-use Rattle.cfs_core.specs.Kernel.{Kernel, grants_in, is_drawn_by, is_ready, is_ready_for}
+use Rattle.cfs_core.specs.Kernel.{Kernel, grants_in, is_ready_for}
 use Rattle.cfs_core.specs.Seats.{have_draft, is_at}
 use Rattle.cfs_core.proofs.Answering.{tries_refusal}
 use Rattle.cfs_core.proofs.Ending.{none_there}
 use Rattle.cfs_core.proofs.Granted.{close_none}
-use Rattle.cfs_core.proofs.Readied.{drawn_taken, ready_at, ready_taken}
+use Rattle.cfs_core.proofs.Readied.{ready_at, sized_taken}
 use Rattle.cfs_core.proofs.Seated.{grants_with, none_taken}
 use Rattle.cfs_core.proofs.kernel.Core.close.Goals as goal
 
@@ -32,14 +29,7 @@ returns-then-is_none g c =
     ∙ c.table_follows_the_model.ensures.found s c.args.who c.args.grant)))
 
 pub invariant_of-self : goal.invariant_of-self
-invariant_of-self g c = record {
-  size = c.self.invariant.size;
-  room = c.self.invariant.room;
-  some = c.self.invariant.some;
-  kept = c.self.invariant.kept;
-  drawn_all = ap (list_all (is_drawn_by c.self.inside.words.drawn)) c.take.ensures.seats ∙ drawn_taken c.self.inside.words.drawn c.args.grant.draw c.self.inside.seats.seats c.self.invariant.drawn_all;
-  ready = ap (list_all (is_ready c.self.inside.names.room)) c.take.ensures.seats ∙ ready_taken c.self.inside.names.room c.args.grant.draw c.self.inside.seats.seats c.self.invariant.ready;
-}
+invariant_of-self g c = sized_taken c.self.invariant c.args.grant.draw c.take.new.self.seats c.take.ensures.seats
 
 pub end-requires : goal.end-requires
 end-requires g c = record {

@@ -1,31 +1,21 @@
-use Rattle.std.proofs.Common.{Ok, refl, sym, ◌∙◌, ap, subst, arith}
-use Rattle.std.specs.List.{list_all}
-use Rattle.open_table.specs.Grants.{grant_in, is_grant}
+use Rattle.std.proofs.Common.{Ok, sym, ◌∙◌, ap, subst}
+use Rattle.cfs_core.proofs.Words.{grant_in, grant_of}
 use Rattle.ufs_model.specs.declared.asked.Reply.TheVariants as replies
 use Rattle.ufs_model.specs.declared.asked.Request.TheVariants as asks
-use Rattle.ufs_model.specs.State.{grant_of}
 use Rattle.cfs_core.specs.Calls.{Tries}
-use Rattle.cfs_core.specs.Kernel.{Kernel, is_drawn_by}
-use Rattle.cfs_core.specs.Seats.{have_draft, is_at, seats_but}
+use Rattle.cfs_core.specs.Kernel.{Kernel}
+use Rattle.cfs_core.specs.Seats.{have_draft, is_at}
 use Rattle.cfs_core.proofs.Answering.{tries_refusal}
 use Rattle.cfs_core.proofs.Ending.{none_there, shown_by}
-use Rattle.cfs_core.proofs.Granted.{close_goes, close_none, closed_keeps_drafts, closed_so, tries_regranted}
-use Rattle.ufs_model.proofs.WellStates.{closed_keeps}
-use Rattle.cfs_core.proofs.Regranted.{all_filter}
+use Rattle.cfs_core.proofs.Granted.{close_none, tries_closed}
+use Rattle.cfs_core.proofs.Readied.{sized_but}
 use Rattle.cfs_core.proofs.kernel.Core.close_bare.Goals as goal
 
 pub close-requires : goal.close-requires
 close-requires g c = record { undrafted = ap (λ x. have_draft (is_at c.args.grant.draw) x.seats) c.self.view_is ∙ c.requires.undrafted }
 
 pub invariant_of-self-2 : goal.invariant_of-self-2
-invariant_of-self-2 g c = record {
-  size = c.self.invariant.size;
-  room = c.self.invariant.room;
-  kept = c.self.invariant.kept;
-  some = c.self.invariant.some;
-  drawn_all = ap (list_all (is_drawn_by c.self.inside.words.drawn)) c.in_default.ensures.seats ∙ all_filter (is_drawn_by c.self.inside.words.drawn) _ c.self.inside.seats.seats c.self.invariant.drawn_all;
-  ready = ap (list_all _) c.in_default.ensures.seats ∙ all_filter _ _ c.self.inside.seats.seats c.self.invariant.ready;
-}
+invariant_of-self-2 g c = sized_but c.self.invariant _ _ c.in_default.ensures.seats
 
 pub returns : goal.returns
 returns g c =
@@ -34,17 +24,8 @@ returns g c =
     let none = ap (λ x. have_draft (is_at c.args.grant.draw) x.seats) c.self.view_is ∙ c.requires.undrafted in
     subst (λ x. Tries g.D.Disk x (record k { seats = c.close.new.self.seats }) c.args.who request (Ok replies.Done)) c.self.view_is
     (subst (λ ss. Tries g.D.Disk k (record k { seats = ss }) c.args.who request (Ok replies.Done)) (sym c.in_default.ensures.seats)
-    (tries_regranted g.D.Disk g.met.D.Disk.left_sized g.met.D.Disk.sized k (seats_but (is_grant c.args.who c.args.grant) k.seats) k.words c.args.who request replies.Done refl tt refl (omega arith)
-    (λ s serves.
-    let x = shown_by (grant_of s c.args.who c.args.grant) c.in_default.field-0 (sym c.in_default.ensures.found ∙ ap (λ gs. grant_in gs c.args.who c.args.grant) serves.front.grants ∙ c.table_follows_the_model.ensures.found s c.args.who c.args.grant) in
-    record {
-      allowed = close_goes 0 s c.args.who c.args.grant c.args.commit x.0 x.1;
-      told = refl;
-      is = closed_so 0 s c.args.who c.args.grant c.args.commit x.0 x.1 _ k.seats serves.front.grants serves.drafts none k.words.drawn (sym serves.front.drawn);
-      state = closed_keeps s c.args.who c.args.grant c.args.commit serves.state;
-      keeps = closed_keeps_drafts 0 s c.args.who c.args.grant c.args.commit x.0 x.1 _ k.seats serves.front.grants serves.drafts none;
-      need = refl;
-    }) (omega arith)))
+    (tries_closed g.D.Disk g.met.D.Disk.left_sized g.met.D.Disk.sized k c.args.who c.args.grant c.args.commit none
+    (λ s serves. shown_by (grant_of s c.args.who c.args.grant) c.in_default.field-0 (sym c.in_default.ensures.found ∙ ap (λ gs. grant_in gs c.args.who c.args.grant) serves.front.grants ∙ c.table_follows_the_model.ensures.found s c.args.who c.args.grant))))
 
 pub returns-in-Err : goal.returns-in-Err
 returns-in-Err g c =

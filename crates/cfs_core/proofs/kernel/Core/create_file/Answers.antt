@@ -1,14 +1,12 @@
-use Rattle.std.proofs.Common.{◌≡◌, ◌<◌, ℕ, length, true, Ok, Err, refl, sym, ◌∙◌, subst, arith}
+use Rattle.std.proofs.Common.{◌≡◌, ◌<◌, ℕ, length, true, Ok, Err, refl, sym, ◌∙◌, subst, arith, nat_lt}
 use Rattle.ufs_model.specs.declared.asked.Reply.TheVariants as replies
 use Rattle.ufs_model.specs.declared.asked.Request.TheVariants as asks
 use Rattle.ufs_model.specs.declared.object.Object.TheVariants as objects
 use Rattle.cfs_core.specs.Calls.{Tries}
 use Rattle.cfs_core.specs.Kernel.{Kernel}
 use Rattle.cfs_core.specs.Looks.{ReachesAll}
-use Rattle.std.specs.Prelude.{nat_lt}
-use Rattle.std.proofs.lemmas.Bool.Decides.{nat_tests}
-use Rattle.index_ops.specs.Creates.{made_of}
-use Rattle.cfs_core.proofs.After.{makes_then}
+use Rattle.cfs_core.proofs.Words.{nat_tests}
+use Rattle.cfs_core.proofs.After.{tries_then}
 use Rattle.cfs_core.proofs.Answering.{known, tries_failed, tries_refused}
 use Rattle.cfs_core.proofs.Makings.{file_goes, file_makes}
 use Rattle.cfs_core.proofs.Refusing.{beyond}
@@ -26,8 +24,8 @@ returns-in-Ok-true g c =
     let request = asks.CreateFile c.args.kind c.args.fill c.args.to c.args.slot in
     let reach = subst (λ x. ReachesAll g.D.Disk objects.Index x c.args.who request c.in-Ok.index) (sym c.self.view_is) (c.in-Ok.ensures.reached request (record { to = refl; each = λ s who. refl })) in
     subst (λ x. Tries g.D.Disk x c.make.new.self c.args.who request c.make.result) c.self.view_is
-    (makes_then g.D.Disk 1 k c.has_slot.new.disk c.make.new.self c.has_slot.ensures.calm.reads request c.in-Ok.index c.args.slot (made_of c.kind_of.result c.args.fill 0)
-    (file_makes c.args.kind c.kind_of.result c.args.fill c.args.to c.args.slot c.kind_of.ensures c.ranges.fill.fits) c.args.who c.make.result reach c.make.ensures
+    (tries_then g.D.Disk 1 k c.has_slot.new.disk c.make.new.self c.has_slot.ensures.calm.reads request c.in-Ok.index c.args.slot c.args.who c.make.result reach
+    (c.make.ensures request (file_makes c.args.kind c.kind_of.result c.args.fill c.args.to c.args.slot c.kind_of.ensures c.ranges.fill.fits))
     (λ s i serves r.
     let inside = inside_of c.args.slot (length i.slots) (sym (c.in-Ok-true.ensures.exact i (known g.D.Disk k s serves c.in-Ok.index i r.there)) ∙ c.in-Ok-true.field-0-test) in
     (inside, file_goes s c.args.who c.args.to c.in-Ok.index i c.args.slot c.args.kind c.args.fill r inside)))

@@ -4,7 +4,7 @@ use Rattle.ufs_model.specs.declared.object.Object.TheVariants as objects
 use Rattle.cfs_core.specs.Calls.{Tries}
 use Rattle.cfs_core.specs.Kernel.{Kernel}
 use Rattle.cfs_core.specs.Looks.{ReachesAll}
-use Rattle.ufs_model.specs.Plain.{is_id}
+use Rattle.cfs_core.proofs.Words.{is_id}
 use Rattle.cfs_core.proofs.After.{tries_then}
 use Rattle.cfs_core.proofs.Answering.{known, tries_failed, tries_refused}
 use Rattle.cfs_core.proofs.Refusing.{delete_goes, delete_refused}

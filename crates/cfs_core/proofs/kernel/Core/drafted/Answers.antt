@@ -1,8 +1,5 @@
-use Rattle.std.proofs.Common.{◌≡◌, Option, Some, None, true, false, is_some, refl, sym, ◌∙◌, ap}
-use Rattle.std.specs.Prelude.{option_copied, option_and_then}
-use Rattle.open_table.specs.Grants.{grant_in}
-use Rattle.ufs_model.specs.State.{draft_of, grant_of}
-use Rattle.ufs_model.specs.declared.object.Grant.{Grant}
+use Rattle.std.proofs.Common.{◌≡◌, Option, Some, None, true, false, is_some, refl, sym, ◌∙◌, ap, option_copied, option_and_then}
+use Rattle.cfs_core.proofs.Words.{draft_of, Grant, grant_in, grant_of}
 use Rattle.cfs_core.specs.Kernel.{grants_in}
 use Rattle.cfs_core.specs.Seats.{drafting_at}
 use Rattle.cfs_core.proofs.Altered.{undrafted}

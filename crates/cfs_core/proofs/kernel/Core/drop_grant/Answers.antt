@@ -1,14 +1,12 @@
-use Rattle.std.proofs.Common.{◌≡◌, true, None, sym, ◌∙◌, ap, subst}
-use Rattle.std.specs.Prelude.{IsSome}
-use Rattle.std.specs.List.{list_all}
-use Rattle.open_table.specs.Grants.{grant_in, is_grant, without_grant}
-use Rattle.cfs_core.specs.Kernel.{Kernel, grants_in, is_drawn_by, is_ready, is_ready_for}
+use Rattle.std.proofs.Common.{◌≡◌, true, None, sym, ◌∙◌, ap, subst, IsSome}
+use Rattle.cfs_core.proofs.Words.{grant_in, without_grant}
+use Rattle.open_table.specs.Grants.{is_grant}
+use Rattle.cfs_core.specs.Kernel.{Kernel, grants_in, is_ready_for}
 use Rattle.cfs_core.specs.Leaving.{GivesUp, Sheds}
 use Rattle.cfs_core.specs.Seats.{have_draft, is_at, seats_but, with_drafting}
 use Rattle.cfs_core.proofs.Dropping.{grants_but, shed_bare, shed_drafted}
 use Rattle.cfs_core.proofs.Ending.{closed_seats, the_grant}
-use Rattle.cfs_core.proofs.Readied.{drawn_taken, ready_at, ready_for, ready_taken}
-use Rattle.cfs_core.proofs.Regranted.{all_filter}
+use Rattle.cfs_core.proofs.Readied.{ready_at, ready_for, sized_but, sized_taken}
 use Rattle.cfs_core.proofs.Seated.{grants_with, none_taken}
 use Rattle.cfs_core.proofs.kernel.Core.drop_grant.Goals as goal
 
@@ -24,29 +22,13 @@ pub invariant_of-self : goal.invariant_of-self
 invariant_of-self g c =
     let some = subst (λ gs. IsSome (grant_in gs c.args.who c.args.grant)) (sym (ap grants_in c.take-draft.ensures.seats ∙ grants_with c.args.grant.draw None c.self.inside.seats.seats ∙ ap (λ x. grants_in x.seats) c.self.view_is)) c.requires.found in
     let left = closed_seats c.args.who c.args.grant c.close.result c.take-draft.new.self.seats c.close.new.self.seats some c.close.ensures.seats c.close.ensures.none in
-    let now = left ∙ ap (seats_but (is_grant c.args.who c.args.grant)) c.take-draft.ensures.seats in
-    record {
-      size = c.self.invariant.size;
-      room = c.self.invariant.room;
-      some = c.self.invariant.some;
-      kept = c.self.invariant.kept;
-      drawn_all = ap (list_all (is_drawn_by c.self.inside.words.drawn)) now ∙ all_filter (is_drawn_by c.self.inside.words.drawn) _ (with_drafting c.args.grant.draw None c.self.inside.seats.seats) (drawn_taken c.self.inside.words.drawn c.args.grant.draw c.self.inside.seats.seats c.self.invariant.drawn_all);
-      ready = ap (list_all (is_ready c.self.inside.names.room)) now ∙ all_filter (is_ready c.self.inside.names.room) _ (with_drafting c.args.grant.draw None c.self.inside.seats.seats) (ready_taken c.self.inside.names.room c.args.grant.draw c.self.inside.seats.seats c.self.invariant.ready);
-    }
+    sized_but (sized_taken c.self.invariant c.args.grant.draw c.take-draft.new.self.seats c.take-draft.ensures.seats) (is_grant c.args.who c.args.grant) c.close.new.self.seats left
 
 pub invariant_of-self-in-None : goal.invariant_of-self-in-None
 invariant_of-self-in-None g c =
     let some = subst (λ gs. IsSome (grant_in gs c.args.who c.args.grant)) (sym (ap grants_in c.take-draft.ensures.seats ∙ grants_with c.args.grant.draw None c.self.inside.seats.seats ∙ ap (λ x. grants_in x.seats) c.self.view_is)) c.requires.found in
     let left = closed_seats c.args.who c.args.grant c.close.result c.take-draft.new.self.seats c.close.new.self.seats some c.close.ensures.seats c.close.ensures.none in
-    let now = left ∙ ap (seats_but (is_grant c.args.who c.args.grant)) c.take-draft.ensures.seats in
-    record {
-      size = c.self.invariant.size;
-      room = c.self.invariant.room;
-      some = c.self.invariant.some;
-      kept = c.self.invariant.kept;
-      drawn_all = ap (list_all (is_drawn_by c.self.inside.words.drawn)) now ∙ all_filter (is_drawn_by c.self.inside.words.drawn) _ (with_drafting c.args.grant.draw None c.self.inside.seats.seats) (drawn_taken c.self.inside.words.drawn c.args.grant.draw c.self.inside.seats.seats c.self.invariant.drawn_all);
-      ready = ap (list_all (is_ready c.self.inside.names.room)) now ∙ all_filter (is_ready c.self.inside.names.room) _ (with_drafting c.args.grant.draw None c.self.inside.seats.seats) (ready_taken c.self.inside.names.room c.args.grant.draw c.self.inside.seats.seats c.self.invariant.ready);
-    }
+    sized_but (sized_taken c.self.invariant c.args.grant.draw c.take-draft.new.self.seats c.take-draft.ensures.seats) (is_grant c.args.who c.args.grant) c.close.new.self.seats left
 
 pub returns-in-Some-clause-sheds : goal.returns-in-Some-clause-sheds
 returns-in-Some-clause-sheds g c =

@@ -1,11 +1,10 @@
-use Rattle.std.proofs.Common.{◌≡◌, None, refl, sym, ◌∙◌, ap, subst}
+use Rattle.std.proofs.Common.{None, refl, sym, subst}
 use Rattle.ufs_model.specs.declared.asked.Request.TheVariants as asks
-use Rattle.cfs_core.specs.Calls.{TriesOn, done_or}
+use Rattle.cfs_core.specs.Calls.{TriesOn}
 use Rattle.cfs_core.specs.Kernel.{Kernel}
 use Rattle.cfs_core.proofs.Putting.{tries_put}
 use Rattle.cfs_core.proofs.Refusing.{delete_out}
 use Rattle.cfs_core.proofs.kernel.Core.empty.Goals as goal
-use Rattle.cfs_core.proofs.kernel.Core.empty.Goals.{in-Ok, in-Err}
 
 pub returns : goal.returns
 returns g c = λ to.
@@ -15,8 +14,4 @@ returns g c = λ to.
     let done = tries_put g.D.Disk g.met.D.Disk.left_sized g.met.D.Disk.sized k c.delete.new.disk c.delete.new.space c.args.index c.args.slot None request refl refl c.delete.result c.delete.ensures
     (λ s who i serves r. (refl, delete_out k.words.seed s who to c.args.index i c.args.slot r))
     (λ s who i serves r. ((λ short. let no = short.delete in cc), serves.four)) in
-    let told : c.match-delete.result ≡ done_or c.delete.result = elim c.match-delete.branch [
-      | in-Ok w ↦ w.result-is ∙ sym (ap done_or w.in-Ok.is)
-      | in-Err w ↦ w.result-is ∙ sym (ap done_or w.in-Err.is)
-    ] in
-    subst (λ x. TriesOn g.D.Disk x new c.args.index c.args.slot request c.match-delete.result) c.self.view_is (subst (λ r. TriesOn g.D.Disk k new c.args.index c.args.slot request r) (sym told) done)
+    subst (λ x. TriesOn g.D.Disk x new c.args.index c.args.slot request c.done.result) c.self.view_is (subst (λ r. TriesOn g.D.Disk k new c.args.index c.args.slot request r) (sym c.done.ensures) done)

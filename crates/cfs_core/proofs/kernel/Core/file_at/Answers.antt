@@ -1,7 +1,6 @@
 use Rattle.std.proofs.Common.{Some, sym, ◌∙◌, ap, subst}
 use Rattle.cfs_base.specs.declared.kind.FileKind.TheVariants as file_kinds
-use Rattle.ufs_model.specs.State.{draft_of, named}
-use Rattle.ufs_model.specs.declared.asked.Wanted.TheVariants.{AFile}
+use Rattle.cfs_core.proofs.Words.{AFile, draft_of, named}
 use Rattle.ufs_model.specs.declared.object.Object.TheVariants as objects
 use Rattle.cfs_core.specs.Ways.{Arrives, unfit_of}
 use Rattle.cfs_core.proofs.Refusing.{file_kind_is, file_there}

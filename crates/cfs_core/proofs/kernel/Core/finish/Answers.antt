@@ -1,6 +1,5 @@
-use Rattle.std.proofs.Common.{◌≡◌, ◌+◌, Some, Ok, sym, ◌∙◌, ap, subst, arith}
-use Rattle.std.specs.Prelude.{IfSome}
-use Rattle.collector_steps.specs.Collecting.{volume_of}
+use Rattle.std.proofs.Common.{◌≡◌, ◌+◌, Some, Ok, sym, ◌∙◌, ap, subst, arith, IfSome}
+use Rattle.cfs_core.proofs.Words.{volume_of}
 use Rattle.cfs_core.specs.declared.collecting.Step.TheVariants as steps
 use Rattle.cfs_core.specs.Collect.{TriesStep, phase_of}
 use Rattle.cfs_core.specs.Kernel.{Kernel}

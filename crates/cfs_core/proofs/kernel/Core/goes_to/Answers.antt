@@ -1,7 +1,5 @@
-use Rattle.std.proofs.Common.{sym, ◌∙◌, ap}
-use Rattle.std.specs.Prelude.{option_map}
-use Rattle.open_table.specs.Grants.{grant_in}
-use Rattle.ufs_model.specs.State.{grant_of, named}
+use Rattle.std.proofs.Common.{sym, ◌∙◌, ap, option_map}
+use Rattle.cfs_core.proofs.Words.{grant_in, grant_of, named}
 use Rattle.cfs_core.specs.Kernel.{grants_in}
 use Rattle.cfs_core.proofs.Ways.{named_of}
 use Rattle.cfs_core.proofs.kernel.Core.goes_to.Goals as goal

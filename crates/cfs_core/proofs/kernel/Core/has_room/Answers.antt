@@ -1,6 +1,5 @@
-use Rattle.std.proofs.Common.{ap, refl, sym, ◌∙◌, arith}
-use Rattle.std.specs.Prelude.{sum}
-use Rattle.std.specs.List.{list_all}
+use Rattle.std.proofs.Common.{ap, refl, sym, ◌∙◌, arith, sum}
+use Rattle.cfs_core.proofs.Words.{list_all}
 use Rattle.cfs_core.specs.Kernel.{is_ready}
 use Rattle.cfs_core.proofs.Readied.{drafts_take}
 use Rattle.cfs_core.proofs.Serving.{room_is, room_with}

@@ -1,6 +1,5 @@
 use Rattle.std.proofs.Common.{Some, ◌∙◌, ap, subst}
-use Rattle.ufs_model.specs.Refusal.{target}
-use Rattle.ufs_model.specs.declared.asked.Wanted.TheVariants.{AnIndex}
+use Rattle.cfs_core.proofs.Words.{AnIndex, target}
 use Rattle.cfs_core.specs.Ways.{Arrives, unfit_of}
 use Rattle.cfs_core.proofs.Refusing.{index_there}
 use Rattle.cfs_core.proofs.Serving.{kind_is, shut}

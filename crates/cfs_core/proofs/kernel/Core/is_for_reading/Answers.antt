@@ -1,7 +1,5 @@
 use Rattle.std.proofs.Common.{sym, ◌∙◌, ap}
-use Rattle.open_table.specs.Grants.{grant_in}
-use Rattle.ufs_model.specs.Refusal.{goes_through_reading}
-use Rattle.ufs_model.specs.State.{grant_of}
+use Rattle.cfs_core.proofs.Words.{goes_through_reading, grant_in, grant_of}
 use Rattle.cfs_core.specs.Kernel.{grants_in}
 use Rattle.cfs_core.proofs.Ways.{reads_of}
 use Rattle.cfs_core.proofs.kernel.Core.is_for_reading.Goals as goal

@@ -1,13 +1,6 @@
-use Rattle.std.proofs.Common.{◌≡◌, Bool, List, true, false, ◌&&◌, refl, is_some, IsTrue, sym, ◌∙◌, ap, subst}
-use Rattle.std.specs.Prelude.{Option, if◌then◌else◌}
-use Rattle.cfs_base.specs.declared.kind.Mode.{Mode}
-use Rattle.cfs_base.specs.declared.identifier.Puid.{Puid}
-use Rattle.open_table.specs.Grants.{few_each, is_held, mode_in, none_collide, tuids_differ}
+use Rattle.std.proofs.Common.{◌≡◌, Bool, List, true, false, ◌&&◌, refl, is_some, IsTrue, sym, ◌∙◌, ap, subst, Option, if◌then◌else◌}
+use Rattle.cfs_core.proofs.Words.{Direct, few_each, is_held, is_open, is_open_for_writing, is_writing, meets_a_grant, Mode, mode_in, none_collide, Puid, State, table_of, tuids_differ}
 use Rattle.open_table.specs.declared.grant.Grant.{Grant}
-use Rattle.open_table.specs.Model.{is_writing, table_of}
-use Rattle.ufs_model.specs.declared.asked.Ref.TheVariants.{Direct}
-use Rattle.ufs_model.specs.Refusal.{is_open, is_open_for_writing, meets_a_grant}
-use Rattle.ufs_model.specs.State.{State}
 use Rattle.cfs_core.specs.Kernel.{grants_in}
 use Rattle.cfs_core.proofs.kernel.Core.is_met.Goals as goal
 

@@ -1,7 +1,5 @@
-use Rattle.std.proofs.Common.{◌≡◌, sym, ◌∙◌, ap, arith, refl, Option, Some, None}
-use Rattle.std.specs.Prelude.{IsSome}
-use Rattle.cfs_base.specs.declared.kind.Kind.{Kind}
-use Rattle.collector_steps.proofs.Shaded.{kind_below}
+use Rattle.std.proofs.Common.{◌≡◌, sym, ◌∙◌, ap, arith, refl, Option, Some, None, IsSome}
+use Rattle.cfs_core.proofs.Words.{Kind, kind_below}
 use Rattle.cfs_core.proofs.Serving.{named_some}
 use Rattle.cfs_core.proofs.kernel.Core.kind.Goals as goal
 

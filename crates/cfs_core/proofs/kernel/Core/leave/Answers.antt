@@ -1,7 +1,5 @@
-use Rattle.std.proofs.Common.{◌≡◌, Some, refl, sym, ◌∙◌, ap, subst}
-use Rattle.std.specs.Prelude.{IsSome}
-use Rattle.open_table.specs.Grants.{first_of}
-use Rattle.open_table.proofs.Lists.{grant_in-first, grants_of-fewer}
+use Rattle.std.proofs.Common.{◌≡◌, Some, refl, sym, ◌∙◌, ap, subst, IsSome}
+use Rattle.cfs_core.proofs.Words.{first_of, grant_in-first, grants_of-fewer}
 use Rattle.ufs_model.specs.declared.asked.Event.TheVariants as events
 use Rattle.cfs_core.specs.Asked.{Happens, halted}
 use Rattle.cfs_core.specs.Kernel.{grants_in}

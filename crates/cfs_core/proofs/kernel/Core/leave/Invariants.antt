@@ -1,5 +1,5 @@
 use Rattle.std.proofs.Common.{length}
-use Rattle.open_table.specs.Grants.{grants_of}
+use Rattle.cfs_core.proofs.Words.{grants_of}
 use Rattle.cfs_core.specs.Kernel.{grants_in}
 use Rattle.cfs_core.specs.Leaving.{Sheds}
 use Rattle.cfs_core.proofs.kernel.Core.leave.Given as goal

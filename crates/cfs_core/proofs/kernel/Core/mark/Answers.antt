@@ -1,10 +1,8 @@
-use Rattle.std.proofs.Common.{◌≡◌, Some, sym, ◌∙◌, ◌||◌, ap, subst, arith}
-use Rattle.std.specs.Prelude.{IfSome}
-use Rattle.collector_steps.specs.Collecting.{volume_of}
-use Rattle.collector_steps.specs.declared.phase.Phase.TheVariants as phases
+use Rattle.std.proofs.Common.{◌≡◌, Some, sym, ◌∙◌, ◌||◌, ap, subst, arith, IfSome}
+use Rattle.cfs_core.proofs.Words.{volume_of}
 use Rattle.cfs_core.specs.Collect.{TriesStep, phase_of}
 use Rattle.cfs_core.specs.Kernel.{Kernel, marks_in, sweeps_in}
-use Rattle.cfs_core.proofs.Stepped.{sized_on, steps_on}
+use Rattle.cfs_core.proofs.Stepped.{sized_on}
 use Rattle.cfs_core.proofs.kernel.Core.mark.Goals as goal
 
 pub mark-requires-clause-marks : goal.mark-requires-clause-marks
@@ -25,7 +23,5 @@ invariant_of-self g c =
 pub returns : goal.returns
 returns g c =
     let k : Kernel _ = record { disk = c.self.inside.disk; root = c.self.inside.root; names = c.self.inside.names; space = c.self.inside.space; words = c.self.inside.words; seats = c.self.inside.seats.seats; collections = c.self.inside.collections; stop = c.self.inside.stop } in
-    let marks = ap phase_of (sym c.in-Some.is) ∙ ap (λ x. phase_of x.collections.collector) c.self.view_is ∙ c.requires in
     let new : Kernel _ = record k { disk = c.mark.new.disk; names = c.mark.new.names; collections = record k.collections { collector = Some c.mark.new.collector } } in
-    subst (λ x. TriesStep g.D.Disk x new c.mark.result) c.self.view_is
-    (steps_on g.D.Disk k c.in-Some.collector c.mark.new.collector c.in-Some.is (λ is. let no : phases.Marking ≡ phases.Swept = sym marks ∙ is in cc) c.mark.new.disk k.space c.mark.new.names c.mark.result (c.mark.ensures k.space))
+    subst (λ x. TriesStep g.D.Disk x new c.mark.result) (ap (λ o. record k { collections = record k.collections { collector = o } }) (sym c.in-Some.is) ∙ c.self.view_is) ((c.mark.ensures k.space).tries k)

@@ -1,8 +1,5 @@
-use Rattle.std.proofs.Common.{◌≡◌, ◌≢◌, ℕ, false, sym, ◌∙◌, ap, subst, arith}
-use Rattle.std.specs.Prelude.{◌==◌}
-use Rattle.std.specs.List.{list_all}
-use Rattle.std.proofs.lemmas.Bool.Decides.{nat_tests}
-use Rattle.puid_space.specs.Directory.{has_root_in}
+use Rattle.std.proofs.Common.{◌≡◌, ◌≢◌, ℕ, false, sym, ◌∙◌, ap, subst, arith, ◌==◌}
+use Rattle.cfs_core.proofs.Words.{has_root_in, list_all, nat_tests}
 use Rattle.cfs_core.specs.Kernel.{AreKept, is_ready}
 use Rattle.cfs_core.proofs.Created.{none_more}
 use Rattle.cfs_core.proofs.Regranted.{drawn_more}

@@ -1,14 +1,6 @@
 use Rattle.std.proofs.Common.{◌≡◌, Option, Some, None, sym, ◌∙◌, ap}
-use Rattle.cfs_base.specs.declared.disk.Disk.{Ghosts}
-use Rattle.cfs_base.specs.declared.identifier.Puid.{Puid}
-use Rattle.cfs_base.specs.declared.kind.Kind.{Kind}
-use Rattle.puid_space.specs.Directory.{kind_in}
-use Rattle.puid_space.specs.Kinds.{kind_of}
+use Rattle.cfs_core.proofs.Words.{Ghosts, Kind, kind_in, kind_of, Object, object_at, Puid, State, Wanted}
 use Rattle.ufs_model.specs.declared.asked.Reply.TheVariants as replies
-use Rattle.ufs_model.specs.declared.asked.Wanted.{Wanted}
-use Rattle.ufs_model.specs.declared.object.Object.{Object}
-use Rattle.ufs_model.specs.Graph.{object_at}
-use Rattle.ufs_model.specs.State.{State}
 use Rattle.cfs_core.specs.Kernel.{Kernel}
 use Rattle.cfs_core.specs.StandsFor.{Serves}
 use Rattle.cfs_core.specs.Ways.{unfit_of}

@@ -1,17 +1,9 @@
-use Rattle.std.proofs.Common.{◌≡◌, ◌+◌, ◌++◌, [], ◌∷◌, length, is_some, false, None, Some, Ok, Err, refl, sym, ◌∙◌, ap, subst}
-use Rattle.std.specs.Prelude.{◌<◌, ◌*◌, IsSome, nat_le}
-use Rattle.std.specs.List.{list_all}
-use Rattle.cfs_base.specs.declared.identifier.Tuid.{Tuid}
+use Rattle.std.proofs.Common.{◌≡◌, ◌+◌, ◌++◌, [], ◌∷◌, length, is_some, false, None, Some, Ok, Err, refl, sym, ◌∙◌, ap, subst, ◌<◌, ◌*◌, IsSome, nat_le}
+use Rattle.cfs_core.proofs.Words.{Draws, fault_of, grants_of, is_locked, kind_in, list_all, mode_against, MOST_GRANTS, refusal_of, State, Tuid, word}
 use Rattle.cfs_base.specs.declared.refusal.Refused.TheVariants as refusals
 use Rattle.open_table.specs.declared.grant.Grant.{Grant}
-use Rattle.open_table.specs.Grants.{fault_of, grants_of, mode_against}
-use Rattle.puid_space.specs.Directory.{kind_in}
 use Rattle.ufs_model.specs.declared.asked.Reply.TheVariants as replies
 use Rattle.ufs_model.specs.declared.asked.Request.TheVariants as asks
-use Rattle.ufs_model.specs.declared.limits.TheConstants.{MOST_GRANTS}
-use Rattle.ufs_model.specs.Refusal.{is_locked, refusal_of}
-use Rattle.ufs_model.specs.State.{State}
-use Rattle.ufs_model.specs.Word.{word}
 use Rattle.cfs_core.specs.Calls.{Tries}
 use Rattle.cfs_core.specs.Kernel.{Kernel, grants_in, is_drawn_by, is_ready}
 use Rattle.cfs_core.specs.StandsFor.{Serves}
@@ -19,7 +11,6 @@ use Rattle.cfs_core.specs.Opening.{Begins, gets_draft, told_of}
 use Rattle.cfs_core.proofs.Answering.{memory, reads_none, tries_refusal, tries_so}
 use Rattle.cfs_core.proofs.Granted.{drawn_push, not_drawn}
 use Rattle.cfs_core.proofs.Openings.{begun_ready, fault_told, fit_is, none_locked, none_told, open_gone, open_index, there_now, told_plain, tries_not, tries_open}
-use Rattle.puid_space.specs.Draw.{Draws}
 use Rattle.cfs_core.proofs.Readied.{all_push}
 use Rattle.cfs_core.proofs.Serving.{there_is}
 use Rattle.cfs_core.proofs.kernel.Core.open_for.Goals as goal

@@ -1,13 +1,11 @@
-use Rattle.std.proofs.Common.{◌≡◌, inl, inr, Some, refl, sym, ◌∙◌, ap, subst, arith}
-use Rattle.std.specs.Prelude.{sum}
-use Rattle.std.proofs.lemmas.Bool.{cases_lt}
+use Rattle.std.proofs.Common.{inl, inr, Some, refl, sym, subst, arith, sum}
+use Rattle.cfs_core.proofs.Words.{cases_lt}
 use Rattle.ufs_model.specs.declared.asked.Request.TheVariants as asks
 use Rattle.cfs_core.specs.Calls.{TriesOn, done_or}
 use Rattle.cfs_core.specs.Kernel.{Kernel}
 use Rattle.cfs_core.proofs.Putting.{tries_full, tries_put}
 use Rattle.cfs_core.proofs.Refusing.{retain_need, retain_out}
 use Rattle.cfs_core.proofs.kernel.Core.put.Goals as goal
-use Rattle.cfs_core.proofs.kernel.Core.put.Goals.{in-Ok, in-Err}
 
 pub returns : goal.returns
 returns g c = λ to.
@@ -23,8 +21,4 @@ returns g c = λ to.
           (λ s who i serves r. (refl, retain_out k.words.seed s who to c.args.index i c.args.slot c.args.id r))
           (λ s who i serves r. ((λ short. omega (arith, short.few, enough, retain_need k.words.seed s who to c.args.index i c.args.slot c.args.id r)), omega (arith, enough)))
     ] in
-    let told : c.match-retain.result ≡ done_or c.retain.result = elim c.match-retain.branch [
-      | in-Ok w ↦ w.result-is ∙ sym (ap done_or w.in-Ok.is)
-      | in-Err w ↦ w.result-is ∙ sym (ap done_or w.in-Err.is)
-    ] in
-    subst (λ x. TriesOn g.D.Disk x new c.args.index c.args.slot request c.match-retain.result) c.self.view_is (subst (λ r. TriesOn g.D.Disk k new c.args.index c.args.slot request r) (sym told) done)
+    subst (λ x. TriesOn g.D.Disk x new c.args.index c.args.slot request c.done.result) c.self.view_is (subst (λ r. TriesOn g.D.Disk k new c.args.index c.args.slot request r) (sym c.done.ensures) done)

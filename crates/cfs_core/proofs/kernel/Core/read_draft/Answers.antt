@@ -1,12 +1,10 @@
-use Rattle.std.proofs.Common.{◌<◌, refl, sym, ◌∙◌, ap, subst}
-use Rattle.open_table.specs.Grants.{grant_in}
-use Rattle.ufs_model.specs.declared.asked.Ref.TheVariants.{Through}
+use Rattle.std.proofs.Common.{◌<◌, refl, sym, ◌∙◌, ap, subst, IsSome, option_copied}
+use Rattle.cfs_core.proofs.Words.{grant_in, Through}
 use Rattle.ufs_model.specs.declared.asked.Request.TheVariants as asks
 use Rattle.cfs_core.specs.Calls.{Tries}
 use Rattle.cfs_core.specs.Kernel.{Kernel, grants_in}
-use Rattle.std.specs.Prelude.{IsSome, option_copied}
 use Rattle.cfs_core.proofs.Altered.{tries_read}
-use Rattle.cfs_core.proofs.Ending.{the_grant}
+use Rattle.cfs_core.proofs.Ending.{held_in}
 use Rattle.cfs_core.proofs.Readied.{ready_at, ready_for}
 use Rattle.cfs_core.proofs.kernel.Core.read_draft.Goals as goal
 
@@ -20,6 +18,6 @@ returns g c =
     let k : Kernel _ = record { disk = c.self.inside.disk; root = c.self.inside.root; names = c.self.inside.names; space = c.self.inside.space; words = c.self.inside.words; seats = c.self.inside.seats.seats; collections = c.self.inside.collections; stop = c.self.inside.stop } in
     let request = asks.Read (Through c.args.grant) c.args.offset c.args.count in
     subst (λ x. Tries g.D.Disk x (record k { disk = c.content.new.disk }) c.args.who request c.content.result) c.self.view_is
-    (tries_read g.D.Disk g.met.D.Disk.left_sized g.met.D.Disk.sized k c.args.who c.args.grant c.in-Some.draft.now (sym c.draft.ensures ∙ ap option_copied c.in-Some.is)
-    (λ s serves. the_grant (grant_in (grants_in k.seats) c.args.who c.args.grant) _ (subst (λ o. IsSome o) (sym (ap (λ x. grant_in (grants_in x.seats) c.args.who c.args.grant) c.self.view_is ∙ c.requires.found)) refl) (ap (λ gs. grant_in gs c.args.who c.args.grant) serves.front.grants ∙ c.table_follows_the_model.ensures.found s c.args.who c.args.grant))
+    (tries_read g.D.Disk g.met.D.Disk.left_sized g.met.D.Disk.sized k c.args.who c.args.grant c.in-Some.draft.now
+    (held_in g.D.Disk k c.args.who c.args.grant c.in-Some.draft.now (sym c.draft.ensures ∙ ap option_copied c.in-Some.is) (subst (λ o. IsSome o) (sym (ap (λ x. grant_in (grants_in x.seats) c.args.who c.args.grant) c.self.view_is ∙ c.requires.found)) refl) (λ s. c.table_follows_the_model.ensures.found s c.args.who c.args.grant))
     18 c.content.new.disk c.content.ensures.reads c.args.offset c.args.count c.content.result c.content.ensures.exact c.content.ensures.plain c.content.ensures.sound c.content.ensures.cause)

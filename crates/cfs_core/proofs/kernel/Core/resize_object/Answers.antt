@@ -1,18 +1,15 @@
-use Rattle.std.proofs.Common.{◌≡◌, ◌<◌, ◌≤◌, ℕ, true, false, refl, sym, ◌∙◌, ap, subst, arith}
-use Rattle.std.specs.Prelude.{nat_lt}
-use Rattle.std.proofs.lemmas.Bool.Decides.{nat_tests}
+use Rattle.std.proofs.Common.{◌≡◌, ◌<◌, ◌≤◌, ℕ, true, false, refl, sym, subst, arith, nat_lt}
+use Rattle.cfs_core.proofs.Words.{nat_tests, SetSize}
 use Rattle.ufs_model.specs.declared.asked.Reply.TheVariants as replies
 use Rattle.ufs_model.specs.declared.asked.Request.TheVariants as asks
-use Rattle.ufs_model.specs.declared.change.Change.TheVariants.{SetSize}
 use Rattle.ufs_model.specs.declared.object.Object.TheVariants as objects
-use Rattle.cfs_core.specs.Calls.{Tries, done_or}
+use Rattle.cfs_core.specs.Calls.{Tries}
 use Rattle.cfs_core.specs.Kernel.{Kernel}
 use Rattle.cfs_core.specs.Looks.{ReachesAll}
 use Rattle.cfs_core.specs.StandsFor.{Serves}
 use Rattle.cfs_core.proofs.Answering.{reads_none, tries_refusal}
 use Rattle.cfs_core.proofs.Filed.{resize_changes, tries_changed}
 use Rattle.cfs_core.proofs.Refusing.{resize_goes, resize_range}
-use Rattle.cfs_core.proofs.kernel.Core.resize_object.Goals.{in-Ok-resize, in-Err-resize}
 use Rattle.cfs_core.proofs.kernel.Core.resize_object.Goals as goal
 
 above : (size : ℕ) → 7864320 < size → nat_lt 7864320 size ≡ true
@@ -42,8 +39,4 @@ returns g c =
     let done = tries_changed g.D.Disk g.met.D.Disk.left_sized g.met.D.Disk.sized 0 k k.disk c.resize.new.disk c.resize.new.space (reads_none g.D.Disk 0 k.disk) c.in-Ok.there.0 c.in-Ok.there.1 (SetSize c.args.size) request
     (resize_changes c.args.to c.args.size) c.resize.result c.resize.ensures c.args.who reach
     (λ s f serves r knows. (c.in-Ok.ensures.kind s f (subst (λ x. Serves g.D.Disk x s) c.self.view_is serves) r.there, less, resize_goes k.words.seed s c.args.who c.args.to c.in-Ok.there.0 f c.args.size r (within c.args.size less))) in
-    let told : c.match-resize.result ≡ done_or c.resize.result = elim c.match-resize.branch [
-      | in-Ok-resize w ↦ w.result-is ∙ sym (ap done_or w.in-Ok-resize.is)
-      | in-Err-resize w ↦ w.result-is ∙ sym (ap done_or w.in-Err-resize.is)
-    ] in
-    subst (λ x. Tries g.D.Disk x new c.args.who request c.match-resize.result) c.self.view_is (subst (λ r. Tries g.D.Disk k new c.args.who request r) (sym told) done)
+    subst (λ x. Tries g.D.Disk x new c.args.who request c.done.result) c.self.view_is (subst (λ r. Tries g.D.Disk k new c.args.who request r) (sym c.done.ensures) done)

@@ -1,5 +1,5 @@
 use Rattle.std.proofs.Common.{◌≡◌, ◌∷◌, [], List, map, refl, ap, subst, arith}
-use Rattle.std.proofs.lemmas.Grind.{common_steps}
+use Rattle.cfs_core.proofs.Words.{common_steps}
 use Rattle.open_table.specs.declared.grant.Grant.{Grant}
 use Rattle.cfs_core.specs.Kernel.{Kernel, Seat, grants_in}
 use Rattle.cfs_core.proofs.kernel.Core.roots.Goals as goal

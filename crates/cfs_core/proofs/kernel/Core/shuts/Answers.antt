@@ -1,5 +1,5 @@
 use Rattle.std.proofs.Common.{◌≡◌, Bool, List, true, false, ◌&&◌, refl, IsTrue, subst}
-use Rattle.open_table.specs.Grants.{few_each, is_held, none_collide, tuids_differ}
+use Rattle.cfs_core.proofs.Words.{few_each, is_held, none_collide, tuids_differ}
 use Rattle.open_table.specs.declared.grant.Grant.{Grant}
 use Rattle.cfs_core.specs.Kernel.{grants_in}
 use Rattle.cfs_core.proofs.Barred.{shut_by}

@@ -1,5 +1,4 @@
-use Rattle.std.proofs.Common.{◌∙◌, ap}
-use Rattle.std.specs.Prelude.{sum}
+use Rattle.std.proofs.Common.{◌∙◌, ap, sum}
 use Rattle.cfs_core.proofs.Serving.{room_is}
 use Rattle.cfs_core.proofs.kernel.Core.status.Goals as goal
 

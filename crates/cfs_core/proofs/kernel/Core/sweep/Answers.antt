@@ -1,11 +1,9 @@
-use Rattle.std.proofs.Common.{◌≡◌, Some, true, false, refl, sym, ◌∙◌, ◌||◌, ap, subst, arith}
-use Rattle.std.specs.Prelude.{IfSome}
-use Rattle.collector_steps.specs.Collecting.{volume_of}
-use Rattle.collector_steps.specs.declared.phase.Phase.{Phase}
+use Rattle.std.proofs.Common.{◌≡◌, Some, true, refl, sym, ◌∙◌, ◌||◌, ap, subst, arith, IfSome}
+use Rattle.cfs_core.proofs.Words.{Phase, volume_of}
 use Rattle.collector_steps.specs.declared.phase.Phase.TheVariants as phases
 use Rattle.cfs_core.specs.Collect.{TriesStep, phase_of, sweeps_blocks}
 use Rattle.cfs_core.specs.Kernel.{Kernel, marks_in, sweeps_in}
-use Rattle.cfs_core.proofs.Stepped.{sized_on, steps_on}
+use Rattle.cfs_core.proofs.Stepped.{sized_on}
 use Rattle.cfs_core.proofs.kernel.Core.sweep.Goals as goal
 
 goes_on : (p : Phase) → sweeps_blocks p ≡ true → (marks_in p || sweeps_in p) ≡ true
@@ -33,7 +31,5 @@ invariant_of-self g c =
 pub returns : goal.returns
 returns g c =
     let k : Kernel _ = record { disk = c.self.inside.disk; root = c.self.inside.root; names = c.self.inside.names; space = c.self.inside.space; words = c.self.inside.words; seats = c.self.inside.seats.seats; collections = c.self.inside.collections; stop = c.self.inside.stop } in
-    let sweeps = ap (λ o. sweeps_blocks (phase_of o)) (sym c.in-Some.is) ∙ ap (λ x. sweeps_blocks (phase_of x.collections.collector)) c.self.view_is ∙ c.requires in
     let new : Kernel _ = record k { disk = c.sweep.new.disk; space = c.sweep.new.space; collections = record k.collections { collector = Some c.sweep.new.collector } } in
-    subst (λ x. TriesStep g.D.Disk x new c.sweep.result) c.self.view_is
-    (steps_on g.D.Disk k c.in-Some.collector c.sweep.new.collector c.in-Some.is (λ is. let no : false ≡ true = ap sweeps_blocks (sym is) ∙ sweeps in cc) c.sweep.new.disk c.sweep.new.space k.names c.sweep.result c.sweep.ensures)
+    subst (λ x. TriesStep g.D.Disk x new c.sweep.result) (ap (λ o. record k { collections = record k.collections { collector = o } }) (sym c.in-Some.is) ∙ c.self.view_is) (c.sweep.ensures.tries k)

@@ -1,27 +1,20 @@
-use Rattle.std.proofs.Common.{◌≡◌, Some, refl, sym, ◌∙◌, ap, subst, ◌+◌, ◌*◌, ◌<◌, ◌≤◌, ℕ, length, arith}
-use Rattle.std.specs.List.{list_all}
-use Rattle.open_table.specs.Grants.{grant_in}
-use Rattle.ufs_model.specs.declared.asked.Ref.TheVariants.{Through}
+use Rattle.std.proofs.Common.{◌≡◌, Some, refl, sym, ◌∙◌, ap, subst, ◌+◌, ◌<◌, ◌≤◌, ℕ, length, arith, IsSome, option_copied}
+use Rattle.cfs_core.proofs.Words.{Drafting, grant_in, is_range, list_all, Overwrite, Through}
 use Rattle.ufs_model.specs.declared.asked.Reply.TheVariants as replies
 use Rattle.ufs_model.specs.declared.asked.Request.TheVariants as asks
-use Rattle.cfs_core.specs.Calls.{Tries, done_or}
+use Rattle.cfs_core.specs.Calls.{Tries}
 use Rattle.cfs_core.specs.Kernel.{Kernel, grants_in, is_drawn_by, is_ready}
 use Rattle.cfs_core.specs.Seats.{drafting_at, with_drafting}
-use Rattle.std.specs.Prelude.{IsSome, option_copied}
-use Rattle.special_files.specs.Drafting.{Drafting}
-use Rattle.ufs_model.specs.declared.change.Change.TheVariants.{Overwrite}
 use Rattle.cfs_core.specs.Drafts.{ChangesDraft}
 use Rattle.cfs_core.proofs.Altered.{size_is, write_goes, write_range, tries_altered}
 use Rattle.cfs_core.proofs.Answering.{tries_refusal}
 use Rattle.cfs_core.proofs.Calm.{range_parts}
 use Rattle.cfs_core.proofs.Rewritten.{same_draft}
-use Rattle.cfs_core.proofs.Ending.{the_grant}
+use Rattle.cfs_core.proofs.Ending.{held_in}
 use Rattle.cfs_core.proofs.Filed.{write_changes}
-use Rattle.cfs_core.proofs.Readied.{drawn_put, for_ready, ready_at, ready_for, ready_put}
+use Rattle.cfs_core.proofs.Readied.{drawn_put, for_ready, ready_at, ready_for, ready_put, sized_with}
 use Rattle.cfs_core.proofs.Seated.{if_some, some_if}
-use Rattle.cfs_core.proofs.kernel.Core.write_draft.Goals.{in-Ok, in-Err}
 use Rattle.cfs_core.proofs.kernel.Core.write_draft.Goals as goal
-use Rattle.ufs_model.specs.Refusal.{is_range}
 
 pub returns-then-not-is_range : goal.returns-then-not-is_range
 returns-then-not-is_range g c =
@@ -29,9 +22,9 @@ returns-then-not-is_range g c =
     let same : c.in-Some.draft.now ≡ c.requires.drafting = same_draft _ _ (sym (ap option_copied c.in-Some.is) ∙ c.draft.ensures ∙ ap (λ x. drafting_at x.seats c.args.grant.draw) c.self.view_is ∙ c.requires.has) in
     tries_refusal g.D.Disk g.met.D.Disk.left_sized g.met.D.Disk.sized k c.args.who (asks.Write (Through c.args.grant) c.args.offset c.args.bytes.now) replies.Range tt
     (λ s serves.
-    let x = the_grant (grant_in (grants_in k.seats) c.args.who c.args.grant) _ (subst (λ o. IsSome o) (sym c.requires.found) refl) (ap (λ gs. grant_in gs c.args.who c.args.grant) serves.front.grants ∙ c.table_follows_the_model.ensures.found s c.args.who c.args.grant) in
-    write_range g.D.Disk k s serves c.args.who c.args.grant x.0 x.1 c.requires.drafting c.requires.has c.args.offset c.args.bytes.now
-    (ap (λ (n : ℕ). is_range n c.args.offset (length c.args.bytes.now)) (sym (size_is g.D.Disk k s serves c.args.who c.args.grant x.0 x.1 c.requires.drafting c.requires.has) ∙ ap (λ (d : Drafting). d.root.size) (sym same) ∙ sym c.size-held.ensures) ∙ sym c.is_range.ensures ∙ c.if-not-is_range.true))
+    let held = held_in g.D.Disk k c.args.who c.args.grant c.requires.drafting c.requires.has (subst (λ o. IsSome o) (sym c.requires.found) refl) (λ s. c.table_follows_the_model.ensures.found s c.args.who c.args.grant) s serves in
+    write_range g.D.Disk k s serves c.args.who c.args.grant c.requires.drafting held c.args.offset c.args.bytes.now
+    (ap (λ (n : ℕ). is_range n c.args.offset (length c.args.bytes.now)) (sym (size_is g.D.Disk k s serves c.args.who c.args.grant c.requires.drafting held) ∙ ap (λ (d : Drafting). d.root.size) (sym same) ∙ sym c.size-held.ensures) ∙ sym c.is_range.ensures ∙ c.if-not-is_range.true))
 
 pub write-requires-clause-within : goal.write-requires-clause-within
 write-requires-clause-within g c =
@@ -46,28 +39,21 @@ invariant_of-self g c =
     let done = some_if (λ was. (now : Drafting) × (c.write.new.self.seats ≡ with_drafting c.args.grant.draw (Some now) c.self.inside.seats.seats) × ChangesDraft g.D.Disk (Overwrite c.args.offset c.args.bytes.now) c.self.inside.disk c.write.new.disk c.self.inside.space c.write.new.space was now c.write.result) _ c.requires.drafting (ap (λ x. drafting_at x.seats c.args.grant.draw) c.self.view_is ∙ c.requires.has) c.write.ensures in
     let ready = ready_for c.self.inside.names.room c.requires.drafting (ready_at c.self.inside.names.room c.args.grant.draw c.self.inside.seats.seats c.self.invariant.ready c.requires.drafting (ap (λ x. drafting_at x.seats c.args.grant.draw) c.self.view_is ∙ c.requires.has)) in
     let still = for_ready c.self.inside.names.room done.0 (record { on_disk = omega (arith, ready.on_disk, done.2.at); shadow = (ready.shadow.0, done.2.shadow ∙ ready.shadow.1); bare = done.2.created ∙ ready.bare }) in
-    record {
-      size = done.2.calls.same.size ∙ c.self.invariant.size ∙ ap (λ n. 64 * n) (sym done.2.cylinders);
-      room = c.self.invariant.room ∙ sym done.2.calls.same.size;
-      some = c.self.invariant.some;
-      kept = c.self.invariant.kept;
-      drawn_all = ap (list_all (is_drawn_by c.self.inside.words.drawn)) done.1 ∙ drawn_put c.self.inside.words.drawn c.args.grant.draw (Some done.0) c.self.inside.seats.seats c.self.invariant.drawn_all;
-      ready = ap (list_all (is_ready c.self.inside.names.room)) done.1 ∙ ready_put c.self.inside.names.room c.args.grant.draw done.0 still c.self.inside.seats.seats c.self.invariant.ready;
-    }
+    sized_with c.self.invariant c.write.new.disk c.write.new.space c.write.new.self.seats _ done.2.calls.same.size done.2.cylinders
+    (ap (list_all (is_drawn_by c.self.inside.words.drawn)) done.1 ∙ drawn_put c.self.inside.words.drawn c.args.grant.draw (Some done.0) c.self.inside.seats.seats c.self.invariant.drawn_all)
+    (ap (list_all (is_ready c.self.inside.names.room)) done.1 ∙ ready_put c.self.inside.names.room c.args.grant.draw done.0 still c.self.inside.seats.seats c.self.invariant.ready)
 
 pub returns : goal.returns
 returns g c =
     let k : Kernel _ = record { disk = c.self.inside.disk; root = c.self.inside.root; names = c.self.inside.names; space = c.self.inside.space; words = c.self.inside.words; seats = c.self.inside.seats.seats; collections = c.self.inside.collections; stop = c.self.inside.stop } in
     let request = asks.Write (Through c.args.grant) c.args.offset c.args.bytes.now in
     let done = some_if (λ was. (now : Drafting) × (c.write.new.self.seats ≡ with_drafting c.args.grant.draw (Some now) c.self.inside.seats.seats) × ChangesDraft g.D.Disk (Overwrite c.args.offset c.args.bytes.now) c.self.inside.disk c.write.new.disk c.self.inside.space c.write.new.space was now c.write.result) _ c.requires.drafting (ap (λ x. drafting_at x.seats c.args.grant.draw) c.self.view_is ∙ c.requires.has) c.write.ensures in
-    let tried = tries_altered g.D.Disk g.met.D.Disk.left_sized g.met.D.Disk.sized k c.self.invariant.ready c.args.who c.args.grant c.requires.drafting (ap (λ x. drafting_at x.seats c.args.grant.draw) c.self.view_is ∙ c.requires.has)
-    (λ s serves. the_grant (grant_in (grants_in k.seats) c.args.who c.args.grant) _ (subst (λ o. IsSome o) (sym (ap (λ x. grant_in (grants_in x.seats) c.args.who c.args.grant) c.self.view_is ∙ c.requires.found)) refl) (ap (λ gs. grant_in gs c.args.who c.args.grant) serves.front.grants ∙ c.table_follows_the_model.ensures.found s c.args.who c.args.grant))
-    (Overwrite c.args.offset c.args.bytes.now) request (write_changes (Through c.args.grant) c.args.offset c.args.bytes.now c.are_bytes.ensures) refl (λ s serves. let x = the_grant (grant_in (grants_in k.seats) c.args.who c.args.grant) _ (subst (λ o. IsSome o) (sym (ap (λ x. grant_in (grants_in x.seats) c.args.who c.args.grant) c.self.view_is ∙ c.requires.found)) refl) (ap (λ gs. grant_in gs c.args.who c.args.grant) serves.front.grants ∙ c.table_follows_the_model.ensures.found s c.args.who c.args.grant) in let same : c.in-Some.draft.now ≡ c.requires.drafting = same_draft _ _ (sym (ap option_copied c.in-Some.is) ∙ c.draft.ensures ∙ ap (λ x. drafting_at x.seats c.args.grant.draw) c.self.view_is ∙ c.requires.has) in write_goes g.D.Disk k s serves c.args.who c.args.grant x.0 x.1 c.requires.drafting (ap (λ x. drafting_at x.seats c.args.grant.draw) c.self.view_is ∙ c.requires.has) c.args.offset c.args.bytes.now (ap (λ (n : ℕ). is_range n c.args.offset (length c.args.bytes.now)) (sym (size_is g.D.Disk k s serves c.args.who c.args.grant x.0 x.1 c.requires.drafting (ap (λ x. drafting_at x.seats c.args.grant.draw) c.self.view_is ∙ c.requires.has)) ∙ ap (λ (d : Drafting). d.root.size) (sym same) ∙ sym c.size-held.ensures) ∙ sym c.is_range.ensures ∙ c.if-not-is_range.false))
+    let held = held_in g.D.Disk k c.args.who c.args.grant c.requires.drafting (ap (λ x. drafting_at x.seats c.args.grant.draw) c.self.view_is ∙ c.requires.has) (subst (λ o. IsSome o) (sym (ap (λ x. grant_in (grants_in x.seats) c.args.who c.args.grant) c.self.view_is ∙ c.requires.found)) refl) (λ s. c.table_follows_the_model.ensures.found s c.args.who c.args.grant) in
+    let same : c.in-Some.draft.now ≡ c.requires.drafting = same_draft _ _ (sym (ap option_copied c.in-Some.is) ∙ c.draft.ensures ∙ (ap (λ x. drafting_at x.seats c.args.grant.draw) c.self.view_is ∙ c.requires.has)) in
+    let tried = tries_altered g.D.Disk g.met.D.Disk.left_sized g.met.D.Disk.sized k c.self.invariant.ready c.args.who c.args.grant c.requires.drafting held
+    (Overwrite c.args.offset c.args.bytes.now) request (write_changes (Through c.args.grant) c.args.offset c.args.bytes.now c.are_bytes.ensures) refl
+    (λ s serves. write_goes g.D.Disk k s serves c.args.who c.args.grant c.requires.drafting (held s serves) c.args.offset c.args.bytes.now (ap (λ (n : ℕ). is_range n c.args.offset (length c.args.bytes.now)) (sym (size_is g.D.Disk k s serves c.args.who c.args.grant c.requires.drafting (held s serves)) ∙ ap (λ (d : Drafting). d.root.size) (sym same) ∙ sym c.size-held.ensures) ∙ sym c.is_range.ensures ∙ c.if-not-is_range.false))
     done.0 c.write.new.disk c.write.new.space c.write.result done.2 in
-    let told : c.match-write.result ≡ done_or c.write.result = elim c.match-write.branch [
-      | in-Ok w ↦ w.result-is ∙ sym (ap done_or w.in-Ok.is)
-      | in-Err w ↦ w.result-is ∙ sym (ap done_or w.in-Err.is)
-    ] in
-    subst (λ x. Tries g.D.Disk x (record k { disk = c.write.new.disk; space = c.write.new.space; seats = c.write.new.self.seats }) c.args.who request c.match-write.result) c.self.view_is
-    (subst (λ ss. Tries g.D.Disk k (record k { disk = c.write.new.disk; space = c.write.new.space; seats = ss }) c.args.who request c.match-write.result) (sym done.1)
-    (subst (λ r. Tries g.D.Disk k (record k { disk = c.write.new.disk; space = c.write.new.space; seats = with_drafting c.args.grant.draw (Some done.0) k.seats }) c.args.who request r) (sym told) tried))
+    subst (λ x. Tries g.D.Disk x (record k { disk = c.write.new.disk; space = c.write.new.space; seats = c.write.new.self.seats }) c.args.who request c.done.result) c.self.view_is
+    (subst (λ ss. Tries g.D.Disk k (record k { disk = c.write.new.disk; space = c.write.new.space; seats = ss }) c.args.who request c.done.result) (sym done.1)
+    (subst (λ r. Tries g.D.Disk k (record k { disk = c.write.new.disk; space = c.write.new.space; seats = with_drafting c.args.grant.draw (Some done.0) k.seats }) c.args.who request r) (sym c.done.ensures) tried))

@@ -1,10 +1,9 @@
-use Rattle.std.proofs.Common.{◌≡◌, ℕ, length, Ok, Err, refl, sym, ◌∙◌, ap, subst}
+use Rattle.std.proofs.Common.{ℕ, length, Ok, Err, refl, sym, ◌∙◌, ap, subst}
 use Rattle.ufs_model.specs.declared.asked.Reply.TheVariants as replies
 use Rattle.ufs_model.specs.declared.asked.Request.TheVariants as asks
-use Rattle.ufs_model.specs.declared.change.Change.TheVariants.{Overwrite}
+use Rattle.cfs_core.proofs.Words.{is_range, Overwrite}
 use Rattle.ufs_model.specs.declared.object.Object.TheVariants as objects
-use Rattle.ufs_model.specs.Refusal.{is_range}
-use Rattle.cfs_core.specs.Calls.{Tries, done_or}
+use Rattle.cfs_core.specs.Calls.{Tries}
 use Rattle.cfs_core.specs.Kernel.{Kernel}
 use Rattle.cfs_core.specs.Looks.{ReachesAll}
 use Rattle.cfs_core.specs.StandsFor.{Serves}
@@ -12,7 +11,6 @@ use Rattle.cfs_core.proofs.Answering.{tries_failed, tries_refused}
 use Rattle.cfs_core.proofs.Calm.{range_parts}
 use Rattle.cfs_core.proofs.Filed.{tries_changed, write_changes}
 use Rattle.cfs_core.proofs.Refusing.{write_goes, write_range}
-use Rattle.cfs_core.proofs.kernel.Core.write_object.Goals.{in-Ok-write, in-Err-write}
 use Rattle.cfs_core.proofs.kernel.Core.write_object.Goals as goal
 
 pub returns-in-Err : goal.returns-in-Err
@@ -47,8 +45,4 @@ returns g c =
     (λ s f serves r knows.
     let range = ap (λ (n : ℕ). is_range n c.args.offset (length c.args.bytes.now)) (sym (c.in-Ok-bytes_in.ensures.exact f knows)) ∙ sym c.is_range.ensures ∙ c.if-not-is_range.false in
     (c.in-Ok.ensures.kind s f (subst (λ x. Serves g.D.Disk x s) c.self.view_is serves) r.there, (range_parts (length f.bytes) c.args.offset (length c.args.bytes.now) range).2, write_goes k.words.seed s c.args.who c.args.to c.in-Ok.there.0 f c.args.offset c.args.bytes.now r range)) in
-    let told : c.match-write.result ≡ done_or c.write.result = elim c.match-write.branch [
-      | in-Ok-write w ↦ w.result-is ∙ sym (ap done_or w.in-Ok-write.is)
-      | in-Err-write w ↦ w.result-is ∙ sym (ap done_or w.in-Err-write.is)
-    ] in
-    subst (λ x. Tries g.D.Disk x new c.args.who request c.match-write.result) c.self.view_is (subst (λ r. Tries g.D.Disk k new c.args.who request r) (sym told) done)
+    subst (λ x. Tries g.D.Disk x new c.args.who request c.done.result) c.self.view_is (subst (λ r. Tries g.D.Disk k new c.args.who request r) (sym c.done.ensures) done)

@@ -1,8 +1,7 @@
-use Rattle.std.proofs.Common.{nat_eq, ◌≡◌, None, Some, ap, sym, subst, ◌∙◌}
-use Rattle.std.specs.Prelude.{IfOk, OnErr}
-use Rattle.open_table.specs.Grants.{grant_in, is_grant}
+use Rattle.std.proofs.Common.{nat_eq, ◌≡◌, None, Some, ap, sym, subst, ◌∙◌, IfOk, OnErr}
+use Rattle.cfs_core.proofs.Words.{get, grant_in}
+use Rattle.open_table.specs.Grants.{is_grant}
 use Rattle.cfs_core.specs.Kernel.{grants_in}
-use Rattle.std.specs.HashMap.{get}
 use Rattle.cfs_core.specs.Seats.{AreOfGrants, have_draft, is_at, seated, seats_but}
 use Rattle.cfs_core.proofs.Seated.{none_held, none_of_grant, on_err, on_ok, seated_but, seated_grants, stays_or}
 use Rattle.cfs_core.proofs.seats.Seats.close.Goals as goal

@@ -1,5 +1,5 @@
 use Rattle.std.proofs.Common.{ap, sym, ◌∙◌}
-use Rattle.open_table.specs.Grants.{grant_in}
+use Rattle.cfs_core.proofs.Words.{grant_in}
 use Rattle.cfs_core.specs.Kernel.{grants_in}
 use Rattle.cfs_core.proofs.Seated.{seated_grants}
 use Rattle.cfs_core.proofs.seats.Seats.find.Goals as goal

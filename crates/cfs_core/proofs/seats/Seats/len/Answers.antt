@@ -1,5 +1,5 @@
 use Rattle.std.proofs.Common.{IsTrue, ap, sym, subst, ◌∙◌}
-use Rattle.open_table.specs.Grants.{is_held}
+use Rattle.cfs_core.proofs.Words.{is_held}
 use Rattle.cfs_core.specs.Kernel.{grants_in}
 use Rattle.cfs_core.proofs.Seated.{seated_grants}
 use Rattle.cfs_core.proofs.seats.Seats.len.Goals as goal

@@ -1,5 +1,5 @@
 use Rattle.std.proofs.Common.{ap, sym, ◌∙◌}
-use Rattle.open_table.specs.Grants.{first_of}
+use Rattle.cfs_core.proofs.Words.{first_of}
 use Rattle.cfs_core.specs.Kernel.{grants_in}
 use Rattle.cfs_core.proofs.Seated.{seated_grants}
 use Rattle.cfs_core.proofs.seats.Seats.next_of.Goals as goal

@@ -1,10 +1,5 @@
-use Rattle.std.proofs.Common.{◌≡◌, ℕ, ◌<◌, arith, ◌++◌, [], ◌∷◌, None, Some, nat_eq, ap, sym, ◌∙◌, true}
-use Rattle.std.specs.Prelude.{◌==◌, nat_lt}
-use Rattle.std.proofs.lemmas.Bool.{and_parts}
-use Rattle.std.proofs.lemmas.Bool.Decides.{nat_tests}
-use Rattle.std.specs.HashMap.{get, spare}
-use Rattle.std.specs.List.{list_any}
-use Rattle.open_table.specs.Grants.{fault_of}
+use Rattle.std.proofs.Common.{◌≡◌, ℕ, ◌<◌, arith, ◌++◌, [], ◌∷◌, None, Some, nat_eq, ap, sym, ◌∙◌, true, ◌==◌, nat_lt}
+use Rattle.cfs_core.proofs.Words.{and_parts, fault_of, get, list_any, nat_tests, spare}
 use Rattle.cfs_core.specs.Kernel.{grants_in}
 use Rattle.cfs_core.specs.Seats.{is_drawn, seated}
 use Rattle.cfs_core.proofs.Seated.{any_drawn, no_tuid, of_grants_open, ok_of, seated_grants, seated_open, seated_push}

@@ -1,5 +1,4 @@
-use Rattle.std.proofs.Common.{◌<◌, Some, refl, sym, ◌∙◌, ap, subst}
-use Rattle.std.specs.Prelude.{IsSome}
+use Rattle.std.proofs.Common.{◌<◌, Some, refl, sym, ◌∙◌, ap, subst, IsSome}
 use Rattle.cfs_core.specs.Seats.{drafting_at, with_drafting}
 use Rattle.cfs_core.proofs.Seated.{held_at, if_some, seated_put, some_if}
 use Rattle.cfs_core.proofs.seats.Seats.resize.Goals as goal

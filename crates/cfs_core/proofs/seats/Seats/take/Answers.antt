@@ -1,5 +1,5 @@
 use Rattle.std.proofs.Common.{nat_eq, ◌∙◌, ap, None, sym}
-use Rattle.std.specs.HashMap.{get}
+use Rattle.cfs_core.proofs.Words.{get}
 use Rattle.cfs_core.specs.Seats.{drafting_at, with_drafting}
 use Rattle.cfs_core.proofs.Seated.{held_at, seated_put, seated_same, unheld}
 use Rattle.cfs_core.proofs.seats.Seats.take.Goals as goal

@@ -1,9 +1,5 @@
 use Rattle.std.proofs.Common.{List, [], refl, ◌∙◌, ap, arith}
-use Rattle.std.specs.BTreeMap.{insert_entry}
-use Rattle.cfs_base.specs.declared.identifier.Puid.{Puid}
-use Rattle.cfs_base.specs.declared.kind.Kind.{Kind}
-use Rattle.ufs_model.specs.Identifier.{puid_cmp}
-use Rattle.puid_space.specs.Directory.{has_root_in}
+use Rattle.cfs_recover.proofs.Words.{Kind, Puid, has_root_in, insert_entry, puid_cmp}
 use Rattle.cfs_recover.proofs.Listings.{is_below, root_is_free}
 use Rattle.cfs_recover.proofs.Learning.{learn_grows, learn_walk}
 use Rattle.cfs_recover.proofs.found.Walk.learn.Goals as goal

@@ -1,6 +1,5 @@
 use Rattle.std.proofs.Common.{◌≡◌, ◌≤◌, Bool, true, false, refl, ◌∙◌, arith, rules}
-use Rattle.std.specs.Prelude.{nat_lt}
-use Rattle.std.proofs.lemmas.Bool.Decides.{nat_tests}
+use Rattle.cfs_recover.proofs.Words.{nat_lt, nat_tests}
 use Rattle.cfs_recover.specs.Found as spec
 use Rattle.cfs_recover.proofs.Listings.{is_alone, is_below}
 use Rattle.cfs_recover.proofs.found.Walk.lists.Goals as goal

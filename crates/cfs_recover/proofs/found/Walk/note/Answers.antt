@@ -1,11 +1,7 @@
-use Rattle.std.proofs.Common.{◌≡◌, inl, inr, ℕ, true, false, List, [], refl, sym, ◌∙◌, ap, subst, arith, rules}
-use Rattle.std.specs.Prelude.{is_some}
-use Rattle.cfs_base.specs.declared.identifier.Puid.{Puid}
-use Rattle.cfs_base.specs.declared.kind.Kind.{Kind}
+use Rattle.std.proofs.Common.{◌≡◌, inl, inr, ℕ, true, false, List, [], refl, sym, ◌∙◌, ap, subst, arith, rules, is_some}
+use Rattle.cfs_recover.proofs.Words.{IsSized, Kind, NamesNothing, Puid}
 use Rattle.cfs_base.specs.declared.kind.Kind.TheVariants as kinds
-use Rattle.vol_image.specs.Fault.{NamesNothing}
 use Rattle.cfs_recover.specs.Found as spec
-use Rattle.cfs_recover.specs.Sized.{IsSized}
 use Rattle.cfs_recover.proofs.Named.{named_nothing}
 use Rattle.cfs_recover.proofs.Noting.{add_grows, add_walk, clash_walk, sized_push}
 use Rattle.cfs_recover.proofs.Listings.{listed, listed_new}

@@ -1,9 +1,6 @@
 use Rattle.std.proofs.Common.{◌≡◌, inl, inr, sym, ◌∙◌, ap, subst, arith}
-use Rattle.std.proofs.lemmas.Bool.{cases_lt}
-use Rattle.std.proofs.lemmas.Option.{same_Some}
-use Rattle.vol_image.specs.Reading.{slot_in}
+use Rattle.cfs_recover.proofs.Words.{Walk, cases_lt, same_Some, slot_in}
 use Rattle.cfs_recover.specs.Found as spec
-use Rattle.cfs_recover.specs.declared.found.Walk.{Walk}
 use Rattle.cfs_recover.proofs.Good.{noted_on}
 use Rattle.cfs_recover.proofs.Noting.{grows_then}
 use Rattle.cfs_recover.proofs.found.Walk.note_slots.Goals as goal

@@ -1,6 +1,5 @@
 use Rattle.std.proofs.Common.{◌<◌, ℕ}
-use Rattle.cfs_base.specs.Disk.{Image}
-use Rattle.cfs_base.specs.declared.identifier.Puid.{Puid}
+use Rattle.cfs_recover.proofs.Words.{Image, Puid}
 use Rattle.cfs_recover.specs.Found as spec
 use Rattle.cfs_recover.proofs.found.Walk.note_slots.Given as goal
 

@@ -1,6 +1,5 @@
-use Rattle.std.proofs.Common.{◌≡◌, ◌∙◌, ap, rules, replicate}
-use Rattle.std.specs.Prelude.{map}
-use Rattle.cfs_recover.specs.Standing.{shadow_of}
+use Rattle.std.proofs.Common.{◌≡◌, ◌∙◌, ap, rules, replicate, map}
+use Rattle.cfs_recover.proofs.Words.{shadow_of}
 use Rattle.cfs_recover.proofs.Tables.{none_stand}
 use Rattle.cfs_recover.proofs.standing.Standing.none.Goals as goal
 

@@ -1,7 +1,5 @@
-use Rattle.std.proofs.Common.{◌≡◌, ◌<◌, length, ◌∙◌, ap, subst, arith, get_or, set, List}
-use Rattle.std.proofs.lemmas.List.{length-map}
-use Rattle.std.specs.Prelude.{map}
-use Rattle.cfs_recover.specs.Standing.{Shadow, shadow_of, one_more}
+use Rattle.std.proofs.Common.{◌≡◌, ◌<◌, length, ◌∙◌, ap, subst, arith, get_or, set, List, map}
+use Rattle.cfs_recover.proofs.Words.{Shadow, length-map, one_more, shadow_of}
 use Rattle.cfs_recover.specs.declared.standing.Shadow.TheVariants.{None}
 use Rattle.cfs_recover.proofs.Tables.{noted, the_first, one_more_stands}
 use Rattle.cfs_recover.proofs.standing.Standing.note.Goals as goal

@@ -1,12 +1,12 @@
-use Rattle.std.proofs.Common.{◌<◌, ap, refl, subst, arith}
-use Rattle.cfs_serve.specs.Journal.{AreCounted, first_fault, is_recorded}
+use Rattle.std.proofs.Common.{◌<◌, ◌∙◌, ap, refl, subst, sym, arith}
+use Rattle.cfs_serve.proofs.Cited.{AreCounted, first_fault, is_recorded}
 use Rattle.cfs_serve.proofs.Raising.{counted_step}
 use Rattle.cfs_serve.proofs.Workers.{as_told, few_on, heard_on, quiet_on, room_on}
 use Rattle.cfs_serve.proofs.hall.Hall.collector_turn.Goals as goal
 
 pub collect-progress-requires : goal.collect-progress-requires
 collect-progress-requires g c =
-    let some : 0 < c.self.inside.turns = omega (arith, ap (λ h. h.turns) c.self.view_is, c.requires) in
+    let some : 0 < c.self.inside.rest.turns = omega (arith, ap (λ h. h.turns) c.self.view_is, c.requires) in
     omega (arith, c.self.invariant.1, c.self.invariant.4 some)
 
 pub invariant_of-self : goal.invariant_of-self
@@ -18,23 +18,26 @@ invariant_of-self g c =
     let ports = c.self.inside.ports.items in
     let progress = c.collect-progress.result in
     let steps = c.collect-progress.ensures.steps in
-    let rest = c.rest_after-turns.ensures in
+    let rest = c.after-self-inside.ensures in
     let told = as_told (is_recorded progress) steps.event steps.none in
-    let turns = c.self.inside.turns in
-    let events = c.self.inside.events in
-    let refused = c.self.inside.refused in
+    let turns = c.self.inside.rest.turns in
+    let events = c.self.inside.rest.events in
+    let refused = c.self.inside.rest.refused in
+    let spent = c.self.inside.rest.spent in
     let some : 0 < turns = omega (arith, ap (λ h. h.turns) c.self.view_is, c.requires) in
-    let left = c.rest_after-turns.result.1 in (
-      heard_on t g.A.Server.clock old new ports progress turns events refused k.0 k.1 k.2 k.4 k.5 some steps,
-      room_on t g.A.Server.clock old new ports progress turns events refused k.0 k.1 k.2 k.4 k.5 some steps left (omega (arith, told, rest.room)),
-      few_on t g.A.Server.clock old new ports progress turns events refused k.0 k.1 k.2 k.4 k.5 some steps left (omega (arith, told, rest.room)),
+    let left = c.after-self-inside.result.events in (
+      heard_on t g.A.Server.clock old new ports progress turns events refused spent k.0 k.1 k.2 k.4 k.5 some steps,
+      room_on t g.A.Server.clock old new ports progress turns events refused spent k.0 k.1 k.2 k.4 k.5 some steps left (omega (arith, told, rest.room)),
+      few_on t g.A.Server.clock old new ports progress turns events refused spent k.0 k.1 k.2 k.4 k.5 some steps left (omega (arith, told, rest.room)),
       k.3,
       rest.paired,
-      quiet_on t g.A.Server.clock old new ports progress turns events refused k.0 k.1 k.2 k.4 k.5 some steps _ _,
-      λ spent whole. c.collect-progress.ensures.idle (rest.idle spent whole),
+      quiet_on t g.A.Server.clock old new ports progress turns events refused spent k.0 k.1 k.2 k.4 k.5 some steps _ _ _,
+      λ over whole unspent. c.collect-progress.ensures.idle (rest.idle over whole unspent),
       rest.on,
-      counted_step g.A.Server.faults g.A.Asker.stands t old new c.collect-progress.ensures.raised c.rest_after-turns.result.2
-          (subst (λ o. AreCounted g.A.Server.faults g.A.Asker.stands t (first_fault o) old.server old.events) (k.7 some) k.8) (λ quiet. c.collect-progress.ensures.quiet (rest.quiet quiet)),
+      counted_step g.A.Server.faults g.A.Asker.stands t old new c.collect-progress.ensures.raised c.after-self-inside.result.refused
+          (subst (λ o. AreCounted g.A.Server.faults g.A.Asker.stands t (first_fault o) old.server old.events) (k.7 some) k.8) (λ quiet. c.collect-progress.ensures.quiet (rw rest.refused at quiet)),
+      rw rest.refused c.collect-progress.ensures.refusal,
+      λ wants. c.collect-progress.ensures.wanting (sym rest.refused ∙ wants),
     )
 
 pub returns-clause-turn : goal.returns-clause-turn
@@ -42,7 +45,7 @@ returns-clause-turn g c = rw (← c.self.view_is) (record {
   progress = c.collect-progress.result;
   steps = c.collect-progress.ensures.steps;
   ports = refl;
-  turns = c.rest_after-turns.ensures.fewer;
+  turns = c.after-self-inside.ensures.fewer;
 })
 
 pub returns-clause-raised : goal.returns-clause-raised

@@ -1,6 +1,7 @@
 use Rattle.std.proofs.Common.{◌∷◌, [], arith, ap, length, length-set, length-append, refl}
-use Rattle.cfs_serve.proofs.Sessions.{collected_by, found, some_work, heard_by, work_on}
+use Rattle.cfs_serve.proofs.Sessions.{collected_by, wanting_by, found, some_work, heard_by, work_on}
 use Rattle.cfs_serve.proofs.Raising.{counted_turn}
+use Rattle.cfs_serve.proofs.Stopping.{tells_on}
 use Rattle.cfs_serve.proofs.hall.Hall.session_turn.Goals as goal
 
 pub port_turn-requires-clause-room : goal.port_turn-requires-clause-room
@@ -31,9 +32,11 @@ invariant_of-self g c =
       rw length-set k.3,
       k.4,
       k.5,
-      λ spent whole. rw moves.recorded (collected_by g.A.Asker.stands g.J.Charter.charter c.self.inside.journal.events c.args.session p q moves.event moves.kind (k.6 spent whole)),
+      λ over whole unspent. rw moves.recorded (collected_by g.A.Asker.stands g.J.Charter.charter c.self.inside.journal.events c.args.session p q moves.event moves.kind (k.6 over whole unspent)),
       k.7,
       counted_turn g.A.Server.faults g.A.Asker.stands g.J.Charter.charter c.self.inside.journal c.port_turn.new.journal c.port_turn.ensures.raised _ k.8,
+      tells_on c.self.inside.rest.refused (g.A.Server.stop c.self.inside.journal.server) (g.A.Server.stop c.port_turn.new.journal.server) c.port_turn.ensures.stays k.9,
+      λ wants. rw moves.recorded (wanting_by g.A.Asker.stands g.J.Charter.charter c.self.inside.journal.events c.args.session p q moves.event moves.kind (k.10 wants)),
     )
 
 pub returns-clause-turn : goal.returns-clause-turn
@@ -48,7 +51,7 @@ returns-clause-turn g c =
       ports = refl;
       moves = c.port_turn.ensures.moves;
       stamped = c.port_turn.ensures.stamped;
-      collector = (refl, refl, refl);
+      collector = (refl, refl, refl, refl);
     })
 
 pub returns-clause-raised : goal.returns-clause-raised

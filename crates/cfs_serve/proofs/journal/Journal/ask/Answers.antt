@@ -1,10 +1,10 @@
-use Rattle.std.proofs.Common.{◌∷◌, [], ◌∙◌, ap, sym, length-append, arith}
-use Rattle.std.specs.Prelude.{◌||◌}
+use Rattle.std.proofs.Common.{◌∷◌, [], ◌∙◌, ap, sym, length-append, arith, ◌||◌}
+use Rattle.cfs_serve.proofs.Cited.{tells_disk, wants_memory}
 use Rattle.ufs_model.specs.declared.asked.Event.TheVariants as events
-use Rattle.cfs_serve.specs.Events.{wants_memory}
 use Rattle.cfs_serve.proofs.Asking.{asked_makes}
 use Rattle.cfs_serve.proofs.Journals.{any-push, lasts_on, run_on, told_on}
 use Rattle.cfs_serve.proofs.Raising.{asked_raised}
+use Rattle.cfs_serve.proofs.Stopping.{stays, stops_on}
 use Rattle.cfs_serve.proofs.journal.Journal.ask.Goals as goal
 
 pub invariant_of-self : goal.invariant_of-self
@@ -27,9 +27,16 @@ invariant_of-self g c =
       omega (arith, answer.drawn, kept.3, length-append trail (e ∷ [])),
       c.starved_by-self-inside.ensures c.args.session c.args.request ∙ ap (λ b. wants_memory e || b) kept.4 ∙ sym (any-push wants_memory trail e),
       lasts_on g.A.Asker.stands g.A.Server.has_stopped g.A.Server.is_damaged g.A.Server.tally g.A.Server.clock g.A.Server.lasts t trail c.self.inside.trail.moments old new e kept.0 kept.5 (rw (← kept.1) (answer.lasts)),
-      rw (c.failed_by-self-inside.ensures c.args.session c.args.request) (told_on g.A.Server.faults g.A.Server.has_stopped g.A.Server.is_damaged t trail old new c.self.inside.failed e kept.6 answer.tells),
+      told_on g.A.Server.faults g.A.Server.has_stopped g.A.Server.is_damaged t trail old new kept.6 e answer.tells,
       answer.called ∙ kept.7,
+      c.failed_by-self-inside.ensures c.args.session c.args.request ∙ ap (λ b. tells_disk e || b) kept.8 ∙ sym (any-push tells_disk trail e),
+      stops_on (g.A.Server.stop old) (g.A.Server.stop new) trail (e ∷ []) kept.9 answer.stops,
     )
+
+pub returns-clause-stays : goal.returns-clause-stays
+returns-clause-stays g c =
+    let e = events.Ask c.args.session c.args.request c.answer-reply.result in
+    rw (← c.self.view_is) (stays (g.A.Server.stop c.self.inside.server) (g.A.Server.stop c.answer-reply.new.self) (e ∷ []) c.answer-reply.ensures.stops)
 
 pub returns-clause-serves : goal.returns-clause-serves
 returns-clause-serves g c = rw (← c.self.view_is) (record { reply = c.answer-reply.result; answered = c.answer.ensures; events = c.push.ensures.events; room = c.push.ensures.room })

@@ -1,9 +1,8 @@
-use Rattle.std.proofs.Common.{◌≡◌, ◌∙◌, ◌++◌, ap, length-append, arith}
-use Rattle.std.proofs.lemmas.List.{append-nil}
-use Rattle.cfs_serve.specs.Calls.{event_by, fails}
-use Rattle.cfs_serve.specs.Journal.{recorded}
+use Rattle.std.proofs.Common.{◌≡◌, ◌∙◌, ◌++◌, ap, sym, length-append, arith}
+use Rattle.cfs_serve.proofs.Cited.{append-nil, event_by, fails, recorded, tells_disk, wants_memory}
 use Rattle.cfs_serve.proofs.Journals.{told_step}
-use Rattle.cfs_serve.proofs.Stepping.{collected_at, lasts_step, nobodys, run_step, starved_step}
+use Rattle.cfs_serve.proofs.Stepping.{collected_at, lasts_step, nobodys, quiet_made, run_step, silent, silent_step, unwanting, wanting_at, wanting_made}
+use Rattle.cfs_serve.proofs.Stopping.{stops_on}
 use Rattle.cfs_serve.proofs.Raising.{step_raised}
 use Rattle.cfs_serve.proofs.journal.Journal.collect.Goals as goal
 
@@ -17,17 +16,22 @@ invariant_of-self g c =
     let did = c.collect-made.ensures in
     let kept = c.self.invariant in
     rw (c.push_some.ensures.events, c.push_some.ensures.moments, c.told_of-event.ensures.event, c.moment-moment.ensures.clock) (
-      run_step trail g.A.Asker.stands g.A.Server.has_stopped g.A.Server.is_damaged g.A.Server.tally t old new kept.0 (event_by made) (nobodys made) did.tells.stays did.undamaged
+      run_step trail g.A.Asker.stands g.A.Server.has_stopped g.A.Server.is_damaged g.A.Server.tally t old new kept.0 (event_by made) (nobodys made) did.tells.0.stays did.undamaged
           (λ s standing. rw (← kept.1) (did.event s standing)) (λ s standing. rw (← kept.1) (did.tallies s standing)) kept.7,
       did.seed ∙ kept.1,
       did.size ∙ kept.2,
       omega (arith, did.drawn, kept.3, length-append trail (recorded (event_by made))),
-      kept.4 ∙ starved_step trail (event_by made) (nobodys made),
+      kept.4 ∙ silent_step trail wants_memory unwanting (event_by made) (nobodys made),
       lasts_step trail g.A.Asker.stands g.A.Server.has_stopped g.A.Server.is_damaged g.A.Server.tally t old new kept.0 (event_by made) (nobodys made) g.A.Server.clock g.A.Server.lasts c.self.inside.trail.moments kept.5
           (rw (← kept.1) did.lasts),
-      rw c.failed_in-self-inside.ensures (told_step g.A.Server.faults g.A.Server.has_stopped g.A.Server.is_damaged t trail old new c.self.inside.failed made kept.6 did.tells),
+      told_step g.A.Server.faults g.A.Server.has_stopped g.A.Server.is_damaged t trail old new kept.6 (event_by made) did.tells.0,
       did.called ∙ kept.7,
+      kept.8 ∙ silent_step trail tells_disk silent (event_by made) (nobodys made),
+      stops_on (g.A.Server.stop old) (g.A.Server.stop new) trail (recorded (event_by made)) kept.9 did.stops.0,
     )
+
+pub returns-clause-refusal : goal.returns-clause-refusal
+returns-clause-refusal g c = rw c.told_of-event.ensures.refusal c.collect-made.ensures.stops.1
 
 pub returns-clause-steps : goal.returns-clause-steps
 returns-clause-steps g c =
@@ -50,8 +54,8 @@ returns-clause-idle g c = λ idle.
     let made = c.collect-made.result in
     let did = c.collect-made.ensures in
     let kept = c.self.invariant in
-    let all = did.idle (c.told_of-event.ensures.idle idle) in
-    let run = run_step trail g.A.Asker.stands g.A.Server.has_stopped g.A.Server.is_damaged g.A.Server.tally t old new kept.0 (event_by made) (nobodys made) did.tells.stays did.undamaged
+    let all = rw (c.told_of-event.ensures.idle idle) at did.ends in
+    let run = run_step trail g.A.Asker.stands g.A.Server.has_stopped g.A.Server.is_damaged g.A.Server.tally t old new kept.0 (event_by made) (nobodys made) did.tells.0.stays did.undamaged
     (λ s standing. rw (← kept.1) (did.event s standing)) (λ s standing. rw (← kept.1) (did.tallies s standing)) kept.7 in
     rw (c.push_some.ensures.events, c.told_of-event.ensures.event)
     (collected_at trail g.A.Asker.stands g.A.Server.has_stopped g.A.Server.is_damaged g.A.Server.tally t new (event_by made) run all.0 (all.1 ∙ did.called ∙ kept.7))
@@ -61,11 +65,21 @@ returns-clause-raised g c =
     let made = c.collect-made.result in
     let did = c.collect-made.ensures in
     rw (← c.self.view_is) (step_raised g.A.Asker.stands g.A.Server.has_stopped g.A.Server.is_damaged g.A.Server.tally g.A.Server.faults g.J.Charter.charter _ _ made c.self.invariant.0
-    (rw c.told_of-event.ensures.event at c.push_some.ensures.events) did.tells.later did.tells.told did.halts)
+    (rw c.told_of-event.ensures.event at c.push_some.ensures.events) did.tells.0.later did.tells.1 did.halts)
 
 pub returns-clause-quiet : goal.returns-clause-quiet
 returns-clause-quiet g c = λ quiet.
-    let is = c.told_of-event.ensures.quiet quiet in
+    let is = quiet_made c.collect-made.result (rw c.told_of-event.ensures.refusal at quiet) in
     let same : c.push_some.new.trail.events ≡ c.self.inside.trail.events =
     rw c.told_of-event.ensures.event at c.push_some.ensures.events ∙ ap (λ made. c.self.inside.trail.events ++ recorded (event_by made)) is ∙ append-nil c.self.inside.trail.events in
-    rw (← c.self.view_is) (c.collect-made.ensures.tells.told (ap fails is), same)
+    rw (← c.self.view_is) (c.collect-made.ensures.tells.1 (ap fails is), same)
+
+pub returns-clause-wanting : goal.returns-clause-wanting
+returns-clause-wanting g c = λ wants.
+    let t = g.J.Charter.charter in
+    let trail = c.self.inside.trail.events in
+    let did = c.collect-made.ensures in
+    let made = wanting_made c.collect-made.result (sym c.told_of-event.ensures.refusal ∙ wants) in
+    let due = rw made at did.ends in
+    rw (c.push_some.ensures.events, c.told_of-event.ensures.event, made, append-nil trail)
+    (wanting_at trail g.A.Asker.stands g.A.Server.has_stopped g.A.Server.is_damaged g.A.Server.tally t c.self.inside.server c.self.invariant.0 due.0 due.1 due.2 c.self.invariant.7)

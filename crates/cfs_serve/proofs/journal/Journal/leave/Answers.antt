@@ -1,8 +1,9 @@
 use Rattle.std.proofs.Common.{◌∷◌, [], ◌∙◌, sym, length-append, arith}
+use Rattle.cfs_serve.proofs.Cited.{tells_disk, wants_memory}
 use Rattle.ufs_model.specs.declared.asked.Event.TheVariants as events
-use Rattle.cfs_serve.specs.Events.{wants_memory}
 use Rattle.cfs_serve.proofs.Journals.{any-push, lasts_on, run_on, told_on}
 use Rattle.cfs_serve.proofs.Raising.{left_raised}
+use Rattle.cfs_serve.proofs.Stopping.{stays, stops_on}
 use Rattle.cfs_serve.proofs.journal.Journal.leave.Goals as goal
 
 pub invariant_of-self : goal.invariant_of-self
@@ -23,9 +24,16 @@ invariant_of-self g c =
       omega (arith, left.drawn, kept.3, length-append trail (e ∷ [])),
       kept.4 ∙ sym (any-push wants_memory trail e),
       lasts_on g.A.Asker.stands g.A.Server.has_stopped g.A.Server.is_damaged g.A.Server.tally g.A.Server.clock g.A.Server.lasts t trail c.self.inside.trail.moments old new e kept.0 kept.5 (rw (← kept.1) (left.lasts)),
-      told_on g.A.Server.faults g.A.Server.has_stopped g.A.Server.is_damaged t trail old new c.self.inside.failed e kept.6 left.tells,
+      told_on g.A.Server.faults g.A.Server.has_stopped g.A.Server.is_damaged t trail old new kept.6 e left.tells,
       left.called ∙ kept.7,
+      kept.8 ∙ sym (any-push tells_disk trail e),
+      stops_on (g.A.Server.stop old) (g.A.Server.stop new) trail (e ∷ []) kept.9 left.stops,
     )
+
+pub returns-clause-stays : goal.returns-clause-stays
+returns-clause-stays g c =
+    let e = events.Leave c.args.session c.leave-stopped.result in
+    rw (← c.self.view_is) (stays (g.A.Server.stop c.self.inside.server) (g.A.Server.stop c.leave-stopped.new.self) (e ∷ []) c.leave-stopped.ensures.stops)
 
 pub returns-clause-raised : goal.returns-clause-raised
 returns-clause-raised g c =

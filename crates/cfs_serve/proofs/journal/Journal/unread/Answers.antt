@@ -1,9 +1,9 @@
-use Rattle.std.proofs.Common.{◌∷◌, [], ◌∙◌, ap, sym, refl, length-append, arith}
-use Rattle.std.specs.Prelude.{◌||◌}
+use Rattle.std.proofs.Common.{◌∷◌, [], ◌∙◌, ap, sym, refl, length-append, arith, ◌||◌}
+use Rattle.cfs_serve.proofs.Cited.{tells_disk, wants_memory}
 use Rattle.ufs_model.specs.declared.asked.Event.TheVariants as events
-use Rattle.cfs_serve.specs.Events.{wants_memory}
 use Rattle.cfs_serve.proofs.Journals.{any-push, lasts_on, run_on, told_on, unread_makes, unread_tallies, unread_tells}
 use Rattle.cfs_serve.proofs.Raising.{never_raised}
+use Rattle.cfs_serve.proofs.Stopping.{stops_calm, stops_on}
 use Rattle.cfs_serve.proofs.journal.Journal.unread.Goals as goal
 
 pub invariant_of-self : goal.invariant_of-self
@@ -22,9 +22,11 @@ invariant_of-self g c =
       c.starved_at-self-inside.ensures c.args.session ∙ ap (λ b. wants_memory e || b) kept.4 ∙ sym (any-push wants_memory trail e),
       lasts_on g.A.Asker.stands g.A.Server.has_stopped g.A.Server.is_damaged g.A.Server.tally g.A.Server.clock g.A.Server.lasts t trail c.self.inside.trail.moments server server e kept.0 kept.5
           (rw (← kept.1) (c.moment-moment.ensures.lasts c.args.session c.args.why)),
-      told_on g.A.Server.faults g.A.Server.has_stopped g.A.Server.is_damaged t trail server server c.self.inside.failed e kept.6
+      told_on g.A.Server.faults g.A.Server.has_stopped g.A.Server.is_damaged t trail server server kept.6 e
           (unread_tells g.A.Server.faults g.A.Server.has_stopped g.A.Server.is_damaged server c.args.session c.args.why),
       kept.7,
+      kept.8 ∙ sym (any-push tells_disk trail e),
+      stops_on (g.A.Server.stop server) (g.A.Server.stop server) trail (e ∷ []) kept.9 (stops_calm (g.A.Server.stop server) e refl),
     )
 
 pub returns-clause-raised : goal.returns-clause-raised

@@ -1,9 +1,5 @@
 use Rattle.std.proofs.Common.{◌≡◌, rules}
-use Rattle.std.specs.Prelude.{codes}
-use Rattle.std.proofs.lemmas.Result.{err_from_is_err_and}
-use Rattle.cfs_streams.proofs.WriteLaws.{cut, then_whole}
-use Rattle.cfs_serve.specs.Told.{told}
-use Rattle.cfs_serve.specs.Report.{cause_text, status_of}
+use Rattle.cfs_serve.proofs.Cited.{cause_text, codes, cut, err_from_is_err_and, status_of, then_whole, told}
 use Rattle.cfs_serve.proofs.report.Cause.write_told.Goals as goal
 
 pub returns-in_err-write_line : goal.returns-in_err-write_line

@@ -1,8 +1,4 @@
-use Rattle.std.specs.Prelude.{codes}
-use Rattle.std.proofs.lemmas.Result.{err_from_is_err_and}
-use Rattle.cfs_streams.proofs.WriteLaws.{cut, then_whole}
-use Rattle.cfs_serve.specs.Report.{served_text}
-use Rattle.cfs_serve.specs.Told.{told}
+use Rattle.cfs_serve.proofs.Cited.{codes, cut, err_from_is_err_and, served_text, then_whole, told}
 use Rattle.cfs_serve.proofs.report.Counts.write.Goals as goal
 
 pub returns-in_err-write_served : goal.returns-in_err-write_served

@@ -1,6 +1,4 @@
-use Rattle.std.proofs.lemmas.Result.{err_from_is_err_and}
-use Rattle.cfs_streams.proofs.WriteLaws.{cut, then_whole}
-use Rattle.cfs_serve.specs.Report.{counts_text, ending_text}
+use Rattle.cfs_serve.proofs.Cited.{counts_text, cut, ending_text, err_from_is_err_and, then_whole}
 use Rattle.cfs_serve.proofs.report.Report.write.Goals as goal
 
 pub returns-in_err-write_counts : goal.returns-in_err-write_counts

@@ -1,5 +1,5 @@
 use Rattle.std.proofs.Common.{arith}
-use Rattle.cfs_serve.proofs.Owed.{asked, exact_of, short_fits, tallied, tells, undamaged}
+use Rattle.cfs_serve.proofs.Owed.{asked, exact_of, short_fits, stops, tallied, tells, undamaged}
 use Rattle.ufs_model.specs.declared.asked.Event.TheVariants as events
 use Rattle.cfs_serve.proofs.server.CoreServer.answer.Goals as goal
 
@@ -16,6 +16,9 @@ returns-clause-tallies g c = λ s stands. tallied g.D.Disk c.args.self.now c.ask
 
 pub returns-clause-tells : goal.returns-clause-tells
 returns-clause-tells g c = tells g.D.Disk c.args.self.now c.ask-reply.new.self c.args.who c.args.request.now c.ask-reply.result c.ask-reply.ensures
+
+pub returns-clause-stops : goal.returns-clause-stops
+returns-clause-stops g c = stops g.D.Disk c.args.self.now c.ask-reply.new.self c.args.who c.args.request.now c.ask-reply.result c.ask-reply.ensures
 
 pub returns-clause-undamaged : goal.returns-clause-undamaged
 returns-clause-undamaged g c = λ s stands. undamaged g.D.Disk c.args.self.now c.ask-reply.new.self c.args.who c.args.request.now c.ask-reply.result c.ask-reply.ensures s stands

@@ -1,6 +1,6 @@
 use Rattle.std.proofs.Common.{arith, refl, None, Some}
 use Rattle.ufs_model.specs.declared.asked.Event.TheVariants as events
-use Rattle.cfs_serve.proofs.Leaves.{raised, undamaged}
+use Rattle.cfs_serve.proofs.Leaves.{raised, stops_calm, stops_halted, undamaged}
 use Rattle.cfs_serve.proofs.Owed.{left_tallies}
 use Rattle.cfs_serve.proofs.server.CoreServer.leave.Goals as goal
 
@@ -30,6 +30,14 @@ pub returns-in-Err-clause-lasts : goal.returns-in-Err-clause-lasts
 returns-in-Err-clause-lasts g c = λ graph trail marks s at stands run.
     c.runs_survive.ensures.event c.args.self.now.words.seed graph trail marks s c.args.self.now.disk c.leave-left.new.self.disk at run
     (events.Leave c.args.who (Some c.in-Err.halt.moment)) (c.in-Err.ensures.event s stands).survives
+
+pub returns-in-Ok-clause-stops : goal.returns-in-Ok-clause-stops
+returns-in-Ok-clause-stops g c = stops_calm c.args.self.now.stop c.leave-left.new.self.stop c.args.who c.in-Ok.ensures.goes_on
+
+pub returns-in-Err-clause-stops : goal.returns-in-Err-clause-stops
+returns-in-Err-clause-stops g c =
+    let halts = c.in-Err.ensures.halts in
+    stops_halted c.args.self.now.stop c.leave-left.new.self.stop c.args.who c.in-Err.halt.moment halts.0 halts.1 halts.2 halts.3
 
 pub returns-in-Err-clause-undamaged : goal.returns-in-Err-clause-undamaged
 returns-in-Err-clause-undamaged g c = λ s stands before.

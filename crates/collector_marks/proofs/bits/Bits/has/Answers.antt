@@ -1,16 +1,10 @@
-use Rattle.std.proofs.Common.{◌∙◌, ◌/◌, ◌%◌, ◌^◌, ◌≤◌, ◌==◌, List, Bool, ℕ, ap, arith, false, get_or, sym}
-use Rattle.std.specs.Prelude.{bit_and}
+use Rattle.std.proofs.Common.{◌∙◌, ◌≤◌, List, Bool, ap, arith, false, get_or, length, sym}
 use Rattle.std.proofs.lemmas.Bool.{le-ltb}
-use Rattle.std.proofs.lemmas.List.{get_or_default}
-use Rattle.std.proofs.lemmas.Nat.Bits.{shr_and_one}
-use Rattle.collector_marks.proofs.Words.{bit_past, bit_there}
+use Rattle.collector_marks.proofs.Words.{bit_past, length-bits}
 use Rattle.collector_marks.proofs.bits.Bits.has.Goals as goal
 
-pub returns-then-at-self : goal.returns-then-at-self
-returns-then-at-self c = ap (λ (word : ℕ). bit_and (word / 2 ^ (c.args.at % 64)) 1 == 1) (c.index.ensures ∙ get_or_default c.self.inside.words.items (c.args.at / 64) _ 0 (omega (arith, c.if-at-self.true, c.self.invariant)))
-    ∙ ap (λ (bit : ℕ). bit == 1) (shr_and_one (get_or c.self.inside.words.items (c.args.at / 64) 0) (c.args.at % 64))
-    ∙ sym (bit_there c.self.inside.count c.self.inside.words.items c.args.at c.if-at-self.true)
-    ∙ ap (λ (bits : List Bool). get_or bits c.args.at false) c.self.view_is
+pub is_set-requires : goal.is_set-requires
+is_set-requires c = omega (arith, c.if-at-self.true, ap length c.self.view_is, length-bits c.self.inside.count c.self.inside.words.items)
 
 pub returns-else-at-self : goal.returns-else-at-self
 returns-else-at-self c =

@@ -6,6 +6,5 @@ use Rattle.collector_marks.proofs.marks.Marks.shade.Goals as goal
 pub push_reserved-requires : goal.push_reserved-requires
 push_reserved-requires c =
     let below : c.args.id.block < length c.self.inside.marked = omega (arith, c.requires, ap (λ (m : Marked). blocks_of m) c.self.view_is) in
-    let is : get_or c.self.inside.marked c.args.id.block false ≡ false =
-    ap (λ (m : Marked). get_or m.marks c.args.id.block false) c.self.view_is ∙ sym c.if-is_marked.ensures in
+    let is : get_or c.self.inside.marked c.args.id.block false ≡ false = sym c.is_set.ensures ∙ c.if-is_set.false in
     omega (arith, c.self.invariant.1, c.self.invariant.2, fewer c.self.inside.marked c.args.id.block below is)

@@ -1,11 +1,5 @@
 use Rattle.std.proofs.Common.{◌∙◌, [], ap, refl, subst}
-use Rattle.marking.specs.Colours.{all_shaded, none_marked}
-use Rattle.marking.specs.Marking.{IsMarking}
-use Rattle.marking.proofs.Asked.{allowed}
-use Rattle.marking.proofs.Paces.{pace_begin}
-use Rattle.marking.proofs.Steps.{begin_keeps, begun}
-use Rattle.marking.proofs.Wells.{well}
-use Rattle.ufs_model.specs.State.{State}
+use Rattle.collector_steps.proofs.Words.{IsMarking, State, all_shaded, allowed, begin_keeps, begun, none_marked, pace_begin, well}
 use Rattle.collector_steps.proofs.Kept.{are_names, by_parts}
 use Rattle.collector_steps.proofs.collector.Collector.begin.Goals as goal
 

@@ -1,27 +1,6 @@
 use Rattle.std.proofs.Common.{◌≡◌, ◌∙◌, List, [], ap, arith, subst, sym, vec_len, vec_capacity, length, ◌++◌, Vec, Global, not}
-use Rattle.std.specs.Prelude.{filter}
-use Rattle.collector_marks.specs.Kept.{blocks_of, colours_of}
-use Rattle.ufs_model.specs.Identifier.{is_among}
+use Rattle.collector_steps.proofs.Words.{Collecting, Collects, Image, IsMarking, IsPaced, IsReady, MayVanish, Phase, Puid, Rescue, State, allowed, blocks_of, colours_in, colours_of, condemned_may_vanish, filter, ids_of, is_among, kept_by, keys_of, kinds_of, pace_end, taken_by, unmarked, volume_of, well, without}
 use Rattle.ufs_model.specs.declared.collection.Collection.TheVariants as collections
-use Rattle.std.specs.Map.{keys_of}
-use Rattle.cfs_base.specs.declared.identifier.Puid.{Puid}
-use Rattle.marking.specs.Marking.{IsMarking}
-use Rattle.marking.specs.Pace.{IsPaced}
-use Rattle.marking.specs.Steps.{unmarked}
-use Rattle.marking.proofs.Asked.{allowed}
-use Rattle.marking.proofs.Condemned.{condemned_may_vanish}
-use Rattle.marking.proofs.Paces.{pace_end}
-use Rattle.marking.proofs.Wells.{well}
-use Rattle.marking.specs.declared.memory.Rescue.{Rescue}
-use Rattle.puid_space.specs.Directory.{kept_by, taken_by}
-use Rattle.puid_space.specs.Kinds.{kinds_of}
-use Rattle.ufs_model.specs.Graph.{without, ids_of}
-use Rattle.ufs_model.specs.State.{State}
-use Rattle.ufs_model.specs.Vanish.{MayVanish}
-use Rattle.cfs_base.specs.Disk.{Image}
-use Rattle.collector_steps.specs.Collecting.{Collecting, Collects, colours_in, volume_of}
-use Rattle.collector_steps.specs.Steady.{IsReady}
-use Rattle.collector_steps.specs.declared.phase.Phase.{Phase}
 use Rattle.collector_steps.proofs.Directories.{few_named, taken_unmarked}
 use Rattle.collector_steps.proofs.Kept.{of_marking}
 use Rattle.collector_steps.proofs.collector.Collector.condemn.Goals as goal

@@ -1,20 +1,6 @@
 use Rattle.std.proofs.Common.{◌≡◌, ◌∙◌, List, sym, ap, subst, Some}
-use Rattle.std.proofs.lemmas.Option.{same_Some}
-use Rattle.std.proofs.lemmas.Result.{err_from_is_err_and}
-use Rattle.cfs_base.specs.Disk.{block_at}
-use Rattle.collector_marks.specs.Kept.{colours_of}
-use Rattle.marking.specs.Colours.{Colours, first_grey}
-use Rattle.marking.specs.Steps.{scanned}
-use Rattle.marking.specs.declared.memory.Grey.{Grey}
-use Rattle.ufs_model.specs.Graph.{object_at}
-use Rattle.ufs_model.specs.State.{State}
-use Rattle.ufs_model.specs.declared.object.Index.{Index}
+use Rattle.collector_steps.proofs.Words.{Collecting, Colours, Grey, Index, Opened, Serves, State, block_at, colours_in, colours_of, count_after, err_from_is_err_and, first_grey, ids_from, object_at, same_Some, scanned, stepped, the_view, waiting_in}
 use Rattle.ufs_model.specs.declared.object.Object.TheVariants as objects
-use Rattle.vol_owners.specs.Account.{Opened}
-use Rattle.collector_steps.specs.Collecting.{Collecting, Serves, colours_in, waiting_in}
-use Rattle.collector_steps.specs.contracts.collector.Collector.{the_view}
-use Rattle.cfs_base.specs.Outside.{count_after}
-use Rattle.collector_steps.specs.Scan.{ids_from, stepped}
 use Rattle.collector_steps.proofs.Firsts.{none_first}
 use Rattle.collector_steps.proofs.Indices.{alive, sound_index, stepped_is, tree_of_index}
 use Rattle.collector_steps.proofs.Kept.{are_names, grey_index, of_marking, scan_kept, as_marking}

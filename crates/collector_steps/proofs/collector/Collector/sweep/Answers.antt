@@ -1,23 +1,7 @@
 use Rattle.std.proofs.Common.{◌≡◌, ◌∙◌, ◌*◌, ◌/◌, ◌<◌, ℕ, List, ap, arith, length, refl, subst, sym, vec_capacity, Ok}
-use Rattle.cfs_base.specs.Outside.{count_after}
-use Rattle.cfs_base.specs.Run.{Tells}
-use Rattle.cfs_base.specs.declared.disk.Disk.{Ghosts}
-use Rattle.cfs_base.specs.declared.identifier.Puid.{Puid}
-use Rattle.cfs_base.specs.declared.kind.Kind.{Kind}
-use Rattle.collector_marks.specs.Kept.{blocks_of}
-use Rattle.cyl_alloc.specs.Space.{Kept}
-use Rattle.puid_space.specs.Directory.{has_root_in}
-use Rattle.puid_space.specs.Kinds.{kinds_of}
-use Rattle.ufs_model.specs.Graph.{Graph, has_block}
-use Rattle.ufs_model.specs.State.{State}
-use Rattle.collector_steps.specs.declared.phase.Phase.{Phase}
-use Rattle.collector_steps.specs.declared.sweep.Pass.{Pass}
-use Rattle.collector_steps.specs.Collecting.{Collecting, Collects, IsCollecting, Serves, volume_of}
-use Rattle.collector_steps.specs.Swept.{HasSwept, IsPhaseOf, IsSweep, cylinder_of, next_phase}
-use Rattle.vol_owners.specs.Account.{Opened}
+use Rattle.collector_steps.proofs.Words.{Collecting, Collects, Ghosts, Graph, HasSwept, IsCollecting, IsPhaseOf, IsSweep, Kept, Kind, Opened, Pass, Phase, Puid, Serves, State, Tells, blocks_of, count_after, cylinder_of, has_block, has_root_in, kinds_of, next_phase, the_view, volume_of}
 use Rattle.collector_steps.proofs.Cylinders.{roots}
 use Rattle.collector_steps.proofs.Phases.{goes_on, may_begin, ready_below}
-use Rattle.collector_steps.specs.contracts.collector.Collector.{the_view}
 use Rattle.collector_steps.proofs.collector.Collector.sweep.Goals as goal
 
 -- ---- a sweep that is done

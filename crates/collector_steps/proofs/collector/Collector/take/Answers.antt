@@ -1,12 +1,7 @@
 use Rattle.std.proofs.Common.{◌≡◌, ◌∙◌, List, ◌∷◌, ap, drop, subst, sym}
-use Rattle.marking.specs.Steps.{rescued}
-use Rattle.marking.specs.declared.memory.Rescue.{Rescue}
-use Rattle.collector_steps.specs.Collecting.{Collecting, colours_in, waiting_in}
+use Rattle.collector_steps.proofs.Words.{Collecting, IsMarking, IsPaced, Rescue, colours_in, count_after, rescued, waiting_in}
 use Rattle.collector_steps.proofs.Firsts.{first_of, head_of}
 use Rattle.collector_steps.proofs.Kept.{are_names, as_marking, of_marking, take_kept}
-use Rattle.cfs_base.specs.Outside.{count_after}
-use Rattle.marking.specs.Marking.{IsMarking}
-use Rattle.marking.specs.Pace.{IsPaced}
 use Rattle.collector_steps.proofs.collector.Collector.take.Goals as goal
 
 pub returns-clause-taken : goal.returns-clause-taken

@@ -1,4 +1,4 @@
-use Rattle.collector_trials.proofs.Emptied.{emptied}
+use Rattle.cfs_base.proofs.Emptied.{emptied}
 use Rattle.collector_trials.proofs.volume.Volume.mark.Goals as goal
 
 pub condemn-taken-requires-clause-read : goal.condemn-taken-requires-clause-read

@@ -1,6 +1,5 @@
-use Rattle.std.proofs.Common.{◌-◌, ◌*◌, ℕ, List, take, drop, subst, arith}
-use Rattle.std.specs.Prelude.{Some, None}
-use Rattle.cyl_alloc.specs.Counts.{IsFirstAbove}
+use Rattle.std.proofs.Common.{◌-◌, ◌*◌, ℕ, List, take, drop, subst, arith, Some, None}
+use Rattle.cyl_alloc.proofs.Words.{IsFirstAbove}
 use Rattle.cyl_alloc.proofs.Sums.{first_none, first_in, some_in}
 use Rattle.cyl_alloc.proofs.counts.Counts.first.Goals as goal
 

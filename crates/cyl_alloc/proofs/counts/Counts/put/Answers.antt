@@ -1,5 +1,5 @@
 use Rattle.std.proofs.Common.{◌<◌, ◌/◌, length, ◌∙◌, ap, arith}
-use Rattle.std.proofs.lemmas.Grind.{get_or_default_zero}
+use Rattle.cyl_alloc.proofs.Words.{get_or_default_zero}
 use Rattle.cyl_alloc.proofs.Sums.{sums-set, sum-most, group-bounds}
 use Rattle.cyl_alloc.proofs.counts.Counts.put.Goals as goal
 

@@ -1,5 +1,5 @@
 use Rattle.std.proofs.Common.{◌*◌, ◌/◌, ◌∙◌, sym, refl}
-use Rattle.cyl_map.specs.Map.{entries_of}
+use Rattle.cyl_alloc.proofs.Words.{entries_of}
 use Rattle.cyl_alloc.proofs.Entries.{is_good, is_bad}
 use Rattle.cyl_alloc.proofs.known.KnownMaps.load_map.Goals as goal
 

@@ -1,5 +1,4 @@
-use Rattle.std.proofs.lemmas.List.Elements.{All-replicate}
-use Rattle.cyl_map.specs.Map.{SpellsMap}
+use Rattle.cyl_alloc.proofs.Words.{All-replicate, SpellsMap}
 use Rattle.cyl_alloc.proofs.Entries.{zeros_spell}
 use Rattle.cyl_alloc.proofs.known.KnownMaps.new.Goals as goal
 

@@ -1,14 +1,5 @@
 use Rattle.std.proofs.Common.{◌≡◌, ◌*◌, ◌/◌, ◌%◌, ℕ, List, set, ◌∙◌, ap, sym, subst, arith}
-use Rattle.std.specs.Prelude.{OnOk}
-use Rattle.std.proofs.lemmas.List.Elements.{All-set}
-use Rattle.cfs_base.specs.Disk.{Written}
-use Rattle.cfs_base.specs.Run.{Leaves, left_now}
-use Rattle.cyl_map.specs.Entry.{spelling}
-use Rattle.cyl_map.specs.Map.{SpellsMap, entries_of}
-use Rattle.cyl_map.specs.Volume.{map_with, with_bytes, with_entry}
-use Rattle.cyl_map.proofs.Maps.{IsMap-set, length-entries_of, spells_these}
-use Rattle.cyl_map.proofs.Volumes.{map_spelling-set}
-use Rattle.cyl_alloc.specs.Maps.{IsMapOf}
+use Rattle.cyl_alloc.proofs.Words.{All-set, IsMap-set, IsMapOf, Leaves, OnOk, SpellsMap, Written, entries_of, left_now, length-entries_of, map_spelling-set, map_with, spelling, spells_these, with_bytes, with_entry}
 use Rattle.cyl_alloc.proofs.known.KnownMaps.store_entry.Goals as goal
 
 -- what is written is the map with the entry

@@ -1,5 +1,5 @@
 use Rattle.std.proofs.Common.{◌*◌, ◌∙◌, ap, arith}
-use Rattle.cyl_alloc.specs.Space.{free_in_cylinder}
+use Rattle.cyl_alloc.proofs.Words.{free_in_cylinder}
 use Rattle.cyl_alloc.proofs.Entries.{free_count}
 use Rattle.cyl_alloc.proofs.space.Space.count_free.Goals as goal
 

@@ -1,8 +1,5 @@
 use Rattle.std.proofs.Common.{◌≡◌, ◌∙◌, ◌+◌, ◌*◌, ℕ, List, length, get_or, ap, subst, arith, below_more, length-set}
-use Rattle.std.proofs.lemmas.List.{get_or-set_same, get_or-set_other}
-use Rattle.cfs_base.specs.Disk.{Image}
-use Rattle.cfs_base.proofs.Calls.{reads_then, tells_on}
-use Rattle.cyl_alloc.specs.Space.{IsGoodMap, free_in_cylinder}
+use Rattle.cyl_alloc.proofs.Words.{Image, IsGoodMap, free_in_cylinder, get_or-set_other, get_or-set_same, reads_then, tells_on}
 use Rattle.cyl_alloc.proofs.space.Space.counted.Goals as goal
 
 pub loop-cylinder-preserved : goal.loop-cylinder-preserved

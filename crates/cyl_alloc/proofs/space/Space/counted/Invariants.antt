@@ -1,8 +1,5 @@
 use Rattle.std.proofs.Common.{◌≡◌, ◌*◌, ◌<◌, ℕ, length, get_or}
-use Rattle.cfs_base.specs.Calls.{OnlyReads}
-use Rattle.cfs_base.specs.Run.{Tells}
-use Rattle.cyl_alloc.specs.Counts.{IsKept}
-use Rattle.cyl_alloc.specs.Space.{IsGoodMap, free_in_cylinder}
+use Rattle.cyl_alloc.proofs.Words.{IsGoodMap, IsKept, OnlyReads, Tells, free_in_cylinder}
 use Rattle.cyl_alloc.proofs.space.Space.counted.Given as goal
 
 abbrev pub invariant-loop-cylinder : goal.invariant-loop-cylinder

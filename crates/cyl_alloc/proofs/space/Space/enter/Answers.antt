@@ -1,10 +1,5 @@
 use Rattle.std.proofs.Common.{◌∙◌, ap, sym, subst, rules}
-use Rattle.cfs_base.specs.Disk.{Image}
-use Rattle.cfs_base.proofs.Calls.{reads_make, then_tried}
-use Rattle.cyl_map.specs.Map.{entries_of}
-use Rattle.cyl_map.specs.Volume.{is_free_entry, with_entry}
-use Rattle.cyl_alloc.specs.Maps.{IsMapOf}
-use Rattle.cyl_alloc.specs.Space.{Kept, after_taking, entered}
+use Rattle.cyl_alloc.proofs.Words.{Image, IsMapOf, Kept, after_taking, entered, entries_of, is_free_entry, reads_make, then_tried, with_entry}
 use Rattle.cyl_alloc.proofs.Counted.{counts_taken, counts_along}
 use Rattle.cyl_alloc.proofs.Entries.{some_entry}
 use Rattle.cyl_alloc.proofs.space.Space.enter.Goals as goal

@@ -1,6 +1,5 @@
 use Rattle.std.proofs.Common.{◌∙◌, ap}
-use Rattle.std.specs.Prelude.{sum}
-use Rattle.cyl_alloc.specs.Space.{Kept}
+use Rattle.cyl_alloc.proofs.Words.{Kept, sum}
 use Rattle.cyl_alloc.proofs.Counted.{sum_is}
 use Rattle.cyl_alloc.proofs.space.Space.free.Goals as goal
 

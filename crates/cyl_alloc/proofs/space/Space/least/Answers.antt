@@ -1,8 +1,5 @@
-use Rattle.std.proofs.Common.{◌∙◌, ◌*◌, ℕ, List, ap, sym, subst, refl, inr, arith}
-use Rattle.std.specs.Prelude.{Some, sum}
-use Rattle.cyl_map.specs.Map.{entries_of}
-use Rattle.cyl_alloc.specs.Counts.{IsFirstAbove}
-use Rattle.cyl_alloc.specs.Space.{Kept}
+use Rattle.std.proofs.Common.{◌∙◌, ◌*◌, ℕ, List, ap, sym, subst, refl, inr, arith, Some}
+use Rattle.cyl_alloc.proofs.Words.{IsFirstAbove, Kept, entries_of, sum}
 use Rattle.cyl_alloc.proofs.Counted.{is_least, no_counts}
 use Rattle.cyl_alloc.proofs.Finds.{first_at, find_refused}
 use Rattle.cyl_alloc.proofs.Sums.{none_above}

@@ -1,9 +1,5 @@
 use Rattle.std.proofs.Common.{◌∙◌, ap, sym, subst, refl}
-use Rattle.cfs_base.specs.Disk.{Image}
-use Rattle.cyl_map.specs.Map.{entries_of}
-use Rattle.cyl_map.specs.Volume.{is_free_entry, with_entry}
-use Rattle.cyl_alloc.specs.Maps.{IsMapOf}
-use Rattle.cyl_alloc.specs.Space.{Kept, after_giving, free_entry}
+use Rattle.cyl_alloc.proofs.Words.{Image, IsMapOf, Kept, after_giving, entries_of, free_entry, is_free_entry, with_entry}
 use Rattle.cyl_alloc.proofs.Counted.{counts_given, counts_along}
 use Rattle.cyl_alloc.proofs.Entries.{some_entry}
 use Rattle.cyl_alloc.proofs.space.Space.release.Goals as goal

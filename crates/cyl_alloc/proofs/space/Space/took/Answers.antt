@@ -1,5 +1,5 @@
 use Rattle.std.proofs.Common.{◌/◌, ℕ, List, get_or, ap, arith}
-use Rattle.cyl_alloc.specs.Space.{Kept}
+use Rattle.cyl_alloc.proofs.Words.{Kept}
 use Rattle.cyl_alloc.proofs.Counted.{counts_put}
 use Rattle.cyl_alloc.proofs.space.Space.took.Goals as goal
 

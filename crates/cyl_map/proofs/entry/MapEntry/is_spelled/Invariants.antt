@@ -1,5 +1,5 @@
 use Rattle.std.proofs.Common.{◌≡◌, ◌↔◌, true, take}
-use Rattle.cyl_map.specs.Entry.{table}
+use Rattle.cyl_map.proofs.Words.{table}
 use Rattle.cyl_map.proofs.Entries.{SpelledAmong}
 use Rattle.cyl_map.proofs.entry.MapEntry.is_spelled.Given as goal
 

@@ -1,6 +1,6 @@
 use Rattle.std.proofs.Common.{ℕ, List, [], get_or, ◌∙◌, ap}
+use Rattle.cyl_map.proofs.Words.{said_by}
 use Rattle.cyl_map.specs.Map as spec
-use Rattle.cyl_map.specs.Reading.{said_by}
 use Rattle.cyl_map.proofs.Maps.{get_or-eights}
 use Rattle.cyl_map.proofs.map.Map.entry_in.Goals as goal
 

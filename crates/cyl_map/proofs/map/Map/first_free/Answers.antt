@@ -1,7 +1,6 @@
 use Rattle.std.proofs.Common.{◌≡◌, ◌↔◌, ◌∙◌, sym, ap, subst, position}
-use Rattle.std.specs.Prelude.{IsNone}
+use Rattle.cyl_map.proofs.Words.{IsNone, said_by}
 use Rattle.cyl_map.specs.Map as spec
-use Rattle.cyl_map.specs.Reading.{said_by}
 use Rattle.cyl_map.proofs.FreeEntries.{position-map, none_counted}
 use Rattle.cyl_map.proofs.map.Map.first_free.Goals as goal
 use Rattle.cyl_map.proofs.map.Map.first_free.Goals.{After-first_free}

@@ -1,6 +1,5 @@
 use Rattle.std.proofs.Common.{ℕ, ◌+◌, ◌*◌, List, ◌++◌, take, drop, append_assoc, ◌∙◌, ap}
-use Rattle.cyl_map.specs.Entry.{spelling}
-use Rattle.cyl_map.specs.Volume.{with_bytes}
+use Rattle.cyl_map.proofs.Words.{spelling, with_bytes}
 use Rattle.cyl_map.proofs.map.Map.put_in.Goals as goal
 
 pub returns : goal.returns

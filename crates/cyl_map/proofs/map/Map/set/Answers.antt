@@ -1,7 +1,6 @@
 use Rattle.std.proofs.Common.{◌≡◌, ◌∙◌, ap, sym, set, arith}
-use Rattle.cyl_map.specs.Entry.{spelling}
+use Rattle.cyl_map.proofs.Words.{spelling, with_bytes}
 use Rattle.cyl_map.specs.Map as spec
-use Rattle.cyl_map.specs.Volume.{with_bytes}
 use Rattle.cyl_map.proofs.Maps.{IsMap-set, spells_these, length-entries_of}
 use Rattle.cyl_map.proofs.Volumes.{map_spelling-set}
 use Rattle.cyl_map.proofs.map.Map.set.Goals as goal

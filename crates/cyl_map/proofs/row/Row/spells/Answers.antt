@@ -1,5 +1,5 @@
 use Rattle.std.proofs.Common.{arith}
-use Rattle.std.proofs.lemmas.Bool.Decides.{nat_tests}
+use Rattle.cyl_map.proofs.Words.{nat_tests}
 use Rattle.cyl_map.proofs.RowReads.{passes_spelled, spelled_passes}
 use Rattle.cyl_map.proofs.row.Row.spells.Goals as goal
 

@@ -1,6 +1,4 @@
-use Rattle.std.proofs.Common.{◌≡◌, ℕ, ◌%◌, Bool, cond, ap, subst, eq-eqb, arith}
-use Rattle.std.specs.Prelude.{get_or}
-use Rattle.std.proofs.lemmas.Bool.{ne_eqb}
+use Rattle.normal_files.proofs.Words.{◌≡◌, ℕ, ◌%◌, Bool, cond, ap, subst, eq-eqb, arith, get_or, ne_eqb}
 use Rattle.normal_files.specs.Parts.{absent_in, lacking_to}
 use Rattle.normal_files.proofs.LackingTo.{filter_to}
 use Rattle.normal_files.proofs.part.Part.lacking.Goals.{then-self-leaf-eq0, else-self-leaf-eq0}

@@ -1,4 +1,4 @@
-use Rattle.std.proofs.Common.{◌≡◌, ◌-◌, ◌≤◌}
+use Rattle.normal_files.proofs.Words.{◌≡◌, ◌-◌, ◌≤◌}
 use Rattle.normal_files.specs.Parts.{lacking_to}
 use Rattle.normal_files.proofs.part.Part.lacking.Given as goal
 

@@ -1,55 +1,24 @@
-use Rattle.std.proofs.Common.{Ok, Err, length, refl, sym, ◌∙◌, subst, arith}
-use Rattle.cfs_base.proofs.Calls.{reads_within}
-use Rattle.normal_files.specs.Steps.{HasStoppedBy}
-use Rattle.normal_files.proofs.Come.{come_stopped, come_untried, come_wrote}
-use Rattle.normal_files.proofs.PartlyBelow.{partly_more}
-use Rattle.normal_files.proofs.PutParts.{one_absent, one_done, one_entries, one_leaves, one_long}
+use Rattle.normal_files.proofs.Words.{refl, arith, reads_within}
+use Rattle.normal_files.proofs.Come.{come_none}
+use Rattle.normal_files.proofs.PutParts.{one_absent, one_done, one_leaves, one_long}
 use Rattle.normal_files.proofs.part.Part.put_one.Goals as goal
 
-pub returns-then-block-eq0-clause-goes : goal.returns-then-block-eq0-clause-goes
-returns-then-block-eq0-clause-goes g c = record {
-  on = λ graph id f root start kept starts is amid done.
-      one_absent g.D.Disk graph id f root c.args.offset c.args.bytes.now start starts _ c.args.self.now c.requires.read is c.args.leaf c.requires.from c.requires.to c.args.disk.now c.args.disk.now kept amid c.if-block-eq0.true;
-  leaves = λ graph id f root start kept starts is amid. amid.leaves;
-  entries = λ graph id f root start kept starts is amid done m. refl;
-}
+pub returns-then-block-eq0-clause-puts : goal.returns-then-block-eq0-clause-puts
+returns-then-block-eq0-clause-puts g c = λ r w kept is amid. (one_absent c.requires.read is c.requires.from c.requires.to amid c.if-block-eq0.true, λ m. refl)
 
-pub returns-in-Ok-clause-goes : goal.returns-in-Ok-clause-goes
-returns-in-Ok-clause-goes g c = record {
-  on = λ graph id f root start kept starts is amid done.
-      one_done g.D.Disk graph id f root c.args.offset c.args.bytes.now start starts _ c.args.self.now c.requires.read is c.args.leaf c.requires.from c.requires.to c.args.disk.now c.put_leaf.new.disk kept amid c.if-block-eq0.false
-      (c.in-Ok.ensures.put amid.tells (one_long g.D.Disk graph id f root c.args.offset c.args.bytes.now start starts _ c.args.self.now c.requires.read is c.args.leaf c.requires.from c.requires.to c.args.disk.now c.put_leaf.new.disk kept amid c.if-block-eq0.false));
-  leaves = λ graph id f root start kept starts is amid.
-      one_leaves g.D.Disk graph id f root c.args.offset c.args.bytes.now start starts _ c.args.self.now c.requires.read is c.args.leaf c.requires.from c.requires.to c.args.disk.now c.put_leaf.new.disk kept amid c.if-block-eq0.false (Ok tt)
-      (c.in-Ok.ensures.put amid.tells (one_long g.D.Disk graph id f root c.args.offset c.args.bytes.now start starts _ c.args.self.now c.requires.read is c.args.leaf c.requires.from c.requires.to c.args.disk.now c.put_leaf.new.disk kept amid c.if-block-eq0.false));
-  entries = λ graph id f root start kept starts is amid done m.
-      one_entries g.D.Disk graph id f root c.args.offset c.args.bytes.now start starts _ c.args.self.now c.requires.read is c.args.leaf c.requires.from c.requires.to c.args.disk.now c.put_leaf.new.disk kept amid c.if-block-eq0.false
-      (c.in-Ok.ensures.put amid.tells (one_long g.D.Disk graph id f root c.args.offset c.args.bytes.now start starts _ c.args.self.now c.requires.read is c.args.leaf c.requires.from c.requires.to c.args.disk.now c.put_leaf.new.disk kept amid c.if-block-eq0.false)) m;
-}
+pub returns-then-block-eq0-clause-ends : goal.returns-then-block-eq0-clause-ends
+returns-then-block-eq0-clause-ends g c = come_none g.D.Disk c.args.disk.now 2 1
+
+pub returns-in-Ok-clause-puts : goal.returns-in-Ok-clause-puts
+returns-in-Ok-clause-puts g c = λ r w kept is amid.
+    one_done c.requires.read is c.requires.from c.requires.to amid c.if-block-eq0.false (c.in-Ok.ensures.put amid.tells (one_long c.requires.read is c.requires.from c.requires.to amid c.if-block-eq0.false)) refl
 
 pub returns-in-Ok-clause-ends : goal.returns-in-Ok-clause-ends
-returns-in-Ok-clause-ends g c = record {
-  come = λ start n t come. come_wrote g.D.Disk start c.args.disk.now c.put_leaf.new.disk 2 1 c.args.tried come c.in-Ok.ensures.calls c.in-Ok.ensures.tried;
-  stopped = λ start n t come. tt;
-  untried = λ start n t come. tt;
-}
+returns-in-Ok-clause-ends g c = record { told = c.in-Ok.ensures.told; makes = c.in-Ok.ensures.calls; tries = λ yes. c.in-Ok.ensures.tried; reads = λ none. cc }
+
+pub returns-in-Err-clause-puts : goal.returns-in-Err-clause-puts
+returns-in-Err-clause-puts g c = λ r w kept is amid.
+    one_leaves c.requires.read is c.requires.from c.requires.to amid c.if-block-eq0.false (c.in-Err.ensures.put amid.tells (one_long c.requires.read is c.requires.from c.requires.to amid c.if-block-eq0.false))
 
 pub returns-in-Err-clause-ends : goal.returns-in-Err-clause-ends
-returns-in-Err-clause-ends g c = record {
-  come = λ start n t come. tt;
-  stopped = λ start n t come. subst (HasStoppedBy g.D.Disk start c.put_leaf.new.disk) (sym c.after.ensures) (come_stopped g.D.Disk start c.args.disk.now c.put_leaf.new.disk c.args.tried c.in-Err.trouble come c.in-Err.ensures.refused);
-  untried = λ start n t come same.
-      come_untried g.D.Disk start c.args.disk.now c.put_leaf.new.disk 2 c.args.tried c.in-Err.trouble come (λ e. reads_within g.D.Disk c.args.disk.now c.put_leaf.new.disk 1 2 (omega arith) (c.in-Err.ensures.untried e)) (sym c.after.ensures ∙ same);
-}
-
-pub returns-in-Err-clause-goes : goal.returns-in-Err-clause-goes
-returns-in-Err-clause-goes g c = record {
-  on = λ graph id f root start kept starts is amid done. cc;
-  leaves = λ graph id f root start kept starts is amid.
-      one_leaves g.D.Disk graph id f root c.args.offset c.args.bytes.now start starts _ c.args.self.now c.requires.read is c.args.leaf c.requires.from c.requires.to c.args.disk.now c.put_leaf.new.disk kept amid c.if-block-eq0.false (Err c.in-Err.trouble)
-      (c.in-Err.ensures.put amid.tells (one_long g.D.Disk graph id f root c.args.offset c.args.bytes.now start starts _ c.args.self.now c.requires.read is c.args.leaf c.requires.from c.requires.to c.args.disk.now c.put_leaf.new.disk kept amid c.if-block-eq0.false));
-  entries = λ graph id f root start kept starts is amid done. cc;
-}
-
-pub returns-then-block-eq0-clause-few : goal.returns-then-block-eq0-clause-few
-returns-then-block-eq0-clause-few g c = omega (arith, partly_more c.args.offset (length c.args.bytes.now) c.args.leaf)
+returns-in-Err-clause-ends g c = record { stopped = c.in-Err.ensures.refused; untried = λ same. reads_within g.D.Disk c.args.disk.now c.put_leaf.new.disk 1 2 (omega arith) (c.in-Err.ensures.untried same); calls = c.in-Err.ensures.calls }

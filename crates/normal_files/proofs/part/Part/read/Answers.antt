@@ -1,4 +1,4 @@
-use Rattle.std.proofs.Common.{inl, inr, sym, ◌∙◌, ap, subst, arith}
+use Rattle.normal_files.proofs.Words.{inl, inr, sym, ◌∙◌, ap, subst, arith}
 use Rattle.normal_files.specs.Nodes.{IsNear, leaves_at}
 use Rattle.normal_files.proofs.Trees.{near_none}
 use Rattle.normal_files.proofs.part.Part.read.Goals as goal

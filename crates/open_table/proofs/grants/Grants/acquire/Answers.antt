@@ -1,9 +1,5 @@
 use Rattle.std.proofs.Common.{◌≡◌, ◌∙◌, ap, subst, sym, None, length, ◌<◌, ◌+◌, ◌^◌, arith}
-use Rattle.std.specs.List.{list_any}
-use Rattle.std.proofs.lemmas.Bool.Decides.{nat_tests}
-use Rattle.ufs_model.specs.Identifier.{same_tuid}
-use Rattle.ufs_model.specs.declared.limits.TheConstants.{MOST_GRANTS}
-use Rattle.open_table.specs.Grants.{Table, fault_of, grants_of, mode_against}
+use Rattle.open_table.proofs.Words.{MOST_GRANTS, Table, fault_of, grants_of, list_any, mode_against, nat_tests, same_tuid}
 use Rattle.open_table.proofs.Faults.{few_by, none_against}
 use Rattle.open_table.proofs.Tied.{IsTied-more}
 use Rattle.open_table.proofs.grants.Grants.acquire.Goals as goal

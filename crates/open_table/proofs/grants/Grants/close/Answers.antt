@@ -1,8 +1,5 @@
 use Rattle.std.proofs.Common.{◌≡◌, ◌∙◌, ap, sym, Some, rules}
-use Rattle.std.specs.List.{list_any}
-use Rattle.std.proofs.lemmas.Fn.{filter_same}
-use Rattle.ufs_model.specs.Identifier.{same_puid}
-use Rattle.open_table.specs.Grants.{Table, grant_in, without_grant}
+use Rattle.open_table.proofs.Words.{Table, filter_same, grant_in, list_any, same_puid, without_grant}
 use Rattle.open_table.proofs.Without.{IsTied-shared, IsTied-closed}
 use Rattle.open_table.proofs.grants.Grants.close.Goals as goal
 

@@ -1,5 +1,5 @@
 use Rattle.std.proofs.Common.{◌≡◌, ◌∙◌, ◌<◌, ap, sym, Some, None, length}
-use Rattle.open_table.specs.Grants.{Table, first_of, grants_of, without_session}
+use Rattle.open_table.proofs.Words.{Table, first_of, grants_of, without_session}
 use Rattle.open_table.proofs.Lists.{first-closed, grants_of-fewer, grants_of-none, without_session-none, without_session-without_grant}
 use Rattle.open_table.proofs.grants.Grants.drop_session.Goals as goal
 

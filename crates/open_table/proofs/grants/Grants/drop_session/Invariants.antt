@@ -1,5 +1,5 @@
 use Rattle.std.proofs.Common.{◌≡◌, length, true}
-use Rattle.open_table.specs.Grants.{grants_of, without_session}
+use Rattle.open_table.proofs.Words.{grants_of, without_session}
 use Rattle.open_table.proofs.grants.Grants.drop_session.Given as goal
 
 abbrev pub invariant-loop-grant : goal.invariant-loop-grant

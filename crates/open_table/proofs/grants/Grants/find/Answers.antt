@@ -1,7 +1,5 @@
 use Rattle.std.proofs.Common.{◌∙◌, ap}
-use Rattle.std.specs.Prelude.{find}
-use Rattle.ufs_model.specs.Identifier.{same_tuid}
-use Rattle.open_table.specs.Grants.{Table, grant_in}
+use Rattle.open_table.proofs.Words.{Table, find, grant_in, same_tuid}
 use Rattle.open_table.proofs.Lists.{find-grants_of}
 use Rattle.open_table.proofs.grants.Grants.find.Goals as goal
 

@@ -1,5 +1,5 @@
 use Rattle.std.proofs.Common.{◌∙◌, sym, ap}
-use Rattle.open_table.specs.Grants.{Table, is_held}
+use Rattle.open_table.proofs.Words.{Table, is_held}
 use Rattle.open_table.proofs.Tied.{is_held-all}
 use Rattle.open_table.proofs.grants.Grants.len.Goals as goal
 

@@ -1,6 +1,5 @@
 use Rattle.std.proofs.Common.{◌∙◌, ap}
-use Rattle.std.specs.Prelude.{slice_get}
-use Rattle.open_table.specs.Grants.{Table, first_of}
+use Rattle.open_table.proofs.Words.{Table, first_of, slice_get}
 use Rattle.open_table.proofs.Lists.{first-grants_of}
 use Rattle.open_table.proofs.grants.Grants.next_of.Goals as goal
 

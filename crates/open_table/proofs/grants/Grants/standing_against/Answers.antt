@@ -1,6 +1,5 @@
 use Rattle.std.proofs.Common.{◌∙◌, sym, ap}
-use Rattle.std.specs.Bool.{then_some}
-use Rattle.open_table.specs.Grants.{Table, mode_against}
+use Rattle.open_table.proofs.Words.{Table, mode_against, then_some}
 use Rattle.open_table.proofs.Tied.{against-none, against-some}
 use Rattle.open_table.proofs.grants.Grants.standing_against.Goals as goal
 

@@ -1,8 +1,5 @@
 use Rattle.std.proofs.Common.{◌∙◌, ap, rules, tests}
-use Rattle.std.specs.Prelude.{find}
-use Rattle.std.proofs.lemmas.Iterator.{YieldsList-from_slice}
-use Rattle.std.proofs.lemmas.Iterator.Search.{find_from_yields_List}
-use Rattle.ufs_model.specs.Identifier.{same_tuid}
+use Rattle.open_table.proofs.Words.{YieldsList-from_slice, find, find_from_yields_List, same_tuid}
 use Rattle.open_table.proofs.sessions.Sessions.find.Goals as goal
 
 pub returns : goal.returns

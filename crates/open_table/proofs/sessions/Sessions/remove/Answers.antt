@@ -1,8 +1,5 @@
 use Rattle.std.proofs.Common.{◌≡◌, not, arith, rules}
-use Rattle.std.specs.Prelude.{filter}
-use Rattle.std.proofs.lemmas.Fn.{filter_same}
-use Rattle.std.proofs.lemmas.Grind.{common_steps}
-use Rattle.ufs_model.specs.Identifier.{same_tuid}
+use Rattle.open_table.proofs.Words.{common_steps, filter, filter_same, same_tuid}
 use Rattle.open_table.proofs.sessions.Sessions.remove.Goals as goal
 
 pub returns-in-Some-clause-own : goal.returns-in-Some-clause-own

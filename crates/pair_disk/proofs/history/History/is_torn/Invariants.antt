@@ -1,5 +1,5 @@
 use Rattle.std.proofs.Common.{◌≡◌, take}
-use Rattle.pair_disk.specs.Replay.{replay, unwritten}
+use Rattle.pair_disk.proofs.Words.{replay, unwritten}
 use Rattle.pair_disk.proofs.history.History.is_torn.Given as goal
 
 abbrev pub invariant-loop-kept : goal.invariant-loop-kept

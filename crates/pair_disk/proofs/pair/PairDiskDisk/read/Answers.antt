@@ -1,14 +1,7 @@
-use Rattle.std.proofs.Common.{◌≡◌, ◌<◌, ◌/◌, ℕ, Bool, IsTrue, OnOk, Ok, Err, Result, [], length, sym, ◌∙◌, ap, subst, arith, if◌then◌else◌}
-use Rattle.std.proofs.lemmas.Bool.{and_parts}
-use Rattle.cfs_base.specs.Disk.{Image, block_at}
-use Rattle.pair_disk.specs.declared.half.Half.{Half}
-use Rattle.pair_disk.specs.Pair.{gate_at, half_at, pairs_in, shown_half_of}
-use Rattle.pair_disk.specs.Laws.{pairs-at}
+use Rattle.std.proofs.Common.{◌≡◌, ◌<◌, ◌/◌, ℕ, Bool, IsTrue, [], length, sym, ◌∙◌, ap, subst, arith, if◌then◌else◌}
+use Rattle.pair_disk.proofs.Words.{Half, Image, and_parts, block_at, gate_at, half_at, pairs-at, pairs_in, shown_half_of}
+use Rattle.pair_disk.proofs.Calls.{on_ok}
 use Rattle.pair_disk.proofs.pair.PairDiskDisk.read.Goals as goal
-
-on_ok : {V E P Q : Type 0} (r : Result V E) → OnOk r P → (P → Q) → OnOk r Q
-on_ok (Ok v) p to = to p
-on_ok (Err e) p to = tt
 
 pub returns-clause-bytes : goal.returns-clause-bytes
 returns-clause-bytes g c = on_ok c.read.result c.read.ensures.bytes (λ reads tells.

@@ -1,7 +1,5 @@
 use Rattle.std.proofs.Common.{sym, ◌∙◌, subst}
-use Rattle.pair_disk.specs.declared.torn_memory.TornMemory.{TornMemory}
-use Rattle.pair_disk.specs.History.{left_of, state_now}
-use Rattle.pair_disk.specs.Stays.{stays_image}
+use Rattle.pair_disk.proofs.Words.{TornMemory, left_of, state_now, stays_image}
 use Rattle.pair_disk.proofs.Images.{flushed, flushes}
 use Rattle.pair_disk.proofs.torn_memory.TornMemoryTornDisk.barrier.Goals as goal
 

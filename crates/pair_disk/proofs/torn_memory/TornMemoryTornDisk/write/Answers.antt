@@ -1,7 +1,5 @@
 use Rattle.std.proofs.Common.{[], sym, arith}
-use Rattle.std.proofs.lemmas.List.{set-get_or}
-use Rattle.cfs_base.specs.Disk.{block_at}
-use Rattle.pair_disk.specs.declared.torn_memory.TornMemory.{TornMemory}
+use Rattle.pair_disk.proofs.Words.{TornMemory, block_at, set-get_or}
 use Rattle.pair_disk.proofs.Images.{writes}
 use Rattle.pair_disk.proofs.torn_memory.TornMemoryTornDisk.write.Goals as goal
 

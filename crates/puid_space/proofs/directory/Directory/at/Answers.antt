@@ -1,6 +1,5 @@
 use Rattle.std.proofs.Common.{◌≡◌, ◌∙◌, ℕ, Some, None, ap, sym, subst, get_or, is_some, arith}
-use Rattle.std.proofs.lemmas.Option.{same_Some}
-use Rattle.puid_space.specs.Directory.{Listing, kind_in}
+use Rattle.puid_space.proofs.Words.{Listing, kind_in, same_Some}
 use Rattle.puid_space.proofs.Listed.{cell-listed, root-listed}
 use Rattle.puid_space.proofs.directory.Directory.at.Goals as goal
 

@@ -1,5 +1,5 @@
 use Rattle.std.proofs.Common.{◌∙◌, ⊎_elim, inl, inr, sym, ap, arith}
-use Rattle.puid_space.specs.Directory.{Listing, first_in}
+use Rattle.puid_space.proofs.Words.{Listing, first_in}
 use Rattle.puid_space.proofs.Firsts.{first_in-later, first_in-none, first_in-found}
 use Rattle.puid_space.proofs.Opened.{cell-is}
 use Rattle.puid_space.proofs.directory.Directory.first_from.Goals as goal

@@ -1,6 +1,5 @@
 use Rattle.std.proofs.Common.{◌≡◌, drop}
-use Rattle.puid_space.specs.Directory.{first_in}
-use Rattle.puid_space.specs.Cells.{listed}
+use Rattle.puid_space.proofs.Words.{first_in, listed}
 use Rattle.puid_space.proofs.directory.Directory.first_from.Given as goal
 
 -- it is the first of those from this block on

@@ -1,5 +1,5 @@
 use Rattle.std.proofs.Common.{◌≡◌, ◌∙◌, refl, ap, sym, Bool, true, false, cond, Some, None, get_or, arith}
-use Rattle.std.specs.Bool.{then_some}
+use Rattle.puid_space.proofs.Words.{then_some}
 use Rattle.puid_space.proofs.Listed.{kind-listed, kind_here}
 use Rattle.puid_space.proofs.directory.Directory.kind.Goals as goal
 

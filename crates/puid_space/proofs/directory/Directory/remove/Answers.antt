@@ -1,5 +1,5 @@
 use Rattle.std.proofs.Common.{◌≡◌, sym, true, false, is_some}
-use Rattle.puid_space.specs.Directory.{kind_in}
+use Rattle.puid_space.proofs.Words.{kind_in}
 use Rattle.puid_space.proofs.Listed.{without-absent}
 use Rattle.puid_space.proofs.Opened.{removed, none-is}
 use Rattle.puid_space.proofs.directory.Directory.remove.Goals as goal

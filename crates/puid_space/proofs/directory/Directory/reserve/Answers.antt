@@ -1,6 +1,5 @@
 use Rattle.std.proofs.Common.{◌≡◌, ◌∙◌, ap, ◌++◌, None, replicate, arith, ◌-◌, vec_len}
-use Rattle.std.proofs.lemmas.List.{take_all}
-use Rattle.puid_space.specs.Directory.{Listing}
+use Rattle.puid_space.proofs.Words.{Listing, take_all}
 use Rattle.puid_space.proofs.Tables.{IsTable-grown, listed-grown}
 use Rattle.puid_space.proofs.directory.Directory.reserve.Goals as goal
 

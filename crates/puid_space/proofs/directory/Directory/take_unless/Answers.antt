@@ -1,5 +1,5 @@
 use Rattle.std.proofs.Common.{◌∙◌, ◌<◌, sym, ap, length, ◌++◌, true, false, arith}
-use Rattle.puid_space.specs.Directory.{Listing, kept_by, taken_by}
+use Rattle.puid_space.proofs.Words.{Listing, kept_by, taken_by}
 use Rattle.puid_space.proofs.Taken.{IsTaken-empty, IsTaken-kept, IsTaken-gone, IsTaken-all_kept, IsTaken-all_gone, one_at_least}
 use Rattle.puid_space.proofs.Opened.{cell-is}
 use Rattle.puid_space.proofs.directory.Directory.take_unless.Goals as goal

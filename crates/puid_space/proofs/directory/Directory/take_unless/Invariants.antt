@@ -1,5 +1,5 @@
 use Rattle.std.proofs.Common.{◌≡◌, ◌+◌, ◌≤◌, vec_len, vec_capacity}
-use Rattle.puid_space.specs.Directory.{Computes}
+use Rattle.puid_space.proofs.Words.{Computes}
 use Rattle.puid_space.proofs.Taken.{IsTaken}
 use Rattle.puid_space.proofs.directory.Directory.take_unless.Given as goal
 

@@ -1,12 +1,5 @@
 use Rattle.std.proofs.Common.{◌≡◌, ℕ, false, [], ◌∷◌, Ok, Err, Some, ◌∙◌, sym, ap, subst}
-use Rattle.cfs_base.specs.Disk.{block_at}
-use Rattle.cfs_base.specs.declared.kind.Place.TheVariants.{ShadowRoot}
-use Rattle.block_tree.specs.Root.{IsRootBlock}
-use Rattle.cyl_alloc.specs.Enters.{Enters}
-use Rattle.cyl_alloc.specs.Space.{intended}
-use Rattle.special_files.specs.Drafting.{Drafting, begun_at, opened_as}
-use Rattle.special_files.specs.Refusal.{IsRefusalOrMemory, is_damaged}
-use Rattle.special_files.specs.Store.{Steps}
+use Rattle.special_files.proofs.Words.{Drafting, Enters, IsRefusalOrMemory, IsRootBlock, ShadowRoot, Steps, begun_at, block_at, intended, is_damaged, opened_as}
 use Rattle.special_files.proofs.Begins.{begin_leaves, begin_steps}
 use Rattle.special_files.proofs.Begun.{own_root}
 use Rattle.special_files.proofs.Refusals.{damaged_by, or_memory, told}

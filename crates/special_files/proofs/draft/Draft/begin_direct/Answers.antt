@@ -1,9 +1,5 @@
 use Rattle.std.proofs.Common.{◌≡◌, ℕ, false, [], ◌∷◌, sym, subst}
-use Rattle.special_files.specs.Drafting.{Drafting, opened_as}
-use Rattle.cfs_base.specs.Disk.{block_at}
-use Rattle.block_tree.specs.Root.{IsRootBlock}
-use Rattle.intentions.specs.Store.{StoreHas}
-use Rattle.special_files.specs.Refusal.{IsRefusalOrMemory, is_damaged}
+use Rattle.special_files.proofs.Words.{Drafting, IsRefusalOrMemory, IsRootBlock, StoreHas, block_at, is_damaged, opened_as}
 use Rattle.special_files.proofs.Begun.{own_root, store_begins, store_reads}
 use Rattle.special_files.proofs.Refusals.{damaged_by, or_memory, told}
 use Rattle.special_files.proofs.draft.Draft.begin_direct.Goals as goal

@@ -1,7 +1,7 @@
 use Rattle.std.proofs.Common.{refl, sym, ◌∙◌, subst, arith}
-use Rattle.special_files.specs.Committing.{Makes}
-use Rattle.special_files.specs.Drafting.{Drafting}
+use Rattle.special_files.proofs.Words.{Drafting, Makes}
 use Rattle.special_files.proofs.CommitStore.{made_below, parts_of}
+use Rattle.special_files.proofs.View.{view}
 use Rattle.special_files.proofs.draft.Draft.commit_swap.Goals as goal
 
 pub returns-in-Err-clause-commits : goal.returns-in-Err-clause-commits
@@ -14,7 +14,7 @@ returns-in-Err-clause-commits g c = λ graph ds id o d made store at opened make
 pub returns-clause-commits : goal.returns-clause-commits
 returns-clause-commits g c = λ graph ds id o d made store at opened makes swapped.
     let parts = parts_of c.args.self _ c.draft.view_is in
-    c.commit_listed.ensures.commits graph ds id o c.args.self d made store at opened
+    c.commit_listed.ensures.commits c.args.self (view store at opened) made
     (record { at_is = parts.at_is; shadow_is = c.requires.direct; own_is = refl; root_is = parts.root_is; created_is = parts.created_is })
     (subst (λ (w : Drafting). Makes (g.D.Disk.content c.args.disk.now) w.created made) (sym c.draft.view_is) makes)
     (rw (c.as_slice.ensures, c.list_two.ensures, c.as_slice-2.ensures, c.list_two-2.ensures, sym parts.own_is, sym parts.root_is) swapped)

@@ -1,52 +1,18 @@
-use Rattle.std.proofs.Common.{◌/◌, Err, sym, ◌∙◌, ap, subst, arith}
-use Rattle.cfs_base.specs.declared.refusal.Refused.{Refused}
-use Rattle.leaf_changes.proofs.Contents.{length-leaf_content}
-use Rattle.special_files.specs.Drafting.{leaf_takes}
-use Rattle.special_files.specs.Ends.{Ends}
-use Rattle.special_files.specs.Refusal.{is_damaged}
-use Rattle.special_files.proofs.Refusals.{damaged_by}
-use Rattle.special_files.proofs.WriteLeaf.{ends_since, ends_trouble, images_since, leaf_changed, near_there, cut_fits, read_since, store_now, the_draft_there}
+use Rattle.std.proofs.Common.{◌/◌, arith}
+use Rattle.special_files.proofs.Words.{length-leaf_content}
+use Rattle.special_files.proofs.WriteLeaf.{cut_fits, goes_stopped, leaf_changed, leaf_since, leaf_stopped}
 use Rattle.special_files.proofs.draft.Draft.cut.Goals as goal
 
-pub returns-in-Ok-clause-put : goal.returns-in-Ok-clause-put
-returns-in-Ok-clause-put g c = λ graph ds id o d store at opened is less.
-    let d0 = c.args.disk.now in
-    let was = c.args.self.now in
-    let reads = c.in-Ok.ensures.reads in
-    let draft = the_draft_there g.D.Disk graph ds id o d0 c.cut_bytes.new.disk c.args.space.now was d 2 store at opened reads in
-    leaf_changed g.D.Disk graph ds id o d0 c.cut_bytes.new.disk c.args.space.now was d 2 store at opened reads (c.args.size / 512) c.in-Ok.content _ c.put_leaf.new.disk c.put_leaf.new.space c.put_leaf.new.self c.put_leaf.new.read
-    c.put_leaf.result (c.in-Ok.ensures.bytes store.carries.tells draft.tree.spelled.good.0 is) (cut_fits was.root c.args.size _ (length-leaf_content was.root.fill _) less)
-    (λ fits. c.put_leaf.ensures.put graph ds id o d (store_now g.D.Disk graph ds id o d0 c.cut_bytes.new.disk c.args.space.now was d 2 store at opened reads) at opened
-    (read_since g.D.Disk d0 c.cut_bytes.new.disk 2 reads was c.cut_bytes.new.read (c.in-Ok.ensures.node store.carries.tells is)) fits)
+pub returns-in-Ok-clause-goes : goal.returns-in-Ok-clause-goes
+returns-in-Ok-clause-goes g c = λ v is less.
+    leaf_changed c.in-Ok.ensures.turns.reads v c.args.read.now c.cut_bytes.new.read c.put_leaf.new.read (c.args.size / 512) c.in-Ok.content _ c.in-Ok.ensures.turns.node is (c.in-Ok.ensures.bytes _ v is)
+    (cut_fits c.args.self.now.root c.args.size _ (length-leaf_content c.args.self.now.root.fill _) less) c.put_leaf.ensures.goes
 
-pub returns-in-Ok-clause-leaves : goal.returns-in-Ok-clause-leaves
-returns-in-Ok-clause-leaves g c = λ graph ds id o d store at opened is.
-    let d0 = c.args.disk.now in
-    let was = c.args.self.now in
-    let reads = c.in-Ok.ensures.reads in
-    images_since g.D.Disk d0 c.cut_bytes.new.disk c.put_leaf.new.disk 2 reads _
-    (c.put_leaf.ensures.leaves graph ds id o d (store_now g.D.Disk graph ds id o d0 c.cut_bytes.new.disk c.args.space.now was d 2 store at opened reads) at opened
-    (read_since g.D.Disk d0 c.cut_bytes.new.disk 2 reads was c.cut_bytes.new.read (c.in-Ok.ensures.node store.carries.tells is)))
+pub returns-in-Ok-clause-calls : goal.returns-in-Ok-clause-calls
+returns-in-Ok-clause-calls g c = leaf_since c.in-Ok.ensures.turns.reads 8 c.put_leaf.ensures.calls (omega arith)
 
-pub returns-in-Ok-clause-sound : goal.returns-in-Ok-clause-sound
-returns-in-Ok-clause-sound g c = λ graph ds id o d store at opened is.
-    let d0 = c.args.disk.now in
-    let was = c.args.self.now in
-    let reads = c.in-Ok.ensures.reads in
-    c.put_leaf.ensures.sound graph ds id o d (store_now g.D.Disk graph ds id o d0 c.cut_bytes.new.disk c.args.space.now was d 2 store at opened reads) at opened
-    (read_since g.D.Disk d0 c.cut_bytes.new.disk 2 reads was c.cut_bytes.new.read (c.in-Ok.ensures.node store.carries.tells is))
+pub returns-in-Err-clause-goes : goal.returns-in-Err-clause-goes
+returns-in-Err-clause-goes g c = λ v is less. goes_stopped c.in-Err.ensures.turns.reads c.in-Err.trouble _ c.from.ensures (c.in-Err.ensures.turns.sound _ v)
 
-pub returns-in-Ok-clause-ends : goal.returns-in-Ok-clause-ends
-returns-in-Ok-clause-ends g c =
-    ends_since g.D.Disk c.args.disk.now c.cut_bytes.new.disk c.put_leaf.new.disk 2 c.in-Ok.ensures.reads c.args.self.now.at 0 6 4 (leaf_takes c.args.self.now (c.args.size / 512)) 8 c.args.space.now c.put_leaf.new.space c.put_leaf.result c.put_leaf.ensures.ends (omega arith)
-
-pub returns-in-Err-clause-ends : goal.returns-in-Err-clause-ends
-returns-in-Err-clause-ends g c =
-    subst (λ (e : Refused). Ends g.D.Disk c.args.self.now.at 0 8 4 (leaf_takes c.args.self.now (c.args.size / 512)) c.args.disk.now c.cut_bytes.new.disk c.args.space.now c.args.space.now (Err e)) (sym c.from.ensures)
-    (ends_trouble g.D.Disk c.args.self.now.at 0 2 4 (leaf_takes c.args.self.now (c.args.size / 512)) 8 c.args.disk.now c.cut_bytes.new.disk c.args.space.now c.in-Err.trouble c.in-Err.ensures.reads (omega arith) (c.in-Err.ensures.refused c.args.space.now))
-
-pub returns-in-Err-clause-sound : goal.returns-in-Err-clause-sound
-returns-in-Err-clause-sound g c = λ graph ds id o d store at opened is.
-    let d0 = c.args.disk.now in
-    let size = g.met.D.Disk.sized d0 store.carries.tells.honest in
-    ap is_damaged c.from.ensures ∙ damaged_by c.in-Err.trouble (c.in-Err.ensures.sound store.carries.tells (near_there g.D.Disk graph ds id o d0 c.args.space.now c.args.self.now d store at opened size c.requires.some ((c.args.size / 512) / 128)))
+pub returns-in-Err-clause-calls : goal.returns-in-Err-clause-calls
+returns-in-Err-clause-calls g c = leaf_stopped c.in-Err.ensures.turns.reads _ 8 c.in-Err.trouble _ c.from.ensures (omega arith) (c.in-Err.ensures.turns.refused _)

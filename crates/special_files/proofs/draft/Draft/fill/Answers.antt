@@ -1,62 +1,29 @@
-use Rattle.std.proofs.Common.{◌≡◌, ◌/◌, false, sym, ◌∙◌, ap, subst, arith}
-use Rattle.cfs_base.specs.Disk.{Image}
-use Rattle.block_tree.specs.Root.{root_spelling}
-use Rattle.claims.specs.Claims.{AreClaimed}
-use Rattle.vol_image.specs.Seen.{tree_in}
-use Rattle.cfs_base.proofs.Runs.{then}
-use Rattle.cfs_base.proofs.Calls.{reads_make, then_tried}
-use Rattle.special_files.specs.Drafting.{leaf_takes}
-use Rattle.special_files.specs.Nodes.{IsRead}
-use Rattle.special_files.specs.Leaves.{SameBeside}
-use Rattle.special_files.specs.Order.{leaf_claims}
-use Rattle.special_files.specs.Puts.{FitsLeaf}
-use Rattle.special_files.specs.Refusal.{is_damaged}
-use Rattle.special_files.proofs.Begun.{store_reads}
-use Rattle.special_files.proofs.Fills.{done_after_reads, ended_by, ends_stopped, leaves_read, put_fits, refused_after_reads, root_fits, slot_put, stays_empty}
-use Rattle.special_files.proofs.PutStore.{the_draft}
-use Rattle.special_files.proofs.ReadLeaves.{node_near}
-use Rattle.special_files.proofs.Refusals.{damaged_by, told}
-use Rattle.std.specs.Prelude.{Option, List, Some, ◌<◌, ℕ}
-use Rattle.cfs_base.specs.Run.{Tells}
-use Rattle.cfs_base.specs.declared.identifier.Puid.{Puid}
-use Rattle.intentions.specs.Store.{StoreHas}
-use Rattle.ufs_model.specs.Graph.{Graph, object_at}
-use Rattle.ufs_model.specs.declared.object.Draft.{Draft}
-use Rattle.ufs_model.specs.declared.object.Index.{Index}
+use Rattle.std.proofs.Common.{◌≡◌, ℕ, ◌/◌, ◌<◌, Option, sym, ap, subst, arith, false}
+use Rattle.special_files.proofs.Words.{AreClaimed, Drafting, FitsLeaf, Image, Index, IsRead, IsSafe, SameBeside, Swap, View, filled_draft, is_damaged, leaf_claims, root_spelling, tree_in}
 use Rattle.ufs_model.specs.declared.object.Object.TheVariants as objects
-use Rattle.ufs_model.specs.declared.object.Object.{Object}
-use Rattle.vol_owners.specs.Account.{Opened}
-use Rattle.special_files.specs.Drafting.{Drafting, IsOpen}
-use Rattle.special_files.specs.Fills.{filled_draft}
-use Rattle.special_files.specs.Nodes.{IsSafe}
-use Rattle.special_files.specs.declared.fill.Swap.{Swap}
+use Rattle.special_files.proofs.Endings.{ends_err}
+use Rattle.special_files.proofs.Fills.{ended_by, put_fits, slot_put, stays_empty}
+use Rattle.special_files.proofs.Refusals.{damaged_by, told}
 use Rattle.special_files.proofs.Swapped.{is_swapped, near_swap}
+use Rattle.special_files.proofs.View.{view, view_reads}
+use Rattle.special_files.proofs.WriteLeaf.{ends_as, ends_since, ends_trouble, images_since, leaf_since}
 use Rattle.special_files.proofs.draft.Draft.fill.Goals as goal
 
 pub returns-in_err-content-clause-ends : goal.returns-in_err-content-clause-ends
 returns-in_err-content-clause-ends g c =
-    let t = c.in_err-content.field-0.0 in
-    let reads = c.in_err-content.ensures.reads in
-    let takes = leaf_takes c.args.self.now (c.args.slot / 64) in
-    ended_by {A = Option Swap} g.D.Disk c.args.self.now.at 0 2 c.args.disk.now c.leaf_bytes.new.disk c.args.space.now reads c.leaf_bytes.new.disk c.args.space.now 8 4 takes c.from_residual.result t c.from_residual.ensures.1
-    (ends_stopped {A = Option Swap} g.D.Disk c.args.self.now.at 0 2 c.args.disk.now c.leaf_bytes.new.disk c.args.space.now reads 4 takes 8 t (omega arith) (c.in_err-content.ensures.refused c.args.space.now))
+    ended_by {A = Option Swap} g.D.Disk c.args.self.now.at 8 4 _ c.args.disk.now c.leaf_bytes.new.disk c.args.space.now c.args.space.now c.from_residual.result c.in_err-content.field-0.0 c.from_residual.ensures.1
+    (λ e is. ends_trouble c.in_err-content.ensures.turns.reads 4 _ 8 c.in_err-content.field-0.0 e is (omega arith) (c.in_err-content.ensures.turns.refused c.args.space.now))
 
 pub returns-in_err-content-clause-sound : goal.returns-in_err-content-clause-sound
 returns-in_err-content-clause-sound g c = λ graph ds id o d store at opened.
     let t = c.in_err-content.field-0.0 in
-    let d0 = c.args.disk.now in
-    let a = g.D.Disk.content d0 in
-    let draft = the_draft a ds id c.args.self.now d opened (store.account.drafts id o at) in
-    let size = g.met.D.Disk.sized d0 store.carries.tells.honest in
-    told (λ e. is_damaged e ≡ false) c.from_residual.result t c.from_residual.ensures.1
-    (damaged_by t (c.in_err-content.ensures.sound store.carries.tells (node_near a (g.D.Disk.blocks d0) id c.args.self.now d draft size (omega (arith, c.requires.on_disk)) (c.args.slot / 64 / 128))))
+    told (λ e. is_damaged e ≡ false) c.from_residual.result t c.from_residual.ensures.1 (damaged_by t (c.in_err-content.ensures.turns.sound _ (view store at opened)))
 
 pub returns-then-is_empty_already-clause-filled : goal.returns-then-is_empty_already-clause-filled
 returns-then-is_empty_already-clause-filled g c = λ graph ds id o d i store at opened index.
-    let d0 = c.args.disk.now in
-    let same = c.in_ok-content.ensures.bytes store.carries.tells (root_fits g.D.Disk graph ds id o d0 c.leaf_bytes.new.disk c.args.space.now c.args.self.now d i store at opened index 2 c.in_ok-content.ensures.reads c.args.slot c.args.what c.requires.within) (λ few. absurd (omega (arith, few, c.nothing-read.ensures))) in
-    stays_empty g.D.Disk graph ds id o d0 c.leaf_bytes.new.disk c.args.space.now c.args.self.now d i store at opened index 2 c.in_ok-content.ensures.reads c.args.slot c.args.what c.requires.within
-    c.in_ok-content.content same c.is_empty_already.result c.is_empty_already.ensures c.if-is_empty_already.true
+    let v = view store at opened in
+    stays_empty v i index c.in_ok-content.ensures.turns.reads c.args.slot c.args.what c.requires.within c.in_ok-content.content (c.in_ok-content.ensures.bytes _ v (λ few. absurd (omega (arith, few, c.nothing-read.ensures))))
+    c.is_empty_already.result c.is_empty_already.ensures c.if-is_empty_already.true
 
 pub returns-in-Ok : goal.returns-in-Ok
 returns-in-Ok g c =
@@ -68,36 +35,34 @@ returns-in-Ok g c =
     let was = c.args.self.now in
     let now = c.put_leaf.new.self in
     let leaf = c.args.slot / 64 in
-    let reads = c.in_ok-content.ensures.reads in
+    let turns = c.in_ok-content.ensures.turns in
+    let reads = turns.reads in
+    let calls = leaf_since reads 8 c.in-Ok.ensures.calls (omega arith) in
     let none : IsRead (G.content d0) was c.nothing-read.result = λ few. absurd (omega (arith, few, c.nothing-read.ensures)) in
-    let read = λ (tells : Tells G d0). subst (λ (a : Image). IsRead a was c.leaf_bytes.new.read) (sym reads.content) (c.in_ok-content.ensures.node tells none) in
-    let same = λ (graph : Graph) (ds : List Opened) (id : Puid) (o : Object) (d : Draft) (i : Index) (store : StoreHas G graph ds d0 k0) (at : object_at graph id ≡ Some o) (opened : IsOpen ds id was d) (index : d.object ≡ objects.Index i).
-    c.in_ok-content.ensures.bytes store.carries.tells (root_fits G graph ds id o d0 d1 k0 was d i store at opened index 2 reads c.args.slot c.args.what c.requires.within) none in
-    let puts = λ (graph : Graph) (ds : List Opened) (id : Puid) (o : Object) (d : Draft) (i : Index) (store : StoreHas G graph ds d0 k0) (at : object_at graph id ≡ Some o) (opened : IsOpen ds id was d) (index : d.object ≡ objects.Index i).
-    c.in-Ok.ensures.put graph ds id o d (store_reads G graph ds d0 d1 k0 2 store reads) at opened (read store.carries.tells)
-    (subst (FitsLeaf was.root leaf) (sym c.put_slot.ensures.put) (put_fits G graph ds id o d0 d1 k0 was d i store at opened index 2 reads c.args.slot c.args.what c.requires.within c.in_ok-content.content (same graph ds id o d i store at opened index))) in
-    let filled = λ (graph : Graph) (ds : List Opened) (id : Puid) (o : Object) (d : Draft) (i : Index) (store : StoreHas G graph ds d0 k0) (at : object_at graph id ≡ Some o) (opened : IsOpen ds id was d) (index : d.object ≡ objects.Index i).
-    slot_put G graph ds id o d0 d1 k0 was d i store at opened index 2 reads c.args.slot c.args.what c.requires.within c.in_ok-content.content (same graph ds id o d i store at opened index) c.is_empty_already.result c.is_empty_already.ensures c.if-is_empty_already.false
-    c.requires.slot d2 c.put_leaf.new.space now c.put_leaf.new.read c.put_slot.new.block c.put_slot.ensures.put c.put_leaf.ensures.stays (puts graph ds id o d i store at opened index) in
-    let beside = λ (graph : Graph) (ds : List Opened) (id : Puid) (o : Object) (d : Draft) (i : Index) (store : StoreHas G graph ds d0 k0) (at : object_at graph id ≡ Some o) (opened : IsOpen ds id was d) (index : d.object ≡ objects.Index i).
-    subst (λ (a : Image). SameBeside leaf (tree_in a (root_spelling was.root)) (tree_in (G.content d2) (root_spelling now.root))) reads.content (puts graph ds id o d i store at opened index).beside in
+    let puts = λ (v : View G d0 k0 was).
+    c.in-Ok.ensures.goes (view_reads v reads) (subst (λ (a : Image). IsRead a was c.leaf_bytes.new.read) (sym reads.content) (turns.node v.store.carries.tells none))
+    (subst (FitsLeaf was.root leaf) (sym c.put_slot.ensures.put) (put_fits v c.args.slot c.args.what c.requires.within c.in_ok-content.content (c.in_ok-content.ensures.bytes k0 v none))) in
+    let filled = λ (v : View G d0 k0 was) (i : Index) (index : v.draft.object ≡ objects.Index i).
+    slot_put v i index reads c.args.slot c.args.what c.requires.within c.in_ok-content.content (c.in_ok-content.ensures.bytes k0 v none) c.is_empty_already.result c.is_empty_already.ensures c.if-is_empty_already.false
+    c.requires.slot d2 c.put_leaf.new.space now c.put_leaf.new.read c.put_slot.new.block c.put_slot.ensures.put calls.stays (puts v).done in
+    let beside = λ (v : View G d0 k0 was) (i : Index) (index : v.draft.object ≡ objects.Index i).
+    subst (λ (a : Image). SameBeside leaf (tree_in a (root_spelling was.root)) (tree_in (G.content d2) (root_spelling now.root))) reads.content (puts v).done.beside in
     let few : leaf < 15360 = omega (arith, c.requires.within, c.if-prove.false, ap (λ (x : Drafting). x.root.size) c.self.view_is) in
-    let size = c.in-Ok.ensures.ends.calls.same.size ∙ reads.same.size in
+    let size = calls.ends.calls.same.size in
     record {
-      filled = filled;
-      order = λ graph ds id o d i store at opened index done. subst (λ (a : Image). AreClaimed (leaf_claims was.at was.leaves was.nodes leaf) a (G.content d2)) reads.content (puts graph ds id o d i store at opened index).order;
+      filled = λ graph ds id o d i store at opened index. filled (view store at opened) i index;
+      order = λ graph ds id o d i store at opened index done. subst (λ (a : Image). AreClaimed (leaf_claims was.at was.leaves was.nodes leaf) a (G.content d2)) reads.content (puts (view store at opened)).done.order;
       swaps = λ graph ds id o d i store at opened index equal.
-          is_swapped was now leaf few c.leaf_bytes.new.read c.put_leaf.new.read c.in_ok-content.ensures.number c.put_leaf.ensures.number equal c.put_leaf.ensures.stays.own G graph ds id o d0 d2 k0 c.put_leaf.new.space d (filled_draft i c.args.slot c.args.what d) store at opened
-          (filled graph ds id o d i store at opened index) (beside graph ds id o d i store at opened index) (c.in_ok-content.ensures.node store.carries.tells none) (puts graph ds id o d i store at opened index).read_is;
+          is_swapped was now leaf few c.leaf_bytes.new.read c.put_leaf.new.read turns.number_is calls.number equal calls.stays.own G graph ds id o d0 d2 k0 c.put_leaf.new.space d (filled_draft i c.args.slot c.args.what d) store at opened
+          (filled (view store at opened) i index) (beside (view store at opened) i index) (turns.node store.carries.tells none) (puts (view store at opened)).done.read_is;
       near = λ equal.
-          near_swap was now leaf few c.leaf_bytes.new.read c.put_leaf.new.read c.in_ok-content.ensures.number c.put_leaf.ensures.number equal c.put_leaf.ensures.stays.own (G.blocks d2) (omega (arith, c.requires.on_disk, size))
-          (subst (λ (n : ℕ). IsSafe n was c.leaf_bytes.new.read) (sym size) c.in_ok-content.ensures.safe) c.in-Ok.ensures.safe;
-      beside = beside;
-      leaves = λ graph ds id o d store at opened.
-          then G d0 d1 d2 _ _ (leaves_read G graph 2 d0 d1 reads) (c.put_leaf.ensures.leaves graph ds id o d (store_reads G graph ds d0 d1 k0 2 store reads) at opened (read store.carries.tells)) (λ a h. h);
-      stays = c.put_leaf.ensures.stays;
-      ends = done_after_reads G was.at 0 2 6 4 (leaf_takes was leaf) 8 d0 d1 d2 k0 c.put_leaf.new.space reads (omega arith) tt _ c.in-Ok.ensures.ends;
-      done = λ some. then_tried G d0 d1 d2 2 0 (reads_make G d0 d1 2 reads) c.in-Ok.ensures.tried;
+          near_swap was now leaf few c.leaf_bytes.new.read c.put_leaf.new.read turns.number_is calls.number equal calls.stays.own (G.blocks d2) (omega (arith, c.requires.on_disk, size))
+          (subst (λ (n : ℕ). IsSafe n was c.leaf_bytes.new.read) (sym size) turns.safe) calls.safe;
+      beside = λ graph ds id o d i store at opened index. beside (view store at opened) i index;
+      leaves = λ graph ds id o d store at opened. images_since reads d2 _ (puts (view store at opened)).leaves;
+      stays = calls.stays;
+      ends = ends_as _ calls.ends;
+      done = λ some. calls.tried;
       spared = λ same. cc;
       empty = λ same. cc;
       kept = tt;
@@ -106,18 +71,17 @@ returns-in-Ok g c =
     }
 
 pub returns-in-Err-clause-leaves : goal.returns-in-Err-clause-leaves
-returns-in-Err-clause-leaves g c = λ graph ds id o d store at opened.
-    let reads = c.in_ok-content.ensures.reads in
-    let is = subst (λ (a : Image). IsRead a c.args.self.now c.leaf_bytes.new.read) (sym reads.content) (c.in_ok-content.ensures.node store.carries.tells (λ few. absurd (omega (arith, few, c.nothing-read.ensures)))) in
-    then g.D.Disk c.args.disk.now c.leaf_bytes.new.disk c.put_leaf.new.disk _ _ (leaves_read g.D.Disk graph 2 c.args.disk.now c.leaf_bytes.new.disk reads)
-    (c.put_leaf.ensures.leaves graph ds id o d (store_reads g.D.Disk graph ds c.args.disk.now c.leaf_bytes.new.disk c.args.space.now 2 store reads) at opened is) (λ a h. h)
+returns-in-Err-clause-leaves g c = λ graph ds id o d store at opened. images_since c.in_ok-content.ensures.turns.reads c.put_leaf.new.disk _ (c.in-Err.ensures.goes (view_reads (view store at opened) c.in_ok-content.ensures.turns.reads)
+    (subst (λ (a : Image). IsRead a c.args.self.now c.leaf_bytes.new.read) (sym c.in_ok-content.ensures.turns.reads.content) (c.in_ok-content.ensures.turns.node store.carries.tells (λ few. absurd (omega (arith, few, c.nothing-read.ensures)))))
+    (subst (FitsLeaf c.args.self.now.root (c.args.slot / 64)) (sym c.put_slot.ensures.put)
+    (put_fits (view store at opened) c.args.slot c.args.what c.requires.within c.in_ok-content.content (c.in_ok-content.ensures.bytes _ (view store at opened) (λ few. absurd (omega (arith, few, c.nothing-read.ensures))))))).leaves
 
 pub returns-in-Err-clause-ends : goal.returns-in-Err-clause-ends
 returns-in-Err-clause-ends g c =
-    refused_after_reads g.D.Disk c.args.self.now.at 0 2 6 4 (leaf_takes c.args.self.now (c.args.slot / 64)) 8 c.args.disk.now c.leaf_bytes.new.disk c.put_leaf.new.disk c.args.space.now c.put_leaf.new.space c.in_ok-content.ensures.reads (omega arith) c.in-Err.error c.in-Err.ensures.ends
+    ends_err g.D.Disk c.args.self.now.at 0 8 4 _ c.args.disk.now c.put_leaf.new.disk c.args.space.now c.put_leaf.new.space c.in-Err.error (ends_since c.in_ok-content.ensures.turns.reads 8 c.in-Err.ensures.calls.ends (omega arith))
 
 pub returns-in-Err-clause-sound : goal.returns-in-Err-clause-sound
-returns-in-Err-clause-sound g c = λ graph ds id o d store at opened.
-    let reads = c.in_ok-content.ensures.reads in
-    let is = subst (λ (a : Image). IsRead a c.args.self.now c.leaf_bytes.new.read) (sym reads.content) (c.in_ok-content.ensures.node store.carries.tells (λ few. absurd (omega (arith, few, c.nothing-read.ensures)))) in
-    c.in-Err.ensures.sound graph ds id o d (store_reads g.D.Disk graph ds c.args.disk.now c.leaf_bytes.new.disk c.args.space.now 2 store reads) at opened is
+returns-in-Err-clause-sound g c = λ graph ds id o d store at opened. (c.in-Err.ensures.goes (view_reads (view store at opened) c.in_ok-content.ensures.turns.reads)
+    (subst (λ (a : Image). IsRead a c.args.self.now c.leaf_bytes.new.read) (sym c.in_ok-content.ensures.turns.reads.content) (c.in_ok-content.ensures.turns.node store.carries.tells (λ few. absurd (omega (arith, few, c.nothing-read.ensures)))))
+    (subst (FitsLeaf c.args.self.now.root (c.args.slot / 64)) (sym c.put_slot.ensures.put)
+    (put_fits (view store at opened) c.args.slot c.args.what c.requires.within c.in_ok-content.content (c.in_ok-content.ensures.bytes _ (view store at opened) (λ few. absurd (omega (arith, few, c.nothing-read.ensures))))))).sound

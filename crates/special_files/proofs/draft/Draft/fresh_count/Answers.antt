@@ -1,6 +1,5 @@
 use Rattle.std.proofs.Common.{◌≡◌, ◌+◌, length, subst, arith}
-use Rattle.std.specs.List.{sum_by}
-use Rattle.special_files.specs.Drafting.{Drafting, IsOpen, shadow_count}
+use Rattle.special_files.proofs.Words.{Drafting, IsOpen, shadow_count, sum_by}
 use Rattle.special_files.proofs.Levels.{fresh_counted}
 use Rattle.special_files.proofs.draft.Draft.fresh_count.Goals as goal
 

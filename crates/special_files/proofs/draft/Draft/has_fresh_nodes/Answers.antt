@@ -1,7 +1,5 @@
 use Rattle.std.proofs.Common.{◌≡◌, ℕ, ◌<◌, true, subst, arith}
-use Rattle.std.specs.Prelude.{nat_lt}
-use Rattle.std.proofs.lemmas.Bool.Decides.{nat_tests}
-use Rattle.special_files.specs.Drafting.{Drafting, is_fresh_node}
+use Rattle.special_files.proofs.Words.{Drafting, is_fresh_node, nat_lt, nat_tests}
 use Rattle.special_files.proofs.Levels.{counted_some}
 use Rattle.special_files.proofs.draft.Draft.has_fresh_nodes.Goals as goal
 

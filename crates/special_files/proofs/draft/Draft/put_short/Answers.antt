@@ -1,6 +1,5 @@
 use Rattle.std.proofs.Common.{ℕ, ◌%◌, List, refl, sym, ◌∙◌, ap}
-use Rattle.std.specs.Prelude.{slice_index}
-use Rattle.special_files.specs.Shed.{IsShortNode, NoBlock, NoWrite, Put}
+use Rattle.special_files.proofs.Words.{IsShortNode, NoBlock, NoWrite, Put, slice_index}
 use Rattle.special_files.proofs.draft.Draft.put_short.Goals as goal
 
 pub returns-in-Err : goal.returns-in-Err

@@ -1,5 +1,5 @@
 use Rattle.std.proofs.Common.{refl, arith}
-use Rattle.special_files.specs.Shed.{Whole, Within}
+use Rattle.special_files.proofs.Words.{Whole, Within}
 use Rattle.special_files.proofs.draft.Draft.put_within.Goals as goal
 
 pub returns-then-from-eq0 : goal.returns-then-from-eq0

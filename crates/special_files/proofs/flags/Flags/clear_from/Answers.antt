@@ -1,6 +1,5 @@
 use Rattle.std.proofs.Common.{◌≡◌, ◌⊎◌, inl, inr, ℕ, ◌-◌, ◌<◌, ◌≤◌, ◌++◌, Bool, false, List, refl, get_or, length, replicate, sym, ◌∙◌, ap, arith}
-use Rattle.std.proofs.lemmas.Bool.{cases_lt}
-use Rattle.std.proofs.lemmas.List.{get_or-append_right, get_or-replicate, get_or_past, length-replicate}
+use Rattle.special_files.proofs.Words.{cases_lt, get_or-append_right, get_or-replicate, get_or_past, length-replicate}
 use Rattle.special_files.proofs.flags.Flags.clear_from.Goals as goal
 
 -- no flag past those that were put is set

@@ -1,5 +1,5 @@
 use Rattle.std.proofs.Common.{ℕ, length, sym, ◌∙◌, ap, arith}
-use Rattle.special_files.specs.Drafting.{one_unless}
+use Rattle.special_files.proofs.Words.{one_unless}
 use Rattle.special_files.proofs.Levels.{none_unset, one_at_most, unset_last}
 use Rattle.special_files.proofs.flags.Flags.lacking.Goals as goal
 

@@ -1,5 +1,5 @@
 use Rattle.std.proofs.Common.{◌≡◌, ◌-◌, ◌≤◌, length}
-use Rattle.special_files.specs.Drafting.{unset_in}
+use Rattle.special_files.proofs.Words.{unset_in}
 use Rattle.special_files.proofs.flags.Flags.lacking.Given as goal
 
 abbrev pub invariant-loop-at : goal.invariant-loop-at

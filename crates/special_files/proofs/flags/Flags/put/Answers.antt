@@ -1,5 +1,6 @@
 use Rattle.std.proofs.Common.{◌≡◌, ℕ, ◌+◌, ◌-◌, ◌≤◌, ◌++◌, Bool, false, List, length, replicate, set, sym, ◌∙◌, ap, arith}
-use Rattle.std.proofs.lemmas.List.{append_assoc, length-append, length-replicate, length-set, replicate-append-replicate, set-append_left}
+use Rattle.special_files.proofs.Words.{length-replicate, replicate-append-replicate, set-append_left}
+use Rattle.std.proofs.lemmas.List.{append_assoc, length-append, length-set}
 use Rattle.special_files.proofs.flags.Flags.put.Goals as goal
 
 long : (xs : List Bool) (n : ℕ) → length (xs ++ replicate n false) ≡ length xs + n

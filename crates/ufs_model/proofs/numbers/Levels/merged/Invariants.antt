@@ -1,5 +1,5 @@
 use Rattle.std.proofs.Common.{◌≡◌, ◌++◌, drop}
-use Rattle.ufs_model.specs.Numbers.{merged}
+use Rattle.ufs_model.proofs.Words.{merged}
 use Rattle.ufs_model.proofs.numbers.Levels.merged.Given as goal
 
 abbrev pub invariant-loop-i : goal.invariant-loop-i

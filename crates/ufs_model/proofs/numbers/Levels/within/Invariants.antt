@@ -1,5 +1,5 @@
 use Rattle.std.proofs.Common.{◌≡◌, ◌++◌, drop}
-use Rattle.ufs_model.specs.Numbers.{within}
+use Rattle.ufs_model.proofs.Words.{within}
 use Rattle.ufs_model.proofs.numbers.Levels.within.Given as goal
 
 abbrev pub invariant-loop-i : goal.invariant-loop-i

@@ -1,6 +1,5 @@
 use Rattle.std.proofs.Common.{◌≡◌, List, ℕ, sym, ◌∙◌, ap, subst, rules}
-use Rattle.std.specs.Prelude.{insert}
-use Rattle.ufs_model.specs.Numbers.{numbers_rise, with_number}
+use Rattle.ufs_model.proofs.Words.{insert, numbers_rise, with_number}
 use Rattle.ufs_model.proofs.Rising.{with_number-rises}
 use Rattle.ufs_model.proofs.numbers.Numbers.add.Goals as goal
 

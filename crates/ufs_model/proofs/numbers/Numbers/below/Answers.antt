@@ -1,5 +1,5 @@
 use Rattle.std.proofs.Common.{◌≡◌, rules}
-use Rattle.std.specs.Prelude.{filter, nat_lt}
+use Rattle.ufs_model.proofs.Words.{filter, nat_lt}
 use Rattle.ufs_model.proofs.Rising.{filter-rises}
 use Rattle.ufs_model.proofs.numbers.Numbers.below.Goals as goal
 

@@ -1,6 +1,5 @@
-use Rattle.std.proofs.Common.{◌≡◌, rules}
-use Rattle.std.specs.Prelude.{filter, not}
-use Rattle.ufs_model.specs.Numbers.{has_number}
+use Rattle.std.proofs.Common.{◌≡◌, rules, not}
+use Rattle.ufs_model.proofs.Words.{filter, has_number}
 use Rattle.ufs_model.proofs.Rising.{filter-rises}
 use Rattle.ufs_model.proofs.numbers.Numbers.lacking.Goals as goal
 

@@ -1,8 +1,5 @@
 use Rattle.std.proofs.Common.{◌≡◌, subst, List, ℕ}
-use Rattle.std.specs.Prelude.{insert}
-use Rattle.std.specs.List.Sorted.{IsBinarySearchResult}
-use Rattle.std.specs.Ordering.{nat_cmp}
-use Rattle.ufs_model.specs.Numbers.{with_number}
+use Rattle.ufs_model.proofs.Words.{IsBinarySearchResult, insert, nat_cmp, with_number}
 use Rattle.ufs_model.proofs.NumberLists.{place_found}
 use Rattle.ufs_model.proofs.numbers.Numbers.place_for.Goals as goal
 

@@ -1,6 +1,5 @@
-use Rattle.std.specs.List.{range_with_len}
 use Rattle.std.proofs.Common.{◌≡◌, ◌+◌, ◌-◌, ◌++◌, ◌∷◌, [], ap, suc, ◌∙◌, sym, arith, rules}
-use Rattle.ufs_model.specs.Numbers.{numbers_rise}
+use Rattle.ufs_model.proofs.Words.{numbers_rise, range_with_len}
 use Rattle.ufs_model.proofs.Rising.{numbers_more, numbers-rise}
 use Rattle.ufs_model.proofs.numbers.Numbers.row.Goals as goal
 

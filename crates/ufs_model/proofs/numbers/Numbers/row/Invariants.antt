@@ -1,5 +1,5 @@
-use Rattle.std.specs.List.{range_with_len}
 use Rattle.std.proofs.Common.{◌≡◌, ◌-◌}
+use Rattle.ufs_model.proofs.Words.{range_with_len}
 use Rattle.ufs_model.proofs.numbers.Numbers.row.Given as goal
 
 abbrev pub invariant-loop-number : goal.invariant-loop-number

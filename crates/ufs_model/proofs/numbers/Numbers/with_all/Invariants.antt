@@ -1,5 +1,5 @@
 use Rattle.std.proofs.Common.{◌≡◌, ◌≤◌, drop, length}
-use Rattle.ufs_model.specs.Numbers.{with_numbers}
+use Rattle.ufs_model.proofs.Words.{with_numbers}
 use Rattle.ufs_model.proofs.numbers.Numbers.with_all.Given as goal
 
 abbrev pub invariant-loop-left : goal.invariant-loop-left

@@ -1,5 +1,5 @@
 use Rattle.std.proofs.Common.{◌+◌, ◌∙◌, ap, arith, get_or, set, length, List, ℕ}
-use Rattle.std.proofs.lemmas.List.Edits.{paste_more}
+use Rattle.ufs_model.proofs.Words.{paste_more}
 use Rattle.ufs_model.proofs.object.Content.overwrite.Goals as goal
 
 pub loop-i-preserved : goal.loop-i-preserved

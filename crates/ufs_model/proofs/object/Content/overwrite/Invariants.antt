@@ -1,5 +1,5 @@
 use Rattle.std.proofs.Common.{◌≡◌}
-use Rattle.std.proofs.Math.Seq.{paste}
+use Rattle.ufs_model.proofs.Words.{paste}
 use Rattle.ufs_model.proofs.object.Content.overwrite.Given as goal
 
 abbrev pub invariant-loop-i : goal.invariant-loop-i

@@ -1,10 +1,5 @@
 use Rattle.std.proofs.Common.{◌≡◌, ◌∙◌, sym, ap, subst, None, true, arith}
-use Rattle.ufs_model.specs.Graph.{IsLeastFreeRoot, has_block}
-use Rattle.ufs_model.specs.Outcome.{creates}
-use Rattle.ufs_model.specs.Plain.{IsAnswer, Server}
-use Rattle.ufs_model.specs.Refusal.{refusal_of}
-use Rattle.ufs_model.specs.State.{State}
-use Rattle.ufs_model.specs.WellFormed.{IsState}
+use Rattle.ufs_model.proofs.Words.{IsAnswer, IsLeastFreeRoot, IsState, Server, State, creates, has_block, refusal_of}
 use Rattle.ufs_model.proofs.KeepsStates.{outcome_keeps}
 use Rattle.ufs_model.proofs.Legal.{least_is_free, refused_answer, refused_plain}
 use Rattle.ufs_model.proofs.Outcomes.{outcome_leaves, taken_after}

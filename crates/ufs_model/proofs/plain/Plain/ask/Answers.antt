@@ -1,7 +1,5 @@
 use Rattle.std.proofs.Common.{◌≡◌, ap}
-use Rattle.std.specs.Prelude.{OnErr}
-use Rattle.std.proofs.lemmas.Result.{on_err_weaker}
-use Rattle.ufs_model.specs.Plain.{Server}
+use Rattle.ufs_model.proofs.Words.{OnErr, Server, on_err_weaker}
 use Rattle.ufs_model.proofs.Legal.{told_legal}
 use Rattle.ufs_model.proofs.plain.Plain.ask.Goals as goal
 

@@ -1,7 +1,5 @@
 use Rattle.std.proofs.Common.{◌≡◌, ◌<◌, ◌≤◌, ℕ, true, sym, subst}
-use Rattle.ufs_model.specs.Graph.{has_block}
-use Rattle.ufs_model.specs.Plain.{Server}
-use Rattle.ufs_model.specs.WellFormed.{IsState}
+use Rattle.ufs_model.proofs.Words.{IsState, Server, has_block}
 use Rattle.ufs_model.proofs.WellStates.{leave_keeps}
 use Rattle.ufs_model.proofs.plain.Plain.leave.Goals as goal
 

@@ -1,10 +1,5 @@
 use Rattle.std.proofs.Common.{◌≡◌, ◌∙◌, ap, sym, subst, Some, None, false}
-use Rattle.ufs_model.specs.Outcome.{changed}
-use Rattle.ufs_model.specs.Plain.{Server, IsDraftPlace}
-use Rattle.ufs_model.specs.Refusal.{goes_nowhere, has_no_such_grant}
-use Rattle.ufs_model.specs.State.{State, draft_of, named}
-use Rattle.ufs_model.specs.WellFormed.{IsState}
-use Rattle.ufs_model.specs.contracts.server.Server.{the_view}
+use Rattle.ufs_model.proofs.Words.{IsDraftPlace, IsState, Server, State, changed, draft_of, goes_nowhere, has_no_such_grant, named, the_view}
 use Rattle.ufs_model.proofs.WellStates.{goes}
 use Rattle.ufs_model.proofs.ServerChanges.{draft_changed, object_changed}
 use Rattle.ufs_model.proofs.server.Server.change.Goals as goal

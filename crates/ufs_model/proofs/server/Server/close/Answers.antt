@@ -1,20 +1,5 @@
 use Rattle.std.proofs.Common.{◌≡◌, List, ◌∙◌, ap, sym, subst, Some, true, false}
-use Rattle.std.specs.Prelude.{is_none}
-use Rattle.std.specs.BTreeMap.{insert_entry}
-use Rattle.std.specs.List.{position}
-use Rattle.std.proofs.lemmas.Option.{get_or_from_slice_get}
-use Rattle.ufs_model.specs.declared.asked.Ref.TheVariants.{Through}
-use Rattle.ufs_model.specs.declared.object.Draft.{Draft}
-use Rattle.ufs_model.specs.declared.object.Grant.{Grant}
-use Rattle.ufs_model.specs.declared.object.Object.{Object}
-use Rattle.ufs_model.specs.Graph.{object_at}
-use Rattle.ufs_model.specs.Identifier.{puid_cmp}
-use Rattle.ufs_model.specs.Outcome.{closed}
-use Rattle.ufs_model.specs.Plain.{Server}
-use Rattle.ufs_model.specs.Refusal.{has_no_such_grant}
-use Rattle.ufs_model.specs.State.{State, is_grant}
-use Rattle.ufs_model.specs.WellFormed.{IsState}
-use Rattle.ufs_model.specs.contracts.server.Server.{the_view}
+use Rattle.ufs_model.proofs.Words.{Draft, Grant, IsState, Object, Server, State, Through, closed, get_or_from_slice_get, has_no_such_grant, insert_entry, is_grant, is_none, object_at, position, puid_cmp, the_view}
 use Rattle.ufs_model.proofs.Grants.{found_nowhere}
 use Rattle.ufs_model.proofs.ServerChanges.{standing, closed_state}
 use Rattle.ufs_model.proofs.server.Server.close.Goals as goal

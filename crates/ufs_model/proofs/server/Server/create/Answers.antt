@@ -1,20 +1,6 @@
 use Rattle.std.proofs.Common.{◌≡◌, ℕ, List, ◌∙◌, ap, sym, subst, Some, None, false}
-use Rattle.std.specs.Prelude.{unwrap_or}
-use Rattle.std.specs.BTreeMap.{insert_entry, is_at}
-use Rattle.std.specs.Map.{lookup}
-use Rattle.std.proofs.lemmas.Option.{same_Some}
-use Rattle.cfs_base.specs.declared.identifier.Puid.{Puid}
-use Rattle.ufs_model.specs.declared.asked.Ref.{Ref}
+use Rattle.ufs_model.proofs.Words.{Drawing, Fill, IsInside, Object, Puid, Ref, Server, changed_object, created, draft_of, has_block, held_leaves, insert_entry, is_at, lookup, named, object_at, puid_cmp, same_Some, seen, the_view, unwrap_or}
 use Rattle.ufs_model.specs.declared.asked.Reply.TheVariants as replies
-use Rattle.ufs_model.specs.declared.object.Object.{Object}
-use Rattle.ufs_model.specs.Identifier.{puid_cmp}
-use Rattle.ufs_model.specs.Object.{Fill, IsInside, changed_object, held_leaves}
-use Rattle.ufs_model.specs.Graph.{has_block, object_at}
-use Rattle.ufs_model.specs.Outcome.{created}
-use Rattle.ufs_model.specs.Plain.{Server}
-use Rattle.ufs_model.specs.State.{draft_of, named, seen}
-use Rattle.ufs_model.specs.Word.{Drawing}
-use Rattle.ufs_model.specs.contracts.server.Server.{the_view}
 use Rattle.ufs_model.proofs.RootBlocks.{found_still}
 use Rattle.ufs_model.proofs.ServerChanges.{slot_inside, created_state}
 use Rattle.ufs_model.proofs.server.Server.create.Goals as goal

@@ -1,10 +1,5 @@
-use Rattle.std.proofs.Common.{◌≡◌, ◌∙◌, sym, ap, refl, length, Some, None, slice_get}
-use Rattle.std.specs.Prelude.{Option, IfNone}
-use Rattle.std.specs.List.{position}
-use Rattle.std.proofs.lemmas.Bool.{ltb-true}
-use Rattle.std.proofs.lemmas.Option.{slice_get_read}
-use Rattle.ufs_model.specs.Plain.{Server}
-use Rattle.ufs_model.specs.State.{is_grant}
+use Rattle.std.proofs.Common.{◌≡◌, ◌∙◌, sym, ap, refl, length, Some, None, slice_get, Option}
+use Rattle.ufs_model.proofs.Words.{IfNone, Server, is_grant, ltb-true, position, slice_get_read}
 use Rattle.ufs_model.proofs.Places.{no_grant_place, no_draft_place, draft_place}
 use Rattle.ufs_model.proofs.server.Server.draft_place.Goals as goal
 

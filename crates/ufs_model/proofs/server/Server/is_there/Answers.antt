@@ -1,6 +1,5 @@
 use Rattle.std.proofs.Common.{◌∙◌, ap}
-use Rattle.ufs_model.specs.Plain.{Server}
-use Rattle.ufs_model.specs.Graph.{is_there}
+use Rattle.ufs_model.proofs.Words.{Server, is_there}
 use Rattle.ufs_model.proofs.server.Server.is_there.Goals as goal
 
 pub returns : goal.returns

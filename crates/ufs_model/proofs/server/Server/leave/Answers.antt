@@ -1,10 +1,5 @@
-use Rattle.std.proofs.Common.{◌≡◌, ◌∙◌, ap, rules, Bool}
-use Rattle.std.specs.Prelude.{◌==◌, not, filter}
-use Rattle.std.proofs.lemmas.Fn.{filter_same}
-use Rattle.ufs_model.specs.Plain.{Server}
-use Rattle.ufs_model.specs.State.{after_leave}
-use Rattle.ufs_model.specs.contracts.server.Server.{the_view}
-use Rattle.ufs_model.specs.declared.object.Grant.{Grant}
+use Rattle.std.proofs.Common.{◌≡◌, ◌∙◌, ap, rules, Bool, not}
+use Rattle.ufs_model.proofs.Words.{Grant, Server, after_leave, filter, filter_same, the_view, ◌==◌}
 use Rattle.ufs_model.proofs.server.Server.leave.Goals as goal
 
 -- the grants that stay are those of other sessions

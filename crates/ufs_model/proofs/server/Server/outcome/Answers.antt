@@ -1,7 +1,7 @@
 use Rattle.std.proofs.Common.{◌≡◌, ap, sym, rules, refl}
+use Rattle.ufs_model.proofs.Words.{Server}
 use Rattle.ufs_model.specs.declared.asked.Reply.TheVariants as replies
 use Rattle.ufs_model.specs.declared.asked.Request.TheVariants as asks
-use Rattle.ufs_model.specs.Plain.{Server}
 use Rattle.ufs_model.proofs.Outcomes.{no_draft}
 use Rattle.ufs_model.proofs.server.Server.outcome.Goals as goal
 

@@ -1,6 +1,5 @@
 use Rattle.std.proofs.Common.{◌+◌, arith, ◌∙◌, ap}
-use Rattle.rand_chacha.specs.ChaCha.{next_word}
-use Rattle.ufs_model.specs.Word.{Drawing}
+use Rattle.ufs_model.proofs.Words.{Drawing, next_word}
 use Rattle.ufs_model.proofs.Drawn.{drawn_word, drawn_rest}
 use Rattle.ufs_model.proofs.word.Words.draw.Goals as goal
 

@@ -1,5 +1,5 @@
 use Rattle.std.proofs.Common.{arith, ◌∙◌, ap, refl}
-use Rattle.rand_chacha.specs.ChaCha.{next_word}
+use Rattle.ufs_model.proofs.Words.{next_word}
 use Rattle.ufs_model.proofs.Drawn.{drawn_word, drawn_rest}
 use Rattle.ufs_model.proofs.word.Words.new.Goals as goal
 

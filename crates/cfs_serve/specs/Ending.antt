@@ -1,0 +1,121 @@
+-- How a service ended: why its core stopped, what ended its collector, and what spoiled it.
+use Rattle.std.specs.Prelude.{◌≡◌, ◌||◌, ◌<◌, ℕ, Bool, true, false, List, [], ◌∷◌, ◌++◌, Option, Some, None, is_none}
+use Rattle.std.specs.Prelude.{option_map, option_and_then}
+use Rattle.std.specs.List.{list_any, list_all}
+use Rattle.cfs_base.specs.declared.refusal.Damage.{Damage}
+use Rattle.cfs_core.specs.Asked.{stopped_by}
+use Rattle.cfs_core.specs.declared.collecting.CollectFault.{CollectFault}
+use Rattle.cfs_core.specs.declared.collecting.CollectFault.TheVariants as faults
+use Rattle.cfs_core.specs.declared.kernel.Stop.{Stop}
+use Rattle.ufs_model.specs.declared.asked.Event.{Event}
+use Rattle.ufs_model.specs.declared.asked.Event.TheVariants as events
+use Rattle.cfs_serve.specs.Events.{begins_in, finishes_in, is_calm, tells_disk, wants_memory}
+use Rattle.cfs_serve.specs.declared.ending.Ending.{Ending}
+use Rattle.cfs_serve.specs.declared.report.Cause.{Cause}
+use Rattle.cfs_serve.specs.declared.report.Cause.TheVariants as causes
+use Rattle.cfs_serve.specs.declared.report.VolumeFault.TheVariants as refusals
+
+-- nothing was served
+abbrev pub not_begun : Ending
+not_begun = record { stop = None; refused = None; spent = false }
+
+abbrev pub moment_in : Option Stop → Option ℕ
+moment_in stop = option_map (λ (s : Stop). s.moment) stop
+
+abbrev pub damage_in : Option Stop → Option Damage
+damage_in stop = option_and_then (λ (s : Stop). s.damage) stop
+
+-- ---- why the core stopped
+
+abbrev pub listed : Option Stop → List Stop
+listed None = []
+listed (Some stop) = stop ∷ []
+
+-- The stop that an event tells. Of a leave, and of a step of the collector, it tells the moment alone, and not this
+-- damage.
+abbrev pub told_stop : Option Damage → Event → Option Stop
+told_stop damage (events.Ask who request reply) = stopped_by reply None
+told_stop damage (events.Leave who (Some moment)) = Some (record { moment = moment; damage = damage })
+told_stop damage (events.Halted moment) = Some (record { moment = moment; damage = damage })
+told_stop damage event = None
+
+-- all that a trail tells
+abbrev pub stops_in : Option Damage → List Event → List Stop
+stops_in damage [] = []
+stops_in damage (e ∷ trail) = listed (told_stop damage e) ++ stops_in damage trail
+
+-- These events were made: a core that stopped stays so, and of one that ran one of them tells why it stopped.
+abbrev pub Stops : Option Stop → Option Stop → List Event → Type 0
+Stops before after made = listed after ≡ listed before ++ stops_in (damage_in after) made
+
+-- ---- why the collector was done
+
+-- a refusal at which the core stopped tells that stop
+abbrev pub TellsStop : Option CollectFault → Option Stop → Type 0
+TellsStop (Some (faults.Disk (Some moment))) stop = stop ≡ Some (record { moment = moment; damage = None })
+TellsStop (Some (faults.Damaged damage moment)) stop = stop ≡ Some (record { moment = moment; damage = Some damage })
+TellsStop refused stop = Unit {0}
+
+-- no collection runs, and fewer are finished than were called for
+abbrev pub IsWanting : (collections : ℕ) → List Event → Type 0
+IsWanting collections trail = (begins_in trail ≡ finishes_in trail) × (finishes_in trail < collections)
+
+-- ---- what spoiled a service
+
+-- a call of the disk failed in the step that was refused
+abbrev pub is_fault : Option CollectFault → Bool
+is_fault (Some (faults.Disk doubt)) = true
+is_fault refused = false
+
+-- the core stopped at a call that failed
+abbrev pub is_failure : Option Stop → Bool
+is_failure None = false
+is_failure (Some stop) = is_none stop.damage
+
+-- the core or the collector ended by a call of the disk that failed
+abbrev pub has_fallen : Ending → Bool
+has_fallen ending = is_fault ending.refused || is_failure ending.stop
+
+-- it wanted memory; or the core had stopped, and then that is told
+abbrev pub is_want : Option CollectFault → Bool
+is_want (Some faults.Memory) = true
+is_want (Some (faults.Stopped moment)) = true
+is_want refused = false
+
+-- the collector was refused so, or was given no more turns
+abbrev pub is_short : Ending → Bool
+is_short ending = is_want ending.refused || ending.spent
+
+abbrev pub spoiled_by : (failed : Bool) (stopped : Option ℕ) (damage : Option Damage) (broken wanting : Bool) → Cause
+spoiled_by true stopped damage broken wanting = causes.Disk stopped
+spoiled_by false stopped (Some d) broken wanting = causes.Volume (refusals.Damaged d)
+spoiled_by false stopped None true wanting = causes.Sink
+spoiled_by false stopped None false true = causes.Memory
+spoiled_by false stopped None false false = causes.Nothing
+
+-- The first of these that has come: a call of the disk that failed, in a reply or so that the core or the collector
+-- ended; a damage at which the core stopped; a sink that broke; memory that was wanting, in a reply or so that the
+-- collector ended.
+abbrev pub cause_by : Ending → (failed broken starved : Bool) → Cause
+cause_by ending failed broken starved =
+    spoiled_by (failed || has_fallen ending) (moment_in ending.stop) (damage_in ending.stop) broken
+    (starved || is_short ending)
+
+abbrev pub has_failed : Ending → List Event → Bool
+has_failed ending trail = list_any tells_disk trail || has_fallen ending
+
+abbrev pub cause_of : Ending → List Event → (broken : Bool) → Cause
+cause_of ending trail broken = cause_by ending (list_any tells_disk trail) broken (list_any wants_memory trail)
+
+-- ---- all of it
+
+-- How a service ended of which the disk's count rose, or didn't, whatever disk it is.
+pub record EndsSo (rose : Type 0) (collections : ℕ) (ending : Ending) (trail : List Event) : Type 0 where
+  -- the trail tells this stop once, and no other; and none where the core runs
+  pub stops : Stops None ending.stop trail
+  pub refusal : TellsStop ending.refused ending.stop
+  -- where no collection is called for the collector makes no step
+  pub quiet : collections ≡ 0 → (ending.refused ≡ None) × (ending.spent ≡ false)
+  pub failed : has_failed ending trail ≡ true → rose
+  -- of a core that runs no event tells other trouble than a failed call
+  pub calm : ending.stop ≡ None → list_any tells_disk trail ≡ false → list_all is_calm trail ≡ true

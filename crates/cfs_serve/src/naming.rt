@@ -1,0 +1,112 @@
+//! What the words of a command name.
+ghost use Rattle.std.specs.Prelude.{◌≡◌, ◌↔◌, ◌≤◌, [], length, map, Some, IfSome, IfErr, IfOk, Err, string_bytes};
+ghost use Rattle.cfs_serve.specs.Whole.{HasCylinders, HasPlaces, NamesVolume};
+ghost use Rattle.cfs_serve.specs.Words as spec;
+ghost use Rattle.cfs_serve.specs.Words.{Nothing, Serves, Service, asked_in, inputs_in, most_made, outputs_in};
+
+use crate::paths::{Names, Volume, WordsFault, no_paths, path_of, session_paths};
+use crate::words::{format_asked, page_asked, play_asked, serve_asked};
+use std::alloc::Global;
+
+/// The volume that is to be made, and no other file.
+fn volume_names(
+    alloc: Global,
+    volume: &str,
+    cylinders: u64,
+    pair: bool,
+) -> Result<Names, WordsFault>
+    requires { cylinders ≤ most_made pair }
+    ensures fault { IfErr result (λ e. e ≡ WordsFault.Memory) }
+    ensures volume { IfOk result (λ n. n.volume ≡ Some (Volume.Fresh volume.now cylinders)) }
+    ensures places { IfOk result (λ n. (n.sources ≡ []) × (n.sinks ≡ [])) }
+    ensures pair { IfOk result (λ n. n.pair ≡ pair) }
+{
+    let Ok(path) = path_of(alloc, volume) else {
+        return Err(WordsFault::Memory);
+    };
+    Ok(Names {
+        volume: Some(Volume::Fresh {
+            path,
+            cylinders: cylinders as u32,
+        }),
+        sources: no_paths(alloc),
+        sinks: no_paths(alloc),
+        pair,
+    })
+}
+
+/// The request files and the reply files of sessions, beside a volume.
+fn session_names(
+    alloc: Global,
+    volume: Option<Volume>,
+    files: &[String],
+    pair: bool,
+) -> Result<Names, WordsFault>
+    ensures fault { IfErr result (λ e. e ≡ WordsFault.Memory) }
+    ensures volume { IfOk result (λ n. n.volume ≡ volume) }
+    ensures sources { IfOk result (λ n. n.sources ≡ inputs_in (map string_bytes files.now)) }
+    ensures sinks { IfOk result (λ n. n.sinks ≡ outputs_in (map string_bytes files.now)) }
+    ensures pair { IfOk result (λ n. n.pair ≡ pair) }
+{
+    let Ok((sources, sinks)) = session_paths(alloc, files) else {
+        return Err(WordsFault::Memory);
+    };
+    Ok(Names {
+        volume,
+        sources,
+        sinks,
+        pair,
+    })
+}
+
+/// The volume that is to be served, and the files of its sessions.
+fn served_names(
+    alloc: Global,
+    volume: &str,
+    files: &[String],
+    pair: bool,
+) -> Result<Names, WordsFault>
+    ensures fault { IfErr result (λ e. e ≡ WordsFault.Memory) }
+    ensures volume { IfOk result (λ n. n.volume ≡ Some (Volume.Existing volume.now)) }
+    ensures sources { IfOk result (λ n. n.sources ≡ inputs_in (map string_bytes files.now)) }
+    ensures sinks { IfOk result (λ n. n.sinks ≡ outputs_in (map string_bytes files.now)) }
+    ensures pair { IfOk result (λ n. n.pair ≡ pair) }
+{
+    let Ok(path) = path_of(alloc, volume) else {
+        return Err(WordsFault::Memory);
+    };
+    session_names(alloc, Some(Volume::Existing { path }), files, pair)
+}
+
+/// What the words of a command name: nothing for a page. `Words` comes exactly where they are of no form.
+pub fn names(alloc: Global, words: &[String]) -> Result<Names, WordsFault>
+    ensures words { result ≡ Err WordsFault.Words ↔ (asked_in (map string_bytes words.now) ≡ Nothing) }
+    ensures volume { IfOk result (λ n. NamesVolume (asked_in (map string_bytes words.now)) n.volume) }
+    ensures sized { IfOk result (λ n. IfSome n.volume (HasCylinders n.pair)) }
+    ensures pair { IfOk result (λ n. n.pair ≡ spec.is_pair (asked_in (map string_bytes words.now))) }
+    ensures places { IfOk result (λ n. HasPlaces (asked_in (map string_bytes words.now)) (length n.sources)
+        (length n.sinks)) }
+    ensures sources { IfOk result (λ n. (s : Service) → asked_in (map string_bytes words.now) ≡ Serves s
+        → n.sources ≡ map (λ f. f.input) s.sessions) }
+    ensures sinks { IfOk result (λ n. (s : Service) → asked_in (map string_bytes words.now) ≡ Serves s
+        → n.sinks ≡ map (λ f. f.output) s.sessions) }
+{
+    if page_asked(words).is_some() {
+        return Ok(Names {
+            volume: None,
+            sources: no_paths(alloc),
+            sinks: no_paths(alloc),
+            pair: false,
+        });
+    }
+    if let Some(format) = format_asked(words) {
+        return volume_names(alloc, format.volume, format.cylinders, format.pair);
+    }
+    if let Some(play) = play_asked(words) {
+        return session_names(alloc, None, play.files, false);
+    }
+    match serve_asked(words) {
+        Some(served) => served_names(alloc, served.volume, served.files, served.pair),
+        None => Err(WordsFault::Words),
+    }
+}

@@ -1,0 +1,27 @@
+-- A draft that the store has, before and after reads.
+use Rattle.std.proofs.Common.{◌≡◌, ℕ, List, Some, ◌≢◌, sym, ◌∙◌, Option}
+use Rattle.special_files.proofs.Words.{Draft, Drafting, Ghosts, Graph, HasDraft, IsOpen, Kept, Object, OnlyReads, Opened, Puid, StoreHas, View, object_at, opened_as, File, Held, FileKind, kind_of, object_with, file_to_leaves}
+use Rattle.special_files.proofs.Begun.{store_reads}
+use Rattle.cfs_base.specs.declared.kind.Kind.TheVariants as kinds
+use Rattle.cfs_base.specs.declared.kind.FileKind.TheVariants as file_kinds
+use Rattle.ufs_model.specs.declared.object.Object.TheVariants as objects
+use Rattle.block_tree.specs.declared.root.Root as roots
+use Rattle.special_files.proofs.PutStore.{the_draft}
+
+abbrev pub view : {D : Type 0} {g : Ghosts D} {graph : Graph} {ds : List Opened} {id : Puid} {o : Object} {d : Draft} {disk : D} {space : Kept} {was : Drafting} → StoreHas g graph ds disk space → object_at graph id ≡ Some o → IsOpen ds id was d → View g disk space was
+view {graph} {ds} {id} {o} {d} store at opened = record { graph = graph; ds = ds; id = id; object = o; draft = d; store = store; at = at; opened = opened }
+
+module _ {D : Type 0} {g : Ghosts D} {d0 : D} {space : Kept} {was : Drafting} (v : View g d0 space was) where
+  pub draft_of : HasDraft (g.content d0) v.id (opened_as v.id was v.draft)
+  draft_of = the_draft (g.content d0) v.ds v.id was v.draft v.opened (v.store.account.drafts v.id v.object v.at)
+
+  abbrev pub view_reads : {d1 : D} {n : ℕ} → OnlyReads g n d0 d1 → View g d1 space was
+  view_reads {d1} {n} reads = record { graph = v.graph; ds = v.ds; id = v.id; object = v.object; draft = v.draft; store = store_reads g v.graph v.ds d0 d1 space n v.store reads; at = v.at; opened = v.opened }
+
+-- a file's root is none of an index
+pub no_index : (root : roots.Root) (leaves : ℕ → Option Held) (f : File) → object_with root leaves ≡ objects.File f → root.kind ≢ kinds.Index
+no_index root leaves f gives is = by f.kind ((file_to_leaves root leaves f gives).kind)
+  where
+    by : (k : FileKind) → root.kind ≡ kind_of k → ⊥
+    by file_kinds.Normal same = (let no : kinds.Normal ≡ kinds.Index = sym same ∙ is in cc)
+    by file_kinds.Special same = (let no : kinds.Special ≡ kinds.Index = sym same ∙ is in cc)

@@ -1,0 +1,34 @@
+-- What a call on a draft is handed where the store has the draft, and how the call goes then.
+use Rattle.std.specs.Prelude.{◌≡◌, false, IfErr, OnOk, Result, List, Some}
+use Rattle.cfs_base.specs.Run.{Leaves}
+use Rattle.cfs_base.specs.declared.disk.Disk.{Ghosts}
+use Rattle.cfs_base.specs.declared.identifier.Puid.{Puid}
+use Rattle.cfs_base.specs.declared.refusal.Refused.{Refused}
+use Rattle.cyl_alloc.specs.Space.{Kept}
+use Rattle.intentions.specs.Store.{StoreHas}
+use Rattle.ufs_model.specs.Graph.{Graph, object_at}
+use Rattle.ufs_model.specs.declared.object.Draft.{Draft}
+use Rattle.ufs_model.specs.declared.object.Object.{Object}
+use Rattle.vol_image.specs.Sound.{Holds}
+use Rattle.vol_owners.specs.Account.{Opened}
+use Rattle.special_files.specs.Drafting.{Drafting, IsOpen}
+use Rattle.special_files.specs.Refusal.{is_damaged}
+
+-- The store has these objects and drafts. One of the objects has this identifier, and its draft is the one in memory,
+-- which is this draft of the model.
+pub record View {D : Type 0} (g : Ghosts D) (disk : D) (space : Kept) (was : Drafting) : Type 0 where
+  pub graph : Graph
+  pub ds : List Opened
+  pub id : Puid
+  pub object : Object
+  pub draft : Draft
+  pub store : StoreHas g graph ds disk space
+  pub at : object_at graph id ≡ Some object
+  pub opened : IsOpen ds id was draft
+
+-- Done, a call has done this. Each image that a crash leaves on the way holds these objects, and no damage is met.
+pub record Goes {D A : Type 0} (g : Ghosts D) (graph : Graph) (P : Type 0) (old new : D) (result : Result A Refused) :
+    Type 0 where
+  pub done : OnOk result P
+  pub leaves : Leaves g old new (λ c. Holds c graph)
+  pub sound : IfErr result (λ e. is_damaged e ≡ false)

@@ -1,0 +1,95 @@
+//! What is remembered of a collection while a run is followed.
+ghost use Rattle.std.specs.Prelude.{◌≡◌, OnOk};
+ghost use Rattle.ufs_model.specs.Followed.{HasRoom, collection_of, seen_by, with_seen};
+ghost use Rattle.ufs_model.specs.Next.{is_idle, is_sweeping};
+ghost use Rattle.ufs_model.specs.Vanish.{is_marking};
+
+use crate::asked::{Reply, Request};
+use cfs_base::{NoMemory, Puid};
+
+/// What a collection that marks remembers.
+#[derive(Clone, Copy, Debug)]
+pub enum Seen {
+    /// This index refers to this object.
+    Edge(Puid, Puid),
+    /// This object is the root, or is open.
+    Start(Puid),
+}
+
+/// How far a collection has come. While it marks it remembers what it has seen, the oldest first.
+#[derive(Debug, Drop)]
+pub enum Progress {
+    Idle,
+    Marking(Vec<Seen>),
+    Sweeping,
+}
+
+impl Progress {
+    pub fn is_idle(&self) -> bool
+        ensures { result ≡ is_idle (collection_of self.now) }
+    {
+        match self {
+            Progress::Idle => true,
+            Progress::Marking(_) => false,
+            Progress::Sweeping => false,
+        }
+    }
+
+    pub fn is_marking(&self) -> bool
+        ensures { result ≡ is_marking (collection_of self.now) }
+    {
+        match self {
+            Progress::Marking(_) => true,
+            Progress::Idle => false,
+            Progress::Sweeping => false,
+        }
+    }
+
+    pub fn is_sweeping(&self) -> bool
+        ensures { result ≡ is_sweeping (collection_of self.now) }
+    {
+        match self {
+            Progress::Sweeping => true,
+            Progress::Idle => false,
+            Progress::Marking(_) => false,
+        }
+    }
+
+    /// Makes room for one more. On a failure all stays.
+    pub fn reserve(&mut self) -> Result<(), NoMemory>
+        ensures same { collection_of self.new ≡ collection_of self.old }
+        ensures room { OnOk result (HasRoom self.new) }
+    {
+        if let Progress::Marking(seen) = self {
+            seen.reserve(1)?;
+        }
+        Ok(())
+    }
+
+    /// Notes one more, where a collection marks. Takes no memory.
+    pub fn note(&mut self, seen: Option<Seen>)
+        requires { HasRoom self.old }
+        ensures { collection_of self.new ≡ with_seen seen (collection_of self.old) }
+    {
+        let Some(seen) = seen else {
+            return;
+        };
+        if let Progress::Marking(all) = self {
+            let _noted = all.push(seen).is_ok();
+        }
+    }
+}
+
+/// What is to be remembered of a request that was answered so, where it went to this identifier.
+pub fn seen_by(to: Option<Puid>, request: &Request, reply: &Reply) -> Option<Seen>
+    ensures { result ≡ seen_by to request.now reply.now }
+{
+    match (request, reply) {
+        (Request::CreateFile { .. } | Request::CreateIndex { .. }, Reply::Id(id)) => {
+            Some(Seen::Edge(to?, *id))
+        }
+        (Request::Retain { id, .. }, _) => Some(Seen::Edge(to?, *id)),
+        (Request::OpenFor { id, .. }, _) => Some(Seen::Start(*id)),
+        _ => None,
+    }
+}
