@@ -1,6 +1,6 @@
 -- A run that is followed line after line.
 use Rattle.std.proofs.Common.{◌≡◌, ℕ, ◌+◌, ◌≤◌, List, [], ◌∷◌, ◌++◌, length, refl, sym, ap, subst, ◌∙◌, inr, arith, true, Some, None, length-append}
-use Rattle.cfs_audit.proofs.Words.{Err, Event, IfOk, IsBad, IsBadLine, IsFollowed, IsIllegal, IsLast, IsLineOf, IsNoLine, IsVerdict, NoMemory, Ok, Opening, Result, Server, State, Verdict, and_from, append-nil, append_assoc, begun, ended, event_line, fits, flat_map, flat_map-append, fresh_graph, has_no_end, in_8, list_all, list_all-append, next, opening, opening_fits, opening_line, option_and_then, replay_from-push, root_of, status_line}
+use Rattle.cfs_audit.proofs.Words.{Err, Event, IfOk, IsBad, IsBadLine, IsFollowed, IsIllegal, IsLast, IsLineOf, IsNoLine, IsVerdict, NoMemory, Ok, Opening, Result, Server, Verdict, and_from, append-nil, append_assoc, begun, ended, event_line, fits, flat_map, flat_map-append, fresh_graph, has_no_end, in_8, list_all, list_all-append, next, opening, opening_fits, opening_line, option_and_then, replay_from-push, root_of, status_line}
 use Rattle.cfs_audit.specs.declared.trail.Verdict.TheVariants as verdicts
 use Rattle.cfs_audit.proofs.Lines.{bad, unended_bad}
 

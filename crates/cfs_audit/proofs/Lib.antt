@@ -1,3 +1,4 @@
 mod Lines
 mod Followed
+mod Verdicts
 mod Words

@@ -1,6 +1,6 @@
 -- Texts that begin with lines.
-use Rattle.std.proofs.Common.{◌≡◌, ◌≢◌, ℕ, List, [], ◌∷◌, ◌++◌, refl, sym, ap, ◌∙◌, true, false, not}
-use Rattle.cfs_audit.proofs.Words.{Event, IsBad, IsNoLine, IsUnopened, Opening, and_parts, append_assoc, ended, event_line, false≢true, fits, has_no_end, in_8, list_all, opening_fits, opening_line, status_line, ◌==◌}
+use Rattle.std.proofs.Common.{◌≡◌, ◌≢◌, ℕ, List, [], ◌∷◌, ◌++◌, refl, ◌∙◌, true, not}
+use Rattle.cfs_audit.proofs.Words.{Event, IsBad, IsNoLine, IsUnopened, Opening, and_parts, append_assoc, ended, event_line, false≢true, fits, has_no_end, in_8, opening_fits, opening_line, status_line, ◌==◌}
 
 -- a text has one first line
 pub same_line : (a b x y : List ℕ) → has_no_end a ≡ true → has_no_end b ≡ true → a ++ 10 ∷ x ≡ b ++ 10 ∷ y → (a ≡ b) × (x ≡ y)
@@ -18,7 +18,7 @@ no_line_in : (a x : List ℕ) → has_no_end (a ++ 10 ∷ x) ≢ true
 no_line_in [] x h = false≢true h
 no_line_in (c ∷ a) x h = no_line_in a x (and_parts (not (c == 10)) (has_no_end (a ++ 10 ∷ x)) h).1
 
-behind : (line more : List ℕ) → ended line ++ more ≡ line ++ 10 ∷ more
+pub behind : (line more : List ℕ) → ended line ++ more ≡ line ++ 10 ∷ more
 behind line more = append_assoc line (10 ∷ []) more
 
 module _ (text : List ℕ) (none : has_no_end text ≡ true) where

@@ -4,6 +4,8 @@
 #![tactic(auto)]
 
 mod cut;
+mod laws;
 mod trail;
 
+pub use laws::texts_have_one_verdict;
 pub use trail::{Verdict, audit};

@@ -1,6 +1,6 @@
-use Rattle.std.proofs.Common.{◌≡◌, List, ℕ, inl, refl, sym, subst}
+use Rattle.std.proofs.Common.{inl, refl, sym, subst}
 use Rattle.cfs_audit.proofs.Words.{IsUnopened}
-use Rattle.cfs_audit.proofs.Lines.{unended_unopened, unopened}
+use Rattle.cfs_audit.proofs.Lines.{unopened}
 use Rattle.cfs_audit.proofs.trail.audit.Goals as goal
 
 pub returns-in-Err-BadLine : goal.returns-in-Err-BadLine

@@ -1,4 +1,4 @@
-use Rattle.std.proofs.Common.{◌≡◌, ◌++◌, ◌∷◌, ◌∙◌, List, ℕ, ap, subst, inr}
+use Rattle.std.proofs.Common.{◌++◌, ◌∷◌, ◌∙◌, List, ℕ, ap, subst, inr}
 use Rattle.cfs_audit.proofs.Words.{IsJudged, Judged, ended, opening_line}
 use Rattle.cfs_audit.proofs.Followed.{at_first, at_next, broken_off, illegal_here, last_verdict, started}
 use Rattle.cfs_audit.proofs.trail.follow.Goals as goal

@@ -1,6 +1,6 @@
 use Rattle.trail_text.proofs.Words.{and_parts, event_shaped, event_within}
 use Rattle.trail_text.proofs.Clear.{event_no_end}
-use Rattle.trail_text.proofs.EndLines.{opening_no_end, status_no_end}
+use Rattle.trail_text.proofs.EndLines.{no_event_ends, one_opening, opening_no_end, status_no_end}
 use Rattle.trail_text.proofs.Found.{one_line}
 use Rattle.trail_text.proofs.Lines.{reply_is}
 use Rattle.trail_text.proofs.laws.lines_tell_events.Goals as goal
@@ -19,3 +19,9 @@ returns-clause-status_ends c = status_no_end
 
 pub returns-clause-opening_ends : goal.returns-clause-opening_ends
 returns-clause-opening_ends c = opening_no_end
+
+pub returns-clause-openings : goal.returns-clause-openings
+returns-clause-openings c = one_opening
+
+pub returns-clause-apart : goal.returns-clause-apart
+returns-clause-apart c = no_event_ends
