@@ -1,6 +1,6 @@
 -- A root block part by part: where one part is the first that goes wrong, the block goes wrong there.
 use Rattle.std.proofs.Common.{◌≡◌, ◌≢◌, ℕ, ◌+◌, ◌<◌, ◌≤◌, ◌^◌, List, [], ◌∷◌, ◌++◌, length, take, drop, replicate, get_or, refl, sym, ◌∙◌, ap, subst, arith}
-use Rattle.block_tree.proofs.Words.{All, All-replicate, Index, IsFill, IsFirstBad, IsFirstBadByte, IsGoodRoot, IsRootBlock, IsSize, Kind, Normal, Root, Special, drop-take, get_or-drop, get_or-replicate, get_or-take, kind_code, numbers_spelling, root_spelling, take-add, take-append-drop, take-replicate, take-take, take_more, to_be_bytes, w32, w64}
+use Rattle.block_tree.proofs.Words.{All, All-replicate, Index, IsFill, IsFirstBad, IsFirstBadByte, IsGoodRoot, IsRootBlock, IsSize, Kind, Normal, Root, Special, drop-take, get_or-drop, get_or-replicate, get_or-take, kind_code, numbers_spelling, root_spelling, take-add, take-append-drop, take-replicate, take-take, take_more, to_be_bytes, w32, w64, node_pointers}
 use Rattle.std.proofs.lemmas.List.{length-drop}
 
 -- ---- parts
@@ -40,12 +40,12 @@ part_bad {X} IsGood spelling n m block part j below bad = record { before = befo
 -- ---- roots that begin as the block does
 
 blank : Kind → ℕ → ℕ → ℕ → Root
-blank kind fill word size = record { kind = kind; fill = fill; word = word; size = size; nodes = replicate 120 0 }
+blank kind fill word size = record { kind = kind; fill = fill; word = word; size = size; nodes = replicate node_pointers.count 0 }
 
 blank_good : (kind : Kind) (fill word size : ℕ) → fill < 2 ^ 8 → word < 2 ^ 32 → IsFill kind fill → IsSize kind size → IsGoodRoot (blank kind fill word size)
 unfolding blank
 blank_good kind fill word size f w is_fill is_size =
-    (record { fill = f; word = w; count = refl; nodes = All-replicate (λ n. n < 2 ^ 32) 120 0 (omega arith) }, record { fill = is_fill; size = is_size })
+    (record { fill = f; word = w; count = refl; nodes = All-replicate (λ n. n < 2 ^ 32) node_pointers.count 0 (omega arith) }, record { fill = is_fill; size = is_size })
 
 one_slot : (kind : Kind) → IsSize kind 8
 one_slot kind = record { limit = omega arith; slots = λ e. (omega arith, refl) }
@@ -181,7 +181,7 @@ tail_bad block kind fill word size i is below zeros other = part_bad (λ (u : Un
 
 -- all of them
 pub root_block : (block : List ℕ) (root : Root) → length block ≡ 512 → BeginsSixteen block root.kind root.fill root.word root.size → take 16 (drop 16 block) ≡ replicate 16 0
-    → numbers_spelling root.nodes ≡ drop 32 block → length root.nodes ≡ 120 → All (λ n. n < 2 ^ 32) root.nodes → IsRootBlock block root
+    → numbers_spelling root.nodes ≡ drop 32 block → length root.nodes ≡ node_pointers.count → All (λ n. n < 2 ^ 32) root.nodes → IsRootBlock block root
 unfolding root_spelling
 root_block block root long is zeros rest count fit = record {
   good = (record { fill = is.eight.two.fits; word = is.eight.fits; count = count; nodes = fit }, record { fill = is.eight.two.is_fill; size = is.is_size });

@@ -7,4 +7,5 @@ pub mod Faults
 pub mod Walks
 mod Rows
 pub mod Steps
+pub mod Nodes
 mod Words

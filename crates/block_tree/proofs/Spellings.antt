@@ -6,7 +6,7 @@ use Rattle.block_tree.proofs.Fields.{same_kind}
 
 pub nodes_of : (root : Root) → Fits root → root.nodes ≡ pointers_of node_pointers (root_spelling root)
 unfolding pointers_of root_spelling
-nodes_of root fits = numbers_back (take 32 (root_spelling root)) root.nodes 8 120 refl fits.count fits.nodes
+nodes_of root fits = numbers_back (take 32 (root_spelling root)) root.nodes 8 node_pointers.count refl fits.count fits.nodes
 
 same_root : (r s : Root) → r.kind ≡ s.kind → r.fill ≡ s.fill → r.word ≡ s.word → r.size ≡ s.size → r.nodes ≡ s.nodes → r ≡ s
 same_root r s kind fill word size nodes = λ i. record { kind = kind i; fill = fill i; word = word i; size = size i; nodes = nodes i }
@@ -36,7 +36,7 @@ none_bad block root n is bad = bad.here root is.good (ap (take (n + 1)) (sym is.
 
 pub leaves_of : (node : Node) → IsNode node → node.leaves ≡ pointers_of leaf_pointers (node_spelling node)
 unfolding pointers_of
-leaves_of node is = numbers_back [] node.leaves 0 128 refl is.count is.fit
+leaves_of node is = numbers_back [] node.leaves 0 leaf_pointers.count refl is.count is.fit
 
 -- ---- what reading gives
 

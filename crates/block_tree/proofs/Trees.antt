@@ -4,10 +4,10 @@ use Rattle.block_tree.proofs.Words.{Image, IsPast, Level, PastAbove, PastOn, Roo
 use Rattle.block_tree.proofs.Numbers.{number_back}
 
 -- a pointer of the root
-pub node_is : (root : Root) (k : ℕ) → length root.nodes ≡ 120 → k < 120 → get_or root.nodes k 0 < 2 ^ 32 → pointer node_pointers (root_spelling root) k ≡ get_or root.nodes k 0
+pub node_is : (root : Root) (k : ℕ) → length root.nodes ≡ node_pointers.count → k < node_pointers.count → get_or root.nodes k 0 < 2 ^ 32 → pointer node_pointers (root_spelling root) k ≡ get_or root.nodes k 0
 unfolding pointers_of root_spelling
 node_is root k count here fits =
-    get_or-map-range_with_len (λ (j : ℕ). number_at (root_spelling root) (8 + j)) 0 120 k k 0 here (omega arith)
+    get_or-map-range_with_len (λ (j : ℕ). number_at (root_spelling root) (8 + j)) 0 node_pointers.count k k 0 here (omega arith)
     ∙ number_back (take 32 (root_spelling root)) root.nodes 8 k refl (omega arith) fits
 
 -- a pointer of a block
@@ -19,11 +19,11 @@ pub end_none : (image : Image) (level : Level) (block k : ℕ) → block ≡ 0 �
 end_none image level zero k none = refl
 end_none image level (suc n) k none = absurd (omega arith)
 
-pub path_is : (root : List ℕ) (leaf : ℕ) → path_to (levels_of root) leaf ≡ leaf / 128 ∷ leaf % 128 ∷ []
+pub path_is : (root : List ℕ) (leaf : ℕ) → path_to (levels_of root) leaf ≡ leaf / leaf_pointers.count ∷ leaf % leaf_pointers.count ∷ []
 unfolding levels_of path_to
-path_is root leaf = ap (λ (n : ℕ). leaf / 128 ∷ n ∷ []) (div-one (leaf % 128))
+path_is root leaf = ap (λ (n : ℕ). leaf / leaf_pointers.count ∷ n ∷ []) (div-one (leaf % leaf_pointers.count))
 
-pub leaf_is : (image : Image) (root : List ℕ) (leaf : ℕ) → leaf_block image root leaf ≡ end_of image (leaf_pointers ∷ []) (pointer node_pointers root (leaf / 128)) (leaf % 128 ∷ [])
+pub leaf_is : (image : Image) (root : List ℕ) (leaf : ℕ) → leaf_block image root leaf ≡ end_of image (leaf_pointers ∷ []) (pointer node_pointers root (leaf / leaf_pointers.count)) (leaf % leaf_pointers.count ∷ [])
 unfolding levels_of
 leaf_is image root leaf = ap (tree_of image root) (path_is root leaf)
 
@@ -32,11 +32,11 @@ unfolding levels_of
 node_block image root k = refl
 
 -- the pointers above a leaf: the one to its node
-pub past_is : (image : Image) (size : ℕ) (root : List ℕ) (leaf block : ℕ) → PastAbove image size root leaf block → (block ≡ pointer node_pointers root (leaf / 128)) × IsPast size block
+pub past_is : (image : Image) (size : ℕ) (root : List ℕ) (leaf block : ℕ) → PastAbove image size root leaf block → (block ≡ pointer node_pointers root (leaf / leaf_pointers.count)) × IsPast size block
 past_is image size root leaf block past = on past.0 past.1 past.2 (past.3 ∙ path_is root leaf) past.4 past.5
   where
-    on : (path : List ℕ) (k : ℕ) (rest : List ℕ) → path ++ k ∷ rest ≡ leaf / 128 ∷ leaf % 128 ∷ [] → tree_of image root path ≡ block → IsPast size block
-        → (block ≡ pointer node_pointers root (leaf / 128)) × IsPast size block
+    on : (path : List ℕ) (k : ℕ) (rest : List ℕ) → path ++ k ∷ rest ≡ leaf / leaf_pointers.count ∷ leaf % leaf_pointers.count ∷ [] → tree_of image root path ≡ block → IsPast size block
+        → (block ≡ pointer node_pointers root (leaf / leaf_pointers.count)) × IsPast size block
     on [] k rest is at past = absurd (past.0 (sym at ∙ nothing))
       where
         nothing : tree_of image root [] ≡ 0
@@ -45,11 +45,11 @@ past_is image size root leaf block past = on past.0 past.1 past.2 (past.3 ∙ pa
     on (a ∷ b ∷ []) k rest is at past = cc
     on (a ∷ b ∷ c ∷ path) k rest is at past = cc
 
-pub is_past : (image : Image) (size : ℕ) (root : List ℕ) (leaf block : ℕ) → block ≡ pointer node_pointers root (leaf / 128) → IsPast size block → PastAbove image size root leaf block
+pub is_past : (image : Image) (size : ℕ) (root : List ℕ) (leaf block : ℕ) → block ≡ pointer node_pointers root (leaf / leaf_pointers.count) → IsPast size block → PastAbove image size root leaf block
 is_past image size root leaf block is past =
-    (leaf / 128 ∷ [], leaf % 128, [], sym (path_is root leaf), node_block image root (leaf / 128) ∙ sym is, past)
+    (leaf / leaf_pointers.count ∷ [], leaf % leaf_pointers.count, [], sym (path_is root leaf), node_block image root (leaf / leaf_pointers.count) ∙ sym is, past)
 
-pub none_past : (image : Image) (size : ℕ) (root : List ℕ) (leaf n : ℕ) → n ≡ pointer node_pointers root (leaf / 128) → ¬ IsPast size n → (block : ℕ) → ¬ PastAbove image size root leaf block
+pub none_past : (image : Image) (size : ℕ) (root : List ℕ) (leaf n : ℕ) → n ≡ pointer node_pointers root (leaf / leaf_pointers.count) → ¬ IsPast size n → (block : ℕ) → ¬ PastAbove image size root leaf block
 none_past image size root leaf n is none block past =
     let to = past_is image size root leaf block past in
     none (subst (IsPast size) (to.0 ∙ sym is) to.1)

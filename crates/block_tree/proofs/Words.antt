@@ -1,9 +1,9 @@
 -- What lemmas of this crate name of the crates below, and of its own definitions.
 pub use Rattle.block_tree.specs.Node.{IsNode, node_spelling}
-pub use Rattle.block_tree.specs.Pointers.{Level, leaf_pointers, node_pointers, number_at, numbers_from, numbers_spelling}
+pub use Rattle.block_tree.specs.Pointers.{Level, leaf_limit, leaf_pointers, levels_below, node_levels, node_pointers, number_at, numbers_from, numbers_spelling}
 unfoldable pub use Rattle.block_tree.specs.Pointers.{pointers_of}
 pub use Rattle.block_tree.specs.Prefix.{IsFirstBad}
-pub use Rattle.block_tree.specs.Reads.{IsFault, IsPast}
+pub use Rattle.block_tree.specs.Reads.{IsFault, IsPast, leaves_at}
 pub use Rattle.block_tree.specs.Root.{Fits, IsFill, IsFirstBadByte, IsGoodRoot, IsRootBlock, IsSize, kind_code}
 unfoldable pub use Rattle.block_tree.specs.Root.{root_spelling}
 pub use Rattle.block_tree.specs.Step.{IsFirstSet, IsPastFrom, IsStep, IsStepAt, IsStepIn, IsStepped, NoneHeld, SomeHeld}

@@ -1,5 +1,5 @@
 -- The pointers in a block: big-endian numbers of 4 bytes, one after another.
-use Rattle.std.specs.Prelude.{ℕ, ◌+◌, ◌*◌, List, take, drop, map}
+use Rattle.std.specs.Prelude.{ℕ, ◌+◌, ◌*◌, List, [], ◌∷◌, take, drop, map, replicate}
 use Rattle.std.specs.List.{range_with_len, flat_map}
 use Rattle.std.specs.Int.{from_be_bytes, to_be_bytes, w32}
 
@@ -27,6 +27,27 @@ node_pointers = record { from = 8; count = 120 }
 -- the pointers of a node to its leaves
 abbrev pub leaf_pointers : Level
 leaf_pointers = record { from = 0; count = 128 }
+
+-- how many levels of nodes lie below a root
+abbrev pub node_levels : ℕ
+node_levels = 1
+
+-- so many levels of nodes, down to the leaves
+abbrev pub levels_below : ℕ → List Level
+levels_below height = replicate height leaf_pointers
+
+-- how many leaves lie below a block with these levels
+abbrev pub width : List Level → ℕ
+width [] = 1
+width (level ∷ levels) = level.count * width levels
+
+-- the leaves that an object may have
+abbrev pub leaf_limit : ℕ
+leaf_limit = width (node_pointers ∷ levels_below node_levels)
+
+-- the greatest size of an object in bytes
+abbrev pub size_limit : ℕ
+size_limit = 512 * leaf_limit
 
 -- the pointers of a block
 unfoldable pub pointers_of : Level → List ℕ → List ℕ

@@ -1,10 +1,18 @@
--- Why following pointers ends.
-use Rattle.std.specs.Prelude.{◌≢◌, ℕ, ◌≤◌}
-use Rattle.cfs_base.specs.Calls.{HasFailed}
+-- Blocks of a tree that are read, and why following pointers ends.
+use Rattle.std.specs.Prelude.{◌≡◌, ◌≢◌, ℕ, zero, suc, ◌<◌, ◌≤◌, Bool, true, false, List, get_or, replicate}
+use Rattle.cfs_base.specs.Calls.{HasFailed, HasStopped}
+use Rattle.cfs_base.specs.Codes.{no_root, past_disk}
+use Rattle.cfs_base.specs.Disk.{Image, block_at}
 use Rattle.cfs_base.specs.Run.{Tells}
 use Rattle.cfs_base.specs.declared.disk.Disk.{Ghosts}
+use Rattle.cfs_base.specs.declared.refusal.Damage.{Damage}
+use Rattle.cfs_base.specs.declared.refusal.Trouble.{Trouble}
+use Rattle.cfs_base.specs.declared.refusal.Trouble.TheVariants as trouble
+use Rattle.block_tree.specs.Pointers.{leaf_pointers, pointers_of}
+use Rattle.block_tree.specs.Root.{IsRootBlock}
 use Rattle.block_tree.specs.declared.fault.TreeFault.{TreeFault}
 use Rattle.block_tree.specs.declared.fault.TreeFault.TheVariants as faults
+use Rattle.block_tree.specs.declared.root.Root.{Root}
 
 -- a number that is not 0, and is no block of a disk of this size
 abbrev pub IsPast : ℕ → ℕ → Type 0
@@ -15,3 +23,45 @@ IsPast size block = (block ≢ 0) × (size ≤ block)
 abbrev pub IsFault : {D : Type 0} → Ghosts D → D → D → (ℕ → Type 0) → TreeFault → Type 0
 IsFault g old new P faults.Disk = HasFailed g old new
 IsFault g old new P (faults.BadPointer block) = IsPast (g.blocks old) block × (Tells g old → P block)
+
+-- ---- nodes
+
+-- the leaf pointers of the node at a block; where that is 0 the node is absent, and has no leaf
+abbrev pub leaves_at : Image → ℕ → List ℕ
+leaves_at image zero = replicate leaf_pointers.count 0
+leaves_at image (suc n) = pointers_of leaf_pointers (block_at image (suc n))
+
+-- the node at a block is on a disk of this size, and so is each leaf to which it points
+pub record IsNear (size : ℕ) (image : Image) (block : ℕ) : Type 0 where
+  pub here : block < size
+  pub leaves : (k : ℕ) → get_or (leaves_at image block) k 0 < size
+
+-- ---- why a root, a node or a leaf can't be read: a device call failed, or the block is named in which the damage is
+
+abbrev pub is_damage : Trouble → Bool
+is_damage (trouble.Disk tried) = false
+is_damage (trouble.Damaged damage) = true
+
+-- a device call failed
+abbrev pub HasStoppedBy : {D : Type 0} → Ghosts D → D → D → Trouble → Type 0
+HasStoppedBy g old new (trouble.Disk tried) = HasStopped g tried old new
+HasStoppedBy g old new (trouble.Damaged damage) = ⊥
+
+-- or the block at which a root should be is none
+abbrev pub IsRootTrouble : {D : Type 0} → Ghosts D → ℕ → D → D → Trouble → Type 0
+IsRootTrouble g at old new (trouble.Disk tried) = (tried ≡ false) × HasStopped g tried old new
+IsRootTrouble g at old new (trouble.Damaged damage) = (damage ≡ record { block = at; code = no_root })
+    × (Tells g old → (root : Root) → ¬ IsRootBlock (block_at (g.content old) at) root)
+
+-- the pointer to a node leads past the disk, which its holder has, or one of the node's own does
+pub data IsNodeDamage {D : Type 0} (g : Ghosts D) (block holder : ℕ) (old : D) (damage : Damage) : Type 0 where
+  Far : damage ≡ record { block = holder; code = past_disk } → IsPast (g.blocks old) block
+      → IsNodeDamage g block holder old damage
+  FarLeaf : damage ≡ record { block = block; code = past_disk }
+      → (Tells g old → (k : ℕ)
+      × (g.blocks old ≤ get_or (pointers_of leaf_pointers (block_at (g.content old) block)) k 0))
+      → IsNodeDamage g block holder old damage
+
+abbrev pub IsNodeTrouble : {D : Type 0} → Ghosts D → (block holder : ℕ) → D → D → Trouble → Type 0
+IsNodeTrouble g block holder old new (trouble.Disk tried) = (tried ≡ false) × HasStopped g tried old new
+IsNodeTrouble g block holder old new (trouble.Damaged damage) = IsNodeDamage g block holder old damage

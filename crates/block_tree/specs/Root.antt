@@ -5,7 +5,7 @@ use Rattle.std.specs.Int.{to_be_bytes, w32, w64}
 use Rattle.cfs_base.specs.declared.kind.Kind.{Kind}
 use Rattle.cfs_base.specs.declared.kind.Kind.TheVariants.{Normal, Special, Index}
 use Rattle.block_tree.specs.declared.root.Root.{Root}
-use Rattle.block_tree.specs.Pointers.{node_pointers, numbers_spelling}
+use Rattle.block_tree.specs.Pointers.{node_pointers, numbers_spelling, size_limit}
 use Rattle.block_tree.specs.Prefix.{IsFirstBad}
 
 -- ---- which values are roots
@@ -16,7 +16,7 @@ IsFill kind fill = kind ≡ Index → fill ≡ 0
 
 -- no size is above the limit; an index has a slot or more, of 8 bytes each
 pub record IsSize (kind : Kind) (size : ℕ) : Type 0 where
-  pub limit : size ≤ 7864320
+  pub limit : size ≤ size_limit
   pub slots : kind ≡ Index → (8 ≤ size) × (size % 8 ≡ 0)
 
 -- a root that a block may hold

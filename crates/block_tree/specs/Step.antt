@@ -3,6 +3,7 @@ use Rattle.std.specs.Prelude.{◌≡◌, ◌≢◌, ◌⊎◌, ℕ, ◌+◌, ◌
 use Rattle.std.specs.Prelude.{Some, None}
 use Rattle.cfs_base.specs.Disk.{Image}
 use Rattle.block_tree.specs.declared.step.HeldStep.{HeldStep}
+use Rattle.block_tree.specs.Pointers.{leaf_pointers}
 use Rattle.block_tree.specs.Tree.{leaf_count, leaf_block, PastAbove}
 
 -- ---- in a tree
@@ -51,7 +52,7 @@ IsFirstSet pointers from None = (i : ℕ) → from ≤ i → get_or pointers i 0
 pub record IsStepAt (nodes leaves : List ℕ) (node from : ℕ) (step : HeldStep) : Type 0 where
   pub place : ℕ
   pub first : IsFirstSet leaves from (Some place)
-  pub leaf : step.held.leaf ≡ 128 * node + place
+  pub leaf : step.held.leaf ≡ leaf_pointers.count * node + place
   pub block : step.held.block ≡ get_or leaves place 0
   pub follows : step.follows ≡ true
       → ((k : ℕ) × IsFirstSet leaves (place + 1) (Some k)) ⊎ ((k : ℕ) × IsFirstSet nodes (node + 1) (Some k))

@@ -4,18 +4,13 @@ use Rattle.std.specs.Prelude.{replicate, filter, not, ◌==◌}
 use Rattle.std.specs.List.{range_with_len}
 use Rattle.cfs_base.specs.Disk.{Image, block_at}
 use Rattle.block_tree.specs.Reads.{IsPast}
-use Rattle.block_tree.specs.Pointers.{Level, pointers_of, node_pointers, leaf_pointers}
+use Rattle.block_tree.specs.Pointers.{Level, levels_below, node_levels, node_pointers, pointers_of, width}
 
 -- ---- levels and paths
 
 -- the levels of pointers below a root of this content: the root's to its nodes, and the nodes' to their leaves
 unfoldable pub levels_of : List ℕ → List Level
-levels_of root = node_pointers ∷ leaf_pointers ∷ []
-
--- how many leaves lie below a block with these levels
-abbrev pub width : List Level → ℕ
-width [] = 1
-width (level ∷ levels) = level.count * width levels
+levels_of root = node_pointers ∷ levels_below node_levels
 
 -- the path of a leaf: at each level the place of a pointer
 unfoldable pub path_to : List Level → ℕ → List ℕ

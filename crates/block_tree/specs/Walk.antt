@@ -2,6 +2,7 @@
 use Rattle.std.specs.Prelude.{◌≡◌, ◌≢◌, ℕ, ◌/◌, ◌%◌, ◌<◌, ◌≤◌, List, Option, Some, None}
 use Rattle.cfs_base.specs.Disk.{Image}
 use Rattle.block_tree.specs.declared.walk.HeldLeaf.{HeldLeaf}
+use Rattle.block_tree.specs.Pointers.{leaf_pointers}
 use Rattle.block_tree.specs.Tree.{leaf_block, leaf_count, PastAbove, AreQuiet}
 
 -- the first leaf from one on that is held; nothing before it stops the walk
@@ -31,12 +32,13 @@ pub record IsFirstPast (image : Image) (size : ℕ) (root : List ℕ) (from bloc
 -- a leaf of the same node as another, not before it, whose pointer is this block
 pub record IsLaterIn (from : ℕ) (held : HeldLeaf) : Type 0 where
   pub on : from ≤ held.leaf
-  pub same_node : held.leaf / 128 ≡ from / 128
+  pub same_node : held.leaf / leaf_pointers.count ≡ from / leaf_pointers.count
   pub is_held : held.block ≢ 0
 
 -- the first leaf of a node with these pointers, from one on, whose pointer isn't 0
 abbrev pub IsFirstOf : (ℕ → ℕ) → ℕ → Option HeldLeaf → Type 0
 IsFirstOf pointer from (Some held) =
-    (pointer (held.leaf % 128) ≡ held.block)
-    × ((place : ℕ) → from % 128 ≤ place → place < held.leaf % 128 → pointer place ≡ 0)
-IsFirstOf pointer from None = (place : ℕ) → from % 128 ≤ place → place < 128 → pointer place ≡ 0
+    (pointer (held.leaf % leaf_pointers.count) ≡ held.block)
+    × ((place : ℕ) → from % leaf_pointers.count ≤ place → place < held.leaf % leaf_pointers.count → pointer place ≡ 0)
+IsFirstOf pointer from None =
+    (place : ℕ) → from % leaf_pointers.count ≤ place → place < leaf_pointers.count → pointer place ≡ 0

@@ -2,7 +2,7 @@
 ghost use Rattle.std.specs.Prelude.{◌≡◌, ◌≢◌, ℕ, ◌/◌, ◌<◌, [], ◌∷◌, IfOk, IfErr, OnOk};
 ghost use Rattle.cfs_base.specs.Disk.{block_at};
 ghost use Rattle.cfs_base.specs.Run.{Tells};
-ghost use Rattle.block_tree.specs.Pointers.{pointers_of, leaf_pointers};
+ghost use Rattle.block_tree.specs.Pointers.{leaf_limit, leaf_pointers, pointers_of};
 ghost use Rattle.cfs_base.specs.Calls.{OnlyReads};
 ghost use Rattle.block_tree.specs.Reads.{IsFault, IsPast};
 ghost use Rattle.block_tree.specs.Root.{root_spelling};
@@ -14,7 +14,7 @@ use crate::root::{NODES, Root};
 use cfs_base::{Block, BlockNo, Disk};
 
 /// The leaves that a tree may have.
-pub const LEAF_LIMIT: u32 = 15_360;
+pub const LEAF_LIMIT: u32 = (NODES * LEAVES) as u32;
 
 /// The leaf in which the byte at this offset lies.
 pub fn leaf_of(offset: u64) -> u64
@@ -25,9 +25,9 @@ pub fn leaf_of(offset: u64) -> u64
 
 /// The node that leads to this leaf.
 pub fn node_of(leaf: u32) -> u32
-    ensures { result ≡ leaf / 128 }
+    ensures { result ≡ leaf / leaf_pointers.count }
 {
-    leaf / 128
+    leaf / LEAVES as u32
 }
 
 /// Reads the block to which a pointer leads.
@@ -64,7 +64,7 @@ pub fn node_at<D: Disk>(disk: &mut D, block: u32) -> Result<Node, TreeFault>
 /// The pointer at a place of the node at a block, 0 where the block is 0.
 #[tactic(auto, using(crate::proofs::Trees::end_is, crate::proofs::Trees::end_none))]
 fn pointer_in<D: Disk>(disk: &mut D, block: u32, place: u32) -> Result<u32, TreeFault>
-    requires { place < 128 }
+    requires { place < leaf_pointers.count }
     ensures pointer { Tells D.Disk disk.old → IfOk result (λ n.
         n ≡ end_of (D.content disk.old) (leaf_pointers ∷ []) block (place ∷ [])) }
     ensures refused { IfErr result (IsFault D.Disk disk.old disk.new (λ b. b ≡ block)) }
@@ -80,7 +80,7 @@ fn pointer_in<D: Disk>(disk: &mut D, block: u32, place: u32) -> Result<u32, Tree
 
 /// The block of a leaf, 0 where the leaf is absent. Makes at most 1 device call.
 pub fn leaf_at<D: Disk>(disk: &mut D, root: &Root, leaf: u32) -> Result<u32, TreeFault>
-    requires { leaf < LEAF_LIMIT }
+    requires { leaf < leaf_limit }
     ensures leaf { Tells D.Disk disk.old → IfOk result (λ n.
         n ≡ leaf_block (D.content disk.old) (root_spelling root.now) leaf) }
     ensures refused { IfErr result (IsFault D.Disk disk.old disk.new
@@ -89,7 +89,11 @@ pub fn leaf_at<D: Disk>(disk: &mut D, root: &Root, leaf: u32) -> Result<u32, Tre
         ¬ PastAbove (D.content disk.old) (D.blocks disk.old) (root_spelling root.now) leaf block) }
     ensures reads { OnlyReads D.Disk 1 disk.old disk.new }
 {
-    pointer_in(disk, root.nodes[node_of(leaf) as usize], leaf % 128)
+    pointer_in(
+        disk,
+        root.nodes[node_of(leaf) as usize],
+        leaf % LEAVES as u32,
+    )
 }
 
 /// Reads a leaf, which is fill bytes where it is absent. Makes at most 2 device calls.
@@ -99,7 +103,7 @@ pub fn read_leaf<D: Disk>(
     leaf: u32,
     into: &mut Block,
 ) -> Result<(), TreeFault>
-    requires { leaf < LEAF_LIMIT }
+    requires { leaf < leaf_limit }
     ensures bytes { Tells D.Disk disk.old → OnOk result
         (into.new ≡ leaf_bytes (D.content disk.old) (root_spelling root.now) leaf) }
     ensures refused { IfErr result (IsFault D.Disk disk.old disk.new

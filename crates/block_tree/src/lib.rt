@@ -8,13 +8,15 @@ mod head;
 mod leaf;
 mod node;
 mod pointers;
+mod reads;
 mod root;
 mod step;
 mod walk;
 
 pub use fault::TreeFault;
 pub use leaf::{LEAF_LIMIT, leaf_at, leaf_of, node_of, read_leaf};
-pub use node::Node;
-pub use root::{BadRoot, Root, SIZE_LIMIT};
+pub use node::{LEAVES, Node};
+pub use reads::{read_block, read_node, read_root};
+pub use root::{BadRoot, NODE_LEVELS, NODES, Root, SIZE_LIMIT};
 pub use step::{HeldStep, step_held};
 pub use walk::{HeldLeaf, walk_held};

@@ -1,5 +1,5 @@
 //! A node: a block of pointers to leaves.
-ghost use Rattle.std.specs.Prelude.{◌≡◌};
+ghost use Rattle.std.specs.Prelude.{◌≡◌, replicate};
 ghost use Rattle.block_tree.specs.Node.{node_spelling, IsNode};
 ghost use Rattle.block_tree.specs.Pointers.{pointers_of, leaf_pointers};
 
@@ -16,6 +16,15 @@ pub struct Node {
 }
 
 impl Node {
+    /// A node without leaves.
+    pub fn empty() -> Node
+        ensures { result.leaves ≡ replicate leaf_pointers.count 0 }
+    {
+        Node {
+            leaves: [0; LEAVES],
+        }
+    }
+
     /// The node that this block spells. Every block spells one.
     pub fn decode(block: &Block) -> Node
         ensures good { IsNode result }

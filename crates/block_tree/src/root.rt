@@ -4,14 +4,18 @@ ghost use Rattle.block_tree.specs.Pointers.{pointers_of, node_pointers};
 ghost use Rattle.block_tree.specs.Root.{IsRoot, IsRootBlock, IsFirstBadByte, root_spelling};
 
 use crate::head::{first_nonzero, head_block, is_fill, kind_of, size_of};
+use crate::node::LEAVES;
 use crate::pointers::{put_pointers, read_pointers};
 use cfs_base::{Block, Kind};
 
 /// The node pointers of a root.
 pub const NODES: usize = 120;
 
+/// The levels of nodes below a root.
+pub const NODE_LEVELS: u32 = 1;
+
 /// The greatest size of an object in bytes.
-pub const SIZE_LIMIT: u64 = 7_864_320;
+pub const SIZE_LIMIT: u64 = 512 * (NODES * LEAVES) as u64;
 
 /// What a root block says of its object, with the block of each of its nodes, or 0 where a node is absent.
 #[derive(Clone, Copy, Debug, PartialEq, Eq)]

@@ -3,14 +3,15 @@ ghost use Rattle.std.specs.Prelude.{◌≡◌, ◌≢◌, ℕ, ◌+◌, ◌<◌,
 ghost use Rattle.cfs_base.specs.Calls.{OnlyReads};
 ghost use Rattle.cfs_base.specs.Disk.{block_at};
 ghost use Rattle.cfs_base.specs.Run.{Tells};
-ghost use Rattle.block_tree.specs.Pointers.{pointers_of, leaf_pointers};
+ghost use Rattle.block_tree.specs.Pointers.{leaf_limit, leaf_pointers, node_pointers, pointers_of};
 ghost use Rattle.block_tree.specs.Reads.{IsFault, IsPast};
 ghost use Rattle.block_tree.specs.Root.{root_spelling};
 ghost use Rattle.block_tree.specs.Step.{IsFirstSet, IsPastFrom, IsStepIn, IsStepped};
 ghost use Rattle.block_tree.specs.Tree.{HasNoDeadEnd, leaf_block};
 
 use crate::fault::TreeFault;
-use crate::leaf::{LEAF_LIMIT, node_at};
+use crate::leaf::node_at;
+use crate::node::LEAVES;
 use crate::root::Root;
 use crate::walk::HeldLeaf;
 use cfs_base::Disk;
@@ -41,11 +42,11 @@ fn step_in<D: Disk>(
     node: usize,
     from: usize,
 ) -> Result<Option<HeldStep>, TreeFault>
-    requires node { node < 120 }
+    requires node { node < node_pointers.count }
     requires there { get_or root.now.nodes node 0 ≢ 0 }
     ensures step { Tells D.Disk disk.old → IfOk result (IsStepIn root.now.nodes
         (pointers_of leaf_pointers (block_at (D.content disk.old) (get_or root.now.nodes node 0))) node from) }
-    ensures within { IfOk result (λ step. IfSome step (λ s. (s.held.leaf < LEAF_LIMIT) × (s.held.block ≢ 0))) }
+    ensures within { IfOk result (λ step. IfSome step (λ s. (s.held.leaf < leaf_limit) × (s.held.block ≢ 0))) }
     ensures refused { IfErr result (IsFault D.Disk disk.old disk.new (λ b. b ≡ get_or root.now.nodes node 0)) }
     ensures reads { OnlyReads D.Disk 1 disk.old disk.new }
 {
@@ -57,7 +58,7 @@ fn step_in<D: Disk>(
     let next_node = first_set(&root.nodes, node + 1);
     Ok(Some(HeldStep {
         held: HeldLeaf {
-            leaf: (128 * node + place) as u32,
+            leaf: (LEAVES * node + place) as u32,
             block: content.leaves[place],
         },
         follows: next_leaf.is_some() || next_node.is_some(),
@@ -76,16 +77,16 @@ pub fn step_held<D: Disk>(
     // Whatever nodes lead to no leaf, the leaf that is found is the tree's.
     ensures there { Tells D.Disk disk.old → IfOk result (λ step. IfSome step (λ s.
         leaf_block (D.content disk.old) (root_spelling root.now) s.held.leaf ≡ s.held.block)) }
-    ensures within { IfOk result (λ step. IfSome step (λ s. (s.held.leaf < LEAF_LIMIT) × (s.held.block ≢ 0))) }
+    ensures within { IfOk result (λ step. IfSome step (λ s. (s.held.leaf < leaf_limit) × (s.held.block ≢ 0))) }
     ensures refused { IfErr result (IsFault D.Disk disk.old disk.new
         (IsPastFrom (D.content disk.old) (D.blocks disk.old) (root_spelling root.now) from)) }
     ensures reads { OnlyReads D.Disk 2 disk.old disk.new }
 {
-    let Some(first) = first_set(&root.nodes, (from / 128) as usize) else {
+    let Some(first) = first_set(&root.nodes, from as usize / LEAVES) else {
         return Ok(None);
     };
-    let start = from.max(128 * first as u32);
-    if let Some(step) = step_in(disk, root, first, (start % 128) as usize)? {
+    let start = from.max((LEAVES * first) as u32);
+    if let Some(step) = step_in(disk, root, first, start as usize % LEAVES)? {
         return Ok(Some(step));
     }
     let Some(second) = first_set(&root.nodes, first + 1) else {

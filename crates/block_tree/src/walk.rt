@@ -1,7 +1,7 @@
 //! A walk over the held leaves of a tree.
 ghost use Rattle.std.specs.Prelude.{◌≡◌, ◌≢◌, ℕ, ◌+◌, ◌/◌, ◌<◌, ◌≤◌, [], ◌∷◌, IfOk, IfErr, OnOk, IfSome, slice_index};
 ghost use Rattle.cfs_base.specs.Run.{Tells};
-ghost use Rattle.block_tree.specs.Pointers.{leaf_pointers};
+ghost use Rattle.block_tree.specs.Pointers.{leaf_limit, leaf_pointers, node_pointers};
 ghost use Rattle.cfs_base.specs.Calls.{OnlyReads};
 ghost use Rattle.block_tree.specs.Reads.{IsFault, IsPast};
 ghost use Rattle.block_tree.specs.Root.{root_spelling};
@@ -9,8 +9,8 @@ ghost use Rattle.block_tree.specs.Tree.{end_of, HasNoDeadEnd};
 ghost use Rattle.block_tree.specs.Walk.{IsFound, IsFirstPast, IsLaterIn, IsFirstOf};
 
 use crate::fault::TreeFault;
-use crate::leaf::{LEAF_LIMIT, node_at, node_of};
-use crate::node::Node;
+use crate::leaf::{node_at, node_of};
+use crate::node::{LEAVES, Node};
 use crate::root::{NODES, Root};
 use cfs_base::Disk;
 
@@ -26,11 +26,11 @@ fn held_in_node(node: &Node, from: u32) -> Option<HeldLeaf>
     ensures within { IfSome result (IsLaterIn from) }
     ensures first { IsFirstOf (λ place. slice_index node.now.leaves place) from result }
 {
-    for place in from % 128..128 {
+    for place in from % LEAVES as u32..LEAVES as u32 {
         let block = node.leaves[place as usize];
         if block != 0 {
             return Some(HeldLeaf {
-                leaf: from - from % 128 + place,
+                leaf: from - from % LEAVES as u32 + place,
                 block,
             });
         }
@@ -65,10 +65,10 @@ pub fn walk_held<D: Disk>(
     ensures found { Tells D.Disk disk.old → IfOk result
         (IsFound (D.content disk.old) (D.blocks disk.old) (root_spelling root.now) from) }
     ensures within { IfOk result (λ found. IfSome found (λ held.
-        (from ≤ held.leaf) × (held.leaf < LEAF_LIMIT) × (held.block ≢ 0))) }
+        (from ≤ held.leaf) × (held.leaf < leaf_limit) × (held.block ≢ 0))) }
     ensures refused { IfErr result (IsFault D.Disk disk.old disk.new
         (IsFirstPast (D.content disk.old) (D.blocks disk.old) (root_spelling root.now) from)) }
-    ensures reads { OnlyReads D.Disk 120 disk.old disk.new }
+    ensures reads { OnlyReads D.Disk node_pointers.count disk.old disk.new }
     ensures few { Tells D.Disk disk.old → HasNoDeadEnd (D.content disk.old) (root_spelling root.now)
         → D.calls disk.new ≤ D.calls disk.old + 2 }
 {
@@ -77,7 +77,7 @@ pub fn walk_held<D: Disk>(
         if let Some(held) = held_below(disk, root.nodes[node as usize], next)? {
             return Ok(Some(held));
         }
-        next = 128 * node + 128;
+        next = LEAVES as u32 * node + LEAVES as u32;
     }
     Ok(None)
 }

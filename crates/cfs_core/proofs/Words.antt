@@ -70,7 +70,8 @@ pub use Rattle.special_files.specs.Becomes.{Becomes}
 pub use Rattle.special_files.specs.Committing.{Committed, Dropped, IsOldOrNew}
 pub use Rattle.special_files.specs.Drafting.{Drafting, IsOpen, begun_at, fresh_of, need_beside, opened_as, shadow_need}
 pub use Rattle.special_files.specs.Ends.{Ends}
-pub use Rattle.special_files.specs.Refusal.{IsRefusalOrMemory, IsTrouble, is_damage, is_damaged, is_full}
+pub use Rattle.block_tree.specs.Reads.{is_damage}
+pub use Rattle.special_files.specs.Refusal.{IsRefusalOrMemory, IsTrouble, is_damaged, is_full}
 pub use Rattle.special_files.specs.Shed.{Resizes}
 pub use Rattle.special_files.specs.Store.{replaced, without_draft}
 pub use Rattle.std.proofs.Math.Seq.{take-append_seam}

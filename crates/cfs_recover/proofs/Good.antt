@@ -1,6 +1,6 @@
 -- The tree of an object whose blocks were checked, and what is held and noted of it.
 use Rattle.std.proofs.Common.{◌≡◌, ◌≢◌, inl, inr, ℕ, zero, suc, ◌+◌, ◌-◌, ◌*◌, ◌/◌, ◌<◌, true, List, [], ◌∷◌, ◌++◌, length, get_or, Some, refl, sym, ◌∙◌, ap, subst, arith, append-nil, is_some, IsTrue}
-use Rattle.cfs_recover.proofs.Words.{AreGood, AreGoodBelow, BelongsTo, Branch, Grows, Held, Image, IsGood, IsGoodLeaf, IsGoodTree, IsNoted, IsRootBlock, IsTree, Level, Place, Puid, Root, Walk, block_at, end_of, held, held_is, held_some, holds, leaf_in, leaf_pointers, length-path_to, levels_below, levels_of, node_pointers, object_with, path_to, place_above, place_at, place_from, place_number, pointer, pointers_of, tree_in}
+use Rattle.cfs_recover.proofs.Words.{AreGood, AreGoodBelow, BelongsTo, Branch, Grows, Held, Image, IsGood, IsGoodLeaf, IsGoodTree, IsNoted, IsRootBlock, IsTree, Level, Place, Puid, Root, Walk, block_at, end_of, held, held_is, held_some, holds, leaf_in, leaf_pointers, length-path_to, levels_below, levels_of, node_pointers, object_with, path_to, place_above, place_at, place_from, place_number, pointer, pointers_of, tree_in, leaf_limit, node_levels, width}
 use Rattle.cfs_recover.proofs.Trees.{down, end_zero, inside, length-pointers, less_one, place_on}
 
 -- ---- what was checked stays so
@@ -27,7 +27,7 @@ module _ (image : Image) (owner : ℕ) (root : Root) (a b : Walk) (grows : Grows
 
   pub all_on : (height n block : ℕ) → AreGood image owner root a height n block → AreGood image owner root b height n block
   all_on zero n block good = good_on zero n block good
-  all_on (suc h) n block good = (good_on (suc h) n block good.0, λ j some. all_on h (n * 128 + j) _ (good.1 j some))
+  all_on (suc h) n block good = (good_on (suc h) n block good.0, λ j some. all_on h (n * leaf_pointers.count + j) _ (good.1 j some))
 
 -- all to which pointers lead
 pub below_all : (image : Image) (owner : ℕ) (root : Root) (w : Walk) (at : Branch) (level : Level) (content pointers : List ℕ) → pointers ≡ pointers_of level content → AreGoodBelow image owner root w at pointers (length pointers)
@@ -42,7 +42,7 @@ pub good_with : (image : Image) (owner : ℕ) (root : Root) (w : Walk) (height n
     → AreGoodBelow image owner root w (record { block = block; number = n; height = height - 1 }) leaves (length leaves) → AreGood image owner root w height n block
 good_with image owner root w zero n block leaves more here is below = absurd (more refl)
 good_with image owner root w (suc h) n block leaves more here is below =
-    (here, λ j some. subst (λ (m : ℕ). AreGood image owner root w m (n * 128 + j) (pointer leaf_pointers (block_at image block) j)) (sym (less_one h)) (below_all image owner root w (record { block = block; number = n; height = suc h - 1 }) leaf_pointers (block_at image block) leaves is below j some))
+    (here, λ j some. subst (λ (m : ℕ). AreGood image owner root w m (n * leaf_pointers.count + j) (pointer leaf_pointers (block_at image block) j)) (sym (less_one h)) (below_all image owner root w (record { block = block; number = n; height = suc h - 1 }) leaf_pointers (block_at image block) leaves is below j some))
 
 pub good_leaf : (image : Image) (owner : ℕ) (root : Root) (w : Walk) (height n block : ℕ) → height ≡ 0 → IsGood image owner root w height n block → AreGood image owner root w height n block
 good_leaf image owner root w zero n block last here = here
@@ -71,19 +71,19 @@ module _ (image : Image) (owner : ℕ) (root : Root) (w : Walk) where
   checked (k ∷ path) (suc h) n (suc b) all some =
       let p = pointer leaf_pointers (block_at image (suc b)) k in
       let there : p ≢ 0 = λ none. some (end_zero image (levels_below h) p path none) in
-      let rest = checked path h (n * 128 + k) p (all.1 k there) some in
+      let rest = checked path h (n * leaf_pointers.count + k) p (all.1 k there) some in
       record { left = rest.left; number = rest.number; good = rest.good; place_is = rest.place_is; depth = omega (arith, rest.depth); next = rest.next }
 
 number_above : (height n : ℕ) → place_number (Some (place_above (levels_below height) n)) ≡ n
 number_above zero n = refl
 number_above (suc h) n = refl
 
-leaf_number : (content : List ℕ) (leaf : ℕ) → leaf < 15360 → place_number (Some (place_at (levels_of content) (path_to (levels_of content) leaf))) ≡ leaf
+leaf_number : (content : List ℕ) (leaf : ℕ) → leaf < width (levels_of content) → place_number (Some (place_at (levels_of content) (path_to (levels_of content) leaf))) ≡ leaf
 unfolding levels_of place_at
 leaf_number content leaf below =
     ap (λ (ls : List Level). place_number (Some (place_from 0 ls (path_to (levels_of content) leaf)))) (sym (append-nil (levels_of content)))
     ∙ ap (λ (p : Place). place_number (Some p)) (place_on (levels_of content) [] leaf 0 below)
-    ∙ (let e : 0 * 15360 + leaf ≡ leaf = omega arith in e)
+    ∙ (let e : 0 * width (levels_of content) + leaf ≡ leaf = omega arith in e)
 
 -- ---- the tree
 
@@ -93,21 +93,21 @@ module _ (image : Image) (owner from : ℕ) (root : Root) (w : Walk) (spelled : 
 
   record InTree (path : List ℕ) (h : Held) : Type 0 where
     k : ℕ
-    k_small : k < 120
+    k_small : k < node_pointers.count
     rest : List ℕ
     path_is : path ≡ k ∷ rest
-    block_is : h ≡ held image (end_of image (levels_below 1) (pointer node_pointers content k) rest)
-    its : IsChecked image owner root w 1 (0 * 120 + k) (pointer node_pointers content k) rest
+    block_is : h ≡ held image (end_of image (levels_below node_levels) (pointer node_pointers content k) rest)
+    its : IsChecked image owner root w node_levels (0 * node_pointers.count + k) (pointer node_pointers content k) rest
 
   in_tree : (path : List ℕ) (h : Held) → (tree_in image content).below path ≡ Some h → InTree path h
   unfolding levels_of
   in_tree [] h v = cc
   in_tree (k ∷ rest) h v =
       let p = pointer node_pointers content k in
-      let at = held_is image (end_of image (levels_below 1) p rest) h v in
-      let there : p ≢ 0 = λ none. at.1 (end_zero image (levels_below 1) p rest none) in
+      let at = held_is image (end_of image (levels_below node_levels) p rest) h v in
+      let there : p ≢ 0 = λ none. at.1 (end_zero image (levels_below node_levels) p rest none) in
       let small = inside node_pointers content k there in
-      record { k = k; k_small = small; rest = rest; path_is = refl; block_is = at.0; its = checked image owner root w rest 1 (0 * 120 + k) p (nodes k there) at.1 }
+      record { k = k; k_small = small; rest = rest; path_is = refl; block_is = at.0; its = checked image owner root w rest node_levels (0 * node_pointers.count + k) p (nodes k there) at.1 }
 
   pub on_disk : (path : List ℕ) (h : Held) → (tree_in image content).below path ≡ Some h → h.block < length image
   on_disk path h v = let at = in_tree path h v in rw at.block_is at.its.good.on_disk
@@ -128,13 +128,13 @@ module _ (image : Image) (owner from : ℕ) (root : Root) (w : Walk) (spelled : 
   unfolding levels_of path_to
   leaf_checked leaf h v =
       let at = in_tree (path_to (levels_of content) leaf) h v in
-      let long : length (at.k ∷ at.rest) ≡ 2 = sym (ap length at.path_is) ∙ length-path_to (levels_of content) leaf in
+      let long : length (at.k ∷ at.rest) ≡ length (levels_of content) = sym (ap length at.path_is) ∙ length-path_to (levels_of content) leaf in
       let last : at.its.left ≡ 0 = omega (arith, long, at.its.depth) in
-      let first : leaf / 128 ≡ at.k = ap (λ (p : List ℕ). get_or p 0 0) at.path_is in
-      let below : leaf < 15360 = omega (arith, first, at.k_small) in
+      let first : leaf / width (levels_below node_levels) ≡ at.k = ap (λ (p : List ℕ). get_or p 0 0) at.path_is in
+      let below : leaf < leaf_limit = omega (arith, first, at.k_small) in
       let is : at.its.number ≡ leaf =
       sym (number_above at.its.left at.its.number) ∙ ap (λ (p : Place). place_number (Some p)) (sym (place_of _ h at)) ∙ leaf_number content leaf below in
-      let block = end_of image (levels_below 1) (pointer node_pointers content at.k) at.rest in
+      let block = end_of image (levels_below node_levels) (pointer node_pointers content at.k) at.rest in
       rw at.block_is (subst (λ (l : ℕ). IsGoodLeaf image root w l block) is (at.its.good.leaf last), refl)
 
   leads_on : (path : List ℕ) (h : Held) → (tree_in image content).below path ≡ Some h → length path < length (levels_of content) → (k : ℕ) × IsTrue (is_some ((tree_in image content).below (path ++ k ∷ [])))

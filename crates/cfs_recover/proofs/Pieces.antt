@@ -1,6 +1,6 @@
 -- The pieces that are kept of a root, and the root that is made of them again.
 use Rattle.std.proofs.Common.{◌≡◌, ◌≢◌, inl, inr, ℕ, zero, suc, ◌+◌, ◌/◌, ◌%◌, ◌<◌, ◌≤◌, ◌^◌, List, [], ◌∷◌, ◌++◌, length, get_or, drop, set, replicate, Option, Some, None, true, false, is_some, refl, sym, ◌∙◌, ap, subst, arith, get_or-set_same, get_or-set_other, length-set, append_assoc, append-nil}
-use Rattle.cfs_recover.proofs.Words.{All-get_or, BeginsAnew, BeginsWithout, Copied, IsGoodRoot, IsSome, Piece, Root, all_pieces, cases_lt, drop-cons, drop_of_length-le, from_be_bytes, head_piece, node_piece, node_pieces, piece_at, pieces_of, same_number_lists, w64}
+use Rattle.cfs_recover.proofs.Words.{All-get_or, BeginsAnew, BeginsWithout, Copied, IsGoodRoot, IsSome, Piece, Root, all_pieces, cases_lt, drop-cons, drop_of_length-le, from_be_bytes, head_piece, node_piece, node_pieces, piece_at, pieces_of, same_number_lists, w64, node_pointers}
 
 first_is : (p q : Piece) (xs ys : List Piece) → p ∷ xs ≡ q ∷ ys → p.number ≡ q.number
 first_is p q xs ys is = let same : p ≡ q = cc in ap (λ (r : Piece). r.number) same
@@ -116,8 +116,8 @@ no_zeros zero i = refl
 no_zeros (suc n) zero = refl
 no_zeros (suc n) (suc i) = no_zeros n i
 
-pub read_begin : (ns : List ℕ) (rest left : List Piece) → length ns ≡ 120 → left ≡ node_pieces 0 ns ++ rest → AreReadTo ns rest 0 left (replicate 120 0)
-read_begin ns rest left size is = record { pieces = is; read = λ i below. absurd (omega (arith, below)); none = λ i past. no_zeros 120 i; size = sym size }
+pub read_begin : (ns : List ℕ) (rest left : List Piece) → length ns ≡ node_pointers.count → left ≡ node_pieces 0 ns ++ rest → AreReadTo ns rest 0 left (replicate node_pointers.count 0)
+read_begin ns rest left size is = record { pieces = is; read = λ i below. absurd (omega (arith, below)); none = λ i past. no_zeros node_pointers.count i; size = sym size }
 
 -- ---- a size by its last three bytes
 

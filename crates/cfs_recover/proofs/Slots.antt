@@ -1,11 +1,11 @@
 -- To what an object refers whose leaves were checked: to what was noted.
 use Rattle.std.proofs.Common.{◌≡◌, ◌≢◌, inl, inr, ℕ, suc, ◌+◌, ◌-◌, ◌*◌, ◌/◌, ◌%◌, ◌<◌, true, List, [], ◌∷◌, length, take, replicate, Option, Some, None, refl, sym, ◌∙◌, ap, subst, arith}
-use Rattle.cfs_recover.proofs.Words.{Held, Image, IsGoodTree, IsNoted, IsRootBlock, Kind, Object, Puid, Root, Walk, block_at, content_is, drop-replicate, filter_map, from_be_bytes, index_to_leaves, is_among, leaf_content, leaf_in, none-some, number_at, object_with, or_cases, referred, same_puid, same_puid_is, slice_get, slot_in, some_file, some_index, take-replicate, tree_in, unwrap_or, w32}
+use Rattle.cfs_recover.proofs.Words.{Held, Image, IsGoodTree, IsNoted, IsRootBlock, Kind, Object, Puid, Root, Walk, block_at, content_is, drop-replicate, filter_map, from_be_bytes, index_to_leaves, is_among, leaf_content, leaf_in, none-some, number_at, object_with, or_cases, referred, same_puid, same_puid_is, slice_get, slot_in, some_file, some_index, take-replicate, tree_in, unwrap_or, w32, leaf_pointers}
 use Rattle.cfs_base.specs.declared.kind.Kind.TheVariants as kinds
 use Rattle.cfs_recover.proofs.Good.{leaf_checked, on_disk}
 
 -- an absent leaf of an index has empty slots
-zero_number : (k : ℕ) → k < 128 → number_at (replicate 512 0) k ≡ 0
+zero_number : (k : ℕ) → k < leaf_pointers.count → number_at (replicate 512 0) k ≡ 0
 zero_number k small =
     ap (λ (bytes : List ℕ). from_be_bytes w32 (take 4 bytes)) (drop-replicate (4 * k) 512 0)
     ∙ ap (from_be_bytes w32) (take-replicate 4 (512 - 4 * k) 0 (omega arith))

@@ -1,6 +1,6 @@
 -- An object whose nodes were all checked is taken, as it is shown.
 use Rattle.std.proofs.Common.{◌≡◌, inl, ℕ, ◌<◌, true, List, [], length, get_or, Option, refl, sym, ◌∙◌, ap, subst, arith}
-use Rattle.cfs_recover.proofs.Words.{AreGoodBelow, Branch, HasPointers, Head, Held, Image, IsCopy, IsGoodTree, IsKept, IsOpened, IsRootBlock, IsTaken, Kind, Puid, Root, Walk, block_at, content_of, end_of, holds, kind_of, levels_below, levels_of, node_pointers, object_with, path_to, pointers_of, shown, sight, source}
+use Rattle.cfs_recover.proofs.Words.{AreGoodBelow, Branch, HasPointers, Head, Held, Image, IsCopy, IsGoodTree, IsKept, IsOpened, IsRootBlock, IsTaken, Kind, Puid, Root, Walk, block_at, content_of, end_of, holds, kind_of, levels_below, levels_of, node_pointers, object_with, path_to, pointers_of, shown, sight, source, node_levels}
 use Rattle.cfs_base.specs.declared.kind.Kind.TheVariants as kinds
 use Rattle.cfs_recover.proofs.Good.{all_held, below_all, tree_is}
 use Rattle.cfs_recover.proofs.Objects.{root_pointers}
@@ -27,7 +27,7 @@ module _ (image : Image) (id : Puid) (head : Head) (opened : IsOpened image id h
   is_copy = record { from = opened.shown.from_is; spelled = subst (λ (n : ℕ). IsRootBlock (block_at image n) head.root) (sym opened.shown.from_is) opened.shown.shows.spelled }
 
   abbrev top : Branch
-  top = record { block = head.from; number = 0; height = 1 }
+  top = record { block = head.from; number = 0; height = node_levels }
 
   nodes_are : head.root.nodes ≡ pointers_of node_pointers (content_of image id)
   nodes_are = root_pointers image id head.from head.root opened.shown
@@ -42,7 +42,7 @@ module _ (image : Image) (id : Puid) (head : Head) (opened : IsOpened image id h
     count = ap length nodes_are ∙ length-pointers node_pointers (content_of image id);
     whole = refl;
     inside = omega arith;
-    leads = λ k path. ap (λ (ns : List ℕ). end_of image (levels_below 1) (get_or ns k 0) path) (sym nodes_are);
+    leads = λ k path. ap (λ (ns : List ℕ). end_of image (levels_below node_levels) (get_or ns k 0) path) (sym nodes_are);
     here = opened.shown.from_is;
   }
 

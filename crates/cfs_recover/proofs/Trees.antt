@@ -59,12 +59,12 @@ some_below : (h : ℕ) → 1 ≤ width (levels_below h)
 some_below zero = omega arith
 some_below (suc h) = let rest = some_below h in omega (arith, rest)
 
-pub width_of : (h : ℕ) → h ≢ 0 → width (levels_below h) ≡ 128 * width (levels_below (h - 1))
+pub width_of : (h : ℕ) → h ≢ 0 → width (levels_below h) ≡ leaf_pointers.count * width (levels_below (h - 1))
 width_of h more = ap width (one_more h more)
 
-pub reads_more : (h : ℕ) → h ≢ 0 → reads_of h ≡ 1 + 128 * reads_of (h - 1)
+pub reads_more : (h : ℕ) → h ≢ 0 → reads_of h ≡ 1 + leaf_pointers.count * reads_of (h - 1)
 reads_more zero more = absurd (more refl)
-reads_more (suc h) more = ap (λ (m : ℕ). 1 + 128 * reads_of m) (less_one h)
+reads_more (suc h) more = ap (λ (m : ℕ). 1 + leaf_pointers.count * reads_of m) (less_one h)
 
 pub reads_some : (h : ℕ) → 1 ≤ reads_of h
 reads_some zero = omega arith

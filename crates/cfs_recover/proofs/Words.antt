@@ -1,12 +1,11 @@
 -- What lemmas of this crate name of the crates below, and of its own definitions.
 pub use Rattle.block_tree.proofs.Spellings.{nodes_of}
-pub use Rattle.block_tree.specs.Pointers.{Level, leaf_pointers, node_pointers, number_at}
+pub use Rattle.block_tree.specs.Pointers.{Level, leaf_limit, leaf_pointers, levels_below, node_levels, node_pointers, number_at, width}
 unfoldable pub use Rattle.block_tree.specs.Pointers.{pointers_of}
 pub use Rattle.block_tree.specs.Root.{IsGoodRoot, IsRootBlock}
 unfoldable pub use Rattle.block_tree.specs.Root.{root_spelling}
-pub use Rattle.block_tree.specs.Tree.{end_of, pointer, tree_of, width}
+pub use Rattle.block_tree.specs.Tree.{end_of, pointer, tree_of}
 unfoldable pub use Rattle.block_tree.specs.Tree.{levels_of, path_to}
-pub use Rattle.block_tree.specs.declared.leaf.TheConstants.{LEAF_LIMIT}
 pub use Rattle.block_tree.specs.declared.root.Root.{Root}
 pub use Rattle.cfs_base.proofs.Calls.{makes_then, reads_then, reads_within, tells_on}
 pub use Rattle.cfs_base.proofs.Runs.{on, then, wider}
@@ -34,7 +33,7 @@ pub use Rattle.cfs_recover.specs.Standing.{Shadow, one_more, shadow_of}
 pub use Rattle.cfs_recover.specs.Stored.{AreMapsOf, Stores}
 pub use Rattle.cfs_recover.specs.Survey.{IsIn, IsSurvey}
 pub use Rattle.cfs_recover.specs.Tidy.{AreCopied, AreMarked, AreTidied, CopiesRoots, HasTidied, IsHeldIn, IsMapIn, IsTidied, IsTidiedMap, IsTidy, IsTidyMap, IsTidying, Tidies, tidied}
-pub use Rattle.cfs_recover.specs.Walk.{AreGood, AreGoodBelow, HasBlock, HasPointers, IsCopy, IsGood, IsGoodAt, IsGoodLeaf, IsGoodTree, IsOpened, IsOwn, IsShown, Walks, content_of, id_of, levels_below, reads_of, shown}
+pub use Rattle.cfs_recover.specs.Walk.{AreGood, AreGoodBelow, HasBlock, HasPointers, IsCopy, IsGood, IsGoodAt, IsGoodLeaf, IsGoodTree, IsOpened, IsOwn, IsShown, Walks, content_of, id_of, reads_of, reads_of_object, shown}
 pub use Rattle.cfs_recover.specs.declared.copies.Copied.{Copied}
 pub use Rattle.cfs_recover.specs.declared.fault.RecoverFault.{RecoverFault}
 pub use Rattle.cfs_recover.specs.declared.found.Found.{Found}

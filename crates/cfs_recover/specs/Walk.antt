@@ -8,8 +8,9 @@ use Rattle.cfs_base.specs.declared.kind.Place.TheVariants as places
 use Rattle.block_tree.specs.declared.node.Node.{Node}
 use Rattle.block_tree.specs.declared.root.Root.{Root}
 use Rattle.block_tree.specs.Root.{IsRootBlock}
-use Rattle.block_tree.specs.Pointers.{Level, leaf_pointers, node_pointers, pointers_of}
-use Rattle.block_tree.specs.Tree.{end_of, levels_of, path_to, pointer, tree_of, width}
+use Rattle.block_tree.specs.Pointers.{Level, leaf_pointers, levels_below, node_levels, node_pointers, pointers_of}
+use Rattle.block_tree.specs.Pointers.{width}
+use Rattle.block_tree.specs.Tree.{end_of, levels_of, path_to, pointer, tree_of}
 use Rattle.cyl_map.specs.declared.entry.MapEntry.{MapEntry}
 use Rattle.ufs_model.specs.declared.object.Object.{Object}
 use Rattle.ufs_model.specs.Object.{leaves_in}
@@ -68,14 +69,14 @@ pub record IsCopy (image : Image) (r : ℕ) (head : Head) : Type 0 where
 
 -- ---- its blocks, each by what leads to it
 
--- The levels of pointers below a block that is no root, as many as this: all are nodes'.
-abbrev pub levels_below : ℕ → List Level
-levels_below height = replicate height leaf_pointers
-
--- how many reads check such a block and all below it
+-- how many reads check a block above so many levels of nodes' pointers, and all below it
 abbrev pub reads_of : ℕ → ℕ
 reads_of zero = 1
-reads_of (suc height) = 1 + 128 * reads_of height
+reads_of (suc height) = 1 + leaf_pointers.count * reads_of height
+
+-- and how many an object, with its own root and the one by which it is read
+abbrev pub reads_of_object : ℕ
+reads_of_object = 2 + node_pointers.count * reads_of node_levels
 
 -- the object with this root block is read by this root
 pub record IsRead (image : Image) (owner : ℕ) (root : Root) : Type 0 where
@@ -141,7 +142,8 @@ abbrev pub AreGood : Image → ℕ → Root → Walk → ℕ → ℕ → ℕ →
 AreGood image owner root w zero number block = IsGood image owner root w zero number block
 AreGood image owner root w (suc height) number block = IsGood image owner root w (suc height) number block
     × ((j : ℕ) → pointer leaf_pointers (block_at image block) j ≢ 0
-    → AreGood image owner root w height (number * 128 + j) (pointer leaf_pointers (block_at image block) j))
+    → AreGood image owner root w height (number * leaf_pointers.count + j)
+    (pointer leaf_pointers (block_at image block) j))
 
 -- to what one of these pointers leads, and to what all below one do
 abbrev pub IsGoodAt : Image → ℕ → Root → Walk → Branch → List ℕ → ℕ → Type 0
@@ -154,7 +156,7 @@ AreGoodBelow image owner root w at pointers below = (k : ℕ) → k < below → 
 -- all below a root of this content
 abbrev pub IsGoodTree : Image → ℕ → Root → Walk → List ℕ → Type 0
 IsGoodTree image owner root w content = (k : ℕ) → pointer node_pointers content k ≢ 0
-    → AreGood image owner root w 1 (0 * 120 + k) (pointer node_pointers content k)
+    → AreGood image owner root w node_levels (0 * node_pointers.count + k) (pointer node_pointers content k)
 
 -- ---- the walk
 

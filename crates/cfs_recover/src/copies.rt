@@ -9,7 +9,7 @@ ghost use Rattle.cfs_recover.specs.Walk.{IsCopy};
 ghost use Rattle.cfs_recover.specs.declared.found.Found.{Found};
 
 use crate::head::Head;
-use block_tree::Root;
+use block_tree::{NODES, Root};
 use cfs_base::{Kind, NoMemory};
 
 /// A root block, and the root by which its object is read, which stands in another block.
@@ -95,7 +95,7 @@ pub(crate) fn first_root(kept: &[Piece], kind: Kind, word: u32) -> Option<(Root,
 {
     let (head, mut rest) = kept.split_first()?;
     let [fill, high, middle, low] = head.bytes;
-    let mut nodes = [0; 120];
+    let mut nodes = [0; NODES];
     for number in 0..120u8 {
         let Some((block, more)) = next_node(rest, number) else {
             continue;

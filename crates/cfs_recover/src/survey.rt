@@ -13,6 +13,7 @@ ghost use Rattle.cfs_recover.specs.Grounds.{AreGrounds, IsOpenFault};
 ghost use Rattle.cfs_recover.specs.Refusals.{IsCaused, IsDamage};
 ghost use Rattle.cfs_recover.specs.Stored.{AreMapsOf, Stores};
 ghost use Rattle.cfs_recover.specs.Survey.{Fits, IsOfSize, IsSurvey, IsWalked, IsWhole};
+ghost use Rattle.cfs_recover.specs.Walk.{reads_of_object};
 
 use crate::copies::Piece;
 use crate::fault::RecoverFault;
@@ -89,7 +90,7 @@ fn walk_volume<D: Disk>(
         → MatchResult result (IsWalked image grounds.now.label) (IsDamage (IsFault image)) }
     ensures size { IfOk result (IsOfSize (D.blocks disk.old)) }
     ensures cause { IfErr result (IsCaused D.Disk disk.old disk.new) }
-    ensures reads { OnlyReads D.Disk (15482 * D.blocks disk.old) disk.old disk.new }
+    ensures reads { OnlyReads D.Disk (reads_of_object * D.blocks disk.old) disk.old disk.new }
 {
     let standing = standing_in(alloc, &grounds.maps)?;
     let mut walk = begin_walk(alloc, disk.blocks(), grounds.label.root)?;

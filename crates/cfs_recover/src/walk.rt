@@ -8,7 +8,7 @@ ghost use Rattle.cfs_recover.specs.Copies.{HasKept};
 ghost use Rattle.cfs_recover.specs.Entries.{AreStanding};
 ghost use Rattle.cfs_recover.specs.Found.{Grows, IsFault};
 ghost use Rattle.cfs_recover.specs.Refusals.{IsCaused, IsDamage};
-ghost use Rattle.cfs_recover.specs.Walk.{Walks};
+ghost use Rattle.cfs_recover.specs.Walk.{Walks, reads_of_object};
 
 use crate::copies::{Piece, note_copy};
 use crate::fault::RecoverFault;
@@ -38,7 +38,7 @@ pub(crate) fn walk_all<D: Disk>(
     ensures grows { OnOk result (Grows walk.old walk.new) }
     ensures few { OnOk result (length walk.new.found.items ≤ D.blocks disk.old) }
     ensures cause { IfErr result (IsCaused D.Disk disk.old disk.new) }
-    ensures reads { OnlyReads D.Disk (15482 * D.blocks disk.old) disk.old disk.new }
+    ensures reads { OnlyReads D.Disk (reads_of_object * D.blocks disk.old) disk.old disk.new }
 {
     for next in 0..disk.blocks() {
         if next as usize >= walk.found.len() {

@@ -2,12 +2,11 @@
 ghost use Rattle.std.specs.Prelude.{◌≡◌, ◌+◌, ◌*◌, ◌<◌, ◌≤◌, ℕ, IfErr, MatchResult, OnOk, length, replicate};
 ghost use Rattle.cfs_base.specs.Calls.{OnlyReads};
 ghost use Rattle.cfs_base.specs.Disk.{Image};
-ghost use Rattle.block_tree.specs.Tree.{width};
-ghost use Rattle.block_tree.specs.declared.leaf.TheConstants.{LEAF_LIMIT};
+ghost use Rattle.block_tree.specs.Pointers.{leaf_limit, levels_below, width};
 ghost use Rattle.vol_image.specs.Seen.{place_above};
 ghost use Rattle.cfs_recover.specs.Found.{Grows, IsFault};
 ghost use Rattle.cfs_recover.specs.Refusals.{IsCaused, IsDamage};
-ghost use Rattle.cfs_recover.specs.Walk.{AreGood, AreGoodBelow, HasBlock, HasPointers, Walks, levels_below, reads_of};
+ghost use Rattle.cfs_recover.specs.Walk.{AreGood, AreGoodBelow, HasBlock, HasPointers, Walks, reads_of};
 
 use crate::fault::RecoverFault;
 use crate::found::Walk;
@@ -38,7 +37,7 @@ pub(crate) struct Twig {
 
 /// Where the block should be, and whose.
 fn spot_of(owner: u32, twig: Twig) -> Spot
-    requires { twig.number < LEAF_LIMIT }
+    requires { twig.number < leaf_limit }
     ensures { result ≡ record {
       holder = twig.holder;
       block = twig.block;
@@ -72,7 +71,7 @@ fn walk_twig<D: Disk>(
 ) -> Result<(), RecoverFault>
     requires room { D.blocks disk.old ≡ walk.old.names.room }
     requires maps { D.blocks disk.old ≡ 64 * length maps.now }
-    requires fits { (twig.number + 1) * width (levels_below twig.height) ≤ LEAF_LIMIT }
+    requires fits { (twig.number + 1) * width (levels_below twig.height) ≤ leaf_limit }
     ensures told { (image : Image) (done : ℕ) → Walks D.Disk disk.old image maps.now walk.old done
         → HasBlock image owner root.now twig
         → MatchResult result (λ _. Walks D.Disk disk.new image maps.now walk.new done
@@ -109,8 +108,8 @@ pub(crate) fn walk_below<D: Disk>(
 ) -> Result<(), RecoverFault>
     requires room { D.blocks disk.old ≡ walk.old.names.room }
     requires maps { D.blocks disk.old ≡ 64 * length maps.now }
-    requires few { (at.number + 1) * length pointers.now ≤ LEAF_LIMIT }
-    requires fits { (at.number + 1) * (length pointers.now * width (levels_below at.height)) ≤ LEAF_LIMIT }
+    requires few { (at.number + 1) * length pointers.now ≤ leaf_limit }
+    requires fits { (at.number + 1) * (length pointers.now * width (levels_below at.height)) ≤ leaf_limit }
     ensures told { (image : Image) (done : ℕ) → Walks D.Disk disk.old image maps.now walk.old done
         → HasPointers image owner root.now at pointers.now
         → MatchResult result (λ _. Walks D.Disk disk.new image maps.now walk.new done

@@ -11,7 +11,7 @@ ghost use Rattle.cfs_recover.specs.Entries.{AreStanding, damage};
 ghost use Rattle.cfs_recover.specs.Found.{Grows, IsFault, IsFound, lists};
 ghost use Rattle.cfs_recover.specs.Refusals.{IsCaused, IsDamage};
 ghost use Rattle.cfs_recover.specs.Stored.{AreMapsOf, Stores};
-ghost use Rattle.cfs_recover.specs.Walk.{IsCopy, IsOpened, IsOwn, Walks, id_of};
+ghost use Rattle.cfs_recover.specs.Walk.{IsCopy, IsOpened, IsOwn, Walks, id_of, reads_of_object};
 ghost use Rattle.cfs_recover.specs.declared.found.Walk as walks;
 
 use crate::fault::RecoverFault;
@@ -20,15 +20,12 @@ use crate::head::{Head, check_root, check_root_index, read_block, read_head};
 use crate::spot::{Spot, check_spot};
 use crate::standing::Standing;
 use crate::walk_below::{Branch, walk_below};
-use block_tree::Root;
+use block_tree::{NODE_LEVELS, Root};
 use cfs_base::{Damage, Disk, Place, Puid, code};
 use cyl_map::Map;
 
 /// The root block of the root index.
 const ROOT_BLOCK: u32 = 2;
-
-/// The levels of nodes below a root.
-const NODE_LEVELS: u32 = 1;
 
 /// Reads the root block of an item of the list: the root that it holds, if that has the word of the identifier that is
 /// listed.
@@ -115,7 +112,7 @@ pub(crate) fn walk_object<D: Disk>(
         × IsCopy image item.block head) (IsDamage (IsFault image)) }
     ensures grows { OnOk result (Grows walk.old walk.new) }
     ensures cause { IfErr result (IsCaused D.Disk disk.old disk.new) }
-    ensures reads { OnlyReads D.Disk 15482 disk.old disk.new }
+    ensures reads { OnlyReads D.Disk reads_of_object disk.old disk.new }
 {
     let own = own_root(disk, walk, item)?;
     let head = open_object(disk, maps, standing, item, &own)?;

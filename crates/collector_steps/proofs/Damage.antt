@@ -1,6 +1,7 @@
 -- Why a leaf of an index isn't read: what a device call or a pointer past the disk tells of the index.
 use Rattle.std.proofs.Common.{◌≡◌, ◌≢◌, ℕ, ◌/◌, ◌%◌, ◌≤◌, List, [], ◌∷◌, get_or, false, refl, sym, ap, ◌∙◌, subst}
-use Rattle.collector_steps.proofs.Words.{Ghosts, HeldStep, Image, IsFault, IsLeafTrouble, IsPast, IsPastFrom, IsRootBlock, IsScanTrouble, LeadsPast, OnlyReads, PastDisk, Root, Tells, TreeFault, Trouble, block_at, leaf_block, node_block, node_pointers, past_is, path_is, pointers_of, root_spelling, stopped_after_reads, tells_on, tree_of, trouble_of}
+use Rattle.collector_steps.proofs.Words.{Ghosts, HeldStep, Image, IsFault, IsLeafTrouble, IsPast, IsPastFrom, IsRootBlock, IsRootTrouble, NoRoot, leaf_pointers, IsScanTrouble, LeadsPast, OnlyReads, PastDisk, Root, Tells, TreeFault, Trouble, block_at, leaf_block, node_block, node_pointers, past_is, path_is, pointers_of, root_spelling, stopped_after_reads, tells_on, tree_of, trouble_of}
+use Rattle.cfs_base.specs.declared.refusal.Damage.{Damage}
 use Rattle.cfs_base.specs.declared.refusal.Trouble.TheVariants as trouble
 use Rattle.block_tree.specs.declared.fault.TreeFault.TheVariants as faults
 
@@ -8,16 +9,21 @@ use Rattle.block_tree.specs.declared.fault.TreeFault.TheVariants as faults
 past_node : (image : Image) (size r from b : ℕ) → IsPastFrom image size (block_at image r) from b → LeadsPast image size r r
 past_node image size r from b is =
     let at = past_is image size (block_at image r) is.leaf b is.past in
-    record { path = []; k = is.leaf / 128; at = refl; past = subst (IsPast size) (at.0 ∙ sym (node_block image (block_at image r) (is.leaf / 128))) at.1 }
+    record { path = []; k = is.leaf / leaf_pointers.count; at = refl; past = subst (IsPast size) (at.0 ∙ sym (node_block image (block_at image r) (is.leaf / leaf_pointers.count))) at.1 }
 
 -- a pointer of a node
-past_leaf : (image : Image) (size r node leaf b : ℕ) → node ≡ tree_of image (block_at image r) (leaf / 128 ∷ []) → leaf_block image (block_at image r) leaf ≡ b → IsPast size b → LeadsPast image size r node
+past_leaf : (image : Image) (size r node leaf b : ℕ) → node ≡ tree_of image (block_at image r) (leaf / leaf_pointers.count ∷ []) → leaf_block image (block_at image r) leaf ≡ b → IsPast size b → LeadsPast image size r node
 past_leaf image size r node leaf b is at past = record {
-  path = leaf / 128 ∷ [];
-  k = leaf % 128;
+  path = leaf / leaf_pointers.count ∷ [];
+  k = leaf % leaf_pointers.count;
   at = is;
   past = subst (IsPast size) (sym at ∙ ap (tree_of image (block_at image r)) (path_is (block_at image r) leaf)) past;
 }
+
+-- the root was refused
+pub root_refused : {D : Type 0} (g : Ghosts D) (r : ℕ) (old new : D) (t : Trouble) → IsRootTrouble g r old new t → IsScanTrouble g old new r t
+root_refused g r old new (trouble.Disk tried) is = is.1
+root_refused g r old new (trouble.Damaged damage) is = NoRoot (ap (λ (d : Damage). d.code) is.0) (ap (λ (d : Damage). d.block) is.0) is.1
 
 module _ {D : Type 0} (g : Ghosts D) (old mid new : D) (n r : ℕ) (root : Root) (reads : OnlyReads g n old mid) (is : Tells g old → IsRootBlock (block_at (g.content old) r) root) where
   -- the step was refused
@@ -43,7 +49,7 @@ module _ {D : Type 0} (g : Ghosts D) (old mid new : D) (n r : ℕ) (root : Root)
   leaf_refused step (trouble.Damaged damage) nodes there some (code, block, past) =
       let at : Tells g old → LeadsPast (g.content old) (g.blocks old) r damage.block = λ tells.
       past_leaf (g.content old) (g.blocks old) r damage.block step.held.leaf step.held.block
-      (block ∙ ap (λ (l : List ℕ). get_or l (step.held.leaf / 128) 0) (nodes tells) ∙ sym (node_block (g.content old) (block_at (g.content old) r) (step.held.leaf / 128)))
+      (block ∙ ap (λ (l : List ℕ). get_or l (step.held.leaf / leaf_pointers.count) 0) (nodes tells) ∙ sym (node_block (g.content old) (block_at (g.content old) r) (step.held.leaf / leaf_pointers.count)))
       (ap (λ (b : List ℕ). leaf_block (g.content old) b step.held.leaf) (is tells).spelled ∙ there tells)
       (some, subst (λ (size : ℕ). size ≤ step.held.block) reads.same.size past) in
       PastDisk code at

@@ -1,6 +1,6 @@
 -- A leaf of an index as the disk has it, and as the model has it.
 use Rattle.std.proofs.Common.{◌≡◌, ◌≢◌, inl, inr, ℕ, zero, suc, ◌+◌, ◌*◌, ◌/◌, ◌<◌, ◌≤◌, List, [], ◌∷◌, ◌++◌, length, take, drop, get_or, replicate, refl, sym, ◌∙◌, ap, subst, arith, Bool, true, false, Option, Some, None, is_some, map}
-use Rattle.collector_steps.proofs.Words.{AreBlocks, Colours, Ghosts, Graph, HasNoDeadEnd, Held, HeldStep, Holds, IfSome, Image, Index, IsDamaged, IsScanTrouble, IsStep, IsStepped, IsTree, Kind, LeadsPast, NoRoot, NoneHeld, Object, PastDisk, Puid, Tells, Trouble, all_shaded, block_at, cases_lt, count_is, cursor_after, file_bytes, filter-rises, filter_map, find_least, find_none, find_on, has_number, held, held_at, held_in, ids_from, in_filter, in_numbers, is_committed, leaf_block, leaf_content, leaf_ids, leaf_in, leaves_in, levels_of, moved, next_cursor, next_held, numbers-rise, numbers_rise, object_at, object_with, part_at, path_to, range_with_len, read, read_by_root, scanned, sight, slot_in, stepped, take_at, the_index, to_filter, to_numbers, tree_in, tree_of}
+use Rattle.collector_steps.proofs.Words.{AreBlocks, Colours, Ghosts, Graph, HasNoDeadEnd, Held, HeldStep, Holds, IfSome, Image, Index, IsDamaged, IsScanTrouble, IsStep, IsStepped, IsTree, Kind, LeadsPast, NoRoot, NoneHeld, Object, PastDisk, Puid, Tells, Trouble, all_shaded, block_at, cases_lt, count_is, cursor_after, file_bytes, filter-rises, filter_map, find_least, find_none, find_on, has_number, held, held_at, held_in, ids_from, in_filter, in_numbers, is_committed, leaf_block, leaf_content, leaf_ids, leaf_in, leaves_in, levels_of, moved, next_cursor, next_held, numbers-rise, numbers_rise, object_at, object_with, part_at, path_to, range_with_len, read, read_by_root, scanned, sight, slot_in, stepped, take_at, the_index, to_filter, to_numbers, tree_in, tree_of, leaf_limit}
 use Rattle.cfs_base.specs.declared.kind.Kind.TheVariants as kinds
 use Rattle.cfs_base.specs.declared.refusal.Trouble.TheVariants as trouble
 use Rattle.block_tree.specs.declared.root.Root as roots
@@ -63,7 +63,7 @@ module _ (image : Image) (blocks : AreBlocks image) (owner : ℕ) (content : Lis
       subst (λ (ns : List ℕ). has_number leaf ns ≡ true) (sym index_is.held_leaves)
       (to_filter (λ n. is_some (leaf_at n)) leaf (range_with_len 0 count) (ap is_some here) (to_numbers leaf 0 count (omega arith) (omega (arith, tree.within leaf (held image (leaf_block image content leaf)) here))))
 
-  of_held : (leaf : ℕ) → has_number leaf i.held ≡ true → (leaf_block image content leaf ≢ 0) × (leaf < 15360)
+  of_held : (leaf : ℕ) → has_number leaf i.held ≡ true → (leaf_block image content leaf ≢ 0) × (leaf < leaf_limit)
   of_held leaf h =
       let parts = in_filter (λ n. is_some (leaf_at n)) leaf (range_with_len 0 count) (subst (λ (ns : List ℕ). has_number leaf ns ≡ true) index_is.held_leaves h) in
       let inside = in_numbers leaf 0 count parts.1 in
@@ -118,14 +118,14 @@ module _ (image : Image) (blocks : AreBlocks image) (owner : ℕ) (content : Lis
           rw (some, more) refl
       at false more =
           let none : next_held (s.held.leaf + 1) i ≡ None = none_next (s.held.leaf + 1) (λ leaf on there.
-          quiet (s.held.leaf + 1) 15360 leaf (subst (NoneHeld image content (s.held.leaf + 1)) (count_is content) (is.last more)) on (of_held leaf there).1 there) in
+          quiet (s.held.leaf + 1) leaf_limit leaf (subst (NoneHeld image content (s.held.leaf + 1)) (count_is content) (is.last more)) on (of_held leaf there).1 there) in
           rw (none, more) refl
 
   -- a step on the disk is one of the model
   pub stepped_is : (names : List (Puid × Kind)) (cursor : ℕ) (c : Colours) (step : Option HeldStep) (bytes : List ℕ) → IsStepped image content cursor step
       → IfSome step (λ s. bytes ≡ block_at image s.held.block) → stepped names step (ids_from bytes 0) c ≡ scanned names i cursor c
   stepped_is names cursor c None bytes none told =
-      let gone : next_held cursor i ≡ None = none_next cursor (λ leaf on there. quiet cursor 15360 leaf (subst (NoneHeld image content cursor) (count_is content) none) on (of_held leaf there).1 there) in
+      let gone : next_held cursor i ≡ None = none_next cursor (λ leaf on there. quiet cursor leaf_limit leaf (subst (NoneHeld image content cursor) (count_is content) none) on (of_held leaf there).1 there) in
       ap (λ (next : Option ℕ). read names i next c) (sym gone)
   stepped_is names cursor c (Some s) bytes is told =
       let some : leaf_block image content s.held.leaf ≢ 0 = λ gone. is.is_held (sym is.block ∙ gone) in

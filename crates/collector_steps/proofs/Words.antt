@@ -1,9 +1,9 @@
 -- What lemmas of this crate name of the crates below, and of its own definitions.
 pub use Rattle.block_tree.proofs.Trees.{node_block, past_is, path_is}
 pub use Rattle.block_tree.proofs.Walks.{count_is}
-pub use Rattle.block_tree.specs.Pointers.{node_pointers, number_at}
+pub use Rattle.block_tree.specs.Pointers.{leaf_limit, leaf_pointers, node_pointers, number_at}
 unfoldable pub use Rattle.block_tree.specs.Pointers.{pointers_of}
-pub use Rattle.block_tree.specs.Reads.{IsFault, IsPast}
+pub use Rattle.block_tree.specs.Reads.{IsFault, IsPast, IsRootTrouble}
 pub use Rattle.block_tree.specs.Root.{IsRootBlock}
 unfoldable pub use Rattle.block_tree.specs.Root.{root_spelling}
 pub use Rattle.block_tree.specs.Step.{IsPastFrom, IsStep, IsStepped, NoneHeld}

@@ -12,6 +12,7 @@ use Rattle.cfs_base.specs.declared.kind.Kind.{Kind}
 use Rattle.cfs_base.specs.declared.refusal.Damage.{Damage}
 use Rattle.cfs_base.specs.declared.refusal.Trouble.{Trouble}
 use Rattle.cfs_base.specs.declared.refusal.Trouble.TheVariants as trouble
+use Rattle.block_tree.specs.Pointers.{leaf_pointers}
 use Rattle.block_tree.specs.declared.root.Root.{Root}
 use Rattle.block_tree.specs.declared.step.HeldStep.{HeldStep}
 use Rattle.block_tree.specs.declared.fault.TreeFault.{TreeFault}
@@ -67,7 +68,7 @@ trouble_of block (faults.BadPointer past) = trouble.Damaged (record { block = bl
 abbrev pub IsLeafTrouble : {D : Type 0} → Ghosts D → D → D → List ℕ → HeldStep → Trouble → Type 0
 IsLeafTrouble g old new nodes step (trouble.Disk tried) = HasStopped g tried old new
 IsLeafTrouble g old new nodes step (trouble.Damaged damage) =
-    (damage.code ≡ past_disk) × (damage.block ≡ get_or nodes (step.held.leaf / 128) 0)
+    (damage.code ≡ past_disk) × (damage.block ≡ get_or nodes (step.held.leaf / leaf_pointers.count) 0)
     × (g.blocks old ≤ step.held.block)
 
 -- a device call failed, or the index with this root block is damaged

@@ -1,11 +1,9 @@
 //! One leaf of a grey index, read and shaded.
 ghost use Rattle.std.specs.Prelude.{◌≡◌, ℕ, ◌+◌, ◌<◌, ◌≤◌, List, [], length, OnOk, OnErr, IfOk, IfErr, IfSome, Some};
 ghost use Rattle.std.specs.Prelude.{None, false};
-ghost use Rattle.block_tree.specs.Pointers.{node_pointers, pointers_of};
-ghost use Rattle.block_tree.specs.Root.{IsRootBlock};
+ghost use Rattle.block_tree.specs.Pointers.{leaf_limit};
 ghost use Rattle.block_tree.specs.Step.{IsStepped};
 ghost use Rattle.block_tree.specs.Tree.{HasNoDeadEnd};
-ghost use Rattle.block_tree.specs.declared.root.Root as roots;
 ghost use Rattle.cfs_base.specs.Calls.{OnlyReads};
 ghost use Rattle.cfs_base.specs.Disk.{block_at};
 ghost use Rattle.cfs_base.specs.Outside.{count_after};
@@ -26,33 +24,10 @@ ghost use Rattle.vol_owners.specs.Account.{Opened};
 use crate::collector::Collector;
 use crate::leaf::shade_leaf;
 use crate::phase::Phase;
-use block_tree::{HeldStep, Root, TreeFault, step_held};
+use block_tree::{HeldStep, Root, TreeFault, node_of, read_root, step_held};
 use cfs_base::{Block, BlockNo, Damage, Disk, Trouble, code};
 use collector_marks::Marks;
 use puid_space::{Directory, kinds_follow_the_graph};
-
-/// Reads the root at a block.
-fn root_at<D: Disk>(disk: &mut D, block: u32) -> Result<Root, Trouble>
-    requires { block < D.blocks disk.old }
-    ensures root { Tells D.Disk disk.old → IfOk result (IsRootBlock (block_at (D.content disk.old) block)) }
-    ensures nodes { Tells D.Disk disk.old → IfOk result (λ root.
-        root.nodes ≡ pointers_of node_pointers (block_at (D.content disk.old) block)) }
-    ensures refused { IfErr result (IsScanTrouble D.Disk disk.old disk.new block) }
-    ensures untried { IfErr result (λ trouble. trouble_had_tried trouble ≡ false) }
-    ensures reads { OnlyReads D.Disk 1 disk.old disk.new }
-{
-    let mut content = Block::zero();
-    let Ok(()) = disk.read(BlockNo(block), &mut content) else {
-        return Err(Trouble::Disk { tried: false });
-    };
-    match Root::decode(&content) {
-        Ok(root) => Ok(root),
-        Err(_) => Err(Trouble::Damaged(Damage {
-            block,
-            code: code::NO_ROOT,
-        })),
-    }
-}
 
 /// A pointer in this block leads past the disk, or a device call failed.
 fn trouble_at(holder: u32, fault: TreeFault) -> Trouble
@@ -74,7 +49,7 @@ fn read_step<D: Disk>(
     step: &HeldStep,
     into: &mut Block,
 ) -> Result<(), Trouble>
-    requires { step.now.held.leaf < 15360 }
+    requires { step.now.held.leaf < leaf_limit }
     ensures content { Tells D.Disk disk.old
         → OnOk result (into.new ≡ block_at (D.content disk.old) step.now.held.block) }
     ensures refused { IfErr result (IsLeafTrouble D.Disk disk.old disk.new root.now.nodes step.now) }
@@ -83,7 +58,7 @@ fn read_step<D: Disk>(
 {
     let leaf = step.held;
     if leaf.block >= disk.blocks() {
-        let holder = root.nodes[(leaf.leaf / 128) as usize];
+        let holder = root.nodes[node_of(leaf.leaf) as usize];
         return Err(Trouble::Damaged(Damage {
             block: holder,
             code: code::PAST_DISK,
@@ -108,12 +83,12 @@ fn next_leaf<D: Disk>(
         → IfOk result (IsStepped (D.content disk.old) (block_at (D.content disk.old) block) cursor) }
     ensures content { Tells D.Disk disk.old → IfOk result (λ step. IfSome step (λ s.
         into.new ≡ block_at (D.content disk.old) s.held.block)) }
-    ensures inside { IfOk result (λ step. IfSome step (λ s. s.held.leaf < 15360)) }
+    ensures inside { IfOk result (λ step. IfSome step (λ s. s.held.leaf < leaf_limit)) }
     ensures refused { IfErr result (IsScanTrouble D.Disk disk.old disk.new block) }
     ensures untried { IfErr result (λ trouble. trouble_had_tried trouble ≡ false) }
     ensures reads { OnlyReads D.Disk 4 disk.old disk.new }
 {
-    let root = root_at(disk, block)?;
+    let root = read_root(disk, BlockNo(block))?;
     let step = match step_held(disk, &root, cursor) {
         Ok(Some(step)) => step,
         Ok(None) => return Ok(None),
@@ -125,7 +100,7 @@ fn next_leaf<D: Disk>(
 
 /// Moves on past a leaf with these bytes, and shades each object in it; or ends the first grey index. Takes no memory.
 fn read_on(marks: &mut Marks, names: &Directory, step: Option<HeldStep>, content: &Block)
-    requires inside { IfSome step (λ s. s.held.leaf < 15360) }
+    requires inside { IfSome step (λ s. s.held.leaf < leaf_limit) }
     requires blocks { names.now.room ≤ blocks_of marks.old }
     ensures stepped { colours_of marks.new
         ≡ stepped names.now.named step (ids_from content.now 0) (colours_of marks.old) }

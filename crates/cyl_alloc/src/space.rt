@@ -116,6 +116,19 @@ impl Space {
         self.counts.total()
     }
 
+    /// `Full` where fewer blocks are Free than these.
+    pub fn has_room(&self, need: u32, floor: u32) -> Result<(), Refused>
+        ensures room { OnOk result (need + floor ≤ sum self.now.free) }
+        ensures full { IfErr result (λ e. (e ≡ Full (record { free = sum self.now.free; need = need }))
+            × (sum self.now.free < need + floor)) }
+    {
+        let free = self.free();
+        if (free as u64) < need as u64 + floor as u64 {
+            return Err(Refused::Full(Need { free, need }));
+        }
+        Ok(())
+    }
+
     /// The least-numbered Free block. `Full` where no block is Free. `Damaged` names the first map with a Free block
     /// by the counts: with code 2 where it is no map, else with code 12 where it has no Free block.
     pub fn find<D: Disk>(&self, disk: &mut D) -> Result<BlockNo, Refused>

@@ -1,7 +1,7 @@
 -- The trouble of a commit, told as one of the whole change: something was tried before it, or not.
 use Rattle.file_ops.proofs.Words.{◌≡◌, inl, ℕ, Bool, true, false, refl, if◌then◌else◌, refused_by, trouble_after_try, Ghosts, Trouble, Kept, IsTrouble, is_damaged}
 use Rattle.file_ops.specs.Changes.{IsCommitRefusal}
-use Rattle.special_files.specs.Refusal.{is_damage}
+use Rattle.block_tree.specs.Reads.{is_damage}
 use Rattle.cfs_base.specs.declared.refusal.Refused.TheVariants as refused
 use Rattle.cfs_base.specs.declared.refusal.Trouble.TheVariants as trouble
 

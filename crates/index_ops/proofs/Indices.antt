@@ -1,7 +1,10 @@
 -- An index that the store has, as it is read.
 use Rattle.index_ops.proofs.Words.{◌≡◌, ◌≢◌, ℕ, zero, suc, ◌/◌, ◌%◌, ◌<◌, false, List, length, Some, refl, sym, ◌∙◌, ap, subst, arith, OnlyReads, AreBlocks, Image, block_at, Tells, Ghosts, Puid, Damage, Trouble, failed_after, tells_on, IsFault, IsPast, TreeFault, IsRootBlock, root_spelling, PastAbove, bytes_in, leaf_block, levels_of, path_to, tree_of, Kept, StoreHas, GivesIndex, content_is, index_to_leaves, is_damage, own_root, own_tree, Index, Graph, object_at, slot_of, IsTree, leaf_content, leaf_in, slot_in, held_at, tree_in, held, Opened}
+use Rattle.std.specs.Prelude.{Err, IfErr, Ok, Result}
+use Rattle.cfs_base.specs.Refusals.{trouble_had_tried}
+use Rattle.block_tree.specs.Reads.{HasStoppedBy, IsRootTrouble}
 use Rattle.block_tree.specs.declared.root.Root.{Root}
-use Rattle.index_ops.specs.Causes.{Far, FarLeaf, FarNode, IsBadSlot, IsFarLeaf, IsLeafTrouble, IsRootTrouble, IsSlotTrouble, NoRoot, far_from}
+use Rattle.index_ops.specs.Causes.{Far, FarLeaf, FarNode, IsBadSlot, IsFarLeaf, IsFollowTrouble, IsLeafTrouble, IsSlotTrouble, NoRoot, far_from}
 use Rattle.cfs_base.specs.declared.refusal.Trouble.TheVariants as trouble
 use Rattle.block_tree.specs.declared.fault.TreeFault.TheVariants as faults
 use Rattle.ufs_model.specs.declared.object.Object.TheVariants as objects
@@ -51,17 +54,27 @@ module _ {D : Type 0} (g : Ghosts D) (graph : Graph) (ds : List Opened) (d : D) 
   root_sound new (trouble.Disk tried) is = refl
   root_sound new (trouble.Damaged damage) is =
       let own = own_root image graph store.account.holds id (objects.Index i) at in
-      absurd ((is store.carries.tells).none own.0 own.1)
+      absurd (is.1 store.carries.tells own.0 own.1)
 
   pub slot_sound : g.blocks d ≡ length image → (slot : ℕ) (new : D) (t : Trouble) → IsSlotTrouble g id.block slot d new t → is_damage t ≡ false
   slot_sound size slot new (trouble.Disk tried) is = refl
   slot_sound size slot new (trouble.Damaged damage) is = absurd (by (is store.carries.tells))
     where
       by : ¬ IsBadSlot image (g.blocks d) id.block slot damage
-      by (NoRoot bad) = let own = own_root image graph store.account.holds id (objects.Index i) at in bad.none own.0 own.1
+      by (NoRoot bad none) = let own = own_root image graph store.account.holds id (objects.Index i) at in none own.0 own.1
       by (Far root there far) = far_not root there (slot / 64) damage (subst (λ (n : ℕ). IsFarLeaf image n id.block root (slot / 64) damage) size far)
 
--- ---- a trouble of a later call is one of the whole
+-- ---- a trouble of one call is one of the whole
+
+pub root_slot : {D : Type 0} (g : Ghosts D) (at slot : ℕ) (old new : D) (t : Trouble) → IsRootTrouble g at old new t → IsSlotTrouble g at slot old new t
+root_slot g at slot old new (trouble.Disk tried) is = (is.0, is.1.failed)
+root_slot g at slot old new (trouble.Damaged damage) is = λ tells. NoRoot is.0 (is.1 tells)
+
+-- a leaf on the disk
+pub follow_trouble : {A D : Type 0} (g : Ghosts D) (holder block : ℕ) (old new : D) (r : Result A Trouble) → IfErr r (λ t. trouble_had_tried t ≡ false) → IfErr r (HasStoppedBy g old new) → IfErr r (IsFollowTrouble g holder block old new)
+follow_trouble g holder block old new (Ok x) untried stop = tt
+follow_trouble g holder block old new (Err (trouble.Disk tried)) untried stop = (untried, stop.failed)
+follow_trouble g holder block old new (Err (trouble.Damaged damage)) untried stop = absurd stop
 
 module _ {D : Type 0} (g : Ghosts D) (n at : ℕ) (old mid new : D) (reads : OnlyReads g n old mid) where
   -- a slot of an index whose root was read

@@ -1,6 +1,6 @@
 -- The words of the crates below that most proofs cite, passed on from one place. Declares nothing.
 pub use Rattle.block_tree.specs.Pointers.{node_pointers, pointers_of}
-pub use Rattle.block_tree.specs.Reads.{IsFault, IsPast}
+pub use Rattle.block_tree.specs.Reads.{IsFault, IsPast, is_damage}
 pub use Rattle.block_tree.specs.Root.{IsRootBlock, root_spelling}
 pub use Rattle.block_tree.specs.Tree.{PastAbove, bytes_in, leaf_block, levels_of, path_to, tree_of}
 pub use Rattle.block_tree.specs.declared.fault.TreeFault.{TreeFault}
@@ -58,7 +58,7 @@ pub use Rattle.special_files.specs.Ends.{Ends}
 pub use Rattle.special_files.specs.Fills.{filled_draft}
 pub use Rattle.special_files.specs.Leaves.{SameBeside, leaves_of}
 pub use Rattle.special_files.specs.Order.{leaf_claims}
-pub use Rattle.special_files.specs.Refusal.{IsRefusal, IsRefusalOrMemory, IsTrouble, NoMap, OtherCount, is_damage, is_damaged, is_full}
+pub use Rattle.special_files.specs.Refusal.{IsRefusal, IsRefusalOrMemory, IsTrouble, NoMap, OtherCount, is_damaged, is_full}
 pub use Rattle.special_files.specs.Store.{replaced, without_draft}
 pub use Rattle.special_files.specs.declared.fill.Swap.{Swap}
 pub use Rattle.std.proofs.Common.{Bool, Err, List, None, Ok, Option, Some, [], ap, arith, cond, eq-eqb, false, get_or, inl, inr, length, lt-ltb, not, refl, replicate, set, subst, suc, sym, true, zero, ℕ, ⊎_elim, ◌%◌, ◌*◌, ◌++◌, ◌+◌, ◌-◌, ◌/◌, ◌<◌, ◌^◌, ◌∙◌, ◌∷◌, ◌≡◌, ◌≢◌, ◌≤◌, ◌⊎◌}

@@ -8,6 +8,7 @@ use Rattle.cfs_base.specs.declared.disk.Disk.{Ghosts}
 use Rattle.cfs_base.specs.declared.refusal.Damage.{Damage}
 use Rattle.cfs_base.specs.declared.refusal.Trouble.{Trouble}
 use Rattle.cfs_base.specs.declared.refusal.Trouble.TheVariants as trouble
+use Rattle.block_tree.specs.Pointers.{leaf_pointers}
 use Rattle.block_tree.specs.Reads.{IsPast}
 use Rattle.block_tree.specs.Root.{IsRootBlock, root_spelling}
 use Rattle.block_tree.specs.Tree.{PastAbove, leaf_block}
@@ -20,30 +21,21 @@ far_from holder = trouble.Damaged (record { block = holder; code = past_disk })
 
 -- ---- what is wrong with the block that is named
 
--- it is no root block
-pub record IsNoRoot (image : Image) (at : ℕ) (damage : Damage) : Type 0 where
-  pub code : damage.code ≡ no_root
-  pub block : damage.block ≡ at
-  pub none : (root : Root) → ¬ IsRootBlock (block_at image at) root
-
 -- on a disk of this size a pointer on the way to a leaf of this root leads past the end: the root's, or its node's
 pub data IsFarLeaf (image : Image) (size at : ℕ) (root : Root) (leaf : ℕ) (damage : Damage) : Type 0 where
   FarNode : damage.code ≡ past_disk → damage.block ≡ at → (block : ℕ)
       → PastAbove image size (root_spelling root) leaf block → IsFarLeaf image size at root leaf damage
-  FarLeaf : damage.code ≡ past_disk → damage.block ≡ node_of root (leaf / 128)
+  FarLeaf : damage.code ≡ past_disk → damage.block ≡ node_of root (leaf / leaf_pointers.count)
       → IsPast size (leaf_block image (root_spelling root) leaf) → IsFarLeaf image size at root leaf damage
 
--- the one or the other, for a slot of the index at this block
+-- that for a slot of the index at this block; or the block is no root
 pub data IsBadSlot (image : Image) (size at slot : ℕ) (damage : Damage) : Type 0 where
-  NoRoot : IsNoRoot image at damage → IsBadSlot image size at slot damage
+  NoRoot : damage ≡ record { block = at; code = no_root } → ((root : Root) → ¬ IsRootBlock (block_at image at) root)
+      → IsBadSlot image size at slot damage
   Far : (root : Root) → IsRootBlock (block_at image at) root → IsFarLeaf image size at root (slot / 64) damage
       → IsBadSlot image size at slot damage
 
 -- ---- why a call ends: a device call failed, or the disk tells what is wrong
-
-abbrev pub IsRootTrouble : {D : Type 0} → Ghosts D → ℕ → D → D → Trouble → Type 0
-IsRootTrouble g at old new (trouble.Disk tried) = (tried ≡ false) × HasFailed g old new
-IsRootTrouble g at old new (trouble.Damaged damage) = Tells g old → IsNoRoot (g.content old) at damage
 
 abbrev pub IsFollowTrouble : {D : Type 0} → Ghosts D → (holder block : ℕ) → D → D → Trouble → Type 0
 IsFollowTrouble g holder block old new (trouble.Disk tried) = (tried ≡ false) × HasFailed g old new

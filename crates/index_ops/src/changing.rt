@@ -6,25 +6,11 @@ ghost use Rattle.index_ops.specs.Changes as spec;
 ghost use Rattle.leaf_changes.specs.Bytes.{IsSlot};
 ghost use Rattle.special_files.specs.Refusal.{is_full};
 
-use cfs_base::{BlockNo, Damage, Disk, Need, Puid, Refused, code};
+use cfs_base::{BlockNo, Damage, Disk, Puid, Refused, code};
 use cyl_alloc::Space;
 use intentions::barrier;
 use special_files::Draft;
 use std::alloc::Global;
-
-/// `Full` where fewer blocks are Free than these and the four that are left for deletes.
-pub(crate) fn has_room(space: &Space, need: u32) -> Result<(), Refused>
-    requires { need ≤ 4 }
-    ensures room { OnOk result (need + 4 ≤ sum space.now.free) }
-    ensures full { IfErr result (λ e. (e ≡ refused.Full (record { free = sum space.now.free; need = need }))
-        × (sum space.now.free < need + 4)) }
-{
-    let free = space.free();
-    if free < need + 4 {
-        return Err(Refused::Full(Need { free, need }));
-    }
-    Ok(())
-}
 
 /// The root at a block has no such slot.
 pub(crate) fn short(index: BlockNo) -> Refused
@@ -105,7 +91,7 @@ pub fn retain<D: Disk>(
     ensures fills { 3 + 4 ≤ sum space.old.free
         → spec.PutsSlot D.Disk index.0 slot (Some id) disk.old disk.new space.old space.new result }
 {
-    match has_room(space, 3) {
+    match space.has_room(3, 4) {
         Ok(()) => put(alloc, disk, space, index, slot, Some(id)),
         Err(error) => Err(error),
     }

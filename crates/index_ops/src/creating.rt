@@ -22,7 +22,7 @@ ghost use Rattle.ufs_model.specs.declared.object.Object.TheVariants as objects;
 ghost use Rattle.vol_image.specs.Reading.{bare_object};
 ghost use Rattle.vol_owners.specs.Account.{Opened, drafts_of};
 
-use crate::changing::{has_room, short};
+use crate::changing::short;
 use block_tree::Root;
 use cfs_base::{BlockNo, Damage, Disk, Kind, Place, Puid, Refused, code};
 use cyl_alloc::Space;
@@ -247,7 +247,7 @@ pub fn create<D: Disk>(
         → spec.PutsObject D.Disk index.0 slot (spec.made_of kind fill size) word disk.old disk.new space.old space.new
         result }
 {
-    match has_room(space, 4) {
+    match space.has_room(4, 4) {
         Ok(()) => make(
             alloc,
             disk,

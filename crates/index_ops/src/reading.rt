@@ -1,25 +1,22 @@
 //! An index, read.
 ghost use Rattle.std.specs.Prelude.{◌≡◌, ◌≢◌, ◌*◌, ◌/◌, ◌<◌, ◌≤◌, ℕ, List, false, length, Some, IfErr, IfOk, OnOk};
-ghost use Rattle.block_tree.specs.Reads.{IsPast};
-ghost use Rattle.block_tree.specs.Root.{IsRootBlock, root_spelling};
+ghost use Rattle.block_tree.specs.Pointers.{leaf_limit};
+ghost use Rattle.block_tree.specs.Reads.{IsRootTrouble, is_damage};
+ghost use Rattle.block_tree.specs.Root.{root_spelling};
 ghost use Rattle.block_tree.specs.Tree.{bytes_in, leaf_block};
-ghost use Rattle.block_tree.specs.declared.root.Root as roots;
 ghost use Rattle.cfs_base.specs.Calls.{OnlyReads};
-ghost use Rattle.cfs_base.specs.Codes.{past_disk};
-ghost use Rattle.cfs_base.specs.Disk.{block_at};
 ghost use Rattle.cfs_base.specs.Run.{Tells};
 ghost use Rattle.cfs_base.specs.declared.identifier.Puid as puids;
 ghost use Rattle.cyl_alloc.specs.Space.{Kept};
 ghost use Rattle.index_ops.specs.Causes as causes;
 ghost use Rattle.intentions.specs.Store.{StoreHas};
-ghost use Rattle.special_files.specs.Refusal.{is_damage};
 ghost use Rattle.ufs_model.specs.Graph.{Graph, object_at};
 ghost use Rattle.ufs_model.specs.Object.{slot_of};
 ghost use Rattle.ufs_model.specs.declared.object.Index.{Index};
 ghost use Rattle.ufs_model.specs.declared.object.Object.TheVariants as objects;
 ghost use Rattle.vol_owners.specs.Account.{Opened};
 
-use block_tree::{LEAF_LIMIT, Root, TreeFault, leaf_at, node_of};
+use block_tree::{Root, TreeFault, leaf_at, node_of, read_block, read_root};
 use cfs_base::{Block, BlockNo, Damage, Disk, Puid, Trouble, code};
 use leaf_changes::slot_at;
 
@@ -33,45 +30,18 @@ fn far(holder: u32) -> Trouble
     })
 }
 
-/// Reads the root of an index.
-pub(crate) fn read_root<D: Disk>(disk: &mut D, index: BlockNo) -> Result<Root, Trouble>
-    requires { index.0 < D.blocks disk.old }
-    ensures root { Tells D.Disk disk.old → IfOk result (IsRootBlock (block_at (D.content disk.old) index.0)) }
-    ensures limit { IfOk result (λ root. root.size ≤ 7864320) }
-    ensures refused { IfErr result (causes.IsRootTrouble D.Disk index.0 disk.old disk.new) }
-    ensures reads { OnlyReads D.Disk 1 disk.old disk.new }
-{
-    let mut content = Block::zero();
-    let Ok(()) = disk.read(index, &mut content) else {
-        return Err(Trouble::Disk { tried: false });
-    };
-    match Root::decode(&content) {
-        Ok(root) => Ok(root),
-        Err(_) => Err(Trouble::Damaged(Damage {
-            block: index.0,
-            code: code::NO_ROOT,
-        })),
-    }
-}
-
 /// Reads the block to which a pointer of this holder leads: fill bytes where it leads nowhere.
 fn follow<D: Disk>(disk: &mut D, holder: u32, block: u32, fill: u8) -> Result<Block, Trouble>
+    requires { 0 < D.blocks disk.old }
     ensures content { Tells D.Disk disk.old
         → IfOk result (λ content. content ≡ bytes_in (D.content disk.old) fill block) }
     ensures refused { IfErr result (causes.IsFollowTrouble D.Disk holder block disk.old disk.new) }
     ensures reads { OnlyReads D.Disk 1 disk.old disk.new }
 {
-    let mut content = Block::of([fill; 512]);
-    if block == 0 {
-        return Ok(content);
-    }
     if block >= disk.blocks() {
         return Err(far(holder));
     }
-    match disk.read(BlockNo(block), &mut content) {
-        Ok(()) => Ok(content),
-        Err(_) => Err(Trouble::Disk { tried: false }),
-    }
+    read_block(disk, block, fill)
 }
 
 /// Reads a leaf of the index with this root.
@@ -81,7 +51,8 @@ fn read_leaf<D: Disk>(
     root: &Root,
     leaf: u32,
 ) -> Result<Block, Trouble>
-    requires { leaf < LEAF_LIMIT }
+    requires leaf { leaf < leaf_limit }
+    requires some { 0 < D.blocks disk.old }
     ensures bytes { Tells D.Disk disk.old → IfOk result (λ content.
         content ≡ bytes_in (D.content disk.old) root.now.fill (leaf_block (D.content disk.old)
         (root_spelling root.now) leaf)) }
@@ -102,7 +73,7 @@ pub fn slots<D: Disk>(disk: &mut D, index: BlockNo) -> Result<u64, Trouble>
         → StoreHas D.Disk graph ds disk.old space → id.block ≡ index.0 → object_at graph id ≡ Some (objects.Index i)
         → IfOk result (λ count. count ≡ length i.slots) }
     ensures most { IfOk result (λ count. count ≤ 983040) }
-    ensures refused { IfErr result (causes.IsRootTrouble D.Disk index.0 disk.old disk.new) }
+    ensures refused { IfErr result (IsRootTrouble D.Disk index.0 disk.old disk.new) }
     // No damage where the disk holds the index.
     ensures sound { (graph : Graph) (ds : List Opened) (space : Kept) (id : puids.Puid) (i : Index)
         → StoreHas D.Disk graph ds disk.old space → id.block ≡ index.0 → object_at graph id ≡ Some (objects.Index i)

@@ -1,6 +1,6 @@
 -- What a call does that changes one entry, and why it ends.
 use Rattle.std.specs.Prelude.{◌≡◌, ℕ, true, false, IsTrue, IfErr, OnOk, Result, Some}
-use Rattle.cfs_base.specs.Calls.{HasStopped, HasTried, MakesAtMost, OnlyReads}
+use Rattle.cfs_base.specs.Calls.{HasTried, MakesAtMost, OnlyReads}
 use Rattle.cfs_base.specs.Disk.{Written}
 use Rattle.cfs_base.specs.Refusals.{trouble_had_tried}
 use Rattle.cfs_base.specs.Run.{IsSettled, Leaves, Tells, left_now}
@@ -64,8 +64,3 @@ pub record ChangesBit {D A : Type 0} (g : Ghosts D) (n : ℕ) (f : MapEntry → 
   pub whole : OnOk result (Tells g old → IsGoodMap (g.content old) n)
   pub whole_tried : IfErr result (λ t. t ≡ trouble.Disk true → Tells g old → IsGoodMap (g.content old) n)
   pub calls : MakesAtMost g 4 3 old new
-
--- a device call failed
-abbrev pub HasStoppedBy : {D : Type 0} → Ghosts D → D → D → Trouble → Type 0
-HasStoppedBy g old new (trouble.Disk tried) = HasStopped g tried old new
-HasStoppedBy g old new (trouble.Damaged damage) = ⊥

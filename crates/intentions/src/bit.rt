@@ -1,5 +1,6 @@
 //! The commit bit, and the copy of a root.
 ghost use Rattle.std.specs.Prelude.{◌≡◌, ℕ, ◌<◌, true, IsTrue, IfErr, OnErr, OnOk, Some, set};
+ghost use Rattle.block_tree.specs.Reads.{HasStoppedBy};
 ghost use Rattle.cfs_base.specs.Calls.{HasStopped, HasTried, MakesAtMost};
 ghost use Rattle.cfs_base.specs.Disk.{Nothing, Written, block_at};
 ghost use Rattle.cfs_base.specs.Run.{IsSettled, Leaves, Tells, left_now};
@@ -126,7 +127,7 @@ pub fn copy_root<D: Disk>(disk: &mut D, root: BlockNo, shadow: BlockNo) -> Resul
     ensures holds { (graph : Graph) (id : Puid) (o : Object) → id.block ≡ root.0 → IsSettled D.Disk disk.old
         → IsCommitted (D.content disk.old) graph id o shadow.0 → Leaves D.Disk disk.old disk.new (λ c. Holds c graph) }
     ensures tried { OnOk result (HasTried D.Disk disk.old disk.new) }
-    ensures refused { IfErr result (spec.HasStoppedBy D.Disk disk.old disk.new) }
+    ensures refused { IfErr result (HasStoppedBy D.Disk disk.old disk.new) }
     ensures calls { MakesAtMost D.Disk 3 2 disk.old disk.new }
 {
     let mut content = Block::zero();

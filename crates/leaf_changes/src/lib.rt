@@ -5,5 +5,5 @@
 mod parts;
 mod slots;
 
-pub use parts::{cut_leaf, patch_leaf, read_part};
+pub use parts::{cut_leaf, leaves_in, patch_leaf, read_part};
 pub use slots::{put_slot, slot_at};

@@ -1,8 +1,18 @@
 //! The bytes of a leaf and those of a part of its file, copied from the one to the other.
-ghost use Rattle.std.specs.Prelude.{◌≡◌, ◌*◌, length};
+ghost use Rattle.std.specs.Prelude.{◌≡◌, ◌*◌, ◌≤◌, length};
+ghost use Rattle.block_tree.specs.Pointers.{size_limit};
+ghost use Rattle.ufs_model.specs.Object.{leaves_in as leaves_of};
 ghost use Rattle.leaf_changes.specs.Bytes.{overlaid, patched, with_leaf, cut};
 
 use cfs_base::Block;
+
+/// How many leaves so many bytes take.
+pub fn leaves_in(size: u64) -> u32
+    requires { size ≤ size_limit }
+    ensures { result ≡ leaves_of size }
+{
+    size.div_ceil(512) as u32
+}
 
 /// Lays bytes that stand from `from` on over bytes that stand from `at` on, as far as they meet.
 fn lay_over(below: &mut [u8], at: u64, above: &[u8], from: u64)

@@ -1,12 +1,12 @@
 -- What differs between the tree of an object and that of its draft.
 use Rattle.std.proofs.Common.{◌≡◌, ◌≢◌, inl, inr, ℕ, zero, suc, ◌+◌, ◌*◌, ◌/◌, ◌%◌, ◌<◌, true, false, List, [], ◌∷◌, length, Some, refl, sym, ◌∙◌, ap, subst, arith}
-use Rattle.special_files.proofs.Words.{AreDropped, AreTaken, Fits, Graph, HasDraft, HasItsBlocks, Holds, Image, IsChanged, IsNear, IsTree, Object, Opened, Puid, StandsIn, all_unlike, and_left, below_is_path, block_at, both_ways, cases_Bool, content_of, entry_in, eqb-false, eqb-true, false_from_ne_true, had_not_meant, has_number, held, held_at, held_block, held_there, in_node, is_had, is_made, is_meant, is_meant_for, is_of, leaves_at, levels_of, meant_differs, node_of, not_meant_is_own, numbers_differ, object_at, one_path, owner_is, root_owner, root_spelling, shadow_apart, stands_some, tree_in, tree_of, ◌==◌}
+use Rattle.special_files.proofs.Words.{nothing_below, AreDropped, AreTaken, Fits, Graph, HasDraft, HasItsBlocks, Holds, Image, IsChanged, IsNear, IsTree, Object, Opened, Puid, StandsIn, all_unlike, and_left, below_is_path, block_at, both_ways, cases_Bool, content_of, entry_in, eqb-false, eqb-true, false_from_ne_true, had_not_meant, has_number, held, held_at, held_block, held_there, in_node, is_had, is_made, is_meant, is_meant_for, is_of, leaves_at, levels_of, meant_differs, node_of, not_meant_is_own, numbers_differ, object_at, one_path, owner_is, root_owner, root_spelling, shadow_apart, stands_some, tree_in, tree_of, ◌==◌}
 use Rattle.block_tree.specs.declared.root.Root as roots
 use Rattle.vol_owners.proofs.Differing.{own_tree as blocks_of_own}
 use Rattle.vol_owners.proofs.Entries.{root_placed}
 use Rattle.special_files.proofs.Begun.{own_tree}
 use Rattle.special_files.proofs.Fresh.{read_leaf_is}
-use Rattle.special_files.proofs.Trees.{node_at, nothing_below}
+use Rattle.special_files.proofs.Trees.{node_at}
 use Rattle.special_files.proofs.Unlike.{in_unlike, once_from, to_unlike, unlike_differ}
 
 -- ---- the pointers of a tree, and its paths, in their order: 129 for each node

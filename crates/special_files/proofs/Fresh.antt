@@ -1,28 +1,12 @@
 -- What is fresh in a draft's tree is meant for the object, and stands below what is fresh.
 use Rattle.std.proofs.Common.{◌≡◌, ◌≢◌, ℕ, zero, suc, ◌+◌, ◌<◌, ◌≤◌, Bool, true, false, List, [], ◌∷◌, length, get_or, inl, inr, Some, refl, sym, ◌∙◌, ap, arith, not, replicate}
-use Rattle.special_files.proofs.Words.{Fits, Graph, HasDraft, HasItsBlocks, Holds, Image, Object, Opened, Puid, block_at, cases_Bool, cases_lt, content_of, get_or-replicate, get_or_past, held, held_at, is_meant, is_meant_for, is_of, leaf_pointers, leaves_at, length-map-range_with_len, length-replicate, meant_differs, node_of, not_meant_is_own, number_at, object_at, passes, pointers_of, root_spelling, slice_index, tree_in, tree_of}
+use Rattle.special_files.proofs.Words.{pointed, Fits, Graph, HasDraft, HasItsBlocks, Holds, Image, Object, Opened, Puid, block_at, cases_Bool, cases_lt, content_of, get_or-replicate, get_or_past, held, held_at, is_meant, is_meant_for, is_of, leaf_pointers, leaves_at, length-map-range_with_len, length-replicate, meant_differs, node_of, not_meant_is_own, number_at, object_at, passes, pointers_of, root_spelling, slice_index, tree_in, tree_of}
 use Rattle.block_tree.specs.declared.root.Root as roots
 use Rattle.special_files.proofs.Trees.{leaf_at, leaf_from, node_at}
 
-pub zeros : (n k : ℕ) → get_or (replicate {A = ℕ} n 0) k 0 ≡ 0
-zeros n k = elim (cases_lt k n) [ inl below ↦ get_or-replicate n k 0 0 below | inr past ↦ get_or_past (replicate n 0) k 0 (omega (arith, past, length-replicate {A = ℕ} n 0)) ]
-
-pub leaves_there : (image : Image) (block : ℕ) → block ≢ 0 → leaves_at image block ≡ pointers_of leaf_pointers (block_at image block)
-leaves_there image zero some = absurd (some refl)
-leaves_there image (suc n) some = refl
-
-pub length-leaves : (image : Image) (p : ℕ) → length (leaves_at image p) ≡ 128
-unfolding pointers_of
-length-leaves image zero = length-replicate {A = ℕ} 128 0
-length-leaves image (suc p) = length-map-range_with_len (λ (j : ℕ). number_at (block_at image (suc p)) (0 + j)) 0 128
-
-leaf_is : (image : Image) (p k : ℕ) → leaf_from image p k ≡ get_or (leaves_at image p) k 0
-leaf_is image zero k = sym (zeros 128 k)
-leaf_is image (suc p) k = refl
-
 -- the leaf pointers that were read of a node are those of the tree
 pub read_leaf_is : (image : Image) (root : roots.Root) → Fits root → (n k : ℕ) (leaves : List ℕ) → leaves ≡ leaves_at image (node_of root n) → tree_of image (root_spelling root) (n ∷ k ∷ []) ≡ slice_index leaves k
-read_leaf_is image root fits n k leaves is = leaf_at image root fits n k ∙ leaf_is image (node_of root n) k ∙ ap (λ (ns : List ℕ). get_or ns k 0) (sym is)
+read_leaf_is image root fits n k leaves is = leaf_at image root fits n k ∙ pointed image (node_of root n) k ∙ ap (λ (ns : List ℕ). get_or ns k 0) (sym is)
 
 -- what passes is there, and is meant
 pub passed_some : (test : ℕ → Bool) (image : Image) (v : ℕ) → passes test (held_at image v) ≡ true → (v ≢ 0) × (test v ≡ true)

@@ -1,13 +1,13 @@
 -- One leaf put into a draft, as the call makes it.
 use Rattle.std.proofs.Common.{◌≡◌, ◌⊎◌, inl, inr, ℕ, ◌+◌, ◌/◌, ◌%◌, ◌<◌, Bool, true, false, List, [], length, get_or, set, Option, Ok, Err, Some, None, refl, sym, ◌∙◌, ap, subst, get_or-set_same, arith, ◌≤◌, if◌then◌else◌}
-use Rattle.special_files.proofs.Words.{All, All-set, AreCounts, AreMaps, BlockNo, Claims, Drafting, Ends, Enters, FitsLeaf, GetsNode, Ghosts, Goes, Had, HasDraft, HasItsBlocks, HasTried, Holds, Image, IsBadMap, IsFindRefusal, IsRead, IsSafe, IsSome, Kept, Leaf, LeafCall, MapEntry, NodeRead, OnOk, PutsLeaf, Refused, Result, SetsFresh, StaysBut, Tells, View, WritesBlock, after_try, block_at, cases_lt, entry_in, get_or_past, in_image, intended, is_damaged, is_fresh_leaf, is_fresh_node, is_full, is_meant_for, leaf_pointers, leaf_takes, leaves_at, map_of, node_of, not_map, one_unless, opened_as, pointers_of, root_placed, root_spelling, set-get_or, slice_index, sum, taken_apart, tree_in, tried_then, written_same}
+use Rattle.special_files.proofs.Words.{All, All-set, AreCounts, AreMaps, BlockNo, Claims, Drafting, Ends, Enters, FitsLeaf, GetsNode, Ghosts, Goes, Had, HasDraft, HasItsBlocks, HasTried, Holds, Image, IsBadMap, IsFindRefusal, IsRead, IsSafe, IsSome, Kept, Leaf, LeafCall, MapEntry, NodeRead, OnOk, PutsLeaf, Refused, Result, SetsFresh, StaysBut, Tells, View, WritesBlock, after_try, block_at, cases_lt, entry_in, get_or_past, in_image, intended, is_damaged, is_fresh_leaf, is_fresh_node, is_full, is_meant_for, leaf_pointers, leaf_takes, leaves_at, map_of, node_of, not_map, one_unless, opened_as, pointers_of, root_placed, root_spelling, set-get_or, slice_index, sum, taken_apart, tree_in, tried_then, written_same, length-leaves, leaves_there}
 use Rattle.std.proofs.Math.ListN.{length-set}
 use Rattle.cfs_base.specs.declared.refusal.Refused.TheVariants as refusals
 use Rattle.block_tree.specs.declared.root.Root as roots
 use Rattle.special_files.specs.Calls.{Adds}
 use Rattle.special_files.proofs.Amid.{IsAmid, amid_begins, write_leaves, wrote}
 use Rattle.special_files.proofs.Endings.{ends_err, ends_then_err, ends_then_ok, enters_ends, gets_ends, write_ends, stays_itself, still_sound, still_room, claim_real, ends_wider}
-use Rattle.special_files.proofs.Fresh.{length-leaves, leaves_there, node_of_fresh}
+use Rattle.special_files.proofs.Fresh.{node_of_fresh}
 use Rattle.special_files.proofs.Levels.{Tell}
 use Rattle.special_files.proofs.PutLeaf.{IsReadFor, fresh_below, node_again, put_again}
 use Rattle.special_files.proofs.Meant.{meant_is}

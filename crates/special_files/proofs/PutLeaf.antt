@@ -1,12 +1,12 @@
 -- A leaf is put: over the draft's own, or into blocks that were claimed.
 use Rattle.std.proofs.Common.{◌≡◌, ◌≢◌, ◌⊎◌, inl, inr, ℕ, ◌/◌, ◌%◌, ◌^◌, ◌<◌, true, false, List, [], ◌∷◌, length, get_or, set, Some, refl, sym, ◌∙◌, ap, subst, get_or-set_other, get_or-set_same, eq-eqb, arith}
-use Rattle.special_files.proofs.Words.{BelongsTo, Drafting, Free, Graph, HasDraft, HasItsBlocks, Holds, Image, IsEntry, Leaf, MapEntry, Node, Object, Place, Puid, block_at, block_at-with_entry, both_ways, entry_in, entry_in-set, entry_in-with_entry_other, entry_in-with_entry_same, free_is_loose, held, held_at, held_there, in_image, intended, is_free_entry, is_free_in, is_fresh_leaf, is_fresh_node, is_meant, is_meant_for, is_of, le-leb, leaf_pointers, leaves_at, length-with_entry, lt-ltb, node_of, not_map, object_at, one_path, opened_as, part_at, part_of, passes, pointer, pointers_of, root_spelling, set-get_or, slice_index, taken_apart, tree_in, tree_of, tree_placed, with_entry}
+use Rattle.special_files.proofs.Words.{leaf_place, node_place, BelongsTo, Drafting, Free, Graph, HasDraft, HasItsBlocks, Holds, Image, IsEntry, Leaf, MapEntry, Node, Object, Place, Puid, block_at, block_at-with_entry, both_ways, entry_in, entry_in-set, entry_in-with_entry_other, entry_in-with_entry_same, free_is_loose, held, held_at, held_there, in_image, intended, is_free_entry, is_free_in, is_fresh_leaf, is_fresh_node, is_meant, is_meant_for, is_of, le-leb, leaf_pointers, leaves_at, length-with_entry, lt-ltb, node_of, not_map, object_at, one_path, opened_as, part_at, part_of, passes, pointer, pointers_of, root_spelling, set-get_or, slice_index, taken_apart, tree_in, tree_of, tree_placed, with_entry, leaves_there}
 use Rattle.std.proofs.Math.ListN.{length-set}
 use Rattle.ufs_model.specs.declared.object.Draft as models
-use Rattle.special_files.proofs.Fresh.{fresh_there, leaves_there, node_of_fresh, small_image, read_leaf_is, unfresh}
+use Rattle.special_files.proofs.Fresh.{fresh_there, node_of_fresh, small_image, read_leaf_is, unfresh}
 use Rattle.special_files.proofs.Meant.{free_is, meant_is}
 use Rattle.special_files.proofs.Puts.{LeafPut, taken_not_free}
-use Rattle.special_files.proofs.Trees.{leaf_place, node_at, node_place}
+use Rattle.special_files.proofs.Trees.{node_at}
 
 -- ---- entries of claims
 

@@ -1,9 +1,9 @@
 -- One leaf of a draft is put into a block of its own, below a node in a block of its own.
 use Rattle.std.proofs.Common.{◌≡◌, ◌≢◌, ◌⊎◌, inl, inr, ℕ, zero, suc, ◌+◌, ◌*◌, ◌/◌, ◌%◌, ◌^◌, ◌<◌, ◌≤◌, true, List, [], ◌∷◌, ◌++◌, length, get_or, set, Option, Some, None, refl, sym, ◌∙◌, ap, subst, get_or-set_other, get_or-set_same, arith, IsTrue}
-use Rattle.special_files.proofs.Words.{Allocated, BelongsTo, BlockState, Fits, Free, Graph, HasDraft, Held, Holds, Image, IntendAllocate, IntendDeallocate, IsGoodRoot, IsPlaced, IsRootBlock, IsTaken, IsTree, Leaf, LeavesFit, MapEntry, Node, Object, Opened, Puid, PutsAt, Root, SameAt, SameBeside, StandsIn, below_apart, block_at, bytes_held, cases_Bool, content_of, end_is, entry_in, eqb-false, eqb-true, held, held_at, held_block, held_there, is_free_entry, is_free_in, is_free_state, is_meant, is_meant_for, is_of, is_some, leaf_pointers, leaves_in, leaves_of, levels_of, levels_standing, not_map, object_at, object_of, one_path, part_at, part_of, passes, path_is, place_at, pointer, root_placed, root_spelling, same_Some, same_levels, shadow_apart, shadow_taken, slice_index, stands_for, taken_apart, tree_in, tree_of, tree_placed, ◌==◌}
+use Rattle.special_files.proofs.Words.{leaf_place, node_place, nothing_below, two_levels, Allocated, BelongsTo, BlockState, Fits, Free, Graph, HasDraft, Held, Holds, Image, IntendAllocate, IntendDeallocate, IsGoodRoot, IsPlaced, IsRootBlock, IsTaken, IsTree, Leaf, LeavesFit, MapEntry, Node, Object, Opened, Puid, PutsAt, Root, SameAt, SameBeside, StandsIn, below_apart, block_at, bytes_held, cases_Bool, content_of, end_is, entry_in, eqb-false, eqb-true, held, held_at, held_block, held_there, is_free_entry, is_free_in, is_free_state, is_meant, is_meant_for, is_of, is_some, leaf_pointers, leaves_in, leaves_of, levels_of, levels_standing, not_map, object_at, object_of, one_path, part_at, part_of, passes, path_is, place_at, pointer, root_placed, root_spelling, same_Some, same_levels, shadow_apart, shadow_taken, slice_index, stands_for, taken_apart, tree_in, tree_of, tree_placed, ◌==◌}
 use Rattle.block_tree.specs.declared.root.Root as roots
 use Rattle.special_files.proofs.Levels.{fresh_leaf, fresh_node}
-use Rattle.special_files.proofs.Trees.{fits_with, good_with, leaf_at, leaf_from, leaf_place, node_at, node_place, nothing_below, two_levels}
+use Rattle.special_files.proofs.Trees.{fits_with, good_with, leaf_at, leaf_from, node_at}
 
 free_state : (s : BlockState) → is_free_state s ≡ true → s ≡ Free
 free_state Free h = refl

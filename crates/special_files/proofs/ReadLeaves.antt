@@ -1,10 +1,10 @@
 -- What is read of a draft's leaves.
 use Rattle.std.proofs.Common.{◌≡◌, ℕ, zero, suc, Ok, Err, ◌+◌, ◌-◌, ◌*◌, ◌/◌, ◌%◌, ◌<◌, ◌≤◌, List, [], ◌∷◌, length, refl, sym, ◌∙◌, ap, subst, arith, slice_range}
-use Rattle.special_files.proofs.Words.{AreBlocks, Drafting, File, Fits, Ghosts, HasDraft, IfOk, Image, IsNear, IsRead, IsReadTo, IsSafe, IsTree, Kept, NodeRead, Object, OnlyReads, Puid, Result, Tells, View, block_at, bytes_in, content_is, file_to_leaves, held, held_at, leaf_content, leaves_at, leaves_in, leaves_of, length-overlaid, node_of, opened_as, path_is, read_all, read_more, reads_then, root_spelling, slice_index, tree_in, tree_of, with_leaf}
+use Rattle.special_files.proofs.Words.{AreBlocks, Drafting, File, Fits, Ghosts, HasDraft, IfOk, Image, IsNear, IsRead, IsReadTo, IsSafe, IsTree, Kept, NodeRead, Object, OnlyReads, Puid, Result, Tells, View, block_at, bytes_in, content_is, file_to_leaves, held, held_at, leaf_content, leaves_at, leaves_in, leaves_of, length-overlaid, node_of, opened_as, path_is, read_all, read_more, reads_then, root_spelling, slice_index, tree_in, tree_of, with_leaf, length-leaves}
 use Rattle.ufs_model.specs.declared.object.Object.TheVariants as objects
 use Rattle.block_tree.specs.declared.root.Root as roots
 use Rattle.ufs_model.specs.declared.object.Draft as models
-use Rattle.special_files.proofs.Fresh.{length-leaves, read_leaf_is}
+use Rattle.special_files.proofs.Fresh.{read_leaf_is}
 use Rattle.special_files.proofs.View.{view_reads, draft_of}
 use Rattle.special_files.proofs.Trees.{node_at}
 

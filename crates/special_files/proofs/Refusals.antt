@@ -1,6 +1,6 @@
 -- One refusal told as another.
-use Rattle.std.proofs.Common.{◌≡◌, ℕ, Ok, Err, false, refl, sym, subst}
-use Rattle.special_files.proofs.Words.{Damage, FarNode, FarRoot, Ghosts, IfErr, IsDamage, IsErrAnd, IsRefusal, IsRefusalOrMemory, IsTrouble, Kept, NoMap, NoRoot, OnOk, OnlyReads, OpenMap, OtherCount, Refused, Result, Tells, Trouble, is_damage, is_damaged, refused_by, stopped_after_reads, tells_on}
+use Rattle.std.proofs.Common.{◌≡◌, ℕ, Ok, Err, false, refl, sym, ap, subst}
+use Rattle.special_files.proofs.Words.{Damage, FarNode, FarRoot, Far, FarLeaf, Ghosts, IfErr, Image, IsDamage, IsErrAnd, IsNodeTrouble, IsRootBlock, IsRootTrouble, block_at, IsRefusal, IsRefusalOrMemory, IsTrouble, Kept, NoMap, NoRoot, OnOk, OnlyReads, OpenMap, OtherCount, Refused, Result, Tells, Trouble, is_damage, is_damaged, refused_by, stopped_after_reads, tells_on}
 use Rattle.cfs_base.specs.declared.refusal.Refused.TheVariants as refused
 use Rattle.cfs_base.specs.declared.refusal.Trouble.TheVariants as trouble
 
@@ -29,6 +29,21 @@ module _ {D : Type 0} (g : Ghosts D) (at floor : ℕ) (old new : D) (kept : Kept
   pub or_memory : (t : Trouble) → IsTrouble g at old new kept t → IsRefusalOrMemory g at floor old new kept (refused_by t)
   or_memory (trouble.Disk tried) is = is
   or_memory (trouble.Damaged damage) is = is
+
+-- ---- blocks that were read
+
+-- no root stands there
+pub root_trouble : {D : Type 0} (g : Ghosts D) (at : ℕ) (old new : D) (kept : Kept) (t : Trouble) → OnlyReads g 1 old new → IsRootTrouble g at old new t → IsTrouble g at old new kept t
+root_trouble g at old new kept (trouble.Disk tried) reads is = is.1
+root_trouble g at old new kept (trouble.Damaged damage) reads is = NoRoot (ap (λ (d : Damage). d.code) is.0) (ap (λ (d : Damage). d.block) is.0)
+    (λ tells root. subst (λ (c : Image). ¬ IsRootBlock (block_at c at) root) (sym reads.content) (is.1 tells root))
+
+-- a pointer to a node, or one of its own, leads past the disk
+pub node_trouble : {D : Type 0} (g : Ghosts D) (block at : ℕ) (old new : D) (kept : Kept) (t : Trouble) → OnlyReads g 1 old new → IsNodeTrouble g block at old new t → IsTrouble g at old new kept t
+node_trouble g block at old new kept (trouble.Disk tried) reads is = is.1
+node_trouble g block at old new kept (trouble.Damaged damage) reads (Far is past) = FarRoot (ap (λ (d : Damage). d.code) is) (ap (λ (d : Damage). d.block) is)
+node_trouble g block at old new kept (trouble.Damaged damage) reads (FarLeaf is far) = FarNode (ap (λ (d : Damage). d.code) is) (λ tells.
+    rw (ap (λ (d : Damage). d.block) is, reads.content, reads.same.size) (far tells))
 
 -- ---- after other calls
 

@@ -1,12 +1,12 @@
 -- A draft whose leaves from one on are dropped: what was its own of them is meant for no one then. Where the first lies within a
 -- node, this node is written anew.
 use Rattle.std.proofs.Common.{◌≡◌, ◌≢◌, ◌⊎◌, inl, inr, ℕ, zero, suc, ◌+◌, ◌*◌, ◌/◌, ◌%◌, ◌<◌, ◌≤◌, true, false, IsTrue, List, [], ◌∷◌, ◌++◌, length, get_or, Option, Some, None, refl, sym, ◌∙◌, ap, subst, arith}
-use Rattle.special_files.proofs.Words.{BelongsTo, Drafting, Fits, Forgets, Graph, HasDraft, Held, Holds, Image, IsPast, IsPlaced, IsRootBlock, IsShed, IsTaken, IsTree, Node, Object, Opened, Puid, Root, SameAt, StandsIn, below_apart, block_at, both_ways, cases_Bool, cases_lt, content_of, end_is, entry_in, eqb-false, eqb-true, held, held_at, held_block, held_there, is_free_in, is_meant, is_meant_for, is_of, is_some, leaf_pointers, leaves_of, levels_of, levels_standing, not_map, object_at, object_of, one_path, part_at, part_of, passes, path_is, place_at, pointer, root_placed, root_spelling, same_Some, same_levels, shadow_apart, shadow_taken, slice_index, stands_for, taken_apart, tree_in, tree_of, tree_placed, ◌==◌}
+use Rattle.special_files.proofs.Words.{node_place, nothing_below, two_levels, BelongsTo, Drafting, Fits, Forgets, Graph, HasDraft, Held, Holds, Image, IsPast, IsPlaced, IsRootBlock, IsShed, IsTaken, IsTree, Node, Object, Opened, Puid, Root, SameAt, StandsIn, below_apart, block_at, both_ways, cases_Bool, cases_lt, content_of, end_is, entry_in, eqb-false, eqb-true, held, held_at, held_block, held_there, is_free_in, is_meant, is_meant_for, is_of, is_some, leaf_pointers, leaves_of, levels_of, levels_standing, not_map, object_at, object_of, one_path, part_at, part_of, passes, path_is, place_at, pointer, root_placed, root_spelling, same_Some, same_levels, shadow_apart, shadow_taken, slice_index, stands_for, taken_apart, tree_in, tree_of, tree_placed, ◌==◌}
 use Rattle.block_tree.specs.declared.root.Root as roots
 use Rattle.special_files.proofs.Levels.{Tell, fresh_node}
 use Rattle.special_files.proofs.Meant.{meant_is}
 use Rattle.special_files.proofs.Puts.{taken_not_free}
-use Rattle.special_files.proofs.Trees.{leaf_at, leaf_from, node_at, node_place, nothing_below, two_levels}
+use Rattle.special_files.proofs.Trees.{leaf_at, leaf_from, node_at}
 
 -- the node was written into block y without its leaves from a place on, and keeps one
 pub record IsRewritten (a b : Image) (id : Puid) (d : Opened) (n q y : ℕ) : Type 0 where

@@ -1,8 +1,8 @@
 -- The blocks of a draft's own at paths that are dropped, listed one after another.
 use Rattle.std.proofs.Common.{◌≡◌, ◌≢◌, ◌⊎◌, inl, inr, ℕ, zero, suc, ◌+◌, ◌-◌, ◌*◌, ◌/◌, ◌%◌, ◌<◌, ◌≤◌, Bool, true, false, List, [], ◌∷◌, ◌++◌, length, get_or, Some, refl, sym, ◌∙◌, ap, subst, append_assoc, length-append, arith}
-use Rattle.special_files.proofs.Words.{All, All-append, All-cons, All-nil, AreShed, Differ, Drafting, Graph, HasDraft, HasItsBlocks, Holds, Image, IsPast, Object, Opened, Puid, append-nil, append_differ, both_ways, cases_Bool, cases_lt, content_of, eqb-false, eqb-true, fresh_in, get_or_past, has-append, has_number, held, held_at, held_there, here, is_fresh_node, is_meant_for, leaves_at, node_of, not_map, object_at, one_if, one_path, opened_as, or_cases, or_left, or_right, passes, slice_index, taken_apart, tree_in, tree_of, ◌==◌}
+use Rattle.special_files.proofs.Words.{All, All-append, All-cons, All-nil, AreShed, Differ, Drafting, Graph, HasDraft, HasItsBlocks, Holds, Image, IsPast, Object, Opened, Puid, append-nil, append_differ, both_ways, cases_Bool, cases_lt, content_of, eqb-false, eqb-true, fresh_in, get_or_past, has-append, has_number, held, held_at, held_there, here, is_fresh_node, is_meant_for, leaves_at, node_of, not_map, object_at, one_if, one_path, opened_as, or_cases, or_left, or_right, passes, slice_index, taken_apart, tree_in, tree_of, ◌==◌, length-leaves}
 use Rattle.ufs_model.specs.declared.object.Draft as models
-use Rattle.special_files.proofs.Fresh.{fresh_there, length-leaves, node_of_fresh, read_leaf_is, unfresh}
+use Rattle.special_files.proofs.Fresh.{fresh_there, node_of_fresh, read_leaf_is, unfresh}
 use Rattle.special_files.proofs.Levels.{Tell}
 use Rattle.special_files.proofs.Meant.{meant_is}
 use Rattle.special_files.proofs.Trees.{leaf_at, leaf_from, node_at}

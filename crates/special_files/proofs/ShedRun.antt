@@ -1,6 +1,6 @@
 -- The device calls that drop leaves from a draft: the node of the first is written without them, and claims are taken back.
 use Rattle.std.proofs.Common.{◌≡◌, ◌≢◌, ◌⊎◌, inl, inr, ℕ, ◌/◌, ◌%◌, ◌^◌, ◌<◌, ◌≤◌, Bool, true, false, List, [], ◌∷◌, length, Ok, Some, refl, sym, ◌∙◌, ap, subst, get_or-set_other, get_or-set_same, arith}
-use Rattle.special_files.proofs.Words.{AreClaimed, AreCounts, AreShed, BelongsTo, BlockNo, ChangesOnly, Claims, ClaimsAndDrops, Course, Drafting, Flips, Frame, GetsNode, Ghosts, Graph, Had, HasDraft, Holds, IfErr, Image, IsOn, IsPast, IsShed, Kept, Leaves, MapEntry, MayFlip, Node, Object, Opened, Puid, Refused, Result, Root, StoreHas, Trouble, Undo, View, WritesBlock, block_at, block_at-with_entry, both_ways, carries_framed, cases_Bool, changes_then, claimed_by, content_of, entry_in, entry_in-set, entry_in-with_entry_other, entry_in-with_entry_same, entry_in_table, false_from_ne_true, flipped, flips, frames_begin, frames_hold, free_is_loose, free_unowned, given_all, has_number, held, held_at, held_there, in_image, intended, is_damage, is_free_entry, is_free_in, is_meant, is_meant_for, is_of, keeps_frame, leaf_pointers, leaves_at, length-with_entry, may_take_back, node_claims, node_of, not_map, numbers_differ, object_at, of_draft, one_path, opened_as, part_at, part_of, pointer, root_spelling, same_Some, slice_index, taken_apart, tree_in, tree_of, tree_placed, undone, wider}
+use Rattle.special_files.proofs.Words.{node_place, AreClaimed, AreCounts, AreShed, BelongsTo, BlockNo, ChangesOnly, Claims, ClaimsAndDrops, Course, Drafting, Flips, Frame, GetsNode, Ghosts, Graph, Had, HasDraft, Holds, IfErr, Image, IsOn, IsPast, IsShed, Kept, Leaves, MapEntry, MayFlip, Node, Object, Opened, Puid, Refused, Result, Root, StoreHas, Trouble, Undo, View, WritesBlock, block_at, block_at-with_entry, both_ways, carries_framed, cases_Bool, changes_then, claimed_by, content_of, entry_in, entry_in-set, entry_in-with_entry_other, entry_in-with_entry_same, entry_in_table, false_from_ne_true, flipped, flips, frames_begin, frames_hold, free_is_loose, free_unowned, given_all, has_number, held, held_at, held_there, in_image, intended, is_damage, is_free_entry, is_free_in, is_meant, is_meant_for, is_of, keeps_frame, leaf_pointers, leaves_at, length-with_entry, may_take_back, node_claims, node_of, not_map, numbers_differ, object_at, of_draft, one_path, opened_as, part_at, part_of, pointer, root_spelling, same_Some, slice_index, taken_apart, tree_in, tree_of, tree_placed, undone, wider}
 use Rattle.std.proofs.Math.ListN.{length-set}
 use Rattle.special_files.proofs.Amid.{IsAmid, amid_leaves, claim_leaves, claimed, write_leaves, wrote}
 use Rattle.special_files.proofs.CommitEntries.{meant_not_free, undone_free}
@@ -14,7 +14,7 @@ use Rattle.special_files.proofs.PutRun.{amid0, mine, node_is, not_root_node}
 use Rattle.special_files.proofs.PutStore.{flags_of, the_draft}
 use Rattle.special_files.proofs.Puts.{taken_not_free}
 use Rattle.special_files.proofs.Shed.{IsRewritten, IsShort}
-use Rattle.special_files.proofs.Trees.{node_at, node_place}
+use Rattle.special_files.proofs.Trees.{node_at}
 
 -- ---- claims taken back, in the middle of a step
 

@@ -1,6 +1,6 @@
 -- The size of a draft changed, while its leaves stay.
 use Rattle.std.proofs.Common.{◌≡◌, ◌≢◌, inl, inr, ℕ, zero, suc, ◌+◌, ◌/◌, ◌%◌, ◌<◌, ◌≤◌, Bool, true, false, if◌then◌else◌, IsTrue, List, [], ◌∷◌, ◌++◌, length, get_or, refl, sym, ◌∙◌, ap, subst, arith}
-use Rattle.special_files.proofs.Words.{Becomes, BelongsTo, Draft, Drafting, File, Fits, Ghosts, HasDraft, Image, IsFullFor, IsRoot, IsTree, Kept, LeavesFit, Object, Opened, Puid, Refused, Resized, SetSize, View, bytes_held, changed_draft, changed_object, file_to_leaves, filter, filter-rises, first_level, fresh_after, fun_ext, grown_fit, grown_object, has_number, held_at, held_leaves, held_levels, held_nodes, in_filter, inner_levels, is_meant_for, is_some, le-leb, leaves_of, levels_of, levels_standing, merged, missing, need_beside, next_levels, object_of, object_with, opened_as, passes, path_is, place_at, range_with_len, replaced, resize_anew, root_spelling, same_levels, same_numbers, set_in, shadow_need, shared, size_of, standing_at, sum, to_filter, tree_in, tree_of, within, written_anew}
+use Rattle.special_files.proofs.Words.{nothing_below, Becomes, BelongsTo, Draft, Drafting, File, Fits, Ghosts, HasDraft, Image, IsFullFor, IsRoot, IsTree, Kept, LeavesFit, Object, Opened, Puid, Refused, Resized, SetSize, View, bytes_held, changed_draft, changed_object, file_to_leaves, filter, filter-rises, first_level, fresh_after, fun_ext, grown_fit, grown_object, has_number, held_at, held_leaves, held_levels, held_nodes, in_filter, inner_levels, is_meant_for, is_some, le-leb, leaves_of, levels_of, levels_standing, merged, missing, need_beside, next_levels, object_of, object_with, opened_as, passes, path_is, place_at, range_with_len, replaced, resize_anew, root_spelling, same_levels, same_numbers, set_in, shadow_need, shared, size_of, standing_at, sum, to_filter, tree_in, tree_of, within, written_anew}
 use Rattle.cfs_base.specs.declared.kind.Kind.TheVariants as kinds
 use Rattle.block_tree.specs.declared.root.Root as roots
 use Rattle.ufs_model.specs.declared.object.Object.TheVariants as objects
@@ -8,7 +8,7 @@ use Rattle.special_files.proofs.Amid.{amid_begins}
 use Rattle.special_files.proofs.Levels.{leaf_level, levels_are, node_level}
 use Rattle.special_files.proofs.Marks.{below_flags, in_set, leaf_held, next_is, node_held, set-rises, within_none}
 use Rattle.special_files.proofs.PutStore.{becomes_now}
-use Rattle.special_files.proofs.Trees.{leaf_at, node_at, nothing_below}
+use Rattle.special_files.proofs.Trees.{leaf_at, node_at}
 use Rattle.special_files.proofs.View.{draft_of, no_index}
 use Rattle.cfs_base.specs.declared.refusal.Refused.TheVariants as refusals
 use Rattle.special_files.proofs.Writes.{becomes_as}

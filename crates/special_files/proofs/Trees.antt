@@ -20,18 +20,6 @@ pub leaf_at : (image : Image) (root : roots.Root) → Fits root → (m j : ℕ) 
 unfolding levels_of
 leaf_at image root fits m j = ap (λ (p : ℕ). leaf_from image p j) (pointer_is root fits m)
 
-pub nothing_below : (image : Image) (content : List ℕ) (m j i : ℕ) (q : List ℕ) → tree_of image content (m ∷ j ∷ i ∷ q) ≡ 0
-unfolding levels_of
-nothing_below image content m j i q = by (pointer node_pointers content m)
-  where
-    end : (p : ℕ) → end_of image [] p (i ∷ q) ≡ 0
-    end zero = refl
-    end (suc p) = refl
-
-    by : (p : ℕ) → end_of image (leaf_pointers ∷ []) p (j ∷ i ∷ q) ≡ 0
-    by zero = refl
-    by (suc p) = end (pointer leaf_pointers (block_at image (suc p)) j)
-
 -- ---- one pointer of a root changed
 
 pub fits_with : (root : roots.Root) (n y : ℕ) → Fits root → y < 2 ^ 32 → Fits (record root { nodes = set root.nodes n y })
@@ -44,17 +32,3 @@ fits_with root n y fits small = record {
 
 pub good_with : (root : roots.Root) (n y : ℕ) → IsGoodRoot root → y < 2 ^ 32 → IsGoodRoot (record root { nodes = set root.nodes n y })
 good_with root n y good small = (fits_with root n y good.0 small, record { fill = good.1.fill; size = good.1.size })
-
--- ---- places
-
-pub node_place : (content : List ℕ) (n : ℕ) → place_at (levels_of content) (n ∷ []) ≡ Node n
-unfolding place_at levels_of
-node_place content n = ap Node (omega arith)
-
-pub leaf_place : (content : List ℕ) (n k l : ℕ) → l ≡ 128 * n + k → place_at (levels_of content) (n ∷ k ∷ []) ≡ Leaf l
-unfolding place_at levels_of
-leaf_place content n k l is = ap Leaf (omega (arith, is))
-
-pub two_levels : (content : List ℕ) → length (levels_of content) ≡ 2
-unfolding levels_of
-two_levels content = refl

@@ -1,10 +1,11 @@
 -- What lemmas of this crate name of the crates below, and of its own definitions.
 pub use Rattle.block_tree.proofs.Spellings.{nodes_of, one_root}
 pub use Rattle.block_tree.proofs.Trees.{end_is, node_block, path_is}
-pub use Rattle.block_tree.specs.Pointers.{leaf_pointers, node_pointers, number_at}
+pub use Rattle.block_tree.proofs.Nodes.{leaves_there, length-leaves, nothing_below, pointed, two_levels, zeros}
+pub use Rattle.block_tree.specs.Pointers.{leaf_limit, leaf_pointers, node_pointers, number_at, width}
 unfoldable pub use Rattle.block_tree.specs.Pointers.{pointers_of}
 pub use Rattle.block_tree.specs.Root.{Fits, IsGoodRoot, IsRoot, IsRootBlock, root_spelling}
-pub use Rattle.block_tree.specs.Tree.{bytes_in, end_of, pointer, tree_of, width}
+pub use Rattle.block_tree.specs.Tree.{bytes_in, end_of, pointer, tree_of}
 unfoldable pub use Rattle.block_tree.specs.Tree.{levels_of, path_to}
 pub use Rattle.cfs_base.proofs.Calls.{makes_then, reads_make, reads_then, reads_within, stopped_after_reads, stopped_after_try, tells_on, then_tried, tried_then}
 pub use Rattle.cfs_base.proofs.Runs.{still_tells, then, wider}
@@ -43,7 +44,7 @@ pub use Rattle.intentions.proofs.Committed.{commits, copied_settles, copies, obj
 pub use Rattle.intentions.proofs.Courses.{carries_ended, carries_framed, keeps_frame, keeps_settled, on_entry, on_holds}
 pub use Rattle.intentions.proofs.Settling.{may_clear, may_finish, may_finish_made, may_release, may_take_back, may_undo}
 pub use Rattle.intentions.proofs.Valid.{bit_valid, finished_part, no_shadow_stands, released_keeps, undone_stands, undone_valid}
-pub use Rattle.intentions.specs.Calls.{ChangesBit, ChangesEntry, HasStoppedBy}
+pub use Rattle.intentions.specs.Calls.{ChangesBit, ChangesEntry}
 pub use Rattle.intentions.specs.Commit.{Commits, Copies, IsCommitted, IsToFinish}
 pub use Rattle.intentions.specs.Course.{Course, Frame, IsCourse, IsOn, Keeps, MayPut, Settling}
 pub use Rattle.intentions.specs.Entries.{changed, finished, finished_in, released, released_at, released_in, undone, undone_in, with_bit, with_bit_at, without_bit}
@@ -75,10 +76,11 @@ unfoldable pub use Rattle.special_files.specs.Drafting.{none_of, set_in, unset_i
 pub use Rattle.special_files.specs.Ends.{Ends}
 pub use Rattle.special_files.specs.Fills.{IsNearSwap, IsSwapped, dropped_by, filled_draft, is_empty_already}
 pub use Rattle.special_files.specs.Leaves.{PutsAt, SameBeside, draft_in, leaves_of, object_of}
-pub use Rattle.special_files.specs.Nodes.{IsNear, IsRead, IsSafe, leaves_at}
+pub use Rattle.special_files.specs.Nodes.{IsRead, IsSafe}
 pub use Rattle.special_files.specs.Order.{ClaimsAndDrops, claims_anew, claims_from, leaf_claims, node_claims}
 pub use Rattle.special_files.specs.Puts.{FitsLeaf, LeafCall, PutsLeaf, StaysBut, drafts_with}
-pub use Rattle.special_files.specs.Refusal.{FarNode, FarRoot, IsDamage, IsRefusal, IsRefusalOrMemory, IsTrouble, NoMap, NoRoot, OpenMap, OtherCount, is_damage, is_damaged, is_full, told_after}
+pub use Rattle.block_tree.specs.Reads.{HasStoppedBy, Far, FarLeaf, IsNear, IsNodeTrouble, IsRootTrouble, is_damage, leaves_at}
+pub use Rattle.special_files.specs.Refusal.{FarNode, FarRoot, IsDamage, IsRefusal, IsRefusalOrMemory, IsTrouble, NoMap, NoRoot, OpenMap, OtherCount, is_damaged, is_full, told_after}
 pub use Rattle.special_files.specs.Shed.{AreShed, Cuts, CutsIf, DropCall, DropsFrom, Forgets, HasParts, IsBorder, IsCutHere, IsFullFor, IsPast, IsPlan, IsReadIn, IsShed, IsShortNode, IsToldByNodes, KeepsOne, NoBlock, NoWrite, Put, PutsWithin, ResizeCall, Resized, Spares, Whole, Within, border_claims, border_takes, cut_takes, is_stale_cut, last_node, one_if, plan_needs, shrink_takes, sized}
 unfoldable pub use Rattle.special_files.specs.Shed.{fresh_in}
 pub use Rattle.special_files.specs.Store.{Steps, replaced, without_draft}
@@ -121,7 +123,7 @@ pub use Rattle.vol_image.proofs.Graphs.{object_at-with_object}
 pub use Rattle.vol_image.proofs.Law.{frames_hold}
 pub use Rattle.vol_image.proofs.Parts.{IsPlaced, below_apart, free_is_loose, in_image, is_inner, place_inner, root_placed, shadow_taken, taken_apart, tree_placed}
 pub use Rattle.vol_image.proofs.Paths.{held_there}
-pub use Rattle.vol_image.proofs.Places.{below_is_path, one_path, same_levels}
+pub use Rattle.vol_image.proofs.Places.{below_is_path, leaf_place, node_place, one_path, same_levels}
 pub use Rattle.vol_image.proofs.Reached.{same_puid_is, same_puid_itself}
 pub use Rattle.vol_image.proofs.Rising.{filter-rises, here, in_cons, in_filter, in_map, in_numbers, in_withs, numbers-rise, same_numbers, to_filter, to_map, to_numbers, to_withs, with_numbers-rise}
 pub use Rattle.vol_image.proofs.Steps.{frames_back, frames_begin, frames_content, frames_then, frames_write, not_label, not_map}

@@ -10,7 +10,7 @@ use Rattle.ufs_model.specs.Numbers.{has_number}
 use Rattle.vol_image.specs.Seen.{tree_in}
 use Rattle.vol_owners.specs.Account.{Opened, StandsIn, content_of, is_meant_for, numbers_differ}
 use Rattle.vol_owners.specs.Owner.{is_had, is_of}
-use Rattle.special_files.specs.Nodes.{leaves_at}
+use Rattle.block_tree.specs.Reads.{leaves_at}
 
 -- ---- what the two lists are
 

@@ -35,7 +35,8 @@ use Rattle.vol_owners.specs.Change.{ChangesOnly, of_drafts, of_owners}
 use Rattle.vol_owners.specs.Owner.{is_had, is_of, is_taken}
 use Rattle.block_tree.specs.declared.root.Root as roots
 use Rattle.special_files.specs.Drafting.{Drafting}
-use Rattle.special_files.specs.Refusal.{IsDamage, is_damage}
+use Rattle.block_tree.specs.Reads.{is_damage}
+use Rattle.special_files.specs.Refusal.{IsDamage}
 use Rattle.special_files.specs.Store.{without_draft}
 
 -- ---- entries changed

@@ -1,37 +1,30 @@
 -- Nodes that were read.
-use Rattle.std.specs.Prelude.{◌≡◌, ℕ, zero, suc, ◌<◌, false, List, get_or, replicate, IfErr, OnOk, Result}
+use Rattle.std.specs.Prelude.{◌≡◌, ℕ, ◌<◌, false, IfErr, OnOk, Result}
 use Rattle.std.specs.List.{All}
 use Rattle.cfs_base.specs.Calls.{OnlyReads}
-use Rattle.cfs_base.specs.Disk.{Image, block_at}
+use Rattle.cfs_base.specs.Disk.{Image}
 use Rattle.cfs_base.specs.Refusals.{trouble_had_tried}
 use Rattle.cfs_base.specs.Run.{Tells}
 use Rattle.cfs_base.specs.declared.disk.Disk.{Ghosts}
 use Rattle.cfs_base.specs.declared.refusal.Trouble.{Trouble}
 use Rattle.cyl_alloc.specs.Space.{Kept}
-use Rattle.block_tree.specs.Pointers.{leaf_pointers, pointers_of}
+use Rattle.block_tree.specs.Pointers.{node_pointers}
 use Rattle.special_files.specs.Drafting.{Drafting, node_of}
-use Rattle.special_files.specs.Refusal.{IsTrouble, is_damage}
+use Rattle.block_tree.specs.Reads.{is_damage, leaves_at}
+use Rattle.special_files.specs.Refusal.{IsTrouble}
 use Rattle.special_files.specs.View.{View}
 use Rattle.special_files.specs.declared.node.NodeRead.{NodeRead}
 
--- the leaf pointers of the node at a block; where that is 0 the node is absent, and has no leaf
-abbrev pub leaves_at : Image → ℕ → List ℕ
-leaves_at image zero = replicate 128 0
-leaves_at image (suc n) = pointers_of leaf_pointers (block_at image (suc n))
-
--- the node at a block is on a disk of this size, and so is each leaf to which it points
-pub record IsNear (size : ℕ) (image : Image) (block : ℕ) : Type 0 where
-  pub here : block < size
-  pub leaves : (k : ℕ) → get_or (leaves_at image block) k 0 < size
-
 -- what was read last, if anything, is a node of the draft
 abbrev pub IsRead : Image → Drafting → NodeRead → Type 0
-IsRead image drafting read = read.number < 120 → read.node.leaves ≡ leaves_at image (node_of drafting.root read.number)
+IsRead image drafting read =
+    read.number < node_pointers.count → read.node.leaves ≡ leaves_at image (node_of drafting.root read.number)
 
 -- on any disk it and its pointers lead to blocks of a disk of this size
 abbrev pub IsSafe : ℕ → Drafting → NodeRead → Type 0
 IsSafe size drafting read =
-    read.number < 120 → (node_of drafting.root read.number < size) × All (λ leaf. leaf < size) read.node.leaves
+    read.number < node_pointers.count
+    → (node_of drafting.root read.number < size) × All (λ leaf. leaf < size) read.node.leaves
 
 -- A call turned to a node of the draft, and made at most n device calls, all of them reads.
 pub record TurnsTo {D A : Type 0} (g : Ghosts D) (was : Drafting) (number n : ℕ) (old new : D) (before after : NodeRead)

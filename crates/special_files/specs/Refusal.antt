@@ -76,10 +76,6 @@ is_full (refused.Disk tried) = false
 is_full (refused.Damaged damage) = false
 is_full refused.Memory = false
 
-abbrev pub is_damage : Trouble → Bool
-is_damage (trouble.Disk tried) = false
-is_damage (trouble.Damaged damage) = true
-
 -- the refusal of a call that had tried a write before, or hadn't
 abbrev pub told_after : Bool → Refused → Refused
 told_after tried e = if tried then after_try e else e

@@ -31,7 +31,8 @@ use Rattle.special_files.specs.Drafting.{Drafting, HasNoneFresh, IsOpen, is_fres
 use Rattle.special_files.specs.Drafting.{need_beside, node_of, one_unless, shadow_need}
 use Rattle.special_files.specs.Ends.{Ends}
 use Rattle.special_files.specs.Leaves.{draft_in, leaves_of}
-use Rattle.special_files.specs.Nodes.{IsRead, IsSafe, leaves_at}
+use Rattle.block_tree.specs.Reads.{leaves_at}
+use Rattle.special_files.specs.Nodes.{IsRead, IsSafe}
 use Rattle.special_files.specs.Order.{ClaimsAndDrops, claims_anew, node_claims}
 use Rattle.special_files.specs.Puts.{CutsLeaf, LeafCall, StaysBut, drafts_with}
 use Rattle.special_files.specs.Refusal.{is_full}

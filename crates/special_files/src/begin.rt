@@ -1,8 +1,8 @@
 //! A draft begun.
 ghost use Rattle.std.specs.Prelude.{◌≡◌, ◌≢◌, ◌<◌, ◌≤◌, ℕ, ◌+◌, ◌*◌, true, false, length, sum, List, [], ◌∷◌, Some};
 ghost use Rattle.std.specs.Prelude.{None, IfErr, IfOk};
+ghost use Rattle.block_tree.specs.Pointers.{leaf_limit, node_pointers};
 ghost use Rattle.block_tree.specs.Root.{IsRootBlock};
-ghost use Rattle.block_tree.specs.declared.root.Root as roots;
 ghost use Rattle.cfs_base.specs.Calls.{MakesAtMost, OnlyReads};
 ghost use Rattle.cfs_base.specs.Disk.{block_at};
 ghost use Rattle.cfs_base.specs.Refusals.{had_tried, trouble_had_tried};
@@ -12,7 +12,8 @@ ghost use Rattle.cfs_base.specs.declared.identifier.Puid.{Puid};
 ghost use Rattle.cyl_alloc.specs.Space.{IsLeastFree, Kept};
 ghost use Rattle.intentions.specs.Store.{StoreHas};
 ghost use Rattle.special_files.specs.Drafting.{begun_at, none_of, number_of, opened_as};
-ghost use Rattle.special_files.specs.Refusal.{IsRefusalOrMemory, IsTrouble, is_damage, is_damaged, is_full};
+ghost use Rattle.block_tree.specs.Reads.{is_damage};
+ghost use Rattle.special_files.specs.Refusal.{IsRefusalOrMemory, IsTrouble, is_damaged, is_full};
 ghost use Rattle.special_files.specs.Store.{Steps};
 ghost use Rattle.vol_image.specs.Sound.{Holds};
 ghost use Rattle.ufs_model.specs.Graph.{Graph, object_at};
@@ -20,36 +21,12 @@ ghost use Rattle.ufs_model.specs.declared.object.Object.{Object};
 ghost use Rattle.vol_owners.specs.Account.{Opened, drafts_of};
 
 use crate::blocks::Blocks;
-use crate::draft::{Draft, has_room};
+use crate::draft::Draft;
 use crate::flags::Flags;
-use block_tree::Root;
-use cfs_base::{Block, BlockNo, Damage, Disk, NoMemory, Place, Refused, Trouble, code};
+use block_tree::{Root, read_root};
+use cfs_base::{BlockNo, Disk, NoMemory, Place, Refused};
 use cyl_alloc::Space;
 use std::alloc::Global;
-
-/// Reads the root of an object. `Damaged` names the block, with code 3, which is no root block.
-fn read_root<D: Disk>(disk: &mut D, at: BlockNo) -> Result<Root, Trouble>
-    requires { at.0 < D.blocks disk.old }
-    ensures root { Tells D.Disk disk.old → IfOk result (IsRootBlock (block_at (D.content disk.old) at.0)) }
-    ensures refused { (kept : Kept) → IfErr result (IsTrouble D.Disk at.0 disk.old disk.new kept) }
-    ensures limit { IfOk result (λ root. root.size ≤ 7864320) }
-    ensures untried { IfErr result (λ trouble. trouble_had_tried trouble ≡ false) }
-    ensures sound { (root : roots.Root) → Tells D.Disk disk.old → IsRootBlock (block_at (D.content disk.old) at.0) root
-        → IfErr result (λ trouble. is_damage trouble ≡ false) }
-    ensures reads { OnlyReads D.Disk 1 disk.old disk.new }
-{
-    let mut content = Block::zero();
-    let Ok(()) = disk.read(at, &mut content) else {
-        return Err(Trouble::Disk { tried: false });
-    };
-    match Root::decode(&content) {
-        Ok(root) => Ok(root),
-        Err(_) => Err(Trouble::Damaged(Damage {
-            block: at.0,
-            code: code::NO_ROOT,
-        })),
-    }
-}
 
 /// All memory that a draft will ever need.
 #[derive(Drop)]
@@ -62,7 +39,8 @@ struct Room {
 
 impl Room {
     fn new(alloc: Global) -> Result<Room, NoMemory>
-        ensures { IfOk result (λ room. (room.leaves ≡ none_of 15360) × (room.nodes ≡ none_of 120)) }
+        ensures { IfOk result (λ room.
+            (room.leaves ≡ none_of leaf_limit) × (room.nodes ≡ none_of node_pointers.count)) }
     {
         let leaves = Flags::none(alloc, 15_360)?;
         let nodes = Flags::none(alloc, 120)?;
@@ -80,7 +58,7 @@ impl Room {
     fn draft(self, at: BlockNo, shadow: Option<BlockNo>, root: Root) -> Draft
         requires some { at.0 ≢ 0 }
         requires limit { root.size ≤ 7864320 }
-        requires none { (self.leaves ≡ none_of 15360) × (self.nodes ≡ none_of 120) }
+        requires none { (self.leaves ≡ none_of leaf_limit) × (self.nodes ≡ none_of node_pointers.count) }
         ensures { result ≡ begun_at at.0 (number_of shadow) root }
     {
         Draft {
@@ -143,7 +121,7 @@ impl Draft {
         ensures calls { MakesAtMost D.Disk 3 1 disk.old disk.new }
     {
         let room = Room::new(alloc)?;
-        has_room(space, 1, floor)?;
+        space.has_room(1, floor)?;
         let root = read_root(disk, at)?;
         match space.intend(disk, Place::ShadowRoot, at.0) {
             Ok(shadow) => Ok(room.draft(at, Some(shadow), root)),

@@ -11,7 +11,7 @@ ghost use Rattle.intentions.specs.Commit.{IsCommitted};
 ghost use Rattle.intentions.specs.declared.change.Change.TheVariants as changes;
 ghost use Rattle.special_files.specs.Committing as spec;
 ghost use Rattle.special_files.specs.Drafting.{number_of};
-ghost use Rattle.special_files.specs.Refusal.{is_damage};
+ghost use Rattle.block_tree.specs.Reads.{is_damage};
 ghost use Rattle.ufs_model.specs.Graph.{Graph};
 ghost use Rattle.ufs_model.specs.declared.object.Object.{Object};
 ghost use Rattle.vol_image.specs.Run.{Carries};

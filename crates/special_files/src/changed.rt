@@ -7,13 +7,12 @@ ghost use Rattle.cfs_base.specs.Run.{Tells};
 ghost use Rattle.cyl_alloc.specs.Space.{Kept};
 ghost use Rattle.special_files.specs.Changed as spec;
 ghost use Rattle.special_files.specs.Drafting.{Drafting, opened_as};
-ghost use Rattle.special_files.specs.Nodes.{IsNear};
-ghost use Rattle.special_files.specs.Refusal.{IsTrouble, is_damage};
+ghost use Rattle.block_tree.specs.Reads.{is_damage, IsNear};
+ghost use Rattle.special_files.specs.Refusal.{IsTrouble};
 ghost use Rattle.special_files.specs.View.{View};
 
 use crate::blocks::Blocks;
-use crate::node::read_node;
-use block_tree::{Node, Root};
+use block_tree::{Node, Root, read_node};
 use cfs_base::{BlockNo, Disk, Trouble};
 
 /// Lists a block, unless it is 0 or the same as the other.

@@ -1,8 +1,7 @@
 //! The draft of an object.
-ghost use Rattle.std.specs.Prelude.{◌≡◌, ◌+◌, ◌<◌, ◌≤◌, ℕ, List, true, false, length, sum, IfErr, OnOk, is_some};
+ghost use Rattle.std.specs.Prelude.{◌≡◌, ◌+◌, ◌<◌, ℕ, List, true, false, length, is_some};
 ghost use Rattle.std.specs.List.{sum_by};
 ghost use Rattle.cfs_base.specs.declared.identifier.Puid.{Puid};
-ghost use Rattle.cfs_base.specs.declared.refusal.Refused.TheVariants as refused;
 ghost use Rattle.special_files.specs.Drafting.{IsOpen, shadow_count, shadow_need, is_fresh_leaf, is_fresh_node};
 ghost use Rattle.special_files.specs.Refusal.{told_after};
 ghost use Rattle.ufs_model.specs.declared.object.Draft as drafts;
@@ -11,8 +10,7 @@ ghost use Rattle.vol_owners.specs.Account.{Opened};
 use crate::blocks::Blocks;
 use crate::flags::Flags;
 use block_tree::Root;
-use cfs_base::{BlockNo, Need, Refused};
-use cyl_alloc::Space;
+use cfs_base::{BlockNo, Refused};
 use std::marker::Model;
 
 /// A changed object beside the one that stands. It has a shadow root, and of the leaves and nodes those that were
@@ -122,19 +120,6 @@ impl Draft {
     {
         self.shadow.is_none() as u32
     }
-}
-
-/// `Full` where fewer blocks are Free than these.
-pub(crate) fn has_room(space: &Space, need: u32, floor: u32) -> Result<(), Refused>
-    ensures room { OnOk result (need + floor ≤ sum space.now.free) }
-    ensures full { IfErr result (λ e. (e ≡ refused.Full (record { free = sum space.now.free; need = need }))
-        × (sum space.now.free < need + floor)) }
-{
-    let free = space.free();
-    if (free as u64) < need as u64 + floor as u64 {
-        return Err(Refused::Full(Need { free, need }));
-    }
-    Ok(())
 }
 
 /// The same refusal of a call that may have tried a write before.

@@ -9,7 +9,8 @@ ghost use Rattle.intentions.specs.Store.{StoreHas};
 ghost use Rattle.special_files.specs.Drafting.{IsOpen};
 ghost use Rattle.special_files.specs.Leaves.{leaves_of};
 ghost use Rattle.special_files.specs.Nodes.{IsRead, IsSafe, TurnsTo};
-ghost use Rattle.special_files.specs.Refusal.{IsTrouble, is_damage};
+ghost use Rattle.block_tree.specs.Reads.{is_damage};
+ghost use Rattle.special_files.specs.Refusal.{IsTrouble};
 ghost use Rattle.special_files.specs.View.{View};
 ghost use Rattle.ufs_model.specs.Graph.{Graph, object_at};
 ghost use Rattle.ufs_model.specs.Object as spec;
@@ -21,18 +22,10 @@ ghost use Rattle.vol_image.specs.Reading.{leaf_content};
 ghost use Rattle.vol_owners.specs.Account.{Opened};
 
 use crate::draft::Draft;
-use crate::node::{NodeRead, read_block};
-use block_tree::SIZE_LIMIT;
+use crate::node::NodeRead;
+use block_tree::{SIZE_LIMIT, read_block};
 use cfs_base::{Block, Disk, Trouble};
-use leaf_changes::read_part;
-
-/// How many leaves so many bytes take.
-pub(crate) fn leaves_in(size: u64) -> u32
-    requires { size ≤ 7864320 }
-    ensures { result ≡ spec.leaves_in size }
-{
-    size.div_ceil(512) as u32
-}
+use leaf_changes::{leaves_in, read_part};
 
 impl Draft {
     /// The bytes of a leaf.

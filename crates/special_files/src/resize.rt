@@ -13,7 +13,7 @@ ghost use Rattle.ufs_model.specs.declared.object.File.{File};
 ghost use Rattle.ufs_model.specs.declared.object.Object.TheVariants as objects;
 ghost use Rattle.vol_image.specs.Reading.{leaf_content};
 
-use crate::draft::{Draft, has_room};
+use crate::draft::Draft;
 use crate::node::NodeRead;
 use cfs_base::{Block, Disk, Refused, Trouble};
 use cyl_alloc::Space;
@@ -42,7 +42,7 @@ impl Draft {
             × (sum space.now.free < shadow_need self.old + floor)) }
         ensures kept { IfErr result (λ e. self.new ≡ self.old) }
     {
-        match has_room(space, self.shadow_need(), floor) {
+        match space.has_room(self.shadow_need(), floor) {
             Ok(()) => {
                 self.root.size = size;
                 Ok(())

@@ -26,15 +26,15 @@ ghost use Rattle.ufs_model.specs.declared.object.Object.{Object};
 ghost use Rattle.vol_image.specs.Sound.{Holds};
 ghost use Rattle.vol_owners.specs.Account.{Opened};
 
-use crate::draft::{Draft, after, has_room};
+use crate::draft::{Draft, after};
 use crate::flips::give_all;
 use crate::leaf::write_own;
 use crate::listed::{list_from, undo_listed};
 use crate::node::NodeRead;
-use crate::read::leaves_in;
 use block_tree::{Node, SIZE_LIMIT};
 use cfs_base::{BlockNo, Disk, Refused};
 use cyl_alloc::Space;
+use leaf_changes::leaves_in;
 
 /// What a resize to less does: it drops the leaves from one on, and before that may cut the leaf within which the file
 /// ends.
@@ -277,7 +277,7 @@ impl Draft {
         let from = border(&read.node, number, to);
         let cut = is_cut(&read.node, size);
         let need = self.need_at(cut, from, (size / 512) as u32, number);
-        match has_room(space, need, floor) {
+        match space.has_room(need, floor) {
             Ok(()) => Ok(Plan { read, from, cut }),
             Err(full) => Err(full),
         }

@@ -31,13 +31,12 @@ ghost use Rattle.vol_image.specs.Reading.{leaf_content};
 ghost use Rattle.vol_image.specs.Sound.{Holds};
 ghost use Rattle.vol_owners.specs.Account.{Opened};
 
-use crate::draft::{Draft, after, has_room};
+use crate::draft::{Draft, after};
 use crate::node::NodeRead;
-use crate::read::leaves_in;
 use block_tree::SIZE_LIMIT;
 use cfs_base::{Block, Disk, Refused, Trouble};
 use cyl_alloc::Space;
-use leaf_changes::patch_leaf;
+use leaf_changes::{leaves_in, patch_leaf};
 
 impl Draft {
     /// How many blocks it takes to write these leaves, with the shadow root that a commit takes.
@@ -171,7 +170,7 @@ impl Draft {
         prove!(self.root.size <= SIZE_LIMIT);
         let from = (offset / 512) as u32;
         let to = leaves_in(offset + bytes.len() as u64);
-        match has_room(space, self.need_to_write(from, to), floor) {
+        match space.has_room(self.need_to_write(from, to), floor) {
             Ok(()) => {}
             Err(full) => return Err(full),
         }

@@ -67,7 +67,7 @@ pub bare_reads : (image : Image) (id : Puid) (root : roots.Root) → IsBareRoot 
 bare_reads image id root bare =
     reads_by_root image id (block_at image id.block) root (bare_object root) (ap is_committed bare.part) refl bare.spelled bare.word
     (record { is = record { committed = false; place = Some Root; owner = id.block }; here = bare.part; owner_is = refl; place_is = refl })
-    (bare_tree image (length image) id.block (block_at image id.block) root 120 bare.no_node bare.spelled)
+    (bare_tree image (length image) id.block (block_at image id.block) root node_pointers.count bare.no_node bare.spelled)
 
 -- ---- an index whose leaves hold zeros alone has empty slots alone
 

@@ -1,6 +1,6 @@
 -- A place names one path, and below a root a block stands at one path.
 use Rattle.std.proofs.Common.{◌≡◌, ◌≢◌, ℕ, zero, suc, ◌+◌, ◌*◌, ◌%◌, ◌/◌, ◌<◌, ◌≤◌, List, [], ◌∷◌, length, inl, inr, Some, refl, sym, ◌∙◌, ap, subst, arith}
-use Rattle.vol_image.proofs.Words.{Held, Image, IsTree, Leaf, Level, Node, Object, Part, Place, Root, ShadowRoot, below, block_at, cases_lt, div-mul-add, end_of, get_or_past, length-map-range_with_len, levels_of, mod-mul-add, number_at, part_at, place_above, place_at, place_from, place_number, pointer, pointers_of, same_Some, tree_in, tree_of}
+use Rattle.vol_image.proofs.Words.{Held, Image, IsTree, Leaf, Level, Node, Object, Part, Place, Root, ShadowRoot, below, block_at, cases_lt, div-mul-add, end_of, get_or_past, leaf_pointers, length-map-range_with_len, levels_of, mod-mul-add, number_at, part_at, place_above, place_at, place_from, place_number, pointer, pointers_of, same_Some, tree_in, tree_of}
 use Rattle.block_tree.specs.declared.root.Root as roots
 use Rattle.vol_image.proofs.Views.{held_is, held_part}
 
@@ -129,3 +129,13 @@ one_path image size owner content root o fits p q g h one two same = same_path i
 pub same_levels : (content other : List ℕ) → levels_of content ≡ levels_of other
 unfolding levels_of
 same_levels content other = refl
+
+-- ---- the places of nodes and leaves
+
+pub node_place : (content : List ℕ) (n : ℕ) → place_at (levels_of content) (n ∷ []) ≡ Node n
+unfolding place_at levels_of
+node_place content n = ap Node (omega arith)
+
+pub leaf_place : (content : List ℕ) (n k l : ℕ) → l ≡ leaf_pointers.count * n + k → place_at (levels_of content) (n ∷ k ∷ []) ≡ Leaf l
+unfolding place_at levels_of
+leaf_place content n k l is = ap Leaf (omega (arith, is))

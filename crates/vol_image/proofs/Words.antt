@@ -1,10 +1,10 @@
 -- What lemmas of this crate name of the crates below, and of its own definitions.
 pub use Rattle.block_tree.proofs.Spellings.{one_root}
 pub use Rattle.block_tree.proofs.Walks.{count_is}
-pub use Rattle.block_tree.specs.Pointers.{Level, leaf_pointers, node_pointers, number_at}
+pub use Rattle.block_tree.specs.Pointers.{Level, leaf_pointers, node_pointers, number_at, width}
 unfoldable pub use Rattle.block_tree.specs.Pointers.{pointers_of}
 pub use Rattle.block_tree.specs.Root.{IsRoot, IsRootBlock}
-pub use Rattle.block_tree.specs.Tree.{below, end_of, pointer, tree_of, width}
+pub use Rattle.block_tree.specs.Tree.{below, end_of, pointer, tree_of}
 unfoldable pub use Rattle.block_tree.specs.Tree.{levels_of, path_to}
 pub use Rattle.cfs_base.proofs.Runs.{on, then, wider}
 pub use Rattle.cfs_base.specs.Disk.{Image, IsSameDisk, Nothing, Written, block_at}

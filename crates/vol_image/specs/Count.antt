@@ -1,7 +1,8 @@
 -- How many blocks a tree holds.
 use Rattle.std.specs.Prelude.{ℕ, zero, suc, ◌+◌, is_some, List, [], ◌∷◌, length, take, filter}
 use Rattle.std.specs.List.{sum_by, range_with_len}
-use Rattle.block_tree.specs.Tree.{levels_of, width, path_to}
+use Rattle.block_tree.specs.Pointers.{width}
+use Rattle.block_tree.specs.Tree.{levels_of, path_to}
 use Rattle.vol_image.specs.Seen.{Tree}
 
 -- the numbers of the blocks that are held so many levels below the root; at the depth of all levels these are the

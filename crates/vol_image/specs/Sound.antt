@@ -47,7 +47,7 @@ pub record IsBareRoot (image : Image) (id : Puid) (root : roots.Root) : Type 0 w
   pub part : part_at image id.block ≡ Some (record { committed = false; place = Some Root; owner = id.block })
   pub spelled : IsRootBlock (block_at image id.block) root
   pub word : root.word ≡ id.word
-  pub no_node : pointers_of node_pointers (block_at image id.block) ≡ replicate 120 0
+  pub no_node : pointers_of node_pointers (block_at image id.block) ≡ replicate node_pointers.count 0
 
 -- ---- the volume
 

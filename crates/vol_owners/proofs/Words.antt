@@ -1,7 +1,7 @@
 -- What lemmas of this crate name of the crates below, and of its own definitions.
-pub use Rattle.block_tree.specs.Pointers.{Level}
+pub use Rattle.block_tree.specs.Pointers.{Level, width}
 pub use Rattle.block_tree.specs.Root.{IsRootBlock}
-pub use Rattle.block_tree.specs.Tree.{tree_of, width}
+pub use Rattle.block_tree.specs.Tree.{tree_of}
 unfoldable pub use Rattle.block_tree.specs.Tree.{levels_of, path_to}
 pub use Rattle.cfs_base.specs.Disk.{Image, block_at}
 pub use Rattle.cfs_base.specs.declared.identifier.Puid.{Puid}

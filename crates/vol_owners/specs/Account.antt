@@ -7,7 +7,8 @@ use Rattle.cfs_base.specs.Disk.{Image, block_at}
 use Rattle.cfs_base.specs.declared.identifier.Puid.{Puid}
 use Rattle.block_tree.specs.declared.root.Root as roots
 use Rattle.block_tree.specs.Root.{IsRootBlock, root_spelling}
-use Rattle.block_tree.specs.Tree.{levels_of, width, path_to}
+use Rattle.block_tree.specs.Pointers.{width}
+use Rattle.block_tree.specs.Tree.{levels_of, path_to}
 use Rattle.cyl_map.specs.declared.entry.MapEntry.{MapEntry}
 use Rattle.cyl_map.specs.Volume.{entry_in}
 use Rattle.ufs_model.specs.declared.object.Draft.{Draft}

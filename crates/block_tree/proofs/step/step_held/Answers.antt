@@ -5,7 +5,7 @@ use Rattle.block_tree.proofs.Steps.{none_from, none_of_first, none_first, second
 use Rattle.block_tree.proofs.step.step_held.Goals as goal
 
 pub returns-in_default-clause-step : goal.returns-in_default-clause-step
-returns-in_default-clause-step g c tells alive = none_from (g.D.Disk.content c.args.disk.now) c.args.root.now (omega arith) c.args.from (c.args.from / 128) (omega arith) c.in_default.ensures
+returns-in_default-clause-step g c tells alive = none_from (g.D.Disk.content c.args.disk.now) c.args.root.now (omega arith) c.args.from (c.args.from / leaf_pointers.count) (omega arith) c.in_default.ensures
 
 pub returns-in_err-step-clause-refused : goal.returns-in_err-step-clause-refused
 returns-in_err-step-clause-refused g c =
@@ -21,9 +21,9 @@ pub returns-in-Some-2-clause-step : goal.returns-in-Some-2-clause-step
 returns-in-Some-2-clause-step g c tells alive =
     let image = g.D.Disk.content c.args.disk.now in
     let first = c.in-Some.ensures in
-    let at : IsStepIn c.args.root.now.nodes (pointers_of leaf_pointers (block_at image (get_or c.args.root.now.nodes c.in-Some.first 0))) c.in-Some.first (c.max-start.result % 128) (Some c.in-Some-2.step) =
-    subst (IsStepIn c.args.root.now.nodes (pointers_of leaf_pointers (block_at image (get_or c.args.root.now.nodes c.in-Some.first 0))) c.in-Some.first (c.max-start.result % 128)) c.in-Some-2.is (c.in_ok-step.ensures.step tells) in
-    step_is image c.args.root.now (omega arith) c.in-Some.first (c.max-start.result % 128) (omega (arith, first.1)) first.2 first.3 c.args.from c.in-Some-2.step
+    let at : IsStepIn c.args.root.now.nodes (pointers_of leaf_pointers (block_at image (get_or c.args.root.now.nodes c.in-Some.first 0))) c.in-Some.first (c.max-start.result % leaf_pointers.count) (Some c.in-Some-2.step) =
+    subst (IsStepIn c.args.root.now.nodes (pointers_of leaf_pointers (block_at image (get_or c.args.root.now.nodes c.in-Some.first 0))) c.in-Some.first (c.max-start.result % leaf_pointers.count)) c.in-Some-2.is (c.in_ok-step.ensures.step tells) in
+    step_is image c.args.root.now (omega arith) c.in-Some.first (c.max-start.result % leaf_pointers.count) (omega (arith, first.1)) first.2 first.3 c.args.from c.in-Some-2.step
     (begins_on image c.args.root.now (omega arith) c.args.from c.in-Some.first c.max-start.result first (omega (arith, c.max-start.ensures)))
     (none_first image c.args.root.now (omega arith) c.args.from c.in-Some.first c.max-start.result first (omega (arith, c.max-start.ensures))) alive at
 
@@ -32,9 +32,9 @@ returns-in_default-first_set-clause-step g c tells alive leaf on inside =
     let image = g.D.Disk.content c.args.disk.now in
     let nodes = c.args.root.now.nodes in
     let k = c.in-Some.first in
-    let none = subst (IsStepIn nodes (pointers_of leaf_pointers (block_at image (get_or nodes k 0))) k (c.max-start.result % 128)) c.in_default-2.is (c.in_ok-step.ensures.step tells) in
+    let none = subst (IsStepIn nodes (pointers_of leaf_pointers (block_at image (get_or nodes k 0))) k (c.max-start.result % leaf_pointers.count)) c.in_default-2.is (c.in_ok-step.ensures.step tells) in
     let before = none_of_first image c.args.root.now (omega arith) c.args.from k c.max-start.result c.in-Some.ensures (omega (arith, c.max-start.ensures)) c.in-Some.ensures.2 none in
-    elim (cases_lt leaf (128 * k + 128)) [
+    elim (cases_lt leaf (leaf_pointers.count * k + leaf_pointers.count)) [
       | inl less ↦ before leaf on less
       | inr past ↦ none_from image c.args.root.now (omega arith) leaf (k + 1) (omega (arith, past)) c.in_default-first_set.ensures leaf (omega arith) inside
     ]
@@ -46,7 +46,7 @@ returns-clause-step g c tells alive =
     let k = c.in-Some.first in
     let second = c.in-Some-first_set.second in
     let later = c.in-Some-first_set.ensures in
-    let none = subst (IsStepIn nodes (pointers_of leaf_pointers (block_at image (get_or nodes k 0))) k (c.max-start.result % 128)) c.in_default-2.is (c.in_ok-step.ensures.step tells) in
+    let none = subst (IsStepIn nodes (pointers_of leaf_pointers (block_at image (get_or nodes k 0))) k (c.max-start.result % leaf_pointers.count)) c.in_default-2.is (c.in_ok-step.ensures.step tells) in
     let before = none_of_first image c.args.root.now (omega arith) c.args.from k c.max-start.result c.in-Some.ensures (omega (arith, c.max-start.ensures)) c.in-Some.ensures.2 none in
     let at = subst (λ (i : Image). IfOk c.step_in-2.result (IsStepIn nodes (pointers_of leaf_pointers (block_at i (get_or nodes second 0))) second 0)) c.step_in.ensures.reads.content
     (c.step_in-2.ensures.step (tells_on g.D.Disk c.args.disk.now c.step_in.new.disk c.step_in.new.disk 1 c.step_in.ensures.reads tells)) in
@@ -65,7 +65,7 @@ returns-clause-refused g c =
     let second = c.in-Some-first_set.second in
     later_fault g.D.Disk c.args.disk.now c.step_in.new.disk c.step_in-2.new.disk 1 (λ b. b ≡ get_or c.args.root.now.nodes second 0) (IsPastFrom image (g.D.Disk.blocks c.args.disk.now) (root_spelling c.args.root.now) c.args.from)
     c.step_in-2.result c.step_in.ensures.reads
-    (λ b past is. past_at image c.args.root.now (omega arith) second (128 * second) (g.D.Disk.blocks c.args.disk.now) b (omega (arith, later.1)) later.3 (omega arith) c.args.from (omega (arith, c.in-Some.ensures.0, later.0)) is past)
+    (λ b past is. past_at image c.args.root.now (omega arith) second (leaf_pointers.count * second) (g.D.Disk.blocks c.args.disk.now) b (omega (arith, later.1)) later.3 (omega arith) c.args.from (omega (arith, c.in-Some.ensures.0, later.0)) is past)
     c.step_in-2.ensures.refused
 
 pub returns-in-Some-2-clause-there : goal.returns-in-Some-2-clause-there
@@ -73,9 +73,9 @@ returns-in-Some-2-clause-there g c tells =
     let image = g.D.Disk.content c.args.disk.now in
     let nodes = c.args.root.now.nodes in
     let k = c.in-Some.first in
-    let at : IsStepIn nodes (pointers_of leaf_pointers (block_at image (get_or nodes k 0))) k (c.max-start.result % 128) (Some c.in-Some-2.step) =
-    subst (IsStepIn nodes (pointers_of leaf_pointers (block_at image (get_or nodes k 0))) k (c.max-start.result % 128)) c.in-Some-2.is (c.in_ok-step.ensures.step tells) in
-    leaf_there image c.args.root.now (omega arith) k (c.max-start.result % 128) (omega (arith, c.in-Some.ensures.1)) c.in-Some.ensures.2 c.in-Some.ensures.3 c.in-Some-2.step at
+    let at : IsStepIn nodes (pointers_of leaf_pointers (block_at image (get_or nodes k 0))) k (c.max-start.result % leaf_pointers.count) (Some c.in-Some-2.step) =
+    subst (IsStepIn nodes (pointers_of leaf_pointers (block_at image (get_or nodes k 0))) k (c.max-start.result % leaf_pointers.count)) c.in-Some-2.is (c.in_ok-step.ensures.step tells) in
+    leaf_there image c.args.root.now (omega arith) k (c.max-start.result % leaf_pointers.count) (omega (arith, c.in-Some.ensures.1)) c.in-Some.ensures.2 c.in-Some.ensures.3 c.in-Some-2.step at
 
 pub returns-clause-there : goal.returns-clause-there
 returns-clause-there g c tells =

@@ -1,5 +1,5 @@
 use Rattle.std.proofs.Common.{rules, ◌≡◌, ◌+◌, ◌*◌, ◌<◌, ℕ, List, length, get_or, Some, refl, sym, ◌∙◌, ap, subst, arith}
-use Rattle.cfs_recover.proofs.Words.{Found, HasKept, Walks, reads_then, slice_get, slice_get-get_or}
+use Rattle.cfs_recover.proofs.Words.{Found, HasKept, Walks, reads_then, slice_get, slice_get-get_or, reads_of_object}
 use Rattle.cfs_recover.proofs.Copyings.{kept_none, kept_on}
 use Rattle.cfs_recover.proofs.Noting.{grows_then}
 use Rattle.cfs_recover.proofs.Refused.{told_on}
@@ -45,7 +45,7 @@ loop-next-preserved g c =
     let at = read_at w.found.items n item (omega (arith, c.len.ensures, c.if-next-len.false, w.found.ok.0)) c.index-item.ensures in
     let grows = c.in_ok-head.ensures.grows in
     record {
-      reads = reads_then g.D.Disk c.args.disk.now c.loop-next.disk c.walk_object.new.disk (15482 * n) 15482 (15482 * (n + 1)) c.loop-next.invariant.reads c.in_ok-head.ensures.reads (omega arith);
+      reads = reads_then g.D.Disk c.args.disk.now c.loop-next.disk c.walk_object.new.disk (reads_of_object * n) reads_of_object (reads_of_object * (n + 1)) c.loop-next.invariant.reads c.in_ok-head.ensures.reads (omega arith);
       grows = grows_then c.args.walk.now w c.walk_object.new.walk c.loop-next.invariant.grows grows;
       told = λ image label walks standing has.
           let were = c.loop-next.invariant.told image label walks standing has in

@@ -1,5 +1,5 @@
 use Rattle.std.proofs.Common.{rules, ◌≡◌, ◌≢◌, ◌+◌, ◌-◌, ◌*◌, ◌<◌, ◌≤◌, ℕ, length, refl, sym, ap, subst, arith, below_more}
-use Rattle.cfs_recover.proofs.Words.{Ghosts, IsGoodAt, IsInPlace, LEAF_LIMIT, OnlyReads, Spot, SpotFault, add-mul, levels_below, reads_of, reads_then, reads_within, width}
+use Rattle.cfs_recover.proofs.Words.{Ghosts, IsGoodAt, IsInPlace, OnlyReads, Spot, SpotFault, add-mul, levels_below, reads_of, reads_then, reads_within, width, leaf_limit, leaf_pointers}
 use Rattle.cfs_recover.proofs.Good.{all_on, good_leaf, good_with}
 use Rattle.cfs_recover.proofs.Noting.{grows_then}
 use Rattle.cfs_recover.proofs.Objects.{node_pointers_of, spot_fault}
@@ -49,19 +49,19 @@ walk_twig-returns-in_err-node-clause-reads g t c = reads_within g.D.Disk _ _ 1 (
 
 pub walk_twig-walk_below-requires : goal.walk_twig-walk_below-requires
 walk_twig-walk_below-requires g t c =
-    let count : length c.in_ok-node.node.leaves ≡ 128 = omega arith in
+    let count : length c.in_ok-node.node.leaves ≡ leaf_pointers.count = omega arith in
     let room : g.D.Disk.blocks c.walk_node.new.disk ≡ c.walk_node.new.walk.names.room = omega (arith, c.requires.room, c.in_ok-node.ensures.grows.room, c.in_ok-node.ensures.reads.same.size) in
     let maps : g.D.Disk.blocks c.walk_node.new.disk ≡ 64 * length c.args.maps.now = omega (arith, c.requires.maps, c.in_ok-node.ensures.reads.same.size) in
-    let fits : (c.args.twig.number + 1) * (length c.in_ok-node.node.leaves * width (levels_below (c.args.twig.height - 1))) ≤ LEAF_LIMIT =
-    subst (λ (n : ℕ). (c.args.twig.number + 1) * (n * width (levels_below (c.args.twig.height - 1))) ≤ LEAF_LIMIT) (sym count)
-    (subst (λ (w : ℕ). (c.args.twig.number + 1) * w ≤ LEAF_LIMIT) (width_of c.args.twig.height c.if-twig-eq0.false) c.requires.fits) in
+    let fits : (c.args.twig.number + 1) * (length c.in_ok-node.node.leaves * width (levels_below (c.args.twig.height - 1))) ≤ leaf_limit =
+    subst (λ (n : ℕ). (c.args.twig.number + 1) * (n * width (levels_below (c.args.twig.height - 1))) ≤ leaf_limit) (sym count)
+    (subst (λ (w : ℕ). (c.args.twig.number + 1) * w ≤ leaf_limit) (width_of c.args.twig.height c.if-twig-eq0.false) c.requires.fits) in
     let few = fit_by c.args.twig.number (length c.in_ok-node.node.leaves) (c.args.twig.height - 1) fits in
     let smaller : 2 * (c.args.twig.height - 1) + 1 < 2 * c.args.twig.height = omega (arith, c.if-twig-eq0.false) in
     search rules
 
-node_reads : {D : Type 0} (g : Ghosts D) (old mid new : D) (h count : ℕ) → h ≢ 0 → count ≡ 128 → OnlyReads g 1 old mid → OnlyReads g (count * reads_of (h - 1)) mid new → OnlyReads g (reads_of h) old new
+node_reads : {D : Type 0} (g : Ghosts D) (old mid new : D) (h count : ℕ) → h ≢ 0 → count ≡ leaf_pointers.count → OnlyReads g 1 old mid → OnlyReads g (count * reads_of (h - 1)) mid new → OnlyReads g (reads_of h) old new
 node_reads g old mid new h count more is one two =
-    reads_then g old mid new 1 (128 * reads_of (h - 1)) (reads_of h) one (subst (λ (n : ℕ). OnlyReads g (n * reads_of (h - 1)) mid new) is two) (omega (arith, reads_more h more))
+    reads_then g old mid new 1 (leaf_pointers.count * reads_of (h - 1)) (reads_of h) one (subst (λ (n : ℕ). OnlyReads g (n * reads_of (h - 1)) mid new) is two) (omega (arith, reads_more h more))
 
 pub walk_twig-returns-in_err-walk_below-clause-reads : goal.walk_twig-returns-in_err-walk_below-clause-reads
 walk_twig-returns-in_err-walk_below-clause-reads g t c =
@@ -103,7 +103,7 @@ walk_below-walk_twig-requires g t c =
     let h = c.args.at.height in
     let room : g.D.Disk.blocks c.loop-place.disk ≡ c.loop-place.walk.names.room = omega (arith, c.requires.room, c.loop-place.invariant.grows.room, c.loop-place.invariant.reads.same.size) in
     let maps : g.D.Disk.blocks c.loop-place.disk ≡ 64 * length c.args.maps.now = omega (arith, c.requires.maps, c.loop-place.invariant.reads.same.size) in
-    let fits : (c.args.at.number * length c.args.pointers.now + c.loop-place.place + 1) * width (levels_below h) ≤ LEAF_LIMIT =
+    let fits : (c.args.at.number * length c.args.pointers.now + c.loop-place.place + 1) * width (levels_below h) ≤ leaf_limit =
     one_fits c.args.at.number (length c.args.pointers.now) c.loop-place.place h (omega (arith, c.loop-place-test.true)) c.requires.fits in
     let smaller : 2 * h < 2 * h + 1 = omega arith in
     search rules

@@ -1,7 +1,11 @@
 use Rattle.index_ops.proofs.Words.{ℕ, ◌/◌, ◌%◌, sym, ◌∙◌, ap, subst, List, Image, block_at, tells_on, IsRootBlock, root_spelling, bytes_in, leaf_block, slot_in}
-use Rattle.index_ops.specs.Causes.{IsRootTrouble, IsSlotTrouble}
-use Rattle.index_ops.proofs.Indices.{root_sound, slot_after_root, slot_is, slot_sound}
+use Rattle.block_tree.specs.Reads.{IsRootTrouble}
+use Rattle.index_ops.specs.Causes.{IsSlotTrouble}
+use Rattle.index_ops.proofs.Indices.{root_slot, root_sound, slot_after_root, slot_is, slot_sound}
 use Rattle.index_ops.proofs.reading.retrieve.Goals as goal
+
+pub returns-in-Err-clause-refused : goal.returns-in-Err-clause-refused
+returns-in-Err-clause-refused g c = root_slot g.D.Disk c.args.index.0 c.args.slot c.args.disk.now c.read_root.new.disk c.in-Err.trouble c.in-Err.ensures.refused
 
 pub returns-in-Err-clause-sound : goal.returns-in-Err-clause-sound
 returns-in-Err-clause-sound g c = λ graph ds space id i store root at.

@@ -1,5 +1,5 @@
 use Rattle.index_ops.proofs.Words.{ℕ, sym, subst, block_at, IsRootBlock}
-use Rattle.index_ops.specs.Causes.{IsRootTrouble}
+use Rattle.block_tree.specs.Reads.{IsRootTrouble}
 use Rattle.index_ops.proofs.Indices.{root_sound, slots_are}
 use Rattle.index_ops.proofs.reading.slots.Goals as goal
 

@@ -8,7 +8,7 @@ returns-clause-spelled c = sym (c.read_pointers.ensures.spelled ∙ take_all 512
 
 pub returns-clause-pointers : goal.returns-clause-pointers
 unfolding pointers_of
-returns-clause-pointers c = c.read_pointers.ensures.read ∙ ap (λ (b : List ℕ). numbers_from b 0 128) c.bytes.ensures.bytes
+returns-clause-pointers c = c.read_pointers.ensures.read ∙ ap (λ (b : List ℕ). numbers_from b 0 leaf_pointers.count) c.bytes.ensures.bytes
 
 pub returns-clause-only : goal.returns-clause-only
 returns-clause-only c node is spelled =

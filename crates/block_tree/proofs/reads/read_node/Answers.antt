@@ -1,13 +1,11 @@
-use Rattle.std.proofs.Common.{◌≡◌, List, ℕ, zero, suc, ◌<◌, ◌≢◌, get_or, refl, sym, ◌∙◌, ap, subst, below_more, arith}
-use Rattle.special_files.proofs.Words.{All, All-from_get_or, All-replicate, Image, block_at, leaf_pointers, leaves_at, pointers_of}
-use Rattle.special_files.proofs.node.read_node.Goals as goal
+use Rattle.std.proofs.Common.{List, length, ℕ, ◌<◌, get_or, sym, ◌∙◌, ap, subst, below_more, arith}
+use Rattle.std.proofs.lemmas.List.{length-replicate}
+use Rattle.block_tree.proofs.Words.{All, All-from_get_or, All-replicate, leaf_pointers, pointers_of}
+use Rattle.block_tree.proofs.Nodes.{leaves_there}
+use Rattle.block_tree.proofs.reads.read_node.Goals as goal
 
 pub returns-then-block-eq0-clause-leaves : goal.returns-then-block-eq0-clause-leaves
-returns-then-block-eq0-clause-leaves g c = subst (All (λ n. n < g.D.Disk.blocks c.args.disk.now)) (sym c.empty_node.ensures) (All-replicate (λ n. n < g.D.Disk.blocks c.args.disk.now) 128 0 c.requires)
-
-leaves_there : (image : Image) (block : ℕ) → block ≢ 0 → leaves_at image block ≡ pointers_of leaf_pointers (block_at image block)
-leaves_there image zero some = absurd (some refl)
-leaves_there image (suc n) some = refl
+returns-then-block-eq0-clause-leaves g c = subst (All (λ n. n < g.D.Disk.blocks c.args.disk.now)) (sym c.empty.ensures) (All-replicate (λ n. n < g.D.Disk.blocks c.args.disk.now) leaf_pointers.count 0 c.requires)
 
 pub returns-then-leaf-blocks-clause-sound : goal.returns-then-leaf-blocks-clause-sound
 returns-then-leaf-blocks-clause-sound g c = λ tells near.
@@ -22,3 +20,6 @@ returns-clause-leaves g c = All-from_get_or (λ n. n < g.D.Disk.blocks c.args.di
 
 pub loop-leaf-preserved : goal.loop-leaf-preserved
 loop-leaf-preserved g c = below_more _ _ c.loop-leaf.invariant (omega arith)
+
+pub returns-then-block-eq0-clause-count : goal.returns-then-block-eq0-clause-count
+returns-then-block-eq0-clause-count g c = ap (length {A = ℕ}) c.empty.ensures ∙ length-replicate {A = ℕ} leaf_pointers.count 0

@@ -1,6 +1,6 @@
-use Rattle.std.proofs.Common.{◌≡◌, ℕ, replicate, refl, sym, ◌∙◌, subst}
-use Rattle.special_files.proofs.Words.{bytes_in}
-use Rattle.special_files.proofs.node.read_block.Goals as goal
+use Rattle.std.proofs.Common.{ℕ, ◌≡◌, replicate, refl, sym, ◌∙◌, subst}
+use Rattle.block_tree.proofs.Words.{bytes_in}
+use Rattle.block_tree.proofs.reads.read_block.Goals as goal
 
 pub returns-then-block-eq0-clause-content : goal.returns-then-block-eq0-clause-content
 returns-then-block-eq0-clause-content g c = λ tells.
