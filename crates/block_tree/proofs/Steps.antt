@@ -1,6 +1,6 @@
 -- One step over the held leaves of a tree: the pointers of its root, and those of each node that is there.
 use Rattle.std.proofs.Common.{◌≡◌, ◌≢◌, inl, inr, ℕ, ◌+◌, ◌*◌, ◌/◌, ◌%◌, ◌^◌, ◌<◌, ◌≤◌, List, [], ◌∷◌, length, get_or, max, sym, ◌∙◌, ap, subst, arith, Some, None, Option}
-use Rattle.block_tree.proofs.Words.{HasNoDeadEnd, HeldStep, IfSome, Image, IsFirstSet, IsPast, IsPastFrom, IsStep, IsStepAt, IsStepIn, IsStepped, NoneHeld, Root, SomeHeld, block_at, cases_lt, end_of, get_or_past, leaf_block, leaf_count, leaf_pointers, length-map-range_with_len, levels_of, node_pointers, number_at, pointer, pointers_of, root_spelling, leaf_limit}
+use Rattle.block_tree.proofs.Words.{HasNoDeadEnd, HeldStep, IfSome, Image, IsFirstSet, IsPast, IsPastFrom, IsStep, IsStepAt, IsStepIn, IsStepped, NoneHeld, Root, SomeHeld, SomeSet, block_at, cases_lt, end_of, get_or_past, leaf_block, leaf_count, leaf_pointers, length-map-range_with_len, levels_of, node_pointers, number_at, pointer, pointers_of, root_spelling, leaf_limit}
 use Rattle.block_tree.proofs.Trees.{node_is, leaf_is, end_is, end_none, is_past}
 use Rattle.block_tree.proofs.Walks.{count_is}
 
@@ -74,8 +74,8 @@ module _ (image : Image) (root : Root) (count : length root.nodes ≡ node_point
     pub none_in : (from place : ℕ) → NoneHeld image R from (leaf_pointers.count * k + place) → IsFirstSet (leaves k) place None → NoneHeld image R from (leaf_pointers.count * k + leaf_pointers.count)
     none_in from place before none = none_join from (leaf_pointers.count * k + place) (leaf_pointers.count * k + leaf_pointers.count) before (none_to place leaf_pointers.count (omega arith) (λ i on less. none i on))
 
-  leads_to_later : (k j : ℕ) → HasNoDeadEnd image R → IsFirstSet root.nodes k (Some j) → SomeHeld image R (leaf_pointers.count * j)
-  leads_to_later k j alive first = leads_to j (omega (arith, first.1, count)) first.2 first.3 alive
+  leads_to_later : (k : ℕ) → HasNoDeadEnd image R → (some : SomeSet root.nodes k) → SomeHeld image R (leaf_pointers.count * some.place)
+  leads_to_later k alive some = leads_to some.place (omega (arith, some.inside, count)) some.set some.fits alive
 
   module _ (k place : ℕ) (below : k < node_pointers.count) (some : node k ≢ 0) (fits : node k < 2 ^ 32) where
     -- what is found in it stands in the tree
@@ -99,18 +99,19 @@ module _ (image : Image) (root : Root) (count : length root.nodes ≡ node_point
       is_held = λ none. at.first.2 (sym at.block ∙ none);
       before = subst (NoneHeld image R from) (sym at.leaf) (none_join from (leaf_pointers.count * k + place) (leaf_pointers.count * k + p) before (none_to k below some fits place p (omega (arith, few)) at.first.4));
       follows = λ more. elim (at.follows more) [
-        | inl (i, first) ↦
-            let less : i < leaf_pointers.count = omega (arith, first.1, leaf_count_is (block_at image (node k))) in
+        | inl next ↦
+            let i = next.place in
+            let less : i < leaf_pointers.count = omega (arith, next.inside, leaf_count_is (block_at image (node k))) in
             let place_is : (leaf_pointers.count * k + i) % leaf_pointers.count ≡ i = omega (arith, less) in
             record {
               leaf = leaf_pointers.count * k + i;
-              on = omega (arith, at.leaf, first.0);
+              on = omega (arith, at.leaf, next.on);
               inside = omega (arith, below, less, count_is R);
-              held = λ none. first.2 (ap (λ (j : ℕ). get_or (leaves k) j 0) (sym place_is) ∙ sym (at_place k below some fits (leaf_pointers.count * k + i) (omega (arith, less))) ∙ none);
+              held = λ none. next.set (ap (λ (j : ℕ). get_or (leaves k) j 0) (sym place_is) ∙ sym (at_place k below some fits (leaf_pointers.count * k + i) (omega (arith, less))) ∙ none);
             }
-        | inr (j, first) ↦
-            let next = leads_to_later (k + 1) j alive first in
-            record { leaf = next.leaf; on = omega (arith, next.on, at.leaf, few, first.0); inside = next.inside; held = next.held }
+        | inr later ↦
+            let next = leads_to_later (k + 1) alive later in
+            record { leaf = next.leaf; on = omega (arith, next.on, at.leaf, few, later.on); inside = next.inside; held = next.held }
       ];
       last = λ no_more leaf after inside. elim (cases_lt leaf (leaf_pointers.count * k + leaf_pointers.count)) [
         | inl less ↦ let in_k : leaf / leaf_pointers.count ≡ k = omega (arith, after, at.leaf, less) in at_place k below some fits leaf in_k ∙ (at.last no_more).0 (leaf % leaf_pointers.count) (omega (arith, after, at.leaf, in_k, few))

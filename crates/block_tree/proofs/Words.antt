@@ -6,7 +6,7 @@ pub use Rattle.block_tree.specs.Prefix.{IsFirstBad}
 pub use Rattle.block_tree.specs.Reads.{IsFault, IsPast, leaves_at}
 pub use Rattle.block_tree.specs.Root.{Fits, IsFill, IsFirstBadByte, IsGoodRoot, IsRootBlock, IsSize, kind_code}
 unfoldable pub use Rattle.block_tree.specs.Root.{root_spelling}
-pub use Rattle.block_tree.specs.Step.{IsFirstSet, IsPastFrom, IsStep, IsStepAt, IsStepIn, IsStepped, NoneHeld, SomeHeld}
+pub use Rattle.block_tree.specs.Step.{IsFirstSet, IsPastFrom, IsStep, IsStepAt, IsStepIn, IsStepped, NoneHeld, NoneSet, SomeHeld, SomeSet}
 pub use Rattle.block_tree.specs.Tree.{AreQuiet, HasNoDeadEnd, PastAbove, PastOn, bytes_in, end_of, held_leaves, leaf_block, leaf_bytes, leaf_count, pointer, tree_of}
 unfoldable pub use Rattle.block_tree.specs.Tree.{levels_of, path_to}
 pub use Rattle.block_tree.specs.Walk.{IsFirstHeld, IsFirstOf, IsFirstPast, IsLaterIn}

@@ -42,11 +42,23 @@ pub record IsPastFrom (image : Image) (size : ℕ) (root : List ℕ) (from block
 
 -- ---- in lists of pointers
 
+-- no pointer from a place on is other than 0
+abbrev pub NoneSet : List ℕ → ℕ → Type 0
+NoneSet pointers from = (i : ℕ) → from ≤ i → get_or pointers i 0 ≡ 0
+
+-- some pointer from a place on is
+pub record SomeSet (pointers : List ℕ) (from : ℕ) : Type 0 where
+  pub place : ℕ
+  pub on : from ≤ place
+  pub inside : place < length pointers
+  pub set : get_or pointers place 0 ≢ 0
+  pub fits : get_or pointers place 0 < 2 ^ 32
+
 -- the first place from one on with a pointer that isn't 0
 abbrev pub IsFirstSet : List ℕ → ℕ → Option ℕ → Type 0
 IsFirstSet pointers from (Some k) = (from ≤ k) × (k < length pointers) × (get_or pointers k 0 ≢ 0)
     × (get_or pointers k 0 < 2 ^ 32) × ((i : ℕ) → from ≤ i → i < k → get_or pointers i 0 ≡ 0)
-IsFirstSet pointers from None = (i : ℕ) → from ≤ i → get_or pointers i 0 ≡ 0
+IsFirstSet pointers from None = NoneSet pointers from
 
 -- the first leaf of a node from a place on; whether another follows in it, or another node
 pub record IsStepAt (nodes leaves : List ℕ) (node from : ℕ) (step : HeldStep) : Type 0 where
@@ -54,9 +66,8 @@ pub record IsStepAt (nodes leaves : List ℕ) (node from : ℕ) (step : HeldStep
   pub first : IsFirstSet leaves from (Some place)
   pub leaf : step.held.leaf ≡ leaf_pointers.count * node + place
   pub block : step.held.block ≡ get_or leaves place 0
-  pub follows : step.follows ≡ true
-      → ((k : ℕ) × IsFirstSet leaves (place + 1) (Some k)) ⊎ ((k : ℕ) × IsFirstSet nodes (node + 1) (Some k))
-  pub last : step.follows ≡ false → IsFirstSet leaves (place + 1) None × IsFirstSet nodes (node + 1) None
+  pub follows : step.follows ≡ true → SomeSet leaves (place + 1) ⊎ SomeSet nodes (node + 1)
+  pub last : step.follows ≡ false → NoneSet leaves (place + 1) × NoneSet nodes (node + 1)
 
 abbrev pub IsStepIn : List ℕ → List ℕ → ℕ → ℕ → Option HeldStep → Type 0
 IsStepIn nodes leaves node from (Some step) = IsStepAt nodes leaves node from step

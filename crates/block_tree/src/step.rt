@@ -1,12 +1,13 @@
 //! One step over the held leaves of a tree.
-ghost use Rattle.std.specs.Prelude.{◌≡◌, ◌≢◌, ℕ, ◌+◌, ◌<◌, ◌≤◌, length, get_or, IfOk, IfErr, IfSome};
+ghost use Rattle.std.specs.Prelude.{◌≡◌, ◌≢◌, ℕ, ◌+◌, ◌<◌, ◌≤◌, length, get_or, IfOk, IfErr, IfSome, IsFalse};
+ghost use Rattle.std.specs.Prelude.{IsTrue};
 ghost use Rattle.cfs_base.specs.Calls.{OnlyReads};
 ghost use Rattle.cfs_base.specs.Disk.{block_at};
 ghost use Rattle.cfs_base.specs.Run.{Tells};
 ghost use Rattle.block_tree.specs.Pointers.{leaf_limit, leaf_pointers, node_pointers, pointers_of};
 ghost use Rattle.block_tree.specs.Reads.{IsFault, IsPast};
 ghost use Rattle.block_tree.specs.Root.{root_spelling};
-ghost use Rattle.block_tree.specs.Step.{IsFirstSet, IsPastFrom, IsStepIn, IsStepped};
+ghost use Rattle.block_tree.specs.Step.{IsFirstSet, IsPastFrom, IsStepIn, IsStepped, NoneSet, SomeSet};
 ghost use Rattle.block_tree.specs.Tree.{HasNoDeadEnd, leaf_block};
 
 use crate::fault::TreeFault;
@@ -35,6 +36,18 @@ fn first_set(pointers: &[u32], from: usize) -> Option<usize>
     None
 }
 
+/// Whether a pointer from a place on isn't 0, told without a branch on them.
+fn has_set(pointers: &[u32], from: usize) -> bool
+    ensures some { IsTrue result → SomeSet pointers.now from }
+    ensures none { IsFalse result → NoneSet pointers.now from }
+{
+    let mut any = false;
+    for place in from..pointers.len() {
+        any = any | (pointers[place] != 0);
+    }
+    any
+}
+
 /// The step in one node, from a place of it on. Makes at most 1 device call.
 fn step_in<D: Disk>(
     disk: &mut D,
@@ -54,14 +67,12 @@ fn step_in<D: Disk>(
     let Some(place) = first_set(&content.leaves, from) else {
         return Ok(None);
     };
-    let next_leaf = first_set(&content.leaves, place + 1);
-    let next_node = first_set(&root.nodes, node + 1);
     Ok(Some(HeldStep {
         held: HeldLeaf {
             leaf: (LEAVES * node + place) as u32,
             block: content.leaves[place],
         },
-        follows: next_leaf.is_some() || next_node.is_some(),
+        follows: has_set(&content.leaves, place + 1) || has_set(&root.nodes, node + 1),
     }))
 }
 

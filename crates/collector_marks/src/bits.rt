@@ -64,11 +64,14 @@ impl Bits {
         self.words[(at / WORD) as usize] >> (at % WORD) & 1 == 1
     }
 
-    /// Sets a bit.
-    pub fn put(&mut self, at: u32)
+    /// Sets a bit, and tells whether it was set.
+    pub fn put(&mut self, at: u32) -> bool
         requires { at < length self.old }
-        ensures { self.new ≡ set self.old at true }
+        ensures put { self.new ≡ set self.old at true }
+        ensures was { result ≡ get_or self.old at false }
     {
+        let was_set = self.is_set(at);
         self.words[(at / WORD) as usize] |= 1 << (at % WORD);
+        was_set
     }
 }

@@ -71,11 +71,8 @@ impl Marks {
         ensures shaded { colours_of self.new ≡ shaded id kind (colours_of self.old) }
         ensures blocks { blocks_of self.new ≡ blocks_of self.old }
     {
-        if self.marked.is_set(id.block) {
-            return;
-        }
-        self.marked.put(id.block);
-        if is_index(kind) {
+        let was_marked = self.marked.put(id.block);
+        if !was_marked && is_index(kind) {
             self.grey.push_reserved(Grey { id, cursor: 0 });
         }
     }

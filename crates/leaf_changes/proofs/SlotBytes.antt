@@ -1,6 +1,6 @@
 -- The bytes of a slot.
-use Rattle.std.proofs.Common.{◌≡◌, ℕ, ◌+◌, ◌*◌, ◌/◌, ◌%◌, ◌<◌, ◌^◌, List, ◌++◌, get_or, take, drop, refl, sym, ◌∙◌, ap, arith}
-use Rattle.leaf_changes.proofs.Words.{get_or-drop, get_or-take, number_at, slot_in, to_be_bytes, w32, w64}
+use Rattle.std.proofs.Common.{◌≡◌, ℕ, ◌+◌, ◌*◌, ◌/◌, ◌%◌, ◌<◌, ◌^◌, List, ◌++◌, ◌-◌, get_or, take, drop, refl, sym, ◌∙◌, ap, arith, slice_range}
+use Rattle.leaf_changes.proofs.Words.{drop-drop, drop-take, from_be_bytes, from_be_bytes-to_be_bytes_4, get_or-drop, get_or-take, number_at, slot_in, take-take, to_be_bytes, w32, w64}
 
 -- a number of 8 bytes is spelled by its halves
 pub halves : (high low : ℕ) → high < 2 ^ 32 → low < 2 ^ 32 → to_be_bytes w64 (high * 2 ^ 32 + low) ≡ to_be_bytes w32 high ++ to_be_bytes w32 low
@@ -15,6 +15,33 @@ halves high low fits fits' =
     let e1 : n / 256 % 256 ≡ low / 256 % 256 = omega arith in
     let e0 : n % 256 ≡ low % 256 = omega arith in
     cc
+
+-- so a slot's two numbers are the halves of the number in its 8 bytes
+pub slot_halves : (bytes : List ℕ) (s n : ℕ) → n < 2 ^ 64 → to_be_bytes w64 n ≡ slice_range bytes (8 * s) (8 * s + 8)
+    → (number_at bytes (2 * s) ≡ n / 2 ^ 32) × (number_at bytes (2 * s + 1) ≡ n % 2 ^ 32)
+slot_halves bytes s n fits spelled = (
+  ap (from_be_bytes w32) first ∙ from_be_bytes-to_be_bytes_4 (n / 2 ^ 32) small,
+  ap (from_be_bytes w32) second ∙ from_be_bytes-to_be_bytes_4 (n % 2 ^ 32) (omega arith),
+)
+  where
+    small : n / 2 ^ 32 < 2 ^ 32
+    small = omega (arith, fits)
+
+    eight : take 8 (drop (8 * s) bytes) ≡ to_be_bytes w32 (n / 2 ^ 32) ++ to_be_bytes w32 (n % 2 ^ 32)
+    eight =
+        let whole : n ≡ n / 2 ^ 32 * 2 ^ 32 + n % 2 ^ 32 = omega arith in
+        let count : 8 ≡ 8 * s + 8 - 8 * s = omega arith in
+        ap (λ (k : ℕ). take k (drop (8 * s) bytes)) count ∙ sym spelled ∙ ap (to_be_bytes w64) whole ∙ halves (n / 2 ^ 32) (n % 2 ^ 32) small (omega arith)
+
+    first : take 4 (drop (4 * (2 * s)) bytes) ≡ to_be_bytes w32 (n / 2 ^ 32)
+    first =
+        let at : 4 * (2 * s) ≡ 8 * s = omega arith in
+        ap (λ (k : ℕ). take 4 (drop k bytes)) at ∙ sym (take-take 4 8 (drop (8 * s) bytes) (omega arith)) ∙ ap (take 4) eight
+
+    second : take 4 (drop (4 * (2 * s + 1)) bytes) ≡ to_be_bytes w32 (n % 2 ^ 32)
+    second =
+        let at : 4 * (2 * s + 1) ≡ 8 * s + 4 = omega arith in
+        ap (λ (k : ℕ). take 4 (drop k bytes)) at ∙ ap (take 4) (sym (drop-drop 4 (8 * s) bytes)) ∙ sym (drop-take 4 4 (drop (8 * s) bytes)) ∙ ap (drop 4) eight
 
 -- ---- a slot is read of its 8 bytes
 

@@ -11,7 +11,7 @@ pub use Rattle.leaf_changes.specs.Gives.{GivesFile, GivesIndex, kind_of}
 pub use Rattle.leaf_changes.specs.Leaves.{FillsSlot, IsReadTo, LeavesFit, Shrinks, Writes, WritesTo, bytes_held, cut_held, leaf_byte}
 pub use Rattle.std.proofs.lemmas.Bool.{and_parts, cases_eq, cases_lt, eqb-true, false_from_ne_true, lt-ltb, ltb-true}
 pub use Rattle.std.proofs.lemmas.Bool.Decides.{nat_tests}
-pub use Rattle.std.proofs.lemmas.List.{ext_get_or, get_or-append_right, get_or-drop, get_or-replicate, get_or-set_other, get_or-set_same, get_or-take, get_or_append_left, length-append, length-drop, length-replicate, length-take, places, same_lists, set-get_or, take_all, take_at}
+pub use Rattle.std.proofs.lemmas.List.{drop-drop, drop-take, ext_get_or, get_or-append_right, get_or-drop, get_or-replicate, get_or-set_other, get_or-set_same, get_or-take, get_or_append_left, length-append, length-drop, length-replicate, length-take, places, same_lists, set-get_or, take-take, take_all, take_at}
 pub use Rattle.std.proofs.lemmas.List.FromFn.{get_or-map-range_with_len, length-map-range_with_len}
 pub use Rattle.std.proofs.lemmas.Nat.{from_be_bytes-to_be_bytes_4}
 pub use Rattle.std.specs.Int.{from_be_bytes, to_be_bytes, w32, w64}

@@ -23,13 +23,6 @@ pub fn slot_at(block: &Block, slot: usize) -> Option<Puid>
     requires { slot < 64 }
     ensures { result ≡ slot_in block.now slot }
 {
-    let block_no = block.u32_at(8 * slot);
-    let word = block.u32_at(8 * slot + 4);
-    if block_no == 0 && word == 0 {
-        return None;
-    }
-    Some(Puid {
-        block: block_no,
-        word,
-    })
+    let number = block.u64_at(8 * slot);
+    (number != 0).then_some(Puid::of(number))
 }

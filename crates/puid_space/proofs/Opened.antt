@@ -1,6 +1,6 @@
 -- A directory, opened: what its table shows, and the changes of one cell.
 use Rattle.std.proofs.Common.{◌≡◌, vec_len, ℕ, zero, suc, ◌+◌, ◌-◌, ◌^◌, ◌<◌, ◌≤◌, List, [], ◌∷◌, length, get_or, set, refl, sym, ap, ◌∙◌, arith, Option, Some, None, Bool, true, false, cond, eqb, ltb, is_some}
-use Rattle.puid_space.proofs.Words.{Cell, Inside, IsTable, Kind, Less, Listing, Puid, blocks_rise, has_root_in, insert_entry, is_listing, is_lt, keys_of, kind_in, list_all, listed, nat_tests, puid_cmp, rises, without_id}
+use Rattle.puid_space.proofs.Words.{Cell, Inside, IsTable, Kind, Less, Listing, Puid, blocks_rise, get_or_default, has_root_in, insert_entry, is_listing, is_lt, keys_of, kind_in, list_all, listed, nat_tests, puid_cmp, rises, without_id}
 use Rattle.puid_space.proofs.Listed.{kind_here, kind-listed, root-listed, listed-filled, listed-emptied, below}
 use Rattle.puid_space.proofs.Tables.{length-listed, IsTable-filled, IsTable-emptied}
 
@@ -99,3 +99,6 @@ module _ (i : Inside) (d : Listing) (is : record { named = listed 0 i.cells.item
 
 pub cell-is : {items slice : List (Option Cell)} {cell other : Option Cell} (n : ℕ) → cell ≡ get_or slice n None → slice ≡ items → cell ≡ other → get_or items n None ≡ other
 cell-is n read same is = sym (read ∙ ap (λ cells. get_or cells n None) same) ∙ is
+
+pub cell-at : (items : List (Option Cell)) (none : Option Cell) {cell other : Option Cell} (n : ℕ) → n < length items → cell ≡ get_or items n none → cell ≡ other → get_or items n None ≡ other
+cell-at items none n inside read is = get_or_default items n None none inside ∙ sym read ∙ is

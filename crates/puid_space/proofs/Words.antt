@@ -8,7 +8,7 @@ pub use Rattle.puid_space.specs.declared.directory.Cell.{Cell}
 pub use Rattle.puid_space.specs.declared.directory.Directory.TheInside.{Inside}
 pub use Rattle.std.proofs.lemmas.Bool.{and_parts}
 pub use Rattle.std.proofs.lemmas.Bool.Decides.{nat_tests}
-pub use Rattle.std.proofs.lemmas.List.{drop-drop, drop-set-lt, get_or-drop, length-replicate, length-set, map-append, take-set, take_all}
+pub use Rattle.std.proofs.lemmas.List.{drop-drop, drop-set-lt, get_or-drop, get_or_default, length-replicate, length-set, map-append, take-set, take_all}
 pub use Rattle.std.proofs.lemmas.List.Elements.{filter-append}
 pub use Rattle.std.proofs.lemmas.Option.{same_Some}
 pub use Rattle.std.specs.BTreeMap.{insert_entry, is_at}

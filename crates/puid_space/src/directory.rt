@@ -167,7 +167,7 @@ impl Directory {
         ensures capacity { vec_capacity gone.new ≡ vec_capacity gone.old }
     {
         for block in 0..self.cells.len() as u32 {
-            let Some(cell) = cell_of(&self.cells, block) else {
+            let Some(cell) = self.cells[block as usize] else {
                 continue;
             };
             if is_kept(block) {

@@ -1,26 +1,27 @@
-use Rattle.std.proofs.Common.{◌≡◌, ℕ, ◌+◌, ◌*◌, ◌-◌, false, ◌&&◌, ◌==◌, List, take, drop, Some, Option, refl, sym, ◌∙◌, arith, slice_range}
-use Rattle.leaf_changes.proofs.Words.{Puid, and_parts, eqb-true, false_from_ne_true, from_be_bytes, number_at, slot_in, w32}
+use Rattle.std.proofs.Common.{◌≡◌, ℕ, ◌+◌, ◌*◌, ◌/◌, ◌%◌, ◌^◌, ◌&&◌, ◌==◌, false, not, List, inl, inr, refl, sym, ◌∙◌, arith}
+use Rattle.std.specs.Bool.{then_some}
+use Rattle.leaf_changes.proofs.Words.{Puid, and_parts, cases_eq, eqb-true, false_from_ne_true, number_at, slot_in}
+use Rattle.leaf_changes.proofs.SlotBytes.{slot_halves}
 use Rattle.leaf_changes.proofs.slots.slot_at.Goals as goal
-use Rattle.leaf_changes.proofs.slots.slot_at.Goals.{else-block_no-eq0-via-then-block_no-eq0+else-word-eq0, else-block_no-eq0-via-else-block_no-eq0}
 
-number_is : (bytes : List ℕ) (k at : ℕ) → 4 * k ≡ at → number_at bytes k ≡ from_be_bytes w32 (slice_range bytes at (at + 4))
-number_is bytes k at here =
-    let four : at + 4 - at ≡ 4 = omega arith in
-    λ i. from_be_bytes w32 (take (sym four i) (drop (here i) bytes))
-
-slot_some : (bytes : List ℕ) (s b w : ℕ) → number_at bytes (2 * s) ≡ b → number_at bytes (2 * s + 1) ≡ w → (b ≡ 0 → w ≡ 0 → ⊥)
-    → ◌≡◌ {A = Option Puid} (Some (record { block = b; word = w })) (slot_in bytes s)
-slot_some bytes s b w one two not =
-    let no : ((b == 0) && (w == 0)) ≡ false = false_from_ne_true _ (λ h. let both = and_parts (b == 0) (w == 0) h in not (eqb-true b 0 both.0) (eqb-true w 0 both.1)) in
-    rw (one, two, no) refl
+slot_is : (bytes : List ℕ) (s n : ℕ) (id : Puid) → number_at bytes (2 * s) ≡ id.block → number_at bytes (2 * s + 1) ≡ id.word
+    → id.block ≡ n / 2 ^ 32 → id.word ≡ n % 2 ^ 32 → then_some (not (n == 0)) id ≡ slot_in bytes s
+slot_is bytes s n id one two high low = elim (cases_eq n 0) [
+  | inl zero ↦
+      let no_block : id.block ≡ 0 = omega (arith, high, zero) in
+      let no_word : id.word ≡ 0 = omega (arith, low, zero) in
+      rw (one, two, no_block, no_word, zero) refl
+  | inr other ↦
+      let some : (n == 0) ≡ false = false_from_ne_true _ (λ h. other (eqb-true n 0 h)) in
+      let no : ((id.block == 0) && (id.word == 0)) ≡ false = false_from_ne_true _ (λ h.
+      let both = and_parts (id.block == 0) (id.word == 0) h in
+      let b = eqb-true id.block 0 both.0 in
+      let w = eqb-true id.word 0 both.1 in
+      other (omega (arith, high, low, b, w))) in
+      rw (one, two, some, no) refl
+]
 
 pub returns : goal.returns
 returns c =
-    let bytes = c.args.block.now in
-    let s = c.args.slot in
-    let one = number_is bytes (2 * s) (8 * s) (omega arith) ∙ sym c.u32_at-block_no.ensures.value in
-    let two = number_is bytes (2 * s + 1) (8 * s + 4) (omega arith) ∙ sym c.u32_at-word.ensures.value in
-    slot_some bytes s _ _ one two (elim c.else-block_no-eq0.branch [
-      | else-block_no-eq0-via-then-block_no-eq0+else-word-eq0 w ↦ λ b v. w.if-word-eq0.false v
-      | else-block_no-eq0-via-else-block_no-eq0 w ↦ λ b v. w.if-block_no-eq0.false b
-    ])
+    let halves = slot_halves c.args.block.now c.args.slot c.u64_at-number.result (omega arith) c.u64_at-number.ensures.spelled in
+    c.then_some.ensures ∙ slot_is c.args.block.now c.args.slot c.u64_at-number.result c.of.result (halves.0 ∙ sym c.of.ensures.block) (halves.1 ∙ sym c.of.ensures.word) c.of.ensures.block c.of.ensures.word
