@@ -1,6 +1,6 @@
 -- Refusals, handed on by the calls above.
-use Rattle.std.proofs.Common.{◌≡◌, ◌≢◌, ◌⊎◌, inl, inr, ℕ, List, refl, sym, ◌∙◌, subst, arith, Err}
-use Rattle.cfs_recover.proofs.Words.{Damage, Ghosts, Graph, IfErr, Image, IsCaused, IsDamage, IsErrAnd, IsFault, IsOpenFault, IsSoundAs, IsWalk, MapEntry, MatchResult, Ok, OnlyReads, RecoverFault, Result, Stores, Walk, Walks, block_at, no_fault, says, tells_on}
+use Rattle.std.proofs.Common.{◌≡◌, ◌≢◌, ◌⊎◌, inl, inr, ℕ, ◌*◌, ◌<◌, ◌≤◌, List, length, refl, sym, ◌∙◌, ap, subst, arith, Err}
+use Rattle.cfs_recover.proofs.Words.{Damage, Ghosts, Graph, HasLabel, HasNoLabel, HasVersion, IfErr, Image, IsCaused, IsDamage, IsErrAnd, IsFault, IsLabelled, IsOpenFault, IsSoundAs, IsWalk, Label, MapEntry, MatchResult, Ok, OnlyReads, RecoverFault, Result, Stores, TellsNothing, Walk, Walks, block_at, no_fault, says, tells_on}
 use Rattle.cfs_recover.specs.declared.fault.RecoverFault.TheVariants as faults
 
 -- more is said of the damage
@@ -48,13 +48,17 @@ pub caused_err : {D T : Type 0} (g : Ghosts D) (old new : D) (r : Result T Recov
 caused_err g old new (Ok v) e is other = tt
 caused_err g old new (Err f) e is other = subst (IsCaused g old new) (sym is) (caused_otherwise g old new e other)
 
--- what is wrong with a part is wrong with the volume
-pub open_fault : (image : Image) (e : RecoverFault) → IsDamage (IsFault image) e → IsOpenFault image e
-open_fault image faults.Disk is = tt
-open_fault image faults.NotVolume is = absurd is
-open_fault image (faults.Version found) is = absurd is
-open_fault image (faults.Damaged d) is = is
-open_fault image faults.Memory is = tt
+-- a label of this version stands on a volume of its size
+pub labelled : (image : Image) (label : Label) → HasLabel image label → 64 * label.cylinders ≡ length image → IsLabelled image
+labelled image label has size = let some = has.is_label.some in record { long = omega (arith, size, some); label = label; has = has }
+
+-- what is wrong with a part is wrong with a volume that has a label
+pub open_fault : (image : Image) (e : RecoverFault) → IsLabelled image → IsDamage (IsFault image) e → IsOpenFault image e
+open_fault image faults.Disk label is = tt
+open_fault image faults.NotVolume label is = absurd is
+open_fault image (faults.Version found) label is = absurd is
+open_fault image (faults.Damaged d) label is = (label, is)
+open_fault image faults.Memory label is = tt
 
 pub opens_err : {T : Type 0} (P : T → Type 0) (image : Image) (r : Result T RecoverFault) (e : RecoverFault) → IsErrAnd r (λ f. f ≡ e) → IsOpenFault image e → MatchResult r P (IsOpenFault image)
 opens_err P image (Ok v) e is wrong = absurd is
@@ -64,13 +68,53 @@ pub if_err : {T : Type 0} (P : RecoverFault → Type 0) (r : Result T RecoverFau
 if_err P (Ok v) e is p = absurd is
 if_err P (Err f) e is p = subst P (sym is) p
 
+-- ---- in their order
+
+module _ (image : Image) where
+  short_of_label : length image < 3 → 3 ≤ length image → ⊥
+  short_of_label few long = omega (arith, few, long)
+
+  no_label_too : HasNoLabel image → IsLabelled image → ⊥
+  no_label_too (inl few) label = short_of_label few label.long
+  no_label_too (inr none) label = let has = label.has in none.no_label label.label has.is_label has.spelled
+
+  no_version_too : (found : ℕ) → HasNoLabel image → HasVersion image found → ⊥
+  no_version_too found (inl few) other = short_of_label few other.0
+  no_version_too found (inr none) other = none.no_version found other.1
+
+  one_version : (found : ℕ) → HasVersion image found → IsLabelled image → ⊥
+  one_version found other label =
+      let has = label.has in
+      other.1.other (sym other.1.here ∙ (says (block_at image 1) label.label has.is_label has.spelled).version)
+
+  pub no_label_first : (e : RecoverFault) → HasNoLabel image → IsOpenFault image e → (e ≡ faults.NotVolume) ⊎ TellsNothing e
+  no_label_first faults.Disk none is = inr tt
+  no_label_first faults.NotVolume none is = inl refl
+  no_label_first (faults.Version found) none is = absurd (no_version_too found none is)
+  no_label_first (faults.Damaged d) none is = absurd (no_label_too none is.0)
+  no_label_first faults.Memory none is = inr tt
+
+  pub version_next : (found : ℕ) (e : RecoverFault) → HasVersion image found → IsOpenFault image e → (e ≡ faults.Version found) ⊎ TellsNothing e
+  version_next found faults.Disk other is = inr tt
+  version_next found faults.NotVolume other is = absurd (no_version_too found is other)
+  version_next found (faults.Version v) other is = inl (ap faults.Version (sym is.1.here ∙ other.1.here))
+  version_next found (faults.Damaged d) other is = absurd (one_version found other is.0)
+  version_next found faults.Memory other is = inr tt
+
+  pub fault_last : (e : RecoverFault) → IsLabelled image → IsOpenFault image e → IsDamage (IsFault image) e
+  fault_last faults.Disk label is = tt
+  fault_last faults.NotVolume label is = absurd (no_label_too is label)
+  fault_last (faults.Version found) label is = absurd (one_version found is label)
+  fault_last (faults.Damaged d) label is = is.1
+  fault_last faults.Memory label is = tt
+
 -- a sound volume is refused for a failed call or want of memory alone
 pub sound_refused : (image : Image) (g : Graph) → IsSoundAs image g → (e : RecoverFault) → IsOpenFault image e → (e ≡ faults.Disk) ⊎ (e ≡ faults.Memory)
 sound_refused image g sound faults.Disk is = inl refl
 sound_refused image g sound faults.Memory is = inr refl
-sound_refused image g sound (faults.Damaged d) is = absurd (no_fault image g sound d.code d.block is)
+sound_refused image g sound (faults.Damaged d) is = absurd (no_fault image g sound d.code d.block is.1)
 sound_refused image g sound faults.NotVolume (inl few) = let label = sound.holds.label in absurd (omega (arith, few, label.size_is, label.is_label.some))
 sound_refused image g sound faults.NotVolume (inr none) = let label = sound.holds.label in absurd (none.no_label label.label label.is_label label.spelled)
 sound_refused image g sound (faults.Version found) is =
     let label = sound.holds.label in
-    absurd (is.other (sym is.here ∙ (says (block_at image 1) label.label label.is_label label.spelled).version))
+    absurd (is.1.other (sym is.1.here ∙ (says (block_at image 1) label.label label.is_label label.spelled).version))

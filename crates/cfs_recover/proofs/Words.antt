@@ -23,11 +23,11 @@ pub use Rattle.cfs_recover.specs.Copies.{AreCopies, AreKept, BeginsAnew, BeginsW
 unfoldable pub use Rattle.cfs_recover.specs.Copies.{copies_before, node_pieces}
 pub use Rattle.cfs_recover.specs.Entries.{AreStanding, EntryFault, IsShadow, MayStand, damage, standing_below}
 pub use Rattle.cfs_recover.specs.Found.{AreNamed, AreNoted, ByLabel, BySlot, Grows, IsClash, IsFault, IsFound, IsKept, IsNamed, IsNext, IsNoted, IsTaken, IsWalk, holds, lists}
-pub use Rattle.cfs_recover.specs.Grounds.{AllMapsStand, AllMayStand, AreGrounds, HasEntryFault, IsOpenFault}
+pub use Rattle.cfs_recover.specs.Grounds.{AllMapsStand, AllMayStand, AreGrounds, HasEntryFault, HasNoLabel, HasVersion, IsLabelled, IsOpenFault}
 pub use Rattle.cfs_recover.specs.Keeps.{AreAllCopies, AreCopiesOf, AreKeptFor, AreWritten, IsCopyOf, IsNamedCopy, Keeps, Leads}
 pub use Rattle.cfs_recover.specs.Recovered.{IsClean, IsRecovered, IsUntouched, WritesWhatDiffers, changed}
 unfoldable pub use Rattle.cfs_recover.specs.Recovered.{changed_maps}
-pub use Rattle.cfs_recover.specs.Refusals.{IsCaused, IsDamage}
+pub use Rattle.cfs_recover.specs.Refusals.{IsCaused, IsDamage, TellsNothing}
 pub use Rattle.cfs_recover.specs.Sized.{IsSized}
 pub use Rattle.cfs_recover.specs.Standing.{Shadow, one_more, shadow_of}
 pub use Rattle.cfs_recover.specs.Stored.{AreMapsOf, Stores}

@@ -1,5 +1,5 @@
 -- What the label and the maps say of a volume.
-use Rattle.std.specs.Prelude.{◌≡◌, ◌⊎◌, ℕ, ◌+◌, ◌*◌, ◌<◌, true, List, [], length, get_or, slice_get, Some}
+use Rattle.std.specs.Prelude.{◌≡◌, ◌⊎◌, ℕ, ◌+◌, ◌*◌, ◌<◌, ◌≤◌, true, List, [], length, get_or, slice_get, Some}
 use Rattle.cfs_base.specs.Disk.{Image, block_at}
 use Rattle.cfs_base.specs.declared.refusal.Damage.{Damage}
 use Rattle.cyl_map.specs.declared.entry.MapEntry.{MapEntry}
@@ -40,11 +40,25 @@ pub record HasEntryFault (cylinder : ℕ) (map : List MapEntry) (d : Damage) : T
 
 -- ---- why a volume isn't opened
 
--- The image has no label, one of another version, or this fault. A device call that failed and want of memory say
--- nothing of it.
+-- the image has a label that is no volume's, or none
+abbrev pub HasNoLabel : Image → Type 0
+HasNoLabel image = (length image < 3) ⊎ IsNoVolume (block_at image 1)
+
+-- it has one of another version
+abbrev pub HasVersion : Image → ℕ → Type 0
+HasVersion image found = (3 ≤ length image) × IsOtherVersion (block_at image 1) found
+
+-- it has one of this version
+pub record IsLabelled (image : Image) : Type 0 where
+  pub long : 3 ≤ length image
+  pub label : Label
+  pub has : HasLabel image label
+
+-- Which of these holds of an image is told: it has no label, or one of another version, or one of this version and this
+-- fault. A device call that failed and want of memory say nothing of it.
 abbrev pub IsOpenFault : Image → RecoverFault → Type 0
 IsOpenFault image faults.Disk = Unit {0}
-IsOpenFault image faults.NotVolume = (length image < 3) ⊎ IsNoVolume (block_at image 1)
-IsOpenFault image (faults.Version found) = IsOtherVersion (block_at image 1) found
-IsOpenFault image (faults.Damaged d) = IsFault image d
+IsOpenFault image faults.NotVolume = HasNoLabel image
+IsOpenFault image (faults.Version found) = HasVersion image found
+IsOpenFault image (faults.Damaged d) = IsLabelled image × IsFault image d
 IsOpenFault image faults.Memory = Unit {0}

@@ -20,3 +20,7 @@ IsDamage P faults.NotVolume = ⊥
 IsDamage P (faults.Version found) = ⊥
 IsDamage P (faults.Damaged d) = P d
 IsDamage P faults.Memory = Unit {0}
+
+-- it says nothing of the volume
+abbrev pub TellsNothing : RecoverFault → Type 0
+TellsNothing e = IsDamage (λ d. ⊥) e

@@ -1,5 +1,5 @@
 //! What is proved of what recovery writes, as contracts. None of these calls does anything.
-ghost use Rattle.std.specs.Prelude.{◌≡◌, ℕ, Bool, ◌*◌, ◌<◌, List, [], length, set, Some};
+ghost use Rattle.std.specs.Prelude.{◌≡◌, ◌⊎◌, ℕ, Bool, ◌*◌, ◌<◌, List, [], length, set, Some};
 ghost use Rattle.cfs_base.specs.Disk.{Image, block_at};
 ghost use Rattle.cfs_base.specs.declared.identifier.Puid.{Puid};
 ghost use Rattle.cyl_map.specs.Volume.{entry_in};
@@ -10,6 +10,11 @@ ghost use Rattle.vol_image.specs.Part.{is_fixed};
 ghost use Rattle.vol_image.specs.Sight.{source};
 ghost use Rattle.vol_image.specs.Sound.{Holds, IsSoundAs};
 ghost use Rattle.vol_owners.specs.Account.{Accounts, IsSwept};
+ghost use Rattle.cfs_recover.specs.Found.{IsFault};
+ghost use Rattle.cfs_recover.specs.Grounds.{HasNoLabel, HasVersion, IsLabelled, IsOpenFault};
+ghost use Rattle.cfs_recover.specs.Refusals.{IsDamage, TellsNothing};
+ghost use Rattle.cfs_recover.specs.declared.fault.RecoverFault.{RecoverFault};
+ghost use Rattle.cfs_recover.specs.declared.fault.RecoverFault.TheVariants as faults;
 ghost use Rattle.cfs_recover.specs.Tidy.{AreCopied, AreMarked, CopiesRoots, IsTidied, IsTidy, IsTidyMap, Tidies};
 ghost use Rattle.cfs_recover.specs.Tidy.{tidied};
 
@@ -38,4 +43,15 @@ pub fn tidied_volumes_have_their_objects_alone()
         → IsTidied a g held b → Accounts b g [] }
     ensures swept { (a b : Image) (g : Graph) (held : ℕ → Bool) → Holds a g → AreCopied a g → Tidies a g b
         → IsTidied a g held b → IsSwept b g }
+{}
+
+/// What is told of a volume that isn't opened: that there is no label, else that it is of another version, else a
+/// damage. This does nothing: it is a law.
+pub fn faults_come_in_order()
+    ensures no_label { (image : Image) (e : RecoverFault) → HasNoLabel image → IsOpenFault image e
+        → (e ≡ faults.NotVolume) ⊎ TellsNothing e }
+    ensures version { (image : Image) (found : ℕ) (e : RecoverFault) → HasVersion image found → IsOpenFault image e
+        → (e ≡ faults.Version found) ⊎ TellsNothing e }
+    ensures label { (image : Image) (e : RecoverFault) → IsLabelled image → IsOpenFault image e
+        → IsDamage (IsFault image) e }
 {}
