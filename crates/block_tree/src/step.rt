@@ -1,5 +1,5 @@
 //! One step over the held leaves of a tree.
-ghost use Rattle.std.specs.Prelude.{◌≡◌, ◌≢◌, ℕ, ◌+◌, ◌<◌, ◌≤◌, length, get_or, IfOk, IfErr, IfSome, IsFalse};
+ghost use Rattle.std.specs.Prelude.{◌≡◌, ◌≢◌, ℕ, ◌+◌, ◌*◌, ◌<◌, ◌≤◌, length, get_or, IfOk, IfErr, IfSome, IsFalse};
 ghost use Rattle.std.specs.Prelude.{IsTrue};
 ghost use Rattle.cfs_base.specs.Calls.{OnlyReads};
 ghost use Rattle.cfs_base.specs.Disk.{block_at};
@@ -60,6 +60,7 @@ fn step_in<D: Disk>(
     ensures step { Tells D.Disk disk.old → IfOk result (IsStepIn root.now.nodes
         (pointers_of leaf_pointers (block_at (D.content disk.old) (get_or root.now.nodes node 0))) node from) }
     ensures within { IfOk result (λ step. IfSome step (λ s. (s.held.leaf < leaf_limit) × (s.held.block ≢ 0))) }
+    ensures on { IfOk result (λ step. IfSome step (λ s. leaf_pointers.count * node + from ≤ s.held.leaf)) }
     ensures refused { IfErr result (IsFault D.Disk disk.old disk.new (λ b. b ≡ get_or root.now.nodes node 0)) }
     ensures reads { OnlyReads D.Disk 1 disk.old disk.new }
 {
@@ -89,6 +90,8 @@ pub fn step_held<D: Disk>(
     ensures there { Tells D.Disk disk.old → IfOk result (λ step. IfSome step (λ s.
         leaf_block (D.content disk.old) (root_spelling root.now) s.held.leaf ≡ s.held.block)) }
     ensures within { IfOk result (λ step. IfSome step (λ s. (s.held.leaf < leaf_limit) × (s.held.block ≢ 0))) }
+    // Whatever disk it is, no leaf below the given one is found.
+    ensures on { IfOk result (λ step. IfSome step (λ s. from ≤ s.held.leaf)) }
     ensures refused { IfErr result (IsFault D.Disk disk.old disk.new
         (IsPastFrom (D.content disk.old) (D.blocks disk.old) (root_spelling root.now) from)) }
     ensures reads { OnlyReads D.Disk 2 disk.old disk.new }

@@ -421,5 +421,5 @@ pub tries_altered : {D : Type 0} (g : Ghosts D) (left_sized : (d : D) (t : ℕ) 
 tries_altered g left_sized sized k ready who t was the change request is goes_to goes now disk space result changes = record {
   ends = λ s serves none.
       ends_so g k s serves who t was (the s serves) ready change request is goes_to (goes s serves) now disk space left_sized sized none result changes;
-  went = went_done g k disk space (with_drafting t.draw (Some now) k.seats) changes.calls.same.size changes.calls.faults (draws request) result (λ tried is. rw is at changes.refused);
+  went = went_done g k disk space (with_drafting t.draw (Some now) k.seats) changes.calls.same.size changes.calls.faults changes.calls.later (draws request) result (λ tried is. rw is at changes.refused);
 }

@@ -78,7 +78,7 @@ module _ {D : Type 0} (g : Ghosts D) (left_sized : (d : D) (t : ℕ) (c : Image)
       → IfOk result IsPlainReply → IfErr result (IsCause g old.disk new.disk) → Tries g old new who request result
   tries_so who request result ends plain cause = record {
     ends = ends;
-    went = subst (λ (k : Kernel D). Went g old k (draws request) result) (sym same) (went_so g old new.disk old.space old.seats reads.same.size reads.faults (draws request) result plain cause);
+    went = subst (λ (k : Kernel D). Went g old k (draws request) result) (sym same) (went_so g old new.disk old.space old.seats reads.same.size reads.faults reads.images.later (draws request) result plain cause);
   }
 
   -- a read that failed, where such an object is

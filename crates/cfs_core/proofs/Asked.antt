@@ -1,5 +1,5 @@
 -- A request that was asked: of a core that stopped, answered, or refused by what lies below.
-use Rattle.std.proofs.Common.{◌≡◌, inl, inr, ⊎_elim, ℕ, ◌-◌, List, [], length, true, false, Option, Some, None, Ok, Err, IsTrue, refl, sym, ◌∙◌, ap, subst, arith, sum, eq-eqb}
+use Rattle.std.proofs.Common.{◌≡◌, inl, inr, ⊎_elim, ℕ, ◌-◌, ◌≤◌, List, [], length, true, false, Option, Some, None, Ok, Err, IsTrue, refl, sym, ◌∙◌, ap, subst, arith, sum, eq-eqb}
 use Rattle.cfs_core.proofs.Words.{After, call, CutInDoubt, Event, Ghosts, Graph, Image, InDoubt, is_done, IsPlainReply, Late, Listing, next, refusal_of, Refused, Reply, Request, Rescue, rescues_of, State, stopped_at, wider}
 use Rattle.cfs_base.specs.declared.refusal.Refused.TheVariants as refusals
 use Rattle.ufs_model.specs.declared.asked.Event.TheVariants as events
@@ -12,6 +12,7 @@ use Rattle.cfs_core.specs.Kernel.{Kernel}
 use Rattle.cfs_core.specs.Rescues.{AreRescued}
 use Rattle.cfs_core.specs.StandsFor.{IsFront, Serves, Stands}
 use Rattle.cfs_core.proofs.Collected.{collection_asked, collection_ready, rescued_after, same_rescued}
+use Rattle.cfs_core.proofs.Lefts.{adds_none, adds_one}
 use Rattle.cfs_core.proofs.Serving.{fewer_lost, fits, pending, running, serves_from, stands_from, stored}
 
 plain_goes_on : (reply : Reply) → IsPlainReply reply → (before : Option Stop) → stopped_by reply before ≡ before
@@ -75,6 +76,8 @@ module _ {D : Type 0} (g : Ghosts D) (old : Kernel D) (x : Collections) (ready :
     rescued = λ _ s stands. ready;
     called = called;
     finished = finished;
+    waits = adds_one (g.blocks old.disk) old.collections x [] ready called finished (omega arith);
+    later = omega arith;
     size = refl;
     faults = omega arith;
     short = tt;
@@ -95,6 +98,8 @@ asks_stopped g k who request stop is = record {
   rescued = λ none. cc;
   called = refl;
   finished = refl;
+  waits = adds_none (g.blocks k.disk) k.collections;
+  later = omega arith;
   size = refl;
   faults = omega arith;
   short = tt;
@@ -110,8 +115,8 @@ asks_stopped g k who request stop is = record {
 pub asks_answered : {D : Type 0} (g : Ghosts D) → ((d : D) → IsTrue (g.honest d) → length (g.content d) ≡ g.blocks d) → (old : Kernel D) (x : Collections) → AreRescued old.collections.collector x.collector []
     → x.called ≡ old.collections.called → x.finished ≡ old.collections.finished → (mid : Kernel D) (y : Collections) (who : ℕ) (request : Request) (reply : Reply) (more : List Rescue)
     → ((s : State) → Serves g (record old { collections = x }) s → more ≡ rescues_of s who request reply) → AreRescued mid.collections.collector y.collector more → y.called ≡ mid.collections.called → y.finished ≡ mid.collections.finished → old.stop ≡ None
-    → Tries g (record old { collections = x }) mid who request (Ok reply) → Asks g old (record mid { collections = y }) who request reply
-asks_answered g sized old x ready called finished mid y who request reply more are rescued called_on finished_on none tries = record {
+    → length more ≤ 1 → Tries g (record old { collections = x }) mid who request (Ok reply) → Asks g old (record mid { collections = y }) who request reply
+asks_answered g sized old x ready called finished mid y who request reply more are rescued called_on finished_on none few tries = record {
   event = λ s stands. let serves = serves_from g old s none stands in
       happens g old x ready sized mid tries.went.size y s who request reply (tries.went.stop ∙ none) (all_rescued s serves) serves
       (tries.ends s (serves_roomy g old x ready s serves) none);
@@ -123,6 +128,9 @@ asks_answered g sized old x ready called finished mid y who request reply more a
   rescued = λ _ s stands. rescued_after old.collections.collector x.collector y.collector (rescues_of s who request reply) ready (all_rescued s (serves_from g old s none stands));
   called = called_on ∙ ap (λ (c : Collections). c.called) tries.went.collections ∙ called;
   finished = finished_on ∙ ap (λ (c : Collections). c.finished) tries.went.collections ∙ finished;
+  waits = adds_one (g.blocks old.disk) old.collections y more (rescued_after old.collections.collector x.collector y.collector more ready (subst (λ (c : Collections). AreRescued c.collector y.collector more) tries.went.collections rescued))
+      (called_on ∙ ap (λ (c : Collections). c.called) tries.went.collections ∙ called) (finished_on ∙ ap (λ (c : Collections). c.finished) tries.went.collections ∙ finished) few;
+  later = tries.went.later;
   size = tries.went.size;
   faults = tries.went.faults;
   short = plain_short reply tries.went.plain;
@@ -224,6 +232,9 @@ module _ {D : Type 0} (g : Ghosts D) (left_sized : (d : D) (t : ℕ) (c : Image)
         (subst (λ (c : Collections). AreRescued old.collections.collector c.collector []) (sym tries.went.collections) ready);
     called = ap (λ (c : Collections). c.called) tries.went.collections ∙ called;
     finished = ap (λ (c : Collections). c.finished) tries.went.collections ∙ finished;
+    waits = adds_one (g.blocks old.disk) old.collections mid.collections [] (subst (λ (c : Collections). AreRescued old.collections.collector c.collector []) (sym tries.went.collections) ready)
+        (ap (λ (c : Collections). c.called) tries.went.collections ∙ called) (ap (λ (c : Collections). c.finished) tries.went.collections ∙ finished) (omega arith);
+    later = tries.went.later;
     size = size;
     faults = tries.went.faults;
     short = told_short refused (g.moment mid.disk);

@@ -50,11 +50,11 @@ module _ {D : Type 0} (g : Ghosts D) (left_sized : (d : D) (t : ℕ) (c : Image)
   pub tries_ended : EndsDraft g commit was k.disk d k.space space (Ok tt) → Tries g k (record k { disk = d; space = space; seats = seats_but (tables.is_grant who t) (with_drafting t.draw None k.seats) }) who (asks.Close t commit) (Ok replies.Done)
   tries_ended is = record {
     ends = λ s serves none. ended_ok g k s serves who t was (the s serves) d space bare left_sized (wide is.calls s serves) none commit is;
-    went = went_so g k d space (seats_but (tables.is_grant who t) (with_drafting t.draw None k.seats)) is.calls.same.size is.calls.faults 0 (Ok replies.Done) tt tt;
+    went = went_so g k d space (seats_but (tables.is_grant who t) (with_drafting t.draw None k.seats)) is.calls.same.size is.calls.faults is.calls.later 0 (Ok replies.Done) tt tt;
   }
 
   pub tries_unended : (e : Trouble) → EndsDraft g commit was k.disk d k.space space (Err e) → Tries g k (record k { disk = d; space = space; seats = with_drafting t.draw None k.seats }) who (asks.Close t commit) (Err (refused_by e))
   tries_unended e is = record {
     ends = λ s serves none. ended_err g k s serves who t was (the s serves) d space bare left_sized (wide is.calls s serves) none commit e is;
-    went = went_so g k d space (with_drafting t.draw None k.seats) is.calls.same.size is.calls.faults 0 (Err (refused_by e)) tt (trouble_cause g was.at k.disk d space e is.refused);
+    went = went_so g k d space (with_drafting t.draw None k.seats) is.calls.same.size is.calls.faults is.calls.later 0 (Err (refused_by e)) tt (trouble_cause g was.at k.disk d space e is.refused);
   }

@@ -282,5 +282,5 @@ tries_changed g left_sized sized n k mid d space reads id kind change request is
       ends g n k mid (record k { disk = d; space = space }) reads request s who (done_or result)
       (did g left_sized sized (record k { disk = mid }) d space id kind change request is result changes s who r.0 (serves_on g n k (record k { disk = mid }) reads refl s serves) none r.1 r.2 may.0 may.1 may.2);
   went = went_then g n k mid (record k { disk = d; space = space }) reads (draws request) (done_or result)
-      (went_done g (record k { disk = mid }) d space k.seats changes.calls.same.size changes.calls.faults (draws request) result (λ tried is. rw is at changes.refused));
+      (went_done g (record k { disk = mid }) d space k.seats changes.calls.same.size changes.calls.faults changes.calls.later (draws request) result (λ tried is. rw is at changes.refused));
 }

@@ -12,6 +12,7 @@ mod Committed
 mod Changed
 mod Few
 mod Collected
+mod Lefts
 mod Putting
 mod Created
 mod Placed

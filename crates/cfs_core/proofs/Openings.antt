@@ -373,6 +373,7 @@ module _ {D : Type 0} (g : Ghosts D) (left_sized : (d : D) (t : ℕ) (c : Image)
         cause = tt;
         size = begins.calls.same.size;
         faults = begins.calls.faults;
+        later = begins.calls.later;
         stop = refl;
         collections = refl;
         seed = ap (λ (w : Draws). w.seed) words_are;
@@ -397,5 +398,5 @@ module _ {D : Type 0} (g : Ghosts D) (left_sized : (d : D) (t : ℕ) (c : Image)
   tries_not e begins = record {
     ends = λ s serves none. let o = the_object g k s serves id kind listed in
         not_opened g left_sized sized k who id mode (gets_draft kind mode) tuid tuid_is s serves none o.0 o.1 (gets_now g k s serves id kind listed mode) (goes s serves).0 d space begins.calls.same.size e (begins_so (Err e) begins s serves);
-    went = went_so g k d space k.seats begins.calls.same.size begins.calls.faults 1 (Err e) tt begins.cause;
+    went = went_so g k d space k.seats begins.calls.same.size begins.calls.faults begins.calls.later 1 (Err e) tt begins.cause;
   }

@@ -131,6 +131,7 @@ module _ {D : Type 0} (g : Ghosts D) (left_sized : (d : D) (t : ℕ) (c : Image)
         cause = if_astray g k.disk new.disk result names.astray;
         size = ap g.blocks names.disk ∙ size;
         faults = omega (arith, ap g.faults names.disk, puts.calls.faults);
+        later = omega (arith, ap g.moment names.disk, puts.calls.later);
         stop = names.stop;
         collections = names.collections;
         seed = names.seed;
@@ -146,7 +147,7 @@ module _ {D : Type 0} (g : Ghosts D) (left_sized : (d : D) (t : ℕ) (c : Image)
           (subst (λ (x : Result Puid Refused). IfErr x (λ f. f ≡ refusals.Memory → (space ≡ k.space) × OnlyReads g 9 k.disk d)) is puts.memory)
           (subst (λ (x : Result Puid Refused). IfErr x (λ f. IsIndexRefusal g index.block slot k.disk d space f ⊎ IsOpenMap g k.disk k.space f)) is puts.refused)
           (sound_at request making s who i serves none reach within goes e is);
-      went = went_so g k d space k.seats size puts.calls.faults (draws request) (Err e) tt (cause_of g k.disk d e (stopped_so g index.block slot k.disk d k.space space e (rw is at puts.refused)));
+      went = went_so g k d space k.seats size puts.calls.faults puts.calls.later (draws request) (Err e) tt (cause_of g k.disk d e (stopped_so g index.block slot k.disk d k.space space e (rw is at puts.refused)));
     }
 
 -- ---- too few blocks are Free
@@ -165,5 +166,5 @@ module _ {D : Type 0} (g : Ghosts D) (left_sized : (d : D) (t : ℕ) (c : Image)
           still = λ all. reads.content;
           owed = ByWant goes (record { delete = making.delete; few = omega (arith, few, need) }) (ap (λ (n : ℕ). replies.Full (record { free = sum k.space.free; need = n })) (sym need));
         };
-    went = went_so g k d space k.seats (ap g.blocks same_disk) reads.faults (draws request) (Err (refusals.Full (record { free = sum k.space.free; need = 4 }))) tt tt;
+    went = went_so g k d space k.seats (ap g.blocks same_disk) reads.faults reads.images.later (draws request) (Err (refusals.Full (record { free = sum k.space.free; need = 4 }))) tt tt;
   }

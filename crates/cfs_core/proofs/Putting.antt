@@ -60,7 +60,7 @@ module _ {D : Type 0} (g : Ghosts D) (left_sized : (d : D) (t : ℕ) (c : Image)
   pub tries_put : TriesOn g k new index slot request (done_or result)
   tries_put = record {
     ends = λ s who i serves none reach inside goes. ends s who i serves none reach inside goes result refl;
-    went = went_done g k d space k.seats puts.calls.same.size puts.calls.faults (draws request) result (λ tried is. rw is at puts.refused);
+    went = went_done g k d space k.seats puts.calls.same.size puts.calls.faults puts.calls.later (draws request) result (λ tried is. rw is at puts.refused);
   }
 
 -- ---- too few blocks are Free
@@ -88,5 +88,5 @@ module _ {D : Type 0} (g : Ghosts D) (left_sized : (d : D) (t : ℕ) (c : Image)
       owed = ByWant goes (record { delete = refl; few = omega (arith, few, retain_need k.words.seed s who to index i slot id reach) })
           (ap (λ (n : ℕ). replies.Full (record { free = sum k.space.free; need = n })) (sym (retain_need k.words.seed s who to index i slot id reach)));
     };
-    went = went_so g k d space k.seats (ap g.blocks same_disk) reads.faults (draws request) (Err (refusals.Full need)) tt tt;
+    went = went_so g k d space k.seats (ap g.blocks same_disk) reads.faults reads.images.later (draws request) (Err (refusals.Full need)) tt tt;
   }

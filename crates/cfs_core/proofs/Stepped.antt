@@ -1,6 +1,6 @@
 -- The steps of the collector, of a core.
 use Rattle.std.proofs.Common.{◌≡◌, inl, ℕ, ◌+◌, ◌-◌, ◌*◌, ◌/◌, ◌^◌, ◌<◌, ◌≤◌, cond, ◌||◌, List, [], ◌∷◌, length, true, false, Result, Ok, Err, Option, Some, None, IsTrue, refl, sym, ◌∙◌, ap, subst, arith, IfSome, map}
-use Rattle.cfs_core.proofs.Words.{Accounts, Collecting, count_after, done, Event, Fits, Ghosts, Grant, had_tried, Holds, Image, IsCollecting, keeps, Kept, list_all, Listing, loose, next, nothing_left, Puid, Refused, State, stopped_at, volume_of, wider}
+use Rattle.cfs_core.proofs.Words.{Accounts, Collecting, count_after, done, Event, Fits, Ghosts, Grant, had_tried, Holds, Image, IsCollecting, keeps, Kept, list_all, Listing, loose, most_steps, next, nothing_left, Puid, Refused, State, steps_left, stopped_at, volume_of, wider}
 use Rattle.cfs_base.specs.declared.refusal.Refused.TheVariants as refusals
 use Rattle.collector_steps.specs.Collecting as Keeps
 use Rattle.collector_steps.specs.declared.phase.Phase.TheVariants as phases
@@ -19,6 +19,7 @@ use Rattle.cfs_core.specs.StandsFor.{AreDraftsOf, HasCollection, HasCollector, S
 use Rattle.cfs_core.proofs.Answering.{reads_none}
 use Rattle.cfs_core.specs.Rescues.{AreRescued}
 use Rattle.cfs_core.proofs.Collected.{collection_ready}
+use Rattle.cfs_core.proofs.Lefts.{goes_begun, goes_ended}
 use Rattle.cfs_core.proofs.Serving.{stored, fits, pending, running, serves_from, stands_from}
 use Rattle.cfs_core.proofs.Stepping.{begins, ended, read_calls}
 use Rattle.cfs_core.proofs.Tidied.{tidy}
@@ -33,7 +34,7 @@ collects_stopped g k stop is = record {
   due = tt;
   counted = tt;
   over = tt;
-  still = tt;
+  still = (refl, (stop, is, refl));
   called = refl;
   sound = λ none. cc;
   stops = refl;
@@ -44,6 +45,7 @@ collects_stopped g k stop is = record {
   root = refl;
   words = refl;
   seats = refl;
+  goes = tt;
 }
 
 module _ {D : Type 0} (g : Ghosts D) (left_sized : (d : D) (t : ℕ) (c : Image) → g.left_since d t c → length c ≡ g.blocks d) (sized : (d : D) → IsTrue (g.honest d) → length (g.content d) ≡ g.blocks d)
@@ -67,8 +69,8 @@ module _ {D : Type 0} (g : Ghosts D) (left_sized : (d : D) (t : ℕ) (c : Image)
         (wider g old.disk new.disk _ _ is.leaves (λ c holds. inl holds)) (pending g new is.after is.serves));
   }
 
-  pub collects_ok : (step : Step) → TriesStep g old new (Ok step) → Collects g old new (Ok step)
-  collects_ok step is = record {
+  pub collects_ok : AreKept (g.blocks old.disk) old.collections → (step : Step) → TriesStep g old new (Ok step) → Collects g old new (Ok step)
+  collects_ok kept step is = record {
     event = λ s stands. let serves = serves_from g old s none stands in happens (ap (λ (k : Kernel D). k.stop) is.same ∙ none) s (event_of step) serves (is.ends.moves s serves none);
     stopped = λ stop same. cc;
     due = is.ends.due;
@@ -85,6 +87,7 @@ module _ {D : Type 0} (g : Ghosts D) (left_sized : (d : D) (t : ℕ) (c : Image)
     root = ap (λ (k : Kernel D). k.root) is.same;
     words = ap (λ (k : Kernel D). k.words) is.same;
     seats = ap (λ (k : Kernel D). k.seats) is.same;
+    goes = is.ends.goes kept;
   }
 
 -- one that was refused from below
@@ -161,6 +164,7 @@ module _ {D : Type 0} (g : Ghosts D) (left_sized : (d : D) (t : ℕ) (c : Image)
     root = ap (λ (k : Kernel D). k.root) tries.same;
     words = ap (λ (k : Kernel D). k.words) tries.same;
     seats = ap (λ (k : Kernel D). k.seats) tries.same;
+    goes = tt;
   })
 
 -- ---- no collection runs
@@ -206,14 +210,16 @@ module _ {D : Type 0} (g : Ghosts D) (k : Kernel D) where
       rw (here, open_are seats grants rest) refl
 
   pub steps_begun : (roots : List Puid) → roots ≡ k.root ∷ map (λ (x : Seat). x.grant.id) k.seats → (l : Collecting) → HasBegun roots k.names.named l
-      → phase_of k.collections.collector ≡ phases.Idle → k.collections.finished < k.collections.called → TriesStep g k (record k { collections = record k.collections { collector = Some l } }) (Ok steps.Began)
-  steps_begun roots are l begun idle more = steps_here (record k.collections { collector = Some l }) (Ok steps.Began) (record {
+      → phase_of k.collections.collector ≡ phases.Idle → k.collections.finished < k.collections.called → volume_of l ≡ g.blocks k.disk → TriesStep g k (record k { collections = record k.collections { collector = Some l } }) (Ok steps.Began)
+  steps_begun roots are l begun idle more volume = steps_here (record k.collections { collector = Some l }) (Ok steps.Began) (record {
     moves = λ s serves none.
         let these = are ∙ ap (λ (x : Puid). x ∷ map (λ (y : Seat). y.grant.id) k.seats) (sym serves.root) ∙ ap (λ (ids : List Puid). s.graph.root ∷ ids) (open_are k.seats s.grants serves.front.grants) in
         begins g k s serves (running g k s serves none) (record k.collections { collector = Some l }) l refl idle roots these begun;
     due = (runs_not k.collections.collector idle, more);
     counted = (begun.steps, begun.added, refl);
     over = λ s serves. tt;
+    goes = λ kept. goes_begun (g.blocks k.disk) k.collections (record k.collections { collector = Some l }) l refl refl (runs_not k.collections.collector idle) more refl begun.phase
+        (subst (λ n. steps_left l < most_steps n) volume begun.left);
   }) refl
 
   -- ---- a collection ends
@@ -246,6 +252,7 @@ module _ {D : Type 0} (g : Ghosts D) (k : Kernel D) where
         λ few. omega (arith, bounded s (g.content k.disk) (col_there s serves).collects (omega (arith, few, added)), added, volume, ap (λ (n : ℕ). n / 64) volume),
         over s serves,
       );
+      goes = λ kept. goes_ended (g.blocks k.disk) k.collections ended_as col l refl refl there refl swept idle;
     }) refl
 
     pub few_ended : (room : ℕ) → AreKept room k.collections → k.collections.finished + 1 ≤ k.collections.called

@@ -1,6 +1,6 @@
 -- The steps of the collector: where each leaves a core, and a step of a collection that runs, on any disk.
-use Rattle.std.proofs.Common.{IsTrue, ◌≡◌, inl, inr, ℕ, ◌+◌, ◌*◌, ◌/◌, ◌≤◌, List, [], ◌∷◌, length, Bool, true, false, not, ◌||◌, cond, Result, Option, Some, None, Ok, Err, refl, sym, ◌∙◌, ap, subst, append-nil, arith, ◌==◌, nat_lt, map, option_map, slice_get}
-use Rattle.cfs_core.proofs.Words.{Accounts, all_among, and_from, and_parts, AreCounts, blocks_taken, both_ways, carries_fewer, Collecting, Collection, Collects, count_after, cylinder_of, Draft, Drafting, entry_in, Event, Ghosts, goes, Grant, Graph, graph_blocks, had_tried, has_root_in, HasSwept, Holds, Image, is_among, is_running, is_stray, is_there, IsAsBefore, IsCollecting, IsDamaged}
+use Rattle.std.proofs.Common.{IsTrue, ◌≡◌, inl, inr, ℕ, ◌+◌, ◌*◌, ◌/◌, ◌<◌, ◌≤◌, List, [], ◌∷◌, length, Bool, true, false, not, ◌||◌, cond, Result, Option, Some, None, Ok, Err, refl, sym, ◌∙◌, ap, subst, append-nil, arith, ◌==◌, nat_lt, map, option_map, slice_get}
+use Rattle.cfs_core.proofs.Words.{Accounts, all_among, and_from, and_parts, AreCounts, blocks_taken, both_ways, carries_fewer, Collecting, Collection, Collects, count_after, cylinder_of, Draft, Drafting, entry_in, Event, Ghosts, goes, Grant, Graph, graph_blocks, had_tried, has_root_in, HasSwept, Holds, Image, events_left, steps_left, is_among, is_running, is_stray, is_there, IsAsBefore, IsCollecting, IsDamaged}
 use Rattle.cfs_core.proofs.Words.{IsMapTrouble, IsPhaseOf, IsScanTrouble, IsSpeakable, IsState, IsSwept, IsSweptOf, joined_has, joined_has_new, joined_within, Kept, kept_by, kept_stays, Kind, kinds_of, Leaves, list_all, list_all-append, Listing, MakesAtMost, MapEntry, may_vanish_test, MayVanish, next, next_keeps, next_phase, nothing_left, Object, object_at, object_at-without, ones_le, OnlyReads}
 use Rattle.cfs_core.proofs.Words.{open_ids, open_kept, Opened, opened_as, or_cases, or_left, or_right, pairs_of, Pass, Phase, Puid, reads_make, reads_within, Refused, refused_by, rises-without, room, same_puid, starts_now, State, stray_blocks, sum_is, swept, Trouble, trouble_had_tried, vanish_goes_on, volume_of, wider, without}
 use Rattle.std.specs.Cmp as cmp
@@ -16,10 +16,12 @@ use Rattle.cfs_core.specs.declared.collecting.Step.TheVariants as steps
 use Rattle.cfs_core.specs.Calls.{IsCause}
 use Rattle.cfs_core.specs.Collect.{EndsUnmade, HasBegun, IsMade, IsMadeOrNot, IsNext, MovesTo, StepsSo, is_want, phase_of, sweeps_blocks, told_as, with_parts}
 use Rattle.cfs_core.specs.Kernel.{Kernel, Seat, marks_in, runs, sweeps_in}
+use Rattle.cfs_core.specs.Left.{GoesOn, RunsBy}
 use Rattle.cfs_core.specs.Room.{MayLose, lost_blocks}
 use Rattle.cfs_core.specs.StandsFor.{HasCollection, HasCollector, Serves, bare, drafts_of_seats, is_sweeping}
 use Rattle.cfs_core.proofs.Answering.{reads_none}
 use Rattle.cfs_core.proofs.Collected.{as_before, collection_ready, none_is}
+use Rattle.cfs_core.proofs.Lefts.{events_swept, goes_within}
 use Rattle.cfs_core.proofs.Serving.{running, serves_on, stored}
 use Rattle.cfs_core.proofs.Went.{fewer_calls}
 
@@ -352,10 +354,17 @@ module _ {D : Type 0} (g : Ghosts D) (old : D) (space : Kept) (names : Listing) 
       → ((s : State) → IsState s → names.named ≡ kinds_of s.graph → Collects (g.content old) s k → MayVanish s ids)
       → ((s t : State) → names.named ≡ kinds_of s.graph → Collects (g.content old) s k → graph_blocks s.graph ≤ volume_of k → next 0 s (events.Vanish ids) ≡ Some t → Collects (g.content old) t l)
       → ((s t : State) → names.named ≡ kinds_of s.graph → next 0 s (events.Vanish ids) ≡ Some t → left.named ≡ kinds_of t.graph)
-      → (IsTrue (g.honest old) → length (g.content old) ≤ volume_of k) → StepsSo g old old space space names left k l (Ok (steps.Condemned ids))
-  steps_condemned left ids test kept room_is phase due counted legal keeps lists wide = record {
+      → (IsTrue (g.honest old) → length (g.content old) ≤ volume_of k) → steps_left l < steps_left k → StepsSo g old old space space names left k l (Ok (steps.Condemned ids))
+  steps_condemned left ids test kept room_is phase due counted legal keeps lists wide less = record {
     tries = λ core. record {
-      ends = record { moves = moves core; due = due; counted = (counted.0, counted.1, refl); over = λ s serves. tt };
+      ends = record {
+        moves = moves core;
+        due = due;
+        counted = (counted.0, counted.1, refl);
+        over = λ s serves. tt;
+        goes = λ kept. goes_within (g.blocks old) (record core.collections { collector = Some k }) (record core.collections { collector = Some l }) (steps.Condemned ids) (Some (events.Vanish ids)) refl refl
+            (ap (λ p. marks_in p || sweeps_in p) due.0) (ap (λ p. marks_in p || sweeps_in p) phase) (refl, refl) less (omega (arith, ap events_left phase, ap events_left due.0));
+      };
       calls = read_calls g old old 0 (reads_none g 0 old) (omega arith);
       same = refl;
     };
@@ -392,6 +401,13 @@ module _ {D : Type 0} (g : Ghosts D) (old : D) (space : Kept) (names : Listing) 
       sweeping (phases.Roots c) h = refl
       sweeping phases.Swept h = absurd h
 
+      sweeps_on : (p : Phase) → IsPhaseOf pass p → (marks_in p || sweeps_in p) ≡ true
+      sweeps_on phases.Idle h = absurd h
+      sweeps_on phases.Marking h = absurd h
+      sweeps_on (phases.Inner c) h = refl
+      sweeps_on (phases.Roots c) h = refl
+      sweeps_on phases.Swept h = absurd h
+
       swept_step : (r : Result (Unit {0}) Trouble) → runs (Some l) ≡ true → ((core : Kernel D) → IsMadeOrNot g (before core) (with_parts core new after names l) (told_as r)) → StepsSo g old new space after names names k l (told_as r)
       swept_step r runs ends = record {
         tries = λ core. record { ends = ends core; calls = fewer_calls g 2 1 4 1 old new (omega arith) (omega arith) is.sweep.calls; same = refl };
@@ -413,6 +429,9 @@ module _ {D : Type 0} (g : Ghosts D) (old : D) (space : Kept) (names : Listing) 
         due = sweeping k.phase phase;
         counted = (rw at at is.steps, is.added, refl);
         over = λ s serves. tt;
+        goes = λ kept. goes_within (g.blocks old) (record core.collections { collector = Some k }) (record core.collections { collector = Some l }) steps.Swept None refl refl (sweeps_on k.phase phase)
+            (or_right (marks_in l.phase) (sweeps_in l.phase) (ap sweeps_in (rw at at is.phase) ∙ sweeps_still (volume_of k / 64) pass k.phase phase)) (refl, refl) (rw at at is.less)
+            (omega (arith, ap events_left (rw at at is.phase), events_swept (volume_of k / 64) pass k.phase phase));
       })
       by (Err t) at = swept_step (Err t) (or_right (marks_in l.phase) (sweeps_in l.phase) (ap (λ (x : Collecting). sweeps_in x.phase) (rw at at is.same) ∙ (in_sweep pass k.phase phase).1)) (λ core. record {
         ends = λ s serves none. failed core s serves t at;
@@ -445,6 +464,13 @@ module _ {D : Type 0} (g : Ghosts D) (old : D) (space : Kept) (names : Listing) 
           failed core s serves (trouble.Disk true) at =
               (is.sweep.leaves s _ (served g core old space names k s serves l), record { drawn = serves.front.drawn; names = serves.front.names; grants = serves.front.grants; stopped = serves.front.stopped })
           failed core s serves (trouble.Damaged damage) at = absurd ((rw at at (is.sweep.sound s _ (served g core old space names k s serves l))) tt)
+
+-- a step of the marking leaves less
+pub marks_on : (blocks : ℕ) (c : Collections) (k l : Collecting) (step : Step) → k.phase ≡ phases.Marking → l.phase ≡ k.phase → steps_left l < steps_left k → RunsBy step true true
+    → GoesOn blocks (record c { collector = Some k }) (record c { collector = Some l }) step None
+marks_on blocks c k l step marks phase less by =
+    goes_within blocks (record c { collector = Some k }) (record c { collector = Some l }) step None refl refl (ap (λ p. marks_in p || sweeps_in p) marks) (ap (λ p. marks_in p || sweeps_in p) (phase ∙ marks)) by less
+    (omega (arith, ap events_left phase))
 
 -- ---- why a leaf wasn't read
 

@@ -24,13 +24,14 @@ cause_of g old new (refusals.Disk tried) stopped = stopped tried refl
 cause_of g old new (refusals.Damaged damage) stopped = tt
 cause_of g old new refusals.Memory stopped = tt
 
-module _ {D : Type 0} (g : Ghosts D) (k : Kernel D) (d : D) (space : Kept) (seats : List Seat) (size : g.blocks d ≡ g.blocks k.disk) (faults : g.faults k.disk ≤ g.faults d) (most : ℕ) where
+module _ {D : Type 0} (g : Ghosts D) (k : Kernel D) (d : D) (space : Kept) (seats : List Seat) (size : g.blocks d ≡ g.blocks k.disk) (faults : g.faults k.disk ≤ g.faults d) (later : g.moment k.disk ≤ g.moment d) (most : ℕ) where
   pub went_so : (result : Result Reply Refused) → IfOk result IsPlainReply → IfErr result (IsCause g k.disk d) → Went g k (record k { disk = d; space = space; seats = seats }) most result
   went_so result plain cause = record {
     plain = plain;
     cause = cause;
     size = size;
     faults = faults;
+    later = later;
     stop = refl;
     collections = refl;
     seed = refl;
@@ -57,6 +58,7 @@ module _ {D : Type 0} (g : Ghosts D) (n : ℕ) (old : Kernel D) (d : D) (new : K
     cause = cause_then result is.cause;
     size = is.size ∙ reads.same.size;
     faults = omega (arith, reads.faults, is.faults);
+    later = omega (arith, reads.images.later, is.later);
     stop = is.stop;
     collections = is.collections;
     seed = is.seed;

@@ -21,6 +21,7 @@ pub use Rattle.cfs_recover.specs.Recovered.{IsRecovered}
 pub use Rattle.collector_marks.specs.Kept.{colours_of}
 pub use Rattle.collector_steps.proofs.Shaded.{kind_below}
 pub use Rattle.collector_steps.specs.Collecting.{Collecting, Collects, IsAsBefore, IsCollecting, IsWithin, colours_in, volume_of, waiting_in}
+pub use Rattle.collector_steps.specs.Left.{cylinders_of, events_left, left_in, most_steps, reads_left, steps_left}
 pub use Rattle.collector_steps.specs.Scan.{IsDamaged, IsScanTrouble}
 pub use Rattle.collector_steps.specs.Sweep.{IsSweptOf, NoInner, NoStray, goes, swept}
 pub use Rattle.collector_steps.specs.Swept.{HasSwept, IsPhaseOf, cylinder_of, next_phase}

@@ -19,6 +19,7 @@ use Rattle.cfs_core.specs.declared.kernel.Halt.{Halt}
 use Rattle.cfs_core.specs.declared.kernel.Stop.{Stop}
 use Rattle.cfs_core.specs.Calls.{Owes, leaves_all}
 use Rattle.cfs_core.specs.Kernel.{Kernel}
+use Rattle.cfs_core.specs.Left.{AddsOne}
 use Rattle.cfs_core.specs.Rescues.{AreRescued}
 use Rattle.cfs_core.specs.Room.{MayLose, lost_blocks}
 use Rattle.cfs_core.specs.StandsFor.{StandsFor}
@@ -88,6 +89,8 @@ pub record Asks {D : Type 0} (g : Ghosts D) (old new : Kernel D) (who : ℕ) (re
   pub called : new.collections.called ≡ old.collections.called
   pub finished : new.collections.finished ≡ old.collections.finished
   -- on any disk
+  pub waits : AddsOne (g.blocks old.disk) old.collections new.collections
+  pub later : g.moment old.disk ≤ g.moment new.disk
   pub size : g.blocks new.disk ≡ g.blocks old.disk
   pub faults : g.faults old.disk ≤ g.faults new.disk
   pub short : IsShortContent reply

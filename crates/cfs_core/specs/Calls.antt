@@ -145,6 +145,7 @@ pub record Went {D : Type 0} (g : Ghosts D) (old new : Kernel D) (most : ℕ)
   pub cause : IfErr result (IsCause g old.disk new.disk)
   pub size : g.blocks new.disk ≡ g.blocks old.disk
   pub faults : g.faults old.disk ≤ g.faults new.disk
+  pub later : g.moment old.disk ≤ g.moment new.disk
   pub stop : new.stop ≡ old.stop
   pub collections : new.collections ≡ old.collections
   pub seed : new.words.seed ≡ old.words.seed

@@ -14,6 +14,7 @@ use Rattle.cfs_base.specs.declared.refusal.Refused.TheVariants as refusals
 use Rattle.cfs_base.specs.declared.refusal.Trouble.{Trouble}
 use Rattle.collector_steps.specs.Collecting as Keeps
 use Rattle.collector_steps.specs.Collecting.{Collecting, volume_of, waiting_in}
+use Rattle.collector_steps.specs.Left.{most_steps, steps_left}
 use Rattle.collector_steps.specs.declared.phase.Phase.{Phase}
 use Rattle.collector_steps.specs.declared.phase.Phase.TheVariants as phases
 use Rattle.cyl_alloc.specs.Space.{Kept}
@@ -40,7 +41,8 @@ use Rattle.cfs_core.specs.declared.collecting.Step.TheVariants as steps
 use Rattle.cfs_core.specs.declared.kernel.Stop.{Stop}
 use Rattle.cfs_core.specs.Asked.{Happens}
 use Rattle.cfs_core.specs.Calls.{IsCause}
-use Rattle.cfs_core.specs.Kernel.{Kernel, runs}
+use Rattle.cfs_core.specs.Kernel.{AreKept, Kernel, runs}
+use Rattle.cfs_core.specs.Left.{GoesOn}
 use Rattle.cfs_core.specs.Rescues.{AreRescued}
 use Rattle.cfs_core.specs.Room.{MayLoseBy, lost_blocks}
 use Rattle.cfs_core.specs.StandsFor.{IsFront, Serves, StandsFor}
@@ -105,6 +107,7 @@ pub record HasBegun (roots : List Puid) (named : List (Puid × Kind)) (l : Colle
   pub phase : l.phase ≡ phases.Marking
   pub steps : l.steps ≡ 1
   pub added : l.added ≡ 0
+  pub left : steps_left l < most_steps (volume_of l)
   pub keeps : (seed : ℕ) (s t : State) (image : Image) → IsState s → named ≡ kinds_of s.graph
       → ((x : Puid) → is_among x roots ≡ is_among x (starts_now s))
       → next seed s events.Began ≡ Some t → Keeps.Collects image t l
@@ -187,6 +190,8 @@ pub record IsMade {D : Type 0} (g : Ghosts D) (old new : Kernel D) (step : Step)
   pub due : IsDue old.collections step
   pub counted : AreCounted old.collections new.collections step
   pub over : (s : State) → Serves g old s → IsOver g old new s step
+  pub goes : AreKept (g.blocks old.disk) old.collections
+      → GoesOn (g.blocks old.disk) old.collections new.collections step (event_of step)
 
 -- none was
 pub record IsUnmade {D : Type 0} (g : Ghosts D) (old new : Kernel D) (e : Refused) : Type 0 where
@@ -271,13 +276,15 @@ IsFaultCause g old new (faults.Disk (Some moment)) = HasStopped g true old new �
 IsFaultCause g old new (faults.Damaged damage moment) = moment ≡ g.moment new
 IsFaultCause g old new (faults.Stopped moment) = Unit {0}
 
--- want of memory, and a device call that failed without a doubt, leave all as it was
+-- want of memory, and a device call that failed without a doubt, leave all as it was; and so does a core that had
+-- stopped at that moment
 abbrev pub LeavesAll : {D : Type 0} → Ghosts D → Kernel D → Kernel D → CollectFault → Type 0
 LeavesAll g old new faults.Memory = IsUnchanged g old new
 LeavesAll g old new (faults.Disk None) = IsUnchanged g old new
 LeavesAll g old new (faults.Disk (Some moment)) = Unit {0}
 LeavesAll g old new (faults.Damaged damage moment) = Unit {0}
-LeavesAll g old new (faults.Stopped moment) = Unit {0}
+LeavesAll g old new (faults.Stopped moment) =
+    (new ≡ old) × ((stop : Stop) × (old.stop ≡ Some stop) × (stop.moment ≡ moment))
 
 abbrev pub IsNoDamage : CollectFault → Type 0
 IsNoDamage faults.Memory = Unit {0}
@@ -308,3 +315,6 @@ pub record Collects {D : Type 0} (g : Ghosts D) (old new : Kernel D) (result : R
   pub root : new.root ≡ old.root
   pub words : new.words ≡ old.words
   pub seats : new.seats ≡ old.seats
+  -- whatever disk it is, less is left to do
+  pub goes : IfOk result (λ step.
+      GoesOn (g.blocks old.disk) old.collections new.collections step (event_of step))

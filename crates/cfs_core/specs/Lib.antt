@@ -1,4 +1,5 @@
 pub mod Kernel
+pub mod Left
 pub mod Seats
 pub mod StandsFor
 pub mod Leaving

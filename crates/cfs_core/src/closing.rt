@@ -106,6 +106,7 @@ impl<D: Disk> Core<D> {
         ensures words { self.new.words ≡ self.old.words }
         ensures size { D.blocks self.new.disk ≡ D.blocks self.old.disk }
         ensures faults { D.faults self.old.disk ≤ D.faults self.new.disk }
+        ensures later { D.moment self.old.disk ≤ D.moment self.new.disk }
         ensures collections { self.new.collections ≡ self.old.collections }
         ensures goes_on { OnOk result (self.new.stop ≡ self.old.stop) }
         // The core stopped at this moment, where a device call failed, or at a damage.

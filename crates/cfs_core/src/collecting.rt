@@ -5,6 +5,7 @@ ghost use Rattle.cfs_core.specs.Collect.{Collects, HasBegun, StepsSo, TriesStep,
 ghost use Rattle.cfs_core.specs.Collect.{phase_of, stop_by, sweeps_blocks, told_as};
 ghost use Rattle.cfs_core.specs.Kernel.{Seat, marks_in, runs, sweeps_in};
 ghost use Rattle.collector_steps.specs.Collecting.{volume_of};
+ghost use Rattle.collector_steps.specs.Left.{most_steps};
 ghost use Rattle.cyl_alloc.specs.Space as space;
 ghost use Rattle.open_table.specs.declared.grant.Grant as grant;
 
@@ -191,6 +192,15 @@ impl<D: Disk> Core<D> {
         } }
     {
         self.collections.called += more;
+    }
+
+    /// How many steps a collection takes on this disk at most, whatever lies there, and one for each rescue.
+    pub fn most_steps(&self) -> u64
+        ensures steps { result ≡ most_steps (D.blocks self.now.disk) }
+        ensures small { result < 70368744177664 }
+    {
+        let blocks = u64::from(self.disk.blocks());
+        15_361 * blocks + 2 * (blocks / 64) + 5
     }
 
     /// Makes one step of the collector, the first that is due. At most 4 device calls, at most one of them a write.

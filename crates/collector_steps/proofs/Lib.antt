@@ -4,6 +4,7 @@ pub mod Slots
 pub mod Damage
 pub mod Indices
 pub mod Kept
+pub mod Lefts
 pub mod Directories
 pub mod Maps
 pub mod Sweeping

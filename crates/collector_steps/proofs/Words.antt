@@ -26,6 +26,8 @@ pub use Rattle.cfs_base.specs.declared.kind.Kind.{Kind}
 pub use Rattle.cfs_base.specs.declared.refusal.Trouble.{Trouble}
 pub use Rattle.collector_marks.specs.Kept.{blocks_of, colours_of}
 pub use Rattle.collector_steps.specs.Collecting.{Collecting, Collects, IsCollecting, IsWithin, Serves, colours_in, volume_of, waiting_in}
+pub use Rattle.collector_steps.specs.Left.{cylinders_of, left_in, most_steps, reads_of, steps_left}
+unfoldable pub use Rattle.collector_steps.specs.Left.{reads_left, unmarked_below}
 pub use Rattle.collector_steps.specs.Scan.{IsDamaged, IsLeafTrouble, IsScanTrouble, LeadsPast, NoRoot, PastDisk, next_cursor, stepped, trouble_of}
 unfoldable pub use Rattle.collector_steps.specs.Scan.{ids_from}
 pub use Rattle.collector_steps.specs.Steady.{IsReady}
@@ -53,7 +55,7 @@ pub use Rattle.marking.proofs.Leaves.{index_there}
 pub use Rattle.marking.proofs.Paces.{pace_begin, pace_end, pace_scan, pace_take, scan_raises}
 pub use Rattle.marking.proofs.Steps.{begin_keeps, begun, find_least, find_none, find_on, first_is, first_marked, scan_keeps, take_keeps}
 pub use Rattle.marking.proofs.Wells.{well}
-pub use Rattle.marking.specs.Colours.{Colours, all_shaded, first_grey, moved, none_marked}
+pub use Rattle.marking.specs.Colours.{Colours, all_shaded, first_grey, moved, none_marked, shaded, shaded_in}
 pub use Rattle.marking.specs.Leaves.{leaf_ids}
 pub use Rattle.marking.specs.Marking.{IsGrey, IsMarking}
 pub use Rattle.marking.specs.Pace.{IsPaced}
@@ -68,10 +70,10 @@ pub use Rattle.std.proofs.lemmas.List.{append-nil, at_drop_more, drop_all, drop_
 pub use Rattle.std.proofs.lemmas.List.Edits.{map_over_more}
 pub use Rattle.std.proofs.lemmas.List.Elements.{All-map}
 pub use Rattle.std.proofs.lemmas.List.FromFn.{get_or-map-range_with_len, length-map-range_with_len}
-pub use Rattle.std.proofs.lemmas.List.Sums.{count_by_more_no, count_by_more_yes}
+pub use Rattle.std.proofs.lemmas.List.Sums.{count_by_more_no, count_by_more_yes, sum_by-cons}
 pub use Rattle.std.proofs.lemmas.Option.{get_or_from_slice_get, same_Some}
 pub use Rattle.std.proofs.lemmas.Result.{err_from_is_err_and}
-pub use Rattle.std.specs.List.{cons_option, filter_map, flat_map, list_all, range_with_len}
+pub use Rattle.std.specs.List.{cons_option, filter_map, flat_map, list_all, range_with_len, sum_by}
 pub use Rattle.std.specs.Map.{keys_of}
 pub use Rattle.std.specs.Prelude.{IfSome, IsSome, IsTrue, filter, option_map, option_to_list, slice_get}
 pub use Rattle.ufs_model.proofs.Reached.{same_puid_is}

@@ -1,6 +1,6 @@
 -- What the sweep of one cylinder does to a disk and to the counts of its Free blocks.
-use Rattle.std.specs.Prelude.{◌≡◌, ℕ, ◌+◌, ◌*◌, ◌/◌, nat_lt, if◌then◌else◌, false, List, length, Result, IfErr, OnErr}
-use Rattle.std.specs.Prelude.{OnOk}
+use Rattle.std.specs.Prelude.{◌≡◌, ℕ, ◌+◌, ◌*◌, ◌/◌, ◌<◌, nat_lt, if◌then◌else◌, false, List, length, Result}
+use Rattle.std.specs.Prelude.{IfErr, OnErr, OnOk}
 use Rattle.cfs_base.specs.Calls.{MakesAtMost, OnlyReads}
 use Rattle.cfs_base.specs.Outside.{count_after}
 use Rattle.cfs_base.specs.Run.{Leaves, Tells}
@@ -20,6 +20,7 @@ use Rattle.collector_steps.specs.declared.phase.Phase.TheVariants as phases
 use Rattle.collector_steps.specs.declared.sweep.Pass.{Pass}
 use Rattle.collector_steps.specs.declared.sweep.Pass.TheVariants as passes
 use Rattle.collector_steps.specs.Collecting.{Collecting, Collects, Serves, volume_of}
+use Rattle.collector_steps.specs.Left.{steps_left}
 use Rattle.collector_steps.specs.Sweep.{IsSweptOf, MayBegin}
 
 abbrev pub IsDamage : Trouble → Type 0
@@ -86,6 +87,7 @@ pub record HasSwept {D : Type 0} (g : Ghosts D) (names : List (Puid × Kind)) (p
   pub phase : OnOk result (l.phase ≡ next_phase (volume_of k / 64) k.phase)
   pub steps : OnOk result (l.steps ≡ count_after k.steps)
   pub added : l.added ≡ k.added
+  pub less : OnOk result (steps_left l < steps_left k)
   pub marks : l.marks ≡ k.marks
   pub rescues : l.rescues ≡ k.rescues
   pub same : OnErr result (l ≡ k)

@@ -5,6 +5,7 @@ ghost use Rattle.cfs_base.specs.Disk.{Image};
 ghost use Rattle.cfs_base.specs.Outside.{count_after};
 ghost use Rattle.cfs_base.specs.declared.identifier.Puid.{Puid};
 ghost use Rattle.collector_steps.specs.Collecting.{Collects, IsAsBefore, colours_in, volume_of, waiting_in};
+ghost use Rattle.collector_steps.specs.Left.{most_steps, steps_left};
 ghost use Rattle.marking.specs.Colours.{all_shaded, none_marked};
 ghost use Rattle.marking.specs.Steps.{rescued};
 ghost use Rattle.marking.specs.declared.memory.Rescue as memory;
@@ -89,12 +90,15 @@ impl Collector {
         ensures phase { OnOk result (self.new.phase ≡ Phase.Marking) }
         ensures counts { OnOk result ((self.new.steps ≡ 1) × (self.new.added ≡ 0)) }
         ensures volume { volume_of self.new ≡ volume_of self.old }
+        // Whatever disk it is, so many steps come to its end, if nothing is rescued.
+        ensures left { OnOk result (steps_left self.new < most_steps (volume_of self.new)) }
         ensures same { OnErr result (IsAsBefore self.old self.new) }
         ensures keeps { (seed : ℕ) (s t : State) (image : Image) → IsState s → names.now.named ≡ kinds_of s.graph
             → ((x : Puid) → is_among x roots.now ≡ is_among x (starts_now s)) → next seed s events.Began ≡ Some t
             → OnOk result (Collects image t self.new) }
     {
         kinds_follow_the_graph();
+        let _room = names.room();
         self.condemned.reserve(self.marks.blocks())?;
         self.marks.clear();
         self.rescues.clear();
@@ -137,10 +141,12 @@ impl Collector {
         ensures steps { self.new.steps ≡ count_after self.old.steps }
         ensures added { self.new.added ≡ self.old.added }
         ensures volume { volume_of self.new ≡ volume_of self.old }
+        ensures less { steps_left self.new < steps_left self.old }
         ensures keeps { (s : State) (image : Image) → IsState s → names.now.named ≡ kinds_of s.graph
             → Collects image s self.old → Collects image s self.new }
     {
         kinds_follow_the_graph();
+        let _room = names.room();
         let Some(rescue) = self.rescues.take() else {
             unreachable!();
         };
@@ -156,6 +162,7 @@ impl Collector {
         ensures added { self.new.added ≡ self.old.added }
         ensures marks { self.new.marks ≡ self.old.marks }
         ensures waiting { waiting_in self.new ≡ waiting_in self.old }
+        ensures less { steps_left self.new < steps_left self.old }
         ensures bounded { (s : State) (image : Image) → Collects image s self.old → self.old.added < 2 ^ 64 - 1
             → self.new.steps ≤ volume_of self.old + self.old.added + 2 * (volume_of self.old / 64) + 3 }
     {

@@ -1,10 +1,11 @@
 //! What a collection condemns.
-ghost use Rattle.std.specs.Prelude.{◌≡◌, ℕ, ◌+◌, ◌≤◌, List, [], ◌++◌, length, vec_capacity, vec_len, Some};
+ghost use Rattle.std.specs.Prelude.{◌≡◌, ℕ, ◌+◌, ◌<◌, ◌≤◌, List, [], ◌++◌, length, vec_capacity, vec_len, Some};
 ghost use Rattle.std.specs.Map.{keys_of};
 ghost use Rattle.cfs_base.specs.Disk.{Image};
 ghost use Rattle.cfs_base.specs.Outside.{count_after};
 ghost use Rattle.collector_marks.specs.Kept.{colours_of};
 ghost use Rattle.collector_steps.specs.Collecting.{Collects, colours_in, volume_of, waiting_in};
+ghost use Rattle.collector_steps.specs.Left.{steps_left};
 ghost use Rattle.collector_steps.specs.declared.phase.Phase.TheVariants as phases;
 ghost use Rattle.marking.specs.Steps.{unmarked};
 ghost use Rattle.puid_space.specs.Directory.{kept_by, taken_by};
@@ -50,6 +51,7 @@ impl Collector {
         ensures added { self.new.added ≡ self.old.added }
         ensures waiting { waiting_in self.new ≡ waiting_in self.old }
         ensures volume { volume_of self.new ≡ volume_of self.old }
+        ensures less { steps_left self.new < steps_left self.old }
         ensures legal { (s : State) (image : Image) → IsState s → names.old.named ≡ kinds_of s.graph
             → Collects image s self.old → MayVanish s result }
         ensures keeps { (seed : ℕ) (s t : State) (a b : Image) → names.old.named ≡ kinds_of s.graph

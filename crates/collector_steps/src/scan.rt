@@ -11,6 +11,7 @@ ghost use Rattle.cfs_base.specs.Refusals.{trouble_had_tried};
 ghost use Rattle.cfs_base.specs.Run.{Tells};
 ghost use Rattle.collector_marks.specs.Kept.{blocks_of, colours_of};
 ghost use Rattle.collector_steps.specs.Collecting.{Collects, IsAsBefore, Serves, colours_in, volume_of};
+ghost use Rattle.collector_steps.specs.Left.{steps_left};
 ghost use Rattle.collector_steps.specs.Scan.{IsDamaged, IsLeafTrouble, IsScanTrouble, ids_from, stepped, trouble_of};
 ghost use Rattle.marking.specs.Colours.{first_grey};
 ghost use Rattle.marking.specs.Steps.{scanned};
@@ -83,7 +84,7 @@ fn next_leaf<D: Disk>(
         → IfOk result (IsStepped (D.content disk.old) (block_at (D.content disk.old) block) cursor) }
     ensures content { Tells D.Disk disk.old → IfOk result (λ step. IfSome step (λ s.
         into.new ≡ block_at (D.content disk.old) s.held.block)) }
-    ensures inside { IfOk result (λ step. IfSome step (λ s. s.held.leaf < leaf_limit)) }
+    ensures inside { IfOk result (λ step. IfSome step (λ s. (cursor ≤ s.held.leaf) × (s.held.leaf < leaf_limit))) }
     ensures refused { IfErr result (IsScanTrouble D.Disk disk.old disk.new block) }
     ensures untried { IfErr result (λ trouble. trouble_had_tried trouble ≡ false) }
     ensures reads { OnlyReads D.Disk 4 disk.old disk.new }
@@ -137,6 +138,7 @@ impl Collector {
         ensures steps { OnOk result (self.new.steps ≡ count_after self.old.steps) }
         ensures added { self.new.added ≡ self.old.added }
         ensures volume { volume_of self.new ≡ volume_of self.old }
+        ensures less { OnOk result (steps_left self.new < steps_left self.old) }
         ensures same { OnErr result (IsAsBefore self.old self.new) }
         ensures refused { (e : grey.Grey) → first_grey (colours_in self.old) ≡ Some e
             → IfErr result (IsScanTrouble D.Disk disk.old disk.new e.id.block) }
@@ -146,6 +148,7 @@ impl Collector {
         ensures reads { OnlyReads D.Disk 4 disk.old disk.new }
     {
         kinds_follow_the_graph();
+        let _room = names.room();
         let Some(grey) = self.marks.next_grey() else {
             return Ok(());
         };

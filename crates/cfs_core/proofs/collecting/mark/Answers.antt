@@ -3,7 +3,7 @@ use Rattle.cfs_core.proofs.Words.{both_ways, colours_in, refused_by, waiting_in}
 use Rattle.cfs_core.specs.declared.collecting.Step.TheVariants as steps
 use Rattle.cfs_core.specs.Collect.{StepsSo}
 use Rattle.cfs_core.proofs.Answering.{reads_none}
-use Rattle.cfs_core.proofs.Stepping.{first_there, no_want, none_left, scan_calm, scan_cause, steps_condemned, steps_failed, steps_read}
+use Rattle.cfs_core.proofs.Stepping.{first_there, marks_on, no_want, none_left, scan_calm, scan_cause, steps_condemned, steps_failed, steps_read}
 use Rattle.cfs_core.proofs.collecting.mark.Goals as goal
 
 pub returns-then-has_rescue : goal.returns-then-has_rescue
@@ -11,7 +11,13 @@ returns-then-has_rescue g c = λ kept.
     let d = c.args.disk.now in
     steps_read g.D.Disk d kept c.args.names.now c.args.collector.now c.take.new.self c.take.ensures.volume 0 d (reads_none g.D.Disk 0 d) (omega arith) c.requires.marks c.take.ensures.phase
     (λ s ds serves col. c.take.ensures.keeps s (g.D.Disk.content d) serves.state serves.named col) steps.Took
-    (λ core moves. record { moves = moves; due = (c.requires.marks, c.has_rescue.ensures.0 c.if-has_rescue.true); counted = (c.take.ensures.steps, c.take.ensures.added, refl); over = λ s serves. tt })
+    (λ core moves. record {
+      moves = moves;
+      due = (c.requires.marks, c.has_rescue.ensures.0 c.if-has_rescue.true);
+      counted = (c.take.ensures.steps, c.take.ensures.added, refl);
+      over = λ s serves. tt;
+      goes = λ k. marks_on (g.D.Disk.blocks d) core.collections c.args.collector.now c.take.new.self steps.Took c.requires.marks c.take.ensures.phase c.take.ensures.less (refl, refl);
+    })
 
 pub returns-in-Ok : goal.returns-in-Ok
 returns-in-Ok g c = λ kept.
@@ -19,7 +25,13 @@ returns-in-Ok g c = λ kept.
     let taken : waiting_in k ≡ [] = none_left (waiting_in k) (λ some. both_ways _ c.if-has_rescue.false (c.has_rescue.ensures.1 some)) in
     steps_read g.D.Disk c.args.disk.now kept c.args.names.now k c.scan.new.self c.scan.ensures.volume 4 c.scan.new.disk c.scan.ensures.reads (omega arith) c.requires.marks c.scan.ensures.phase
     (λ s ds serves col. c.in-Ok.ensures.keeps s ds serves col) steps.Scanned
-    (λ core moves. record { moves = moves; due = (c.requires.marks, taken, c.has_grey.ensures.0 c.if-has_grey.true); counted = (c.in-Ok.ensures.steps, c.scan.ensures.added, refl); over = λ s serves. tt })
+    (λ core moves. record {
+      moves = moves;
+      due = (c.requires.marks, taken, c.has_grey.ensures.0 c.if-has_grey.true);
+      counted = (c.in-Ok.ensures.steps, c.scan.ensures.added, refl);
+      over = λ s serves. tt;
+      goes = λ kept. marks_on (g.D.Disk.blocks c.args.disk.now) core.collections k c.scan.new.self steps.Scanned c.requires.marks c.scan.ensures.phase c.in-Ok.ensures.less (refl, refl);
+    })
 
 pub returns-in-Err : goal.returns-in-Err
 returns-in-Err g c = λ kept.
@@ -48,4 +60,4 @@ returns g c = λ kept.
     steps_condemned g.D.Disk d kept c.args.names.now k c.condemn-ids.new.self done.volume c.condemn-ids.new.names c.condemn-ids.result (colours_in k).marked done.named done.room done.phase
     (c.requires.marks, taken, read) (done.steps, done.added) (λ s state named col. done.legal s (g.D.Disk.content d) state named col)
     (λ s t named col few step. done.keeps 0 s t (g.D.Disk.content d) (g.D.Disk.content d) named col few step) (λ s t named step. done.left 0 s t named step)
-    (λ honest. omega (arith, g.met.D.Disk.sized d honest, c.requires.size))
+    (λ honest. omega (arith, g.met.D.Disk.sized d honest, c.requires.size)) done.less

@@ -4,6 +4,7 @@ use Rattle.cfs_core.specs.Asked.{Asks, told}
 use Rattle.cfs_core.specs.Kernel.{Kernel}
 use Rattle.cfs_core.specs.Rescues.{HasRoomFor, rescue_of}
 use Rattle.cfs_core.proofs.Asked.{asks_answered, asks_refused, asks_starved, asks_stopped}
+use Rattle.cfs_core.proofs.Lefts.{at_most_one}
 use Rattle.cfs_core.proofs.kernel.Core.ask.Goals as goal
 
 pub returns-in-Some : goal.returns-in-Some
@@ -25,7 +26,7 @@ returns-in-Ok g c =
     (subst (λ x. Asks g.D.Disk c.args.self.now x c.args.who c.args.request.now c.in-Ok.reply) (sym c.tell.ensures.new)
     (subst (λ x. Asks g.D.Disk x (record c.answer.new.self { collections = c.tell.new.self.collections }) c.args.who c.args.request.now c.in-Ok.reply) c.self.view_is
     (asks_answered g.D.Disk g.met.D.Disk.sized k c.make_room.new.self c.make_room.ensures.same c.make_room.ensures.called c.make_room.ensures.finished c.answer.new.self c.tell.new.self.collections c.args.who c.args.request.now c.in-Ok.reply (option_to_list (rescue_of c.aim-index.result c.args.request.now c.in-Ok.reply))
-    (λ s serves. c.aim-index.ensures s serves c.in-Ok.reply) c.tell.ensures.rescued c.tell.ensures.called c.tell.ensures.finished c.in_default.is c.in-Ok.ensures)))
+    (λ s serves. c.aim-index.ensures s serves c.in-Ok.reply) c.tell.ensures.rescued c.tell.ensures.called c.tell.ensures.finished c.in_default.is (at_most_one (rescue_of c.aim-index.result c.args.request.now c.in-Ok.reply)) c.in-Ok.ensures)))
 
 pub returns-in-Err-answer : goal.returns-in-Err-answer
 returns-in-Err-answer g c =

@@ -37,6 +37,9 @@ returns-clause-size g c = c.loop-grant.invariant.size
 pub returns-clause-faults : goal.returns-clause-faults
 returns-clause-faults g c = c.loop-grant.invariant.faults
 
+pub returns-clause-later : goal.returns-clause-later
+returns-clause-later g c = c.loop-grant.invariant.later
+
 pub returns-clause-collections : goal.returns-clause-collections
 returns-clause-collections g c = c.loop-grant.invariant.collections
 

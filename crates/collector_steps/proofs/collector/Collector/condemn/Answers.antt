@@ -1,8 +1,10 @@
-use Rattle.std.proofs.Common.{◌≡◌, ◌∙◌, List, [], ap, arith, subst, sym, vec_len, vec_capacity, length, ◌++◌, Vec, Global, not}
+use Rattle.std.proofs.Common.{◌≡◌, ◌∙◌, List, [], ap, arith, refl, subst, sym, vec_len, vec_capacity, length, ◌++◌, Vec, Global, not}
 use Rattle.collector_steps.proofs.Words.{Collecting, Collects, Image, IsMarking, IsPaced, IsReady, MayVanish, Phase, Puid, Rescue, State, allowed, blocks_of, colours_in, colours_of, condemned_may_vanish, filter, ids_of, is_among, kept_by, keys_of, kinds_of, pace_end, taken_by, unmarked, volume_of, well, without}
+use Rattle.collector_steps.specs.declared.phase.Phase.TheVariants as phases
 use Rattle.ufs_model.specs.declared.collection.Collection.TheVariants as collections
 use Rattle.collector_steps.proofs.Directories.{few_named, taken_unmarked}
 use Rattle.collector_steps.proofs.Kept.{of_marking}
+use Rattle.collector_steps.proofs.Lefts.{condemns_less}
 use Rattle.collector_steps.proofs.collector.Collector.condemn.Goals as goal
 
 pub take_unmarked-requires : goal.take_unmarked-requires
@@ -59,3 +61,8 @@ returns-clause-left c = λ seed s t named gone.
   where
     vanished : State → List Puid → State
     vanished s ids = record s { graph = without s.graph ids; collection = collections.Sweeping }
+
+pub returns-clause-less : goal.returns-clause-less
+returns-clause-less c =
+    let l : Collecting = record { marks = c.self.inside.marks; rescues = c.self.inside.rescues; phase = phases.Inner 0; steps = c.saturating_add-self-inside.result; added = c.self.inside.added } in
+    condemns_less c.args.self.now l (ap volume_of c.self.view_is) c.requires.phase refl

@@ -1,14 +1,19 @@
-use Rattle.std.proofs.Common.{◌≡◌, ◌∙◌, List, sym, ap, subst, Some}
-use Rattle.collector_steps.proofs.Words.{Collecting, Colours, Grey, Index, Opened, Serves, State, block_at, colours_in, colours_of, count_after, err_from_is_err_and, first_grey, ids_from, object_at, same_Some, scanned, stepped, the_view, waiting_in}
+use Rattle.std.proofs.Common.{◌≡◌, ◌∙◌, List, length, sym, ap, subst, arith, Some}
+use Rattle.collector_steps.proofs.Words.{Collecting, Colours, Grey, Index, Opened, Serves, State, block_at, colours_in, colours_of, count_after, err_from_is_err_and, first_grey, ids_from, object_at, reads_left, same_Some, scanned, stepped, the_view, volume_of, waiting_in}
 use Rattle.ufs_model.specs.declared.object.Object.TheVariants as objects
 use Rattle.collector_steps.proofs.Firsts.{none_first}
 use Rattle.collector_steps.proofs.Indices.{alive, sound_index, stepped_is, tree_of_index}
 use Rattle.collector_steps.proofs.Kept.{are_names, grey_index, of_marking, scan_kept, as_marking}
+use Rattle.collector_steps.proofs.Lefts.{marks_less, stepped_less}
 use Rattle.collector_steps.proofs.collector.Collector.scan.Given.{Over}
 use Rattle.collector_steps.proofs.collector.Collector.scan.Goals as goal
 
 pub returns-in_default-clause-steps : goal.returns-in_default-clause-steps
 returns-in_default-clause-steps g c =
+    absurd (c.requires.grey (ap (λ (k : Collecting). k.marks.grey) (sym c.self.view_is) ∙ none_first c.self.inside.marks.grey (sym c.next_grey.ensures.first ∙ c.in_default.is)))
+
+pub returns-in_default-clause-less : goal.returns-in_default-clause-less
+returns-in_default-clause-less g c =
     absurd (c.requires.grey (ap (λ (k : Collecting). k.marks.grey) (sym c.self.view_is) ∙ none_first c.self.inside.marks.grey (sym c.next_grey.ensures.first ∙ c.in_default.is)))
 
 -- the index that is read is the first grey one, and its colours are those from before
@@ -57,3 +62,10 @@ returns-in_err-step-clause-sound g c = λ s ds serves is.
     let i = grey_index s (colours_in c.args.self.now) _ c.in-Some.grey marking.0 first in
     let t = tree_of_index (g.D.Disk.content d) s.graph serves.carries.holds id i.0 i.1 (serves.accounts.objects id (objects.Index i.0) i.1).no_bit in
     rw (p.1, p.2) (sound_index g.D.Disk d c.next_leaf.new.disk id.block t.0 i.0 c.in_err-step.field-0.0 tells (g.met.D.Disk.of_blocks d tells.honest) (g.met.D.Disk.sized d tells.honest) t.1 c.in_err-step.ensures.refused)
+
+pub returns-clause-less : goal.returns-clause-less
+returns-clause-less g c =
+    let k = c.args.self.now in
+    let less = stepped_less (volume_of k) c.args.names.now c.room-room.ensures.listing c.requires.blocks (colours_in k) c.in-Some.grey c.in_ok-step.step (ids_from c.next_leaf.new.into 0) (first_here g c) c.in_ok-step.ensures.inside in
+    let now = ap (reads_left (volume_of k)) (c.read_on.ensures.stepped ∙ ap (λ (colours : Colours). stepped c.args.names.now.named c.in_ok-step.step (ids_from c.next_leaf.new.into 0) colours) (ap colours_in c.self.view_is)) in
+    marks_less k _ (c.read_on.ensures.blocks ∙ ap volume_of c.self.view_is) c.requires.phase (ap (λ (k : Collecting). k.phase) c.self.view_is) (omega (arith, less, now, ap (λ (k : Collecting). length (waiting_in k)) c.self.view_is))

@@ -1,6 +1,7 @@
 use Rattle.std.proofs.Common.{◌≡◌, ◌∙◌, ◌*◌, ◌/◌, ◌<◌, ℕ, List, ap, arith, length, refl, subst, sym, vec_capacity, Ok}
 use Rattle.collector_steps.proofs.Words.{Collecting, Collects, Ghosts, Graph, HasSwept, IsCollecting, IsPhaseOf, IsSweep, Kept, Kind, Opened, Pass, Phase, Puid, Serves, State, Tells, blocks_of, count_after, cylinder_of, has_block, has_root_in, kinds_of, next_phase, the_view, volume_of}
 use Rattle.collector_steps.proofs.Cylinders.{roots}
+use Rattle.collector_steps.proofs.Lefts.{sweeps_less}
 use Rattle.collector_steps.proofs.Phases.{goes_on, may_begin, ready_below}
 use Rattle.collector_steps.proofs.collector.Collector.sweep.Goals as goal
 
@@ -23,6 +24,7 @@ module _ {D : Type 0} (g : Ghosts D) (names : List (Puid × Kind)) (pass : Pass)
     phase = phase;
     steps = steps;
     added = added;
+    less = sweeps_less k l (ap (λ m. blocks_of m) marks) pass of phase;
     marks = marks;
     rescues = rescues;
     same = tt;

@@ -1,7 +1,8 @@
 use Rattle.std.proofs.Common.{◌≡◌, ◌∙◌, List, ◌∷◌, ap, drop, subst, sym}
-use Rattle.collector_steps.proofs.Words.{Collecting, IsMarking, IsPaced, Rescue, colours_in, count_after, rescued, waiting_in}
+use Rattle.collector_steps.proofs.Words.{Collecting, IsMarking, IsPaced, Rescue, colours_in, count_after, rescued, volume_of, waiting_in}
 use Rattle.collector_steps.proofs.Firsts.{first_of, head_of}
 use Rattle.collector_steps.proofs.Kept.{are_names, as_marking, of_marking, take_kept}
+use Rattle.collector_steps.proofs.Lefts.{takes_less}
 use Rattle.collector_steps.proofs.collector.Collector.take.Goals as goal
 
 pub returns-clause-taken : goal.returns-clause-taken
@@ -25,3 +26,8 @@ returns-clause-keeps c = λ s image state named is.
     (take_kept s state c.args.names.now.named (are_names c.kinds_follow_the_graph.ensures.kind c.args.names.now.named s.graph named) (colours_in c.args.self.now) c.args.self.now.steps c.args.self.now.added c.in-Some.rescue (drop 1 c.self.inside.rescues.list)
     (subst (λ (ws : List Rescue). IsMarking s (colours_in c.args.self.now) ws) waits marking.0)
     (subst (λ (ws : List Rescue). IsPaced s.graph (colours_in c.args.self.now) ws c.args.self.now.steps c.args.self.now.added) waits marking.1))
+
+pub returns-clause-less : goal.returns-clause-less
+returns-clause-less c =
+    takes_less c.args.self.now _ (c.shade_rescued.ensures.blocks ∙ ap volume_of c.self.view_is) c.args.names.now c.room-room.ensures.listing c.requires.blocks c.requires.phase
+    (ap (λ (k : Collecting). k.phase) c.self.view_is) c.requires.waits (returns-clause-taken c)

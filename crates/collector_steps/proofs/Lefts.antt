@@ -1,0 +1,184 @@
+-- How much a collection has left: no step adds to it, and each takes from it.
+use Rattle.std.proofs.Common.{◌≡◌, ℕ, zero, suc, ◌+◌, ◌-◌, ◌*◌, ◌/◌, ◌<◌, ◌≤◌, ◌==◌, ◌||◌, nat_lt, Bool, true, false, cond, List, [], ◌∷◌, length, Option, Some, None, refl, sym, ap, ◌∙◌, subst, arith, inl, inr}
+use Rattle.collector_steps.proofs.Words.{Collecting, Colours, Grey, HeldStep, IfSome, IsPhaseOf, Kind, Listing, Pass, Phase, Puid, Rescue, all_shaded, cases_lt, colours_in, cylinders_of, first_grey, first_is, ids_from, is_listing, kind_in, left_in, most_steps, moved, next_cursor, next_phase, nat_tests, none_marked, reads_left, reads_of, rescued, shaded, shaded_in, stepped, steps_left, sum_by, sum_by-cons, unmarked_below, volume_of, waiting_in}
+use Rattle.marking.specs.Colours.{is_index, shaded_as}
+use Rattle.marking.specs.Steps.{is_live}
+use Rattle.collector_steps.specs.declared.phase.Phase.TheVariants as phases
+use Rattle.collector_steps.specs.declared.sweep.Pass.TheVariants as passes
+use Rattle.collector_steps.proofs.Shaded.{kind_below}
+
+-- ---- marks
+
+-- one block more is marked
+module _ (block : ℕ) (marked : ℕ → Bool) where
+  abbrev more : ℕ → Bool
+  more n = (n == block) || marked n
+
+  same_below : (n : ℕ) → n ≤ block → unmarked_below n more ≡ unmarked_below n marked
+  unfolding unmarked_below
+  same_below zero le = refl
+  same_below (suc n) le =
+      let other : (n == block) ≡ false = grind (arith, nat_tests) in
+      let before = same_below n (omega (arith, le)) in
+      rw (other, before) refl
+
+  one_less : (n : ℕ) → block < n → marked block ≡ false → unmarked_below n more + 1 ≡ unmarked_below n marked
+  unfolding unmarked_below
+  one_less zero inside none = absurd (omega (arith, inside))
+  one_less (suc n) inside none = elim (cases_lt block n) [
+    | inl less ↦
+        let other : (n == block) ≡ false = grind (arith, nat_tests) in
+        let before = one_less n less none in
+        rw other (omega (arith, before))
+    | inr last ↦
+        let here : n ≡ block = omega (arith, inside, last) in
+        let before = same_below n (omega (arith, here)) in
+        let yes : (n == block) ≡ true = grind (arith, nat_tests) in
+        let no : marked n ≡ false = ap marked here ∙ none in
+        rw (yes, no) (omega (arith, before))
+  ]
+
+none_below : (n : ℕ) → unmarked_below n none_marked.marked ≤ n
+unfolding unmarked_below
+none_below zero = omega arith
+none_below (suc n) = let before = none_below n in omega (arith, before)
+
+-- ---- shading
+
+module _ (blocks : ℕ) where
+  -- the first grey index is read on, or to its end
+  with_first : (c : Colours) (e : Grey) (rest : List Grey) → c.grey ≡ e ∷ rest → reads_left blocks c ≡ 15361 * unmarked_below blocks c.marked + (reads_of e + sum_by reads_of rest)
+  unfolding reads_left
+  with_first c e rest is = ap (λ es. 15361 * unmarked_below blocks c.marked + sum_by reads_of es) is ∙ ap (λ n. 15361 * unmarked_below blocks c.marked + n) (sum_by-cons reads_of e rest)
+
+  moved_on : (c : Colours) (e : Grey) (rest : List Grey) → c.grey ≡ e ∷ rest → (next : Option ℕ) → IfSome next (λ n. (e.cursor < n) × (n ≤ 15360)) → reads_left blocks (moved next c) < reads_left blocks c
+  unfolding reads_left
+  moved_on c e rest is None less =
+      let before = with_first c e rest is in
+      let after : (moved None c).grey ≡ rest = ap (λ es. (moved None (record c { grey = es })).grey) is in
+      rw after (omega (arith, before))
+  moved_on c e rest is (Some n) less =
+      let f : Grey = record { id = e.id; cursor = n } in
+      let before = with_first c e rest is in
+      let after : (moved (Some n) c).grey ≡ f ∷ rest = ap (λ es. (moved (Some n) (record c { grey = es })).grey) is in
+      let now = sum_by-cons reads_of f rest in
+      rw after (omega (arith, before, now, less.0, less.1))
+
+  pub none_left : (c : Colours) → c.marked ≡ none_marked.marked → c.grey ≡ [] → reads_left blocks c ≤ 15361 * blocks
+  unfolding reads_left
+  none_left c marked grey = rw (marked, grey) (let few = none_below blocks in omega (arith, few))
+
+  shaded_less : (id : Puid) (kind : Kind) (c : Colours) → id.block < blocks → reads_left blocks (shaded id kind c) ≤ reads_left blocks c
+  unfolding reads_left
+  shaded_less id kind c inside = at (c.marked id.block) refl
+    where
+      new : Bool → Colours
+      new true = c
+      new false = record { marked = λ block. (block == id.block) || c.marked block; grey = cond (is_index kind) (record { id = id; cursor = 0 } ∷ c.grey) c.grey }
+
+      at : (b : Bool) → c.marked id.block ≡ b → reads_left blocks (cond b c (record { marked = λ block. (block == id.block) || c.marked block; grey = cond (is_index kind) (record { id = id; cursor = 0 } ∷ c.grey) c.grey })) ≤ reads_left blocks c
+      at true is = omega arith
+      at false is =
+          let less = one_less id.block c.marked blocks inside is in
+          elim (is_index kind) as (λ i. 15361 * unmarked_below blocks (λ block. (block == id.block) || c.marked block) + sum_by reads_of (cond i (record { id = id; cursor = 0 } ∷ c.grey) c.grey) ≤ 15361 * unmarked_below blocks c.marked + sum_by reads_of c.grey) [
+            | true ↦ (let one = sum_by-cons reads_of (record { id = id; cursor = 0 }) c.grey in omega (arith, one, less))
+            | false ↦ omega (arith, less)
+          ]
+
+  module _ (names : Listing) (is : is_listing names ≡ true) (room : names.room ≤ blocks) where
+    as_found : (found : Option Kind) (id : Puid) (c : Colours) → kind_in names.named id ≡ found → reads_left blocks (shaded_as found id c) ≤ reads_left blocks c
+    as_found None id c at = omega arith
+    as_found (Some kind) id c at = let below = kind_below names id kind is at in shaded_less id kind c (omega (arith, below, room))
+
+    one_shaded : (id : Puid) (c : Colours) → reads_left blocks (shaded_in names.named id c) ≤ reads_left blocks c
+    one_shaded id c = as_found (kind_in names.named id) id c refl
+
+    pub all_less : (ids : List Puid) (c : Colours) → reads_left blocks (all_shaded names.named ids c) ≤ reads_left blocks c
+    all_less [] c = omega arith
+    all_less (id ∷ ids) c =
+        let rest = all_less ids (shaded_in names.named id c) in
+        let one = one_shaded id c in
+        omega (arith, rest, one)
+
+    pub rescued_less : (r : Rescue) (c : Colours) → reads_left blocks (rescued names.named r c) ≤ reads_left blocks c
+    rescued_less r c = elim (is_live r.index c) as (λ b. reads_left blocks (cond b (shaded_in names.named r.id c) c) ≤ reads_left blocks c) [ true ↦ one_shaded r.id c | false ↦ omega arith ]
+
+    -- the first grey index goes on past a leaf that isn't below its cursor, or it ends
+    pub stepped_less : (c : Colours) (e : Grey) (step : Option HeldStep) (ids : List Puid) → first_grey c ≡ Some e → IfSome step (λ s. (e.cursor ≤ s.held.leaf) × (s.held.leaf < 15360))
+        → reads_left blocks (stepped names.named step ids c) < reads_left blocks c
+    stepped_less c e step ids first on = by step on
+      where
+        all : (rest : List Grey) × (c.grey ≡ e ∷ rest)
+        all = first_is c e first
+
+        by : (step : Option HeldStep) → IfSome step (λ s. (e.cursor ≤ s.held.leaf) × (s.held.leaf < 15360)) → reads_left blocks (stepped names.named step ids c) < reads_left blocks c
+        by None on = moved_on c e all.0 all.1 None tt
+        by (Some s) on =
+            let shades = all_less ids (moved (next_cursor s) c) in
+            let moves : reads_left blocks (moved (next_cursor s) c) < reads_left blocks c =
+            elim s.follows as (λ b. reads_left blocks (moved (cond b (Some (s.held.leaf + 1)) None) c) < reads_left blocks c) [
+              | true ↦ moved_on c e all.0 all.1 (Some (s.held.leaf + 1)) (omega (arith, on.0), omega (arith, on.1))
+              | false ↦ moved_on c e all.0 all.1 None tt
+            ] in
+            omega (arith, shades, moves)
+
+-- ---- the steps
+
+marking_left : (k : Collecting) → k.phase ≡ phases.Marking → steps_left k ≡ left_in phases.Marking k
+marking_left k is = ap (λ p. left_in p k) is
+
+module _ (k l : Collecting) (volume : volume_of l ≡ volume_of k) where
+  -- less is left to read, or to take
+  pub marks_less : k.phase ≡ phases.Marking → l.phase ≡ k.phase → reads_left (volume_of k) (colours_in l) + length (waiting_in l) < reads_left (volume_of k) (colours_in k) + length (waiting_in k) → steps_left l < steps_left k
+  marks_less marks phase less =
+      let before = marking_left k marks in
+      let after = marking_left l (phase ∙ marks) in
+      let same : reads_left (volume_of l) (colours_in l) ≡ reads_left (volume_of k) (colours_in l) = ap (λ n. reads_left n (colours_in l)) volume in
+      omega (arith, before, after, same, less, volume)
+
+  -- a rescue was taken
+  pub takes_less : (names : Listing) → is_listing names ≡ true → names.room ≤ volume_of k → k.phase ≡ phases.Marking → l.phase ≡ k.phase → ¬ (waiting_in k ≡ [])
+      → ((r : Rescue) (rest : List Rescue) → waiting_in k ≡ r ∷ rest → (waiting_in l ≡ rest) × (colours_in l ≡ rescued names.named r (colours_in k))) → steps_left l < steps_left k
+  takes_less names is room marks phase waits taken = at (waiting_in k) refl
+    where
+      at : (ws : List Rescue) → waiting_in k ≡ ws → steps_left l < steps_left k
+      at [] none = absurd (waits none)
+      at (r ∷ rest) some =
+          let two = taken r rest some in
+          let less = rescued_less (volume_of k) names is room r (colours_in k) in
+          let now = ap (reads_left (volume_of k)) two.1 in
+          marks_less marks phase (omega (arith, less, now, ap length two.0, ap length some))
+
+  -- nothing is left to read or to take
+  pub condemns_less : k.phase ≡ phases.Marking → l.phase ≡ phases.Inner 0 → steps_left l < steps_left k
+  condemns_less marks phase =
+      let before = marking_left k marks in
+      let after = ap (λ p. left_in p l) phase in
+      omega (arith, before, after, volume)
+
+  sweeps : (pass : Pass) (p : Phase) → IsPhaseOf pass p → left_in (next_phase (volume_of k / 64) p) l < left_in p k
+  sweeps pass phases.Idle of = absurd of
+  sweeps pass phases.Marking of = absurd of
+  sweeps pass (phases.Inner c) of = elim (nat_lt (c + 1) (volume_of k / 64)) as (λ b. nat_lt (c + 1) (volume_of k / 64) ≡ b → left_in (cond b (phases.Inner (c + 1)) (phases.Roots 0)) l < left_in (phases.Inner c) k) [
+    | true ↦ λ less. (let within : c + 1 < volume_of k / 64 = grind (arith, nat_tests) in omega (arith, within, volume))
+    | false ↦ λ last. omega (arith, volume)
+  ] refl
+  sweeps pass (phases.Roots c) of = elim (nat_lt (c + 1) (volume_of k / 64)) as (λ b. nat_lt (c + 1) (volume_of k / 64) ≡ b → left_in (cond b (phases.Roots (c + 1)) phases.Swept) l < left_in (phases.Roots c) k) [
+    | true ↦ λ less. (let within : c + 1 < volume_of k / 64 = grind (arith, nat_tests) in omega (arith, within, volume))
+    | false ↦ λ last. omega (arith, volume)
+  ] refl
+  sweeps pass phases.Swept of = absurd of
+
+  -- a cylinder was swept
+  pub sweeps_less : (pass : Pass) → IsPhaseOf pass k.phase → l.phase ≡ next_phase (volume_of k / 64) k.phase → steps_left l < steps_left k
+  sweeps_less pass of phase = subst (λ p. left_in p l < steps_left k) (sym phase) (sweeps pass k.phase of)
+
+-- a collection begins
+pub begins_with : (l : Collecting) (names : Listing) (roots : List Puid) → is_listing names ≡ true → names.room ≤ volume_of l → l.phase ≡ phases.Marking → waiting_in l ≡ [] → colours_in l ≡ all_shaded names.named roots none_marked
+    → steps_left l < most_steps (volume_of l)
+begins_with l names roots is room phase none colours =
+    let now = marking_left l phase in
+    let first = none_left (volume_of l) none_marked refl refl in
+    let less = all_less (volume_of l) names is room roots none_marked in
+    let same = ap (reads_left (volume_of l)) colours in
+    omega (arith, now, first, less, same, ap length none)
