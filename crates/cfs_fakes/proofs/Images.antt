@@ -1,12 +1,12 @@
 -- What a crash leaves after one call more.
-use Rattle.std.proofs.Common.{◌≡◌, ◌≢◌, ◌⊎◌, inl, inr, ℕ, ◌+◌, ◌<◌, ◌≤◌, min, Bool, true, false, nat_eq, if◌then◌else◌, List, [], ◌∷◌, length, set, refl, sym, ◌∙◌, ap, subst, arith, length-set, get_or-set_same, get_or-set_other, set-set, ext_get_or}
+use Rattle.std.proofs.Common.{◌≡◌, ◌≢◌, ◌⊎◌, inl, inr, ℕ, suc, ◌+◌, ◌-◌, ◌<◌, ◌≤◌, min, get_or, Bool, true, false, nat_eq, if◌then◌else◌, List, [], ◌∷◌, length, set, refl, sym, ◌∙◌, ap, subst, arith, length-set, get_or-set_same, get_or-set_other, set-set, ext_get_or}
 use Rattle.std.proofs.lemmas.List.{set-get_or}
 use Rattle.std.proofs.lemmas.Bool.{cases_eq, cases_lt}
 use Rattle.std.proofs.lemmas.Bool.Decides.{nat_tests}
 use Rattle.cfs_base.specs.Disk.{Image, block_at, Written}
 use Rattle.cfs_fakes.specs.declared.kept.Call.{Call}
 use Rattle.cfs_fakes.specs.declared.kept.Call.TheVariants.{Write, Barrier}
-use Rattle.cfs_fakes.specs.Replay.{State, after, writes_to, chosen, IsChoice, IsImage}
+use Rattle.cfs_fakes.specs.Replay.{State, after, writes_to, chosen, AreChoices, IsChoice, IsImage}
 
 -- the writes to a block after a write to it
 writes_same : (n : ℕ) (b : List ℕ) (ws : List (ℕ × List ℕ)) → writes_to n ((n, b) ∷ ws) ≡ b ∷ writes_to n ws
@@ -31,6 +31,19 @@ chosen_none base (w ∷ older) = let h = chosen_none base older in grind (arith,
 
 chosen_older : (k : ℕ) (base w : List ℕ) (older : List (List ℕ)) → k ≤ length older → chosen k base (w ∷ older) ≡ chosen k base older
 chosen_older k base w older le = grind (arith, nat_tests)
+
+-- the choice k is the k-th write
+chosen_one : (k : ℕ) (base : List ℕ) (ws : List (List ℕ)) → 0 < k → k ≤ length ws → chosen k base ws ≡ get_or ws (length ws - k) []
+chosen_one k base [] some le = absurd (omega (arith, some, le))
+chosen_one k base (w ∷ older) some le = elim (cases_lt (length older) k) [
+  | inl newest ↦ chosen_new k base w older newest ∙ sym (ap (λ (i : ℕ). get_or (w ∷ older) i []) (let e : length (w ∷ older) - k ≡ 0 = omega (arith, newest, le) in e))
+  | inr among ↦ chosen_older k base w older among ∙ chosen_one k base older some among
+      ∙ sym (ap (λ (i : ℕ). get_or (w ∷ older) i []) (let e : length (w ∷ older) - k ≡ suc (length older - k) = omega (arith, among) in e))
+]
+
+-- a choice from the last write on is the last write
+chosen_last : (k : ℕ) (base : List ℕ) (ws : List (List ℕ)) → length ws ≤ k → chosen k base ws ≡ chosen (length ws) base ws
+chosen_last k base ws le = sym (chosen_cap k base ws) ∙ ap (λ (i : ℕ). chosen i base ws) (omega (arith, le))
 
 -- an older one is
 chosen_old : (m n k : ℕ) (base b : List ℕ) (ws : List (ℕ × List ℕ)) → (m ≡ n → k ≤ length (writes_to n ws)) → chosen k base (writes_to m ((n, b) ∷ ws)) ≡ chosen k base (writes_to m ws)
@@ -119,3 +132,7 @@ after_content (Write n b false) s h = (
   },
 )
 after_content Barrier s h = (λ m. 0, record { size = refl; each = λ m le. refl })
+
+-- what each choice stands for
+pub choices_stand : (writes : List (List ℕ)) → AreChoices writes
+choices_stand writes = record { none = λ base. chosen_none base writes; one = λ k base some le. chosen_one k base writes some le; last = λ k base le. chosen_last k base writes le }

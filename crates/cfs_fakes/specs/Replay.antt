@@ -1,6 +1,6 @@
 -- What a crash leaves of a disk whose calls were kept.
-use Rattle.std.specs.Prelude.{◌≡◌, ℕ, ◌<◌, nat_eq, nat_lt, if◌then◌else◌}
-use Rattle.std.specs.Prelude.{List, [], ◌∷◌, length, set, replicate}
+use Rattle.std.specs.Prelude.{◌≡◌, ℕ, ◌-◌, ◌^◌, ◌<◌, ◌≤◌, min, nat_eq, nat_lt, if◌then◌else◌}
+use Rattle.std.specs.Prelude.{List, [], ◌∷◌, length, get_or, set, replicate}
 use Rattle.cfs_base.specs.Disk.{Image, block_at}
 use Rattle.cfs_base.specs.Replay as calls
 use Rattle.cfs_fakes.specs.declared.kept.Call.{Call}
@@ -45,11 +45,26 @@ abbrev pub writes_to : ℕ → List (ℕ × List ℕ) → List (List ℕ)
 writes_to n [] = []
 writes_to n (w ∷ older) = if nat_eq w.0 n then w.1 ∷ writes_to n older else writes_to n older
 
+-- the writes to one block that wait for a barrier, those that failed too, the newest first
+abbrev pub waiting : State → ℕ → List (List ℕ)
+waiting s n = writes_to n s.pending
+
+-- how many there are, as far as a choice can number them
+abbrev pub choices_of : State → ℕ → ℕ
+choices_of s n = min (length (waiting s n)) (2 ^ 32 - 1)
+
 -- What a block holds by a choice: 0 is its content at the last barrier, k the k-th write since then, or the last where
 -- there are fewer. The newest write stands first.
 abbrev pub chosen : ℕ → List ℕ → List (List ℕ) → List ℕ
 chosen k base [] = base
 chosen k base (block ∷ older) = if nat_lt (length older) k then block else chosen k base older
+
+-- A choice k of such writes, the newest first: 0 is the content at the last barrier, 1 to their number the k-th of them,
+-- and any above the last.
+pub record AreChoices (writes : List (List ℕ)) : Type 0 where
+  pub none : (base : List ℕ) → chosen 0 base writes ≡ base
+  pub one : (k : ℕ) (base : List ℕ) → 0 < k → k ≤ length writes → chosen k base writes ≡ get_or writes (length writes - k) []
+  pub last : (k : ℕ) (base : List ℕ) → length writes ≤ k → chosen k base writes ≡ chosen (length writes) base writes
 
 -- the image in which each block holds its choice
 pub record IsChoice (s : State) (choice : ℕ → ℕ) (c : Image) : Type 0 where

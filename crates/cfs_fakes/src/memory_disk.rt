@@ -6,7 +6,7 @@ ghost use Rattle.std.specs.Simd.{first_chunks};
 ghost use Rattle.cfs_base.specs.Disk.{AreBlocks, CountsRead, CountsTry, block_at};
 ghost use Rattle.cfs_base.specs.Disk.{Nothing, Written, Only, LeavesOnly, KeepsLeft};
 ghost use Rattle.cfs_fakes.specs.Picks.{choice_of};
-ghost use Rattle.cfs_fakes.specs.Replay.{after, IsChoice};
+ghost use Rattle.cfs_fakes.specs.Replay.{after, choices_of, waiting, AreChoices, IsChoice};
 ghost use Rattle.cfs_fakes.specs.Recorder.{clock, state_now, left_of as left_of_recorder};
 ghost use Rattle.std.proofs.Common.{◌∙◌};
 ghost use Rattle.cfs_fakes.specs.Sizes.{left_size};
@@ -206,6 +206,16 @@ impl MemoryDisk {
     {
         let store = self.recorder.image(alloc, at, picks)?;
         Ok(MemoryDisk::made(alloc, store, Vec::new(alloc), false))
+    }
+
+    /// How many writes to the block, failed ones too, were made before this moment and since the last good barrier
+    /// before it: a pick has so many choices beside 0. Takes no memory.
+    pub fn choices(&self, at: u64, block: u32) -> u32
+        requires recorded { IsTrue (is_recording self.now) }
+        ensures counted { result ≡ choices_of (state_of self.now at) block }
+        ensures each { AreChoices (waiting (state_of self.now at) block) }
+    {
+        self.recorder.choices(at, block)
     }
 
     /// Whether it keeps its calls.

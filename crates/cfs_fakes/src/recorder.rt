@@ -4,10 +4,10 @@ ghost use Rattle.std.specs.Bool.{OnFalse};
 ghost use Rattle.cfs_base.specs.Outside.{Rose, count_after};
 ghost use Rattle.cfs_base.specs.Replay.{all_before};
 ghost use Rattle.cfs_fakes.specs.Picks.{choice_of};
-ghost use Rattle.cfs_fakes.specs.Replay.{after, made_at, IsChoice, IsImage};
+ghost use Rattle.cfs_fakes.specs.Replay.{after, made_at, choices_of, IsChoice, IsImage};
 
 use crate::kept::{Call, Kept, Pick};
-use crate::rerun::image_at;
+use crate::rerun::{choices_at, image_at};
 use crate::store::Store;
 use std::alloc::{AllocError, Global};
 
@@ -110,5 +110,12 @@ impl Recorder {
         ensures { IfOk result (λ image. IsChoice (state_at self.now at) (choice_of picks.now) image) }
     {
         image_at(alloc, self.blocks, &self.kept, at, picks)
+    }
+
+    /// How many choices a crash at this moment has for a block, beside 0.
+    pub fn choices(&self, at: u64, block: u32) -> u32
+        ensures { result ≡ choices_of (state_at self.now at) block }
+    {
+        choices_at(self.blocks, &self.kept, at, block)
     }
 }

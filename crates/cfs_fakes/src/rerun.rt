@@ -2,7 +2,7 @@
 ghost use Rattle.std.specs.Prelude.{◌≡◌, length, IfOk};
 ghost use Rattle.cfs_base.specs.Replay.{after_before};
 ghost use Rattle.cfs_fakes.specs.Picks.{choice_of, IsWanted};
-ghost use Rattle.cfs_fakes.specs.Replay.{State, zeros, after, made, made_at, replay, IsChoice};
+ghost use Rattle.cfs_fakes.specs.Replay.{State, zeros, after, made, made_at, replay, choices_of, IsChoice};
 
 use crate::kept::{Call, Kept, Pick};
 use crate::store::Store;
@@ -98,6 +98,38 @@ fn choices(alloc: Global, blocks: u32, picks: &[Pick]) -> Result<Vec<u32>, Alloc
         }
     }
     Ok(wanted)
+}
+
+// how many writes to the block wait, after one call more if it was made before this moment
+fn waiting_after(count: u32, kept: &Kept, at: u64, block: u32) -> u32
+    ensures { (s : State) → count ≡ choices_of s block
+        → result ≡ choices_of (after_before made_at made at kept.now s) block }
+{
+    if kept.moment >= at {
+        return count;
+    }
+    match &kept.call {
+        Call::Write(n, _, _) => {
+            if *n == block {
+                count.saturating_add(1)
+            } else {
+                count
+            }
+        }
+        Call::Barrier => 0,
+    }
+}
+
+/// How many choices a crash at this moment has for a block, beside 0, on a disk of zeros on which these calls were
+/// made.
+pub fn choices_at(blocks: u32, calls: &[Kept], at: u64, block: u32) -> u32
+    ensures { result ≡ choices_of (replay (zeros blocks) at calls.now) block }
+{
+    let mut count = 0u32;
+    for kept in calls {
+        count = waiting_after(count, kept, at, block);
+    }
+    count
 }
 
 /// The image that a crash at this moment leaves of a disk of zeros on which these calls were made.
