@@ -1,8 +1,41 @@
-"""Damages to an image of a volume. Each takes a source of draws, the image, and what it read as before."""
+"""Damages to an image of a volume: those of a table, and some by a die. Each of these takes a source of draws, the
+image, and what it read as before."""
 
 import struct
 
 from slow_volume import BLOCK, CYLINDER, LARGEST, LEAF, NODE, NOWHERE, ROOT, SHADOW
+
+
+# The volume of the stored run, whose index in slot 0 of the root index has block 3: what is changed, from which place
+# on, and the block and the code of docs/FORMAT.md with which it is refused.
+INDEX_ROOT = '03000000903df1a00000000000000020'
+NODE_OF_INDEX = '0103000000000003'
+NAMED = [
+    ('the label names two cylinders', {BLOCK + 8: '00000002'}, 1, 1),
+    ('entry 63 has a state that there is not', {8 * 63: '04'}, 0, 2),
+    ('the entry of a root has another block as its owner', {8 * 9: '0101000000000008'}, 0, 2),
+    ('the root block in a slot has a kind that there is not', {3 * BLOCK: '00'}, 3, 3),
+    ('a leaf pointer leads past the end', {5 * BLOCK: '00000040'}, 5, 4),
+    ('the entry of a leaf is Free', {8 * 4: '00' * 8}, 4, 5),
+    ('the identifier in a slot has another word', {4 * BLOCK + 7: 'a1'}, 4, 6),
+    ('two shadow roots stand', {8 * 3: '8101000000000003', 8 * 6: '0202000000000003' * 2, 6 * BLOCK: INDEX_ROOT,
+                                7 * BLOCK: INDEX_ROOT}, 3, 7),
+    ('a leaf past the size', {5 * BLOCK + 4: '00000006', 8 * 6: '0104000100000002'}, 6, 8),
+    ('a byte past the size', {3 * BLOCK + 32: '00000006', 8 * 6: NODE_OF_INDEX, 6 * BLOCK: '00000007',
+                              8 * 7: '0104000000000003', 7 * BLOCK + 511: '01'}, 7, 9),
+    ('a node that leads to no leaf', {3 * BLOCK + 32: '00000006', 8 * 6: NODE_OF_INDEX}, 6, 10),
+    ('three blocks are left', {3 * BLOCK + 8: '0000000000006c00', 3 * BLOCK + 32: '00000006',
+                               8 * 6: NODE_OF_INDEX + ''.join(f'0104{leaf:04x}00000003' for leaf in range(54)),
+                               6 * BLOCK: ''.join(f'{7 + leaf:08x}' for leaf in range(54))}, 0, 11),
+]
+
+
+def changed(image, changes):
+    """The image with these bytes at these places."""
+    new = bytearray(image)
+    for at, digits in changes.items():
+        new[at:at + len(digits) // 2] = bytes.fromhex(digits)
+    return bytes(new)
 
 
 def entry_at(block):

@@ -1,12 +1,9 @@
 //! The store tried on small volumes in memory: worked bytes, which blocks its calls take, how often they read and
-//! write, what calls that fail and damaged blocks come to, and damaged volumes that a plain reader judges. Its use is
-//! its tests.
+//! write, and what calls that fail and damaged blocks come to. Its use is its tests.
 #![tactic(auto)]
 
 #[cfg(test)]
 mod bench;
-#[cfg(test)]
-mod damages;
 #[cfg(test)]
 mod device_calls;
 #[cfg(test)]
@@ -15,8 +12,6 @@ mod files;
 mod laid;
 #[cfg(test)]
 mod openings;
-#[cfg(test)]
-mod plain;
 #[cfg(test)]
 mod refusals;
 #[cfg(test)]
