@@ -1,10 +1,14 @@
 -- Calls that only read a file, as the core has them.
-use Rattle.std.proofs.Common.{◌≡◌, ℕ, ◌+◌, ◌≤◌, Bool, true, false, Err, subst, arith}
-use Rattle.cfs_core.proofs.Words.{Ghosts, had_tried, HasStopped, is_damaged, is_range, IsReadRefusal, nat_tests, Object, OnlyReads, reads_then, Refused, refused_by, stopped_after_reads, store_reads, Trouble}
+use Rattle.std.proofs.Common.{◌≡◌, ℕ, ◌+◌, ◌≤◌, Bool, true, false, Err, refl, sym, subst, arith}
+use Rattle.cfs_core.proofs.Words.{Ghosts, had_tried, HasStopped, Image, is_damaged, is_range, IsReadRefusal, nat_tests, Object, OnlyReads, reads_then, Refused, refused_by, stopped_after_reads, store_reads, Trouble, trouble_had_tried}
 use Rattle.cfs_base.specs.declared.refusal.Refused.TheVariants as refusals
 use Rattle.cfs_base.specs.declared.refusal.Trouble.TheVariants as trouble
-use Rattle.normal_files.specs.Refusal.{IsTrouble}
+use Rattle.normal_files.specs.Refusal.{IsTrouble, is_damage}
+use Rattle.block_tree.specs.declared.root.Root.{Root}
+use Rattle.cfs_base.specs.Run.{Tells}
+use Rattle.normal_files.specs.Standing.{IsRootAt}
 use Rattle.cfs_core.specs.Looks.{IsCalm, IsCalmCause, Knows}
+use Rattle.cfs_core.proofs.Answering.{reads_none}
 
 -- the store still has the object
 pub knows_on : {D : Type 0} (g : Ghosts D) (n : ℕ) (old new : D) (at : ℕ) (o : Object) → OnlyReads g n old new → Knows g old at o → Knows g new at o
@@ -19,12 +23,16 @@ knows_on g n old new at o reads knows = record {
   shut = knows.shut;
 }
 
+-- and the block the root that was read of it
+pub rooted : {D : Type 0} (g : Ghosts D) {n at : ℕ} {old mid : D} {root : Root} → OnlyReads g n old mid → (o : Object) → Knows g old at o → (Tells g old → IsRootAt (g.content old) at root) → IsRootAt (g.content mid) at root
+rooted g {at = at} {root = root} reads o knows is = subst (λ (a : Image). IsRootAt a at root) (sym reads.content) (is knows.store.carries.tells)
+
 -- a read that was refused, after others
 pub calm_after : {D A B : Type 0} (g : Ghosts D) (sort : A → Object) (n m k at : ℕ) (old mid new : D) (e : Refused) → OnlyReads g n old mid → OnlyReads g m mid new → n + m ≤ k
-    → ((a : A) → Knows g mid at (sort a) → is_damaged e ≡ false) → had_tried e ≡ false → IsReadRefusal g at mid new e → IsCalm {B = B} g sort k at old new (Err e)
+    → ((a : A) → Knows g old at (sort a) → is_damaged e ≡ false) → had_tried e ≡ false → IsReadRefusal g at mid new e → IsCalm {B = B} g sort k at old new (Err e)
 calm_after g sort n m k at old mid new e first reads few sound untried is = record {
   reads = reads_then g old mid new n m k first reads few;
-  sound = λ a knows. sound a (knows_on g n old mid at (sort a) first knows);
+  sound = sound;
   cause = cause e untried is;
 }
   where
@@ -37,6 +45,20 @@ calm_after g sort n m k at old mid new e first reads few sound untried is = reco
 pub read_refusal : {D : Type 0} (g : Ghosts D) (at : ℕ) (old new : D) (t : Trouble) → IsTrouble g at old new t → IsReadRefusal g at old new (refused_by t)
 read_refusal g at old new (trouble.Disk tried) is = is
 read_refusal g at old new (trouble.Damaged damage) is = is
+
+-- a call on a file that was refused by the first that it makes
+pub calm_trouble : {D A B : Type 0} (g : Ghosts D) (sort : A → Object) (n at : ℕ) (old new : D) (t : Trouble) → OnlyReads g n old new → ((a : A) → Knows g old at (sort a) → is_damage t ≡ false) → trouble_had_tried t ≡ false → IsTrouble g at old new t
+    → IsCalm {B = B} g sort n at old new (Err (refused_by t))
+calm_trouble g sort n at old new t reads sound untried why =
+    calm_after g sort 0 n n at old old new (refused_by t) (reads_none g 0 old) reads (omega arith) (λ a knows. sound_told t (sound a knows)) (untried_told t untried) (read_refusal g at old new t why)
+  where
+    sound_told : (x : Trouble) → is_damage x ≡ false → is_damaged (refused_by x) ≡ false
+    sound_told (trouble.Disk tried) is = refl
+    sound_told (trouble.Damaged damage) is = is
+
+    untried_told : (x : Trouble) → trouble_had_tried x ≡ false → had_tried (refused_by x) ≡ false
+    untried_told (trouble.Disk tried) is = is
+    untried_told (trouble.Damaged damage) is = refl
 
 -- what lies in a range lies within the size, and is no more than is read at once
 pub range_parts : (size offset count : ℕ) → is_range size offset count ≡ true → (1 ≤ count) × (count ≤ 4096) × (offset + count ≤ size)

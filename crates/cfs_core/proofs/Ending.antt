@@ -44,7 +44,7 @@ held_in g k who t was has some law s serves = held_by g k s serves who t was has
 module _ {D : Type 0} (g : Ghosts D) (left_sized : (d : D) (t : ℕ) (c : Image) → g.left_since d t c → length c ≡ g.blocks d) (sized : (d : D) → IsTrue (g.honest d) → length (g.content d) ≡ g.blocks d)
     (k : Kernel D) (who : ℕ) (t : Tuid) (was : Drafting) (bare : was.created ≡ None) (the : (s : State) → Serves g k s → IsHeld g k s who t was)
     (d : D) (space : Kept) (commit : Bool) where
-  wide : MakesAtMost g 93138 46452 k.disk d → (s : State) → Serves g k s → length (g.content k.disk) ≡ g.blocks d
+  wide : MakesAtMost g 93137 46452 k.disk d → (s : State) → Serves g k s → length (g.content k.disk) ≡ g.blocks d
   wide calls s serves = sized k.disk serves.store.carries.tells.honest ∙ sym calls.same.size
 
   pub tries_ended : EndsDraft g commit was k.disk d k.space space (Ok tt) → Tries g k (record k { disk = d; space = space; seats = seats_but (tables.is_grant who t) (with_drafting t.draw None k.seats) }) who (asks.Close t commit) (Ok replies.Done)

@@ -1,8 +1,9 @@
 -- How a call ends that changes a file which has no draft: a normal one in place, a special one as one commit.
 use Rattle.std.proofs.Common.{◌≡◌, ◌⊎◌, inl, inr, ℕ, ◌+◌, ◌<◌, ◌≤◌, [], length, true, false, cond, Some, None, Result, Ok, Err, IsTrue, refl, sym, ◌∙◌, ap, subst, arith, List, ◌∷◌, nat_lt, sum}
-use Rattle.cfs_core.proofs.Words.{and_parts, blocks_of, byte_may_stand, Change, change_need, change_of, changed, changed_object, ChangesFile, closed_graph, creates, draft_of, drafts_of, draws, each_from, eq-eqb, File, FileKind, Fill, filter-rises, Fits, Ghosts, Graph, has_number, held_levels, here, Holds, HoldsOfEither, Image, in_filter, in_with, index_has_pair, is_among, is_object, is_running}
+use Rattle.cfs_core.proofs.Words.{and_parts, blocks_of, byte_may_stand, Change, change_need, change_of, changed, changed_object, ChangesFile, closed_graph, creates, draft_of, drafts_of, draws, each_from, EndsChange, eq-eqb, File, FileKind, Fill, filter-rises, Fits, Ghosts, Graph, has_number, held_levels, here, Holds, HoldsOfEither, Image, in_filter, in_with, index_has_pair, is_among, is_object, is_running}
 use Rattle.cfs_core.proofs.Words.{is_there, IsInside, IsPartly, IsSpeakable, Kept, kind_of, later, Leaves, leaves_in, list_all, MayChange, MayLeave, named, nat_tests, Need, need_for, need_of, next, numbers_rise, Object, object_at, object_at-with_object, object_whole, OnlyReads, Opened, outcome_of, Overwrite, pair_from_index, Puid, Ref, referred, refusal_of, Refused, Request, resized}
 use Rattle.cfs_core.proofs.Words.{rises-with_object, same_puid, same_puid_is, SetSize, State, still_there, target, touched, wider, with_numbers, with_object, withs-rise, written}
+use Rattle.cfs_base.specs.Run.{Tells}
 use Rattle.cfs_base.specs.declared.kind.FileKind.TheVariants as kinds
 use Rattle.cfs_base.specs.declared.refusal.Refused.TheVariants as refusals
 use Rattle.ufs_model.specs.declared.asked.Event.TheVariants as events
@@ -184,7 +185,7 @@ module _ {D : Type 0} (g : Ghosts D) (left_sized : (d : D) (t : ℕ) (c : Image)
     need = is.need s who ∙ need_told s who (target request) id f kind change reach.name reach.bare reach.there kind_is
 
     size : g.blocks d ≡ g.blocks k.disk
-    size = changes.calls.same.size
+    size = changes.ends.calls.same.size
 
     wide : length (g.content k.disk) ≡ g.blocks d
     wide = sized k.disk serves.store.carries.tells.honest ∙ sym size
@@ -260,11 +261,11 @@ module _ {D : Type 0} (g : Ghosts D) (left_sized : (d : D) (t : ℕ) (c : Image)
         let free = rw (← same) at (changes.room s.graph drafts id f has) in
         object_did g left_sized sized k new size refl none s after who request serves id (objects.File f) o reach.there (same_kinds change f) (need_for kind change f) more goes is.makes (is.speaks who) out
         (record { graph = refl; grants = refl; drawn = refl; stopped = refl; sweeping = refl }) (roomy free) free (left free) done.store done.only
-    did_so (Err (refusals.Full n)) same = let told = (rw (← same) at (changes.full s.graph drafts id f has)) refl in full n (same_need n _ told.0, told.1) ((rw (← same) at changes.untried) refl)
-    did_so (Err (refusals.Disk false)) same = let two = (rw (← same) at changes.untried) refl in disk_failed g left_sized sized 31093 k new two.1 (as_it_was two) s who serves none request
+    did_so (Err (refusals.Full n)) same = let told = (rw (← same) at (changes.full s.graph drafts id f has)) refl in full n (same_need n _ told.0, told.1) ((rw (← same) at changes.ends.untried) refl)
+    did_so (Err (refusals.Disk false)) same = let two = (rw (← same) at changes.ends.untried) refl in disk_failed g left_sized sized 31093 k new two.1 (as_it_was two) s who serves none request
     did_so (Err (refusals.Disk true)) same = doubtful ((rw (← same) at (changes.begun s.graph drafts id f has)) refl)
     did_so (Err (refusals.Damaged damage)) same = let no : true ≡ false = rw (← same) at (changes.sound s.graph drafts id f has) in cc
-    did_so (Err refusals.Memory) same = let two = (rw (← same) at changes.untried) refl in memory g left_sized sized 31093 k new two.1 (as_it_was two) s who serves none request
+    did_so (Err refusals.Memory) same = let two = (rw (← same) at changes.ends.untried) refl in memory g left_sized sized 31093 k new two.1 (as_it_was two) s who serves none request
 
     pub did : EndsSo g k new s who request (done_or result)
     did = did_so result refl
@@ -272,15 +273,15 @@ module _ {D : Type 0} (g : Ghosts D) (left_sized : (d : D) (t : ℕ) (c : Image)
 -- a call that read the size first, or nothing
 pub tries_changed : {D : Type 0} (g : Ghosts D) (left_sized : (d : D) (t : ℕ) (c : Image) → g.left_since d t c → length c ≡ g.blocks d) (sized : (d : D) → IsTrue (g.honest d) → length (g.content d) ≡ g.blocks d)
     (n : ℕ) (k : Kernel D) (mid d : D) (space : Kept) → OnlyReads g n k.disk mid → (id : Puid) (kind : FileKind) (change : Change) (request : Request) → IsChanging request change
-    → (result : Result (Unit {0}) Refused) → ChangesFile g id.block kind 4 change mid d k.space space result → (who : ℕ) → ReachesAll g objects.File k who request id
+    → (result : Result (Unit {0}) Refused) → (Tells g k.disk → ChangesFile g id.block kind 4 change mid d k.space space result) → EndsChange g id.block kind 4 change mid d k.space space result → (who : ℕ) → ReachesAll g objects.File k who request id
     → ((s : State) (f : File) → Serves g k s → Reaches s who request id (objects.File f) → Knows g k.disk id.block (objects.File f) → (f.kind ≡ kind) × IsInside change (objects.File f) × (refusal_of s who request ≡ None))
     → Tries g k (record k { disk = d; space = space }) who request (done_or result)
-tries_changed g left_sized sized n k mid d space reads id kind change request is result changes who reaches goes = record {
+tries_changed g left_sized sized n k mid d space reads id kind change request is result changes end who reaches goes = record {
   ends = λ s serves none.
       let r = reaches s serves in
       let may = goes s r.0 serves r.1 (knows_that g k s serves id (objects.File r.0) r.1.there r.2) in
       ends g n k mid (record k { disk = d; space = space }) reads request s who (done_or result)
-      (did g left_sized sized (record k { disk = mid }) d space id kind change request is result changes s who r.0 (serves_on g n k (record k { disk = mid }) reads refl s serves) none r.1 r.2 may.0 may.1 may.2);
+      (did g left_sized sized (record k { disk = mid }) d space id kind change request is result (changes serves.store.carries.tells) s who r.0 (serves_on g n k (record k { disk = mid }) reads refl s serves) none r.1 r.2 may.0 may.1 may.2);
   went = went_then g n k mid (record k { disk = d; space = space }) reads (draws request) (done_or result)
-      (went_done g (record k { disk = mid }) d space k.seats changes.calls.same.size changes.calls.faults changes.calls.later (draws request) result (λ tried is. rw is at changes.refused));
+      (went_done g (record k { disk = mid }) d space k.seats end.calls.same.size end.calls.faults end.calls.later (draws request) result (λ tried is. rw is at end.refused));
 }

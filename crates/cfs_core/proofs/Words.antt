@@ -32,7 +32,7 @@ pub use Rattle.cyl_alloc.specs.Refusals.{IsMapTrouble}
 pub use Rattle.cyl_alloc.specs.Space.{AreCounts, IsLeastFree, Kept}
 pub use Rattle.cyl_map.specs.Volume.{entry_in, free_from, is_free_entry, is_free_in}
 pub use Rattle.cyl_map.specs.declared.entry.MapEntry.{MapEntry}
-pub use Rattle.file_ops.specs.Changes.{ChangesFile, MayChange, MayLeave, need_for}
+pub use Rattle.file_ops.specs.Changes.{ChangesFile, EndsChange, MayChange, MayLeave, need_for}
 pub use Rattle.file_ops.specs.Files.{IsReadRefusal}
 pub use Rattle.index_ops.specs.Changes.{HasSlot, IsIndexRefusal, PutsSlot, index_with}
 pub use Rattle.index_ops.specs.Creates.{IsOpenMap, PutsObject, made_of, with_made}

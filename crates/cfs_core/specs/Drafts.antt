@@ -93,4 +93,4 @@ pub record EndsDraft {D : Type 0} (g : Ghosts D) (commit : Bool) (was : Drafting
   pub tried : IfErr result (λ t. t ≢ troubles.Disk false)
   pub refused : IfErr result (IsTrouble g was.at old new after)
   pub cylinders : length after.free ≡ length before.free
-  pub calls : MakesAtMost g 93138 46452 old new
+  pub calls : MakesAtMost g 93137 46452 old new

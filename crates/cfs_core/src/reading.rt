@@ -1,8 +1,10 @@
 //! Requests that read a file.
 ghost use Rattle.std.specs.Prelude.{◌≡◌, ◌+◌, ◌<◌, ◌≤◌, IfOk, None, length};
+ghost use Rattle.cfs_base.specs.Run.{Tells};
 ghost use Rattle.cfs_core.specs.Calls.{Tries};
 ghost use Rattle.cfs_core.specs.Looks.{IsCalm, Knows, content_of, measured};
 ghost use Rattle.cfs_core.specs.StandsFor.{Serves};
+ghost use Rattle.normal_files.specs.Standing.{IsRootAt};
 ghost use Rattle.normal_files.specs.Touched.{leaves_touched, nodes_touched};
 ghost use Rattle.ufs_model.specs.Plain.{IsPlainReply};
 ghost use Rattle.ufs_model.specs.Refusal as refusal;
@@ -13,6 +15,7 @@ ghost use Rattle.ufs_model.specs.declared.object.Object.TheVariants as objects;
 
 use crate::kernel::Core;
 use crate::way::Way;
+use block_tree::Root;
 use cfs_base::{BlockNo, Disk, Refused, Session};
 use std::alloc::Global;
 use ufs_model::{MOST_AT_ONCE, Ref, Reply};
@@ -24,16 +27,17 @@ pub(crate) fn is_range(size: u64, offset: u64, count: u64) -> bool
     0 < count && count <= MOST_AT_ONCE && offset <= size && count <= size - offset
 }
 
-/// The size in bytes of the file at a block.
-pub(crate) fn bytes_in<D: Disk>(disk: &mut D, file: BlockNo) -> Result<u64, Refused>
+/// The root of the file at a block, which has its size in bytes.
+pub(crate) fn root_in<D: Disk>(disk: &mut D, file: BlockNo) -> Result<Root, Refused>
     requires { file.0 < D.blocks disk.old }
+    ensures rooted { Tells D.Disk disk.old → IfOk result (IsRootAt (D.content disk.old) file.0) }
     ensures exact { (f : File) → Knows D.Disk disk.old file.0 (objects.File f)
-        → IfOk result (λ size. size ≡ length f.bytes) }
-    ensures limit { IfOk result (λ size. size ≤ 7864320) }
+        → IfOk result (λ root. root.size ≡ length f.bytes) }
+    ensures limit { IfOk result (λ root. root.size ≤ 7864320) }
     ensures calm { IsCalm D.Disk objects.File 1 file.0 disk.old disk.new result }
 {
-    match file_ops::size(disk, file) {
-        Ok(size) => Ok(size),
+    match file_ops::read_root(disk, file) {
+        Ok(root) => Ok(root),
         Err(trouble) => Err(Refused::from(trouble)),
     }
 }
@@ -51,17 +55,17 @@ fn content<D: Disk>(
     ensures exact { (f : File) → Knows D.Disk disk.old file.0 (objects.File f)
         → IfOk result (λ reply. reply ≡ content_of f offset count) }
     ensures plain { IfOk result IsPlainReply }
-    ensures calm { IsCalm D.Disk objects.File (2 + nodes_touched offset count + leaves_touched offset count) file.0
+    ensures calm { IsCalm D.Disk objects.File (1 + nodes_touched offset count + leaves_touched offset count) file.0
         disk.old disk.new result }
 {
-    let size = match bytes_in(disk, file) {
-        Ok(size) => size,
+    let root = match root_in(disk, file) {
+        Ok(root) => root,
         Err(refused) => return Err(refused),
     };
-    if !is_range(size, offset, count) {
+    if !is_range(root.size, offset, count) {
         return Ok(Reply::Range);
     }
-    match file_ops::read(alloc, disk, file, offset, count as usize) {
+    match file_ops::read(alloc, disk, file, &root, offset, count as usize) {
         Ok(bytes) => Ok(Reply::Content(bytes)),
         Err(refused) => Err(refused),
     }
@@ -75,9 +79,9 @@ fn measure<D: Disk>(disk: &mut D, file: BlockNo) -> Result<Reply, Refused>
     ensures plain { IfOk result IsPlainReply }
     ensures calm { IsCalm D.Disk objects.File 1 file.0 disk.old disk.new result }
 {
-    match bytes_in(disk, file) {
+    match file_ops::size(disk, file) {
         Ok(size) => Ok(Reply::Number(size)),
-        Err(refused) => Err(refused),
+        Err(trouble) => Err(Refused::from(trouble)),
     }
 }
 

@@ -7,7 +7,7 @@ ghost use Rattle.ufs_model.specs.declared.asked.Request.TheVariants as asks;
 
 use crate::changing::done;
 use crate::kernel::Core;
-use crate::reading::{bytes_in, is_range};
+use crate::reading::{is_range, root_in};
 use crate::way::Way;
 use cfs_base::{BlockNo, Disk, Refused, Session};
 use std::alloc::Global;
@@ -55,11 +55,11 @@ impl<D: Disk> Core<D> {
             Ok(there) => there,
             Err(reply) => return Ok(reply),
         };
-        let size = match bytes_in(&mut self.disk, BlockNo(file.block)) {
-            Ok(size) => size,
+        let root = match root_in(&mut self.disk, BlockNo(file.block)) {
+            Ok(root) => root,
             Err(refused) => return Err(refused),
         };
-        if !is_range(size, offset, bytes.len() as u64) {
+        if !is_range(root.size, offset, bytes.len() as u64) {
             return Ok(Reply::Range);
         }
         done(file_ops::write(
@@ -68,6 +68,7 @@ impl<D: Disk> Core<D> {
             &mut self.space,
             BlockNo(file.block),
             kind,
+            &root,
             offset,
             bytes,
             RESERVE,

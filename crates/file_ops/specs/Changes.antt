@@ -158,6 +158,15 @@ IsCommitRefusal g at wrote old new after refusals.Memory = ⊥
 
 -- ---- the call
 
+-- how it ends on any disk
+pub record EndsChange {D : Type 0} (g : Ghosts D) (at : ℕ) (kind : FileKind) (floor : ℕ) (change : Change)
+    (old new : D) (before after : Kept) (result : Result (Unit {0}) Refused) : Type 0 where
+  pub refused : IfErr result (IsFileRefusal g at kind floor change old new after)
+  -- where nothing was tried all is as it was, after Full and want of memory too
+  pub untried : IfErr result (λ e. is_untried e ≡ true → (after ≡ before) × OnlyReads g 31093 old new)
+  pub cylinders : length after.free ≡ length before.free
+  pub calls : MakesAtMost g 124230 61938 old new
+
 -- The file of this kind with its root at a block is changed.
 pub record ChangesFile {D : Type 0} (g : Ghosts D) (at : ℕ) (kind : FileKind) (floor : ℕ) (change : Change)
     (old new : D) (before after : Kept) (result : Result (Unit {0}) Refused) : Type 0 where
@@ -184,8 +193,4 @@ pub record ChangesFile {D : Type 0} (g : Ghosts D) (at : ℕ) (kind : FileKind) 
   -- no damage where the disk holds the file
   pub sound : (graph : Graph) (ds : List Opened) (id : Puid) (f : File)
       → MayChange g at kind change graph ds id f old before → IfErr result (λ e. is_damaged e ≡ false)
-  pub refused : IfErr result (IsFileRefusal g at kind floor change old new after)
-  -- where nothing was tried all is as it was, after Full and want of memory too
-  pub untried : IfErr result (λ e. is_untried e ≡ true → (after ≡ before) × OnlyReads g 31093 old new)
-  pub cylinders : length after.free ≡ length before.free
-  pub calls : MakesAtMost g 124231 61938 old new
+  pub ends : EndsChange g at kind floor change old new before after result

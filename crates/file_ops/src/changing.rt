@@ -1,16 +1,18 @@
 //! A file changed, in place or beside itself.
 ghost use Rattle.std.specs.Prelude.{◌≡◌, ◌≢◌, ◌+◌, ◌*◌, ◌<◌, ◌≤◌, length};
 ghost use Rattle.file_ops.specs.Changes as spec;
+ghost use Rattle.normal_files.specs.Standing.{IsRootAt};
 ghost use Rattle.ufs_model.specs.declared.change.Change.TheVariants.{Overwrite, SetSize};
 
 use crate::special::{resize_beside, write_beside};
+use block_tree::Root;
 use cfs_base::{BlockNo, Disk, FileKind, Refused};
 use cyl_alloc::Space;
 use std::alloc::Global;
 
-/// Writes bytes into a file of this kind, from an offset on; the range lies within the size. A normal file is written
-/// in place, and takes blocks for those leaves and nodes that it doesn't hold yet; a special file is changed as one
-/// commit, for which all memory is taken first, and takes blocks for all that it writes anew.
+/// Writes bytes into a file of this kind with this root, from an offset on; the range lies within the size. A normal
+/// file is written in place, and takes blocks for those leaves and nodes that it doesn't hold yet; a special file is
+/// changed as one commit, for which all memory is taken first, and takes blocks for all that it writes anew.
 /// `Full` where fewer blocks are Free than it takes, with the floor. `Damaged` names the root block, with code 3, which
 /// is none, or is a special file's of fewer bytes; a block with a pointer past the disk, with code 4; a map, with code
 /// 2, that is none, or with code 12, that has no Free block where some were counted; block 0, with code 11, where none
@@ -22,6 +24,7 @@ pub fn write<D: Disk>(
     space: &mut Space,
     at: BlockNo,
     kind: FileKind,
+    root: &Root,
     offset: u64,
     bytes: &[u8],
     floor: u32,
@@ -32,11 +35,14 @@ pub fn write<D: Disk>(
     requires least { 1 ≤ length bytes.now }
     requires most { length bytes.now ≤ 4096 }
     requires inside { offset + length bytes.now ≤ 7864320 }
-    ensures { spec.ChangesFile D.Disk at.0 kind floor (Overwrite offset bytes.now) disk.old disk.new space.old space.new
-        result }
+    ensures changes { IsRootAt (D.content disk.old) at.0 root.now → spec.ChangesFile D.Disk at.0 kind floor
+        (Overwrite offset bytes.now) disk.old disk.new space.old space.new result }
+    // On a disk that holds another root, or tells nothing, it ends so too.
+    ensures ends { spec.EndsChange D.Disk at.0 kind floor (Overwrite offset bytes.now) disk.old disk.new space.old
+        space.new result }
 {
     match kind {
-        FileKind::Normal => match normal_files::write(disk, space, at, offset, bytes, floor) {
+        FileKind::Normal => match normal_files::write(disk, space, at, root, offset, bytes, floor) {
             Ok(()) => Ok(()),
             Err(error) => Err(error),
         },

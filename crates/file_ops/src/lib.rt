@@ -8,4 +8,4 @@ mod reading;
 mod special;
 
 pub use changing::{resize, write};
-pub use reading::{read, size};
+pub use reading::{read, read_root, size};

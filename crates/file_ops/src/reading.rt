@@ -2,16 +2,19 @@
 ghost use Rattle.std.specs.Prelude.{◌≡◌, ◌+◌, ◌<◌, ◌≤◌, ℕ, false, List, length, slice_range, IfErr, IfOk};
 ghost use Rattle.cfs_base.specs.Calls.{OnlyReads};
 ghost use Rattle.cfs_base.specs.Refusals.{had_tried, trouble_had_tried};
+ghost use Rattle.cfs_base.specs.Run.{Tells};
 ghost use Rattle.cfs_base.specs.declared.identifier.Puid.{Puid};
 ghost use Rattle.cyl_alloc.specs.Space.{Kept};
 ghost use Rattle.file_ops.specs.Files as spec;
 ghost use Rattle.normal_files.specs.Refusal.{IsTrouble, is_damage};
+ghost use Rattle.normal_files.specs.Standing.{IsRootAt};
 ghost use Rattle.normal_files.specs.Touched.{leaves_touched, nodes_touched};
 ghost use Rattle.special_files.specs.Refusal.{is_damaged};
 ghost use Rattle.ufs_model.specs.Graph.{Graph};
 ghost use Rattle.ufs_model.specs.declared.object.File.{File};
 ghost use Rattle.vol_owners.specs.Account.{Opened};
 
+use block_tree::Root;
 use cfs_base::{BlockNo, Bytes, Disk, NoMemory, Refused, Trouble};
 use std::alloc::Global;
 
@@ -22,37 +25,58 @@ fn zeros(alloc: Global, count: usize) -> Result<Vec<u8>, NoMemory>
     Ok(vec![in alloc; 0u8; count]?)
 }
 
-/// Reads so many bytes of a file from an offset on. The range lies within the size. All memory is taken first.
-/// `Damaged` names the root block, with code 3, which is none, or a block with a pointer past the disk, with code 4.
-/// Never `Full`.
+/// Reads so many bytes of a file with this root, from an offset on. The range lies within the size. All memory is taken
+/// first. `Damaged` names a block with a pointer past the disk, with code 4. Never `Full`.
 pub fn read<D: Disk>(
     alloc: Global,
     disk: &mut D,
     at: BlockNo,
+    root: &Root,
     offset: u64,
     count: usize,
 ) -> Result<Bytes, Refused>
     requires on_disk { at.0 < D.blocks disk.old }
     requires inside { offset + count ≤ 7864320 }
     ensures read { (graph : Graph) (ds : List Opened) (space : Kept) (id : Puid) (f : File)
-        → spec.HasFile D.Disk graph ds disk.old space at.0 id f → offset + count ≤ length f.bytes
-        → IfOk result (λ bytes. bytes ≡ slice_range f.bytes offset (offset + count)) }
+        → spec.HasFile D.Disk graph ds disk.old space at.0 id f → IsRootAt (D.content disk.old) at.0 root.now
+        → offset + count ≤ length f.bytes → IfOk result (λ bytes. bytes ≡ slice_range f.bytes offset (offset + count)) }
     ensures long { IfOk result (λ bytes. length bytes ≡ count) }
     // No damage where the disk holds the file.
     ensures sound { (graph : Graph) (ds : List Opened) (space : Kept) (id : Puid) (f : File)
-        → spec.HasFile D.Disk graph ds disk.old space at.0 id f → IfErr result (λ e. is_damaged e ≡ false) }
+        → spec.HasFile D.Disk graph ds disk.old space at.0 id f → IsRootAt (D.content disk.old) at.0 root.now
+        → IfErr result (λ e. is_damaged e ≡ false) }
     ensures refused { IfErr result (spec.IsReadRefusal D.Disk at.0 disk.old disk.new) }
     ensures untried { IfErr result (λ e. had_tried e ≡ false) }
-    // one read of the root, one a node, and one a leaf
-    ensures reads { OnlyReads D.Disk (1 + nodes_touched offset count + leaves_touched offset count) disk.old disk.new }
+    // one read a node, and one a leaf
+    ensures reads { OnlyReads D.Disk (nodes_touched offset count + leaves_touched offset count) disk.old disk.new }
 {
     let mut bytes = match zeros(alloc, count) {
         Ok(bytes) => bytes,
         Err(want) => return Err(Refused::from(want)),
     };
-    match normal_files::read(disk, at, offset, bytes.as_mut_slice()) {
+    match normal_files::read(disk, at, root, offset, bytes.as_mut_slice()) {
         Ok(()) => Ok(Bytes::new(bytes)),
         Err(trouble) => Err(Refused::from(trouble)),
+    }
+}
+
+/// The root of a file, which has its size in bytes. `Damaged` names the block, with code 3, which is none.
+pub fn read_root<D: Disk>(disk: &mut D, at: BlockNo) -> Result<Root, Trouble>
+    requires { at.0 < D.blocks disk.old }
+    ensures root { Tells D.Disk disk.old → IfOk result (IsRootAt (D.content disk.old) at.0) }
+    ensures size { (graph : Graph) (ds : List Opened) (space : Kept) (id : Puid) (f : File)
+        → spec.HasFile D.Disk graph ds disk.old space at.0 id f → IfOk result (λ root. root.size ≡ length f.bytes) }
+    ensures limit { IfOk result (λ root. root.size ≤ 7864320) }
+    // No damage where the disk holds the file.
+    ensures sound { (graph : Graph) (ds : List Opened) (space : Kept) (id : Puid) (f : File)
+        → spec.HasFile D.Disk graph ds disk.old space at.0 id f → IfErr result (λ trouble. is_damage trouble ≡ false) }
+    ensures refused { IfErr result (IsTrouble D.Disk at.0 disk.old disk.new) }
+    ensures untried { IfErr result (λ trouble. trouble_had_tried trouble ≡ false) }
+    ensures reads { OnlyReads D.Disk 1 disk.old disk.new }
+{
+    match normal_files::read_root(disk, at) {
+        Ok(root) => Ok(root),
+        Err(trouble) => Err(trouble),
     }
 }
 
@@ -69,7 +93,7 @@ pub fn size<D: Disk>(disk: &mut D, at: BlockNo) -> Result<u64, Trouble>
     ensures untried { IfErr result (λ trouble. trouble_had_tried trouble ≡ false) }
     ensures reads { OnlyReads D.Disk 1 disk.old disk.new }
 {
-    match normal_files::read_root(disk, at) {
+    match read_root(disk, at) {
         Ok(root) => Ok(root.size),
         Err(trouble) => Err(trouble),
     }

@@ -23,11 +23,11 @@ module _ {D : Type 0} (g : Ghosts D) (at slot : ℕ) (d0 : D) (k0 : Kept) where
     memory = λ same. (kept, reads_within g d0 d1 n 9 few reads);
     untried = λ same. (kept, reads_within g d0 d1 n 9 few reads);
     cylinders = ap (λ (k : Kept). length k.free) kept;
-    calls = makes_more g d0 d1 n 0 43 24 (omega (arith, few)) (omega arith) (reads_make g d0 d1 n reads);
+    calls = makes_more g d0 d1 n 0 42 24 (omega (arith, few)) (omega arith) (reads_make g d0 d1 n reads);
   }
 
   -- made after reads, or not
-  module _ (d2 d3 : D) (k1 k3 : Kept) (c : ℕ) (root : roots.Root) (reads : OnlyReads g 2 d0 d2) (kept : k1 ≡ k0) (cylinders : length k3.free ≡ length k1.free) (made : MakesAtMost g 41 24 d2 d3)
+  module _ (d2 d3 : D) (k1 k3 : Kept) (c : ℕ) (root : roots.Root) (reads : OnlyReads g 2 d0 d2) (kept : k1 ≡ k0) (cylinders : length k3.free ≡ length k1.free) (made : MakesAtMost g 40 24 d2 d3)
       (least : (graph : Graph) (ds : List Opened) (id : Puid) (i : Index) → HasSlot g graph ds d0 k0 at id i slot → IsLeastFree (g.content d0) c) where
     abbrev Ends3 : Result Puid Refused → Type 0
     Ends3 r = (graph : Graph) (ds : List Opened) (id : Puid) (i : Index) → HasSlot g graph ds d0 k0 at id i slot → MakeEnds g graph ds id i slot (named c root.word) (bare_object root) d2 d3 k3 r
@@ -37,8 +37,8 @@ module _ {D : Type 0} (g : Ghosts D) (at slot : ℕ) (d0 : D) (k0 : Kept) where
     images r ends graph ds id i has = then g d0 d2 d3 _ (λ x. Holds x graph ⊎ Holds x (with_made graph id i slot (named c root.word) (bare_object root))) (wider g d0 d2 Nothing _ reads.images (λ x none. absurd none)) (ends graph ds id i has).leaves
         (λ x h. ⊎_elim (λ old. inl old) (λ both. inr (c, least graph ds id i has, both)) h)
 
-    all : MakesAtMost g 43 24 d0 d3
-    all = makes_then g d0 d2 d3 2 41 43 0 24 24 (reads_make g d0 d2 2 reads) made (omega arith) (omega arith)
+    all : MakesAtMost g 42 24 d0 d3
+    all = makes_then g d0 d2 d3 2 40 42 0 24 24 (reads_make g d0 d2 2 reads) made (omega arith) (omega arith)
 
     pub made_done : (p : Puid) → p ≡ named c root.word → Ends3 (Ok p) → PutsObject g at slot (bare_object root) root.word d0 d3 k0 k3 (Ok p)
     made_done p is ends = record {

@@ -188,7 +188,7 @@ module _ {D : Type 0} (g : Ghosts D) (at slot : ℕ) (what : Option Puid) (d0 : 
     memory = λ same. (kept, reads_within g d0 d1 n 9 few reads);
     untried = λ same. (kept, reads_within g d0 d1 n 9 few reads);
     cylinders = ap (λ (k : Kept). length k.free) kept;
-    calls = makes_more g d0 d1 n 0 39 22 (omega (arith, few)) (omega arith) (reads_make g d0 d1 n reads);
+    calls = makes_more g d0 d1 n 0 38 22 (omega (arith, few)) (omega arith) (reads_make g d0 d1 n reads);
   }
 
   -- the root has no such slot
@@ -216,7 +216,7 @@ module _ {D : Type 0} (g : Ghosts D) (at slot : ℕ) (what : Option Puid) (d0 : 
       memory = λ same. absurd (subst (IsRefusal g at 0 d0 d2 k2) same why);
       untried = λ same. let two = ends.untried same in (two.0, reads_then g d0 d1 d2 1 8 9 reads two.1 (omega arith));
       cylinders = ends.cylinders;
-      calls = makes_then g d0 d1 d2 1 8 39 0 4 22 (reads_make g d0 d1 1 reads) ends.calls (omega arith) (omega arith);
+      calls = makes_then g d0 d1 d2 1 8 38 0 4 22 (reads_make g d0 d1 1 reads) ends.calls (omega arith) (omega arith);
     }
       where
         ends : Ends {A = Option Swap} g was.at 0 8 4 (leaf_takes was (slot / 64)) d1 d2 k0 k2 (Err e)
@@ -227,7 +227,7 @@ module _ {D : Type 0} (g : Ghosts D) (at slot : ℕ) (what : Option Puid) (d0 : 
 
     -- filled, and committed or not
     module _ (d3 : D) (k3 : Kept) (put : Option Swap) (ended : Ends {A = Option Swap} g was.at 0 8 4 (leaf_takes was (slot / 64)) d1 d2 k1 k2 (Ok put)) (tried : HasTried g d1 d2) (cylinders : length k3.free ≡ length k2.free)
-        (commit : MakesAtMost g 30 18 d2 d3)
+        (commit : MakesAtMost g 29 18 d2 d3)
         (leaves : (graph : Graph) (ds : List Opened) (id : Puid) (i : Index) → HasSlot g graph ds d0 k0 at id i slot → Leaves g d1 d2 (λ c. Holds c graph) × Leaves g d2 d3 (IsOldOrNew graph graph id (index_with i slot what))) where
       ends : Ends {A = Option Swap} g was.at 0 8 4 (leaf_takes was (slot / 64)) d1 d2 k0 k2 (Ok put)
       ends = begun_with (Ok put) ended
@@ -235,8 +235,8 @@ module _ {D : Type 0} (g : Ghosts D) (at slot : ℕ) (what : Option Puid) (d0 : 
       first : MakesAtMost g 9 4 d0 d2
       first = makes_then g d0 d1 d2 1 8 9 0 4 4 (reads_make g d0 d1 1 reads) ends.calls (omega arith) (omega arith)
 
-      all : MakesAtMost g 39 22 d0 d3
-      all = makes_then g d0 d2 d3 9 30 39 4 18 22 first commit (omega arith) (omega arith)
+      all : MakesAtMost g 38 22 d0 d3
+      all = makes_then g d0 d2 d3 9 29 38 4 18 22 first commit (omega arith) (omega arith)
 
       images : (graph : Graph) (ds : List Opened) (id : Puid) (i : Index) → HasSlot g graph ds d0 k0 at id i slot → Leaves g d0 d3 (IsOldOrNew graph graph id (index_with i slot what))
       images graph ds id i has =
@@ -273,8 +273,8 @@ module _ {D : Type 0} (g : Ghosts D) (at slot : ℕ) (what : Option Puid) (d0 : 
         → PutsSlot g at slot what d0 d3 k0 k2 result
     ends_settled result settles done = by result settles
       where
-        calls : MakesAtMost g 1 1 d2 d3 → MakesAtMost g 39 22 d0 d3
-        calls one = makes_then g d0 d2 d3 3 1 39 0 1 22 (reads_make g d0 d2 3 both) one (omega arith) (omega arith)
+        calls : MakesAtMost g 1 1 d2 d3 → MakesAtMost g 38 22 d0 d3
+        calls one = makes_then g d0 d2 d3 3 1 38 0 1 22 (reads_make g d0 d2 3 both) one (omega arith) (omega arith)
 
         images : (P : Image → Type 0) → Leaves g d2 d3 Nothing → Leaves g d0 d3 P
         images P left = then g d0 d2 d3 P Nothing (wider g d0 d2 Nothing P both.images (λ c none. absurd none)) left (λ c none. absurd none)

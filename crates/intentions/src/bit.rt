@@ -111,30 +111,25 @@ pub fn clear_bit<D: Disk>(disk: &mut D, known: &mut KnownMaps, root: BlockNo) ->
     change_bit(disk, known, root, Change::ClearBit)
 }
 
-/// Writes to the root what its shadow root holds, and makes that outlast a crash. Never `Damaged`.
-pub fn copy_root<D: Disk>(disk: &mut D, root: BlockNo, shadow: BlockNo) -> Result<(), Trouble>
-    requires root_on_disk { root.0 < D.blocks disk.old }
-    requires shadow_on_disk { shadow.0 < D.blocks disk.old }
-    ensures copied { Tells D.Disk disk.old → OnOk result
-        (D.content disk.new ≡ set (D.content disk.old) root.0 (block_at (D.content disk.old) shadow.0)) }
-    ensures images { Tells D.Disk disk.old → Leaves D.Disk disk.old disk.new
-        (Written (left_now D.Disk disk.old) root.0 (block_at (D.content disk.old) shadow.0)) }
+/// Writes to the root this content, which is its shadow root's, and makes that outlast a crash. Never `Damaged`.
+pub fn copy_root<D: Disk>(disk: &mut D, root: BlockNo, content: &Block) -> Result<(), Trouble>
+    requires { root.0 < D.blocks disk.old }
+    ensures copied { OnOk result (D.content disk.new ≡ set (D.content disk.old) root.0 content.now) }
+    ensures images { Leaves D.Disk disk.old disk.new (Written (left_now D.Disk disk.old) root.0 content.now) }
     ensures settled { Tells D.Disk disk.old → OnOk result (IsSettled D.Disk disk.new) }
     // Where the bit is set and nothing waits, all that a crash leaves has the object.
-    ensures copies { (graph : Graph) (id : Puid) (o : Object) → id.block ≡ root.0 → IsSettled D.Disk disk.old
-        → IsCommitted (D.content disk.old) graph id o shadow.0
-        → OnOk result (Copies (D.content disk.old) (D.content disk.new) graph id o shadow.0) }
-    ensures holds { (graph : Graph) (id : Puid) (o : Object) → id.block ≡ root.0 → IsSettled D.Disk disk.old
-        → IsCommitted (D.content disk.old) graph id o shadow.0 → Leaves D.Disk disk.old disk.new (λ c. Holds c graph) }
-    ensures tried { OnOk result (HasTried D.Disk disk.old disk.new) }
-    ensures refused { IfErr result (HasStoppedBy D.Disk disk.old disk.new) }
-    ensures calls { MakesAtMost D.Disk 3 2 disk.old disk.new }
+    ensures copies { (graph : Graph) (id : Puid) (o : Object) (s : ℕ) → id.block ≡ root.0 → IsSettled D.Disk disk.old
+        → IsCommitted (D.content disk.old) graph id o s → block_at (D.content disk.old) s ≡ content.now
+        → OnOk result (Copies (D.content disk.old) (D.content disk.new) graph id o s) }
+    ensures holds { (graph : Graph) (id : Puid) (o : Object) (s : ℕ) → id.block ≡ root.0 → IsSettled D.Disk disk.old
+        → IsCommitted (D.content disk.old) graph id o s → block_at (D.content disk.old) s ≡ content.now
+        → Leaves D.Disk disk.old disk.new (λ c. Holds c graph) }
+    ensures refused { IfErr result (λ trouble. trouble ≡ troubles.Disk true) }
+    ensures stopped { OnErr result (HasStopped D.Disk true disk.old disk.new) }
+    ensures made { HasTried D.Disk disk.old disk.new }
+    ensures calls { MakesAtMost D.Disk 2 2 disk.old disk.new }
 {
-    let mut content = Block::zero();
-    let Ok(()) = disk.read(shadow, &mut content) else {
-        return Err(Trouble::Disk { tried: false });
-    };
-    let Ok(()) = disk.write(root, &content) else {
+    let Ok(()) = disk.write(root, content) else {
         return Err(Trouble::Disk { tried: true });
     };
     barrier(disk) // the copy

@@ -8,6 +8,7 @@ use Rattle.intentions.specs.Store.{StoreHas}
 use Rattle.ufs_model.specs.declared.object.File.{File}
 use Rattle.ufs_model.specs.Graph.{Graph, with_object}
 use Rattle.ufs_model.specs.Numbers.{has_number, numbers_rise}
+use Rattle.block_tree.specs.Root.{IsRootBlock}
 use Rattle.vol_image.specs.Reading.{IsTree}
 use Rattle.vol_image.specs.Seen.{tree_in}
 use Rattle.vol_image.specs.Sound.{Holds}
@@ -24,6 +25,10 @@ pub record IsFileAt (image : Image) (at : ℕ) (f : File) : Type 0 where
   pub owner : ℕ
   pub root : roots.Root
   pub tree : IsTree (length image) owner (tree_in image (block_at image at)) root (objects.File f)
+
+-- the block holds this root
+abbrev pub IsRootAt : Image → (at : ℕ) → roots.Root → Type 0
+IsRootAt image at root = IsRootBlock (block_at image at) root
 
 -- The store has this file in the place of the old one, and nothing changed but blocks of it or such as were Free.
 pub record BecomesFile {D : Type 0} (g : Ghosts D) (graph : Graph) (ds : List Opened) (id : Puid) (f : File)

@@ -9,14 +9,14 @@ ghost use Rattle.leaf_changes.specs.Leaves.{IsReadTo};
 ghost use Rattle.normal_files.specs.Nodes.{LeadTo};
 ghost use Rattle.normal_files.specs.Steps.{HasStoppedBy};
 ghost use Rattle.normal_files.specs.Refusal.{IsTrouble, is_damage};
-ghost use Rattle.normal_files.specs.Standing.{IsFileAt};
+ghost use Rattle.normal_files.specs.Standing.{IsFileAt, IsRootAt};
 ghost use Rattle.normal_files.specs.Touched.{leaves_touched, nodes_touched, touched_below};
 ghost use Rattle.ufs_model.specs.declared.object.File as files;
 ghost use Rattle.vol_image.specs.Seen.{Held};
 
-use crate::nodes::{read_leaf, read_node, read_root};
+use crate::nodes::{read_leaf, read_node};
 use crate::range::Leaves;
-use block_tree::Node;
+use block_tree::{Node, Root};
 use cfs_base::{BlockNo, Disk, Trouble};
 use leaf_changes::read_part;
 
@@ -50,24 +50,29 @@ fn read_below<D: Disk>(
     Ok(())
 }
 
-/// Reads bytes of a file from an offset on. The range lies within the size. `Damaged` names the root block, with code
-/// 3, which is none, or a block with a pointer past the disk, with code 4. Nothing is written.
-pub fn read<D: Disk>(disk: &mut D, at: BlockNo, offset: u64, into: &mut [u8]) -> Result<(), Trouble>
+/// Reads bytes of a file with this root, from an offset on. The range lies within the size. `Damaged` names a block
+/// with a pointer past the disk, with code 4. Nothing is written.
+pub fn read<D: Disk>(
+    disk: &mut D,
+    at: BlockNo,
+    root: &Root,
+    offset: u64,
+    into: &mut [u8],
+) -> Result<(), Trouble>
     requires on_disk { at.0 < D.blocks disk.old }
     requires inside { offset + length into.old ≤ 7864320 }
     ensures read { (f : files.File) → Tells D.Disk disk.old → IsFileAt (D.content disk.old) at.0 f
-        → offset + length into.old ≤ length f.bytes
+        → IsRootAt (D.content disk.old) at.0 root.now → offset + length into.old ≤ length f.bytes
         → OnOk result (into.new ≡ slice_range f.bytes offset (offset + length into.old)) }
     ensures long { length into.new ≡ length into.old }
     ensures refused { IfErr result (IsTrouble D.Disk at.0 disk.old disk.new) }
     ensures untried { IfErr result (λ trouble. trouble_had_tried trouble ≡ false) }
     ensures sound { (f : files.File) → Tells D.Disk disk.old → IsFileAt (D.content disk.old) at.0 f
-        → IfErr result (λ trouble. is_damage trouble ≡ false) }
-    // one read of the root, one a node, and one a leaf
-    ensures reads { OnlyReads D.Disk (1 + nodes_touched offset (length into.old)
-        + leaves_touched offset (length into.old)) disk.old disk.new }
+        → IsRootAt (D.content disk.old) at.0 root.now → IfErr result (λ trouble. is_damage trouble ≡ false) }
+    // one read a node, and one a leaf
+    ensures reads { OnlyReads D.Disk (nodes_touched offset (length into.old) + leaves_touched offset (length into.old))
+        disk.old disk.new }
 {
-    let root = read_root(disk, at)?;
     let leaves = Leaves::touched(offset, into.len() as u64);
     for number in leaves.from / 128..(leaves.to + 127) / 128 {
         let node = read_node(disk, root.nodes[number as usize], at)?;

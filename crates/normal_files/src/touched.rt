@@ -1,36 +1,32 @@
 //! A file that is to be written, read as far as that needs.
 ghost use Rattle.std.specs.Prelude.{◌≡◌, ◌+◌, ◌<◌, ◌≤◌, false, IfErr, IfOk};
-ghost use Rattle.block_tree.specs.Root.{IsRootBlock};
-ghost use Rattle.block_tree.specs.declared.root.Root as roots;
 ghost use Rattle.cfs_base.specs.Calls.{OnlyReads};
-ghost use Rattle.cfs_base.specs.Disk.{block_at};
 ghost use Rattle.cfs_base.specs.Refusals.{trouble_had_tried};
 ghost use Rattle.cfs_base.specs.Run.{Tells};
 ghost use Rattle.normal_files.specs.Laid.{node_of};
 ghost use Rattle.normal_files.specs.Parts.{AreParts, IsPart};
 ghost use Rattle.normal_files.specs.Refusal.{IsTrouble, is_damage};
-ghost use Rattle.normal_files.specs.Standing.{IsFileAt};
+ghost use Rattle.normal_files.specs.Standing.{IsFileAt, IsRootAt};
 ghost use Rattle.ufs_model.specs.declared.object.File as files;
 
-use crate::nodes::read_root;
 use crate::part::Part;
 use crate::range::Leaves;
 use block_tree::Root;
 use cfs_base::{BlockNo, Disk, Trouble};
 
-/// The root of a file, and the two nodes that bytes touch at most.
+/// The two nodes of a file that bytes touch at most.
 #[derive(Clone, Copy)]
 pub(crate) struct Touched {
-    pub root: Root,
     pub low: Part,
     pub high: Part,
 }
 
 impl Touched {
-    /// Reads them. `Damaged` as in `read_node`.
+    /// Reads them below the root of the file. `Damaged` as in `read_node`.
     pub fn read<D: Disk>(
         disk: &mut D,
         at: BlockNo,
+        root: &Root,
         offset: u64,
         count: u64,
     ) -> Result<Touched, Trouble>
@@ -38,28 +34,22 @@ impl Touched {
         requires some { 1 ≤ count }
         requires most { count ≤ 4096 }
         requires inside { offset + count ≤ 7864320 }
-        ensures root { Tells D.Disk disk.old
-            → IfOk result (λ t. IsRootBlock (block_at (D.content disk.old) at.0) t.root) }
         ensures parts { IfOk result (λ t. AreParts (D.blocks disk.old) offset count t.low t.high) }
-        ensures low_is { Tells D.Disk disk.old → IfOk result (λ t. IsPart (D.content disk.old) t.root t.low) }
-        ensures high_is { Tells D.Disk disk.old → IfOk result (λ t. IsPart (D.content disk.old) t.root t.high) }
+        ensures low_is { Tells D.Disk disk.old → IfOk result (λ t. IsPart (D.content disk.old) root.now t.low) }
+        ensures high_is { Tells D.Disk disk.old → IfOk result (λ t. IsPart (D.content disk.old) root.now t.high) }
         ensures low_near { IfOk result (λ t. t.low.leaves.from < t.low.leaves.to
-            → node_of t.root t.low.number < D.blocks disk.old) }
+            → node_of root.now t.low.number < D.blocks disk.old) }
         ensures high_near { IfOk result (λ t. t.high.leaves.from < t.high.leaves.to
-            → node_of t.root t.high.number < D.blocks disk.old) }
+            → node_of root.now t.high.number < D.blocks disk.old) }
         ensures few { IfOk result (λ t. t.high.leaves.to ≤ t.low.leaves.from + 9) }
         ensures refused { IfErr result (IsTrouble D.Disk at.0 disk.old disk.new) }
         ensures untried { IfErr result (λ trouble. trouble_had_tried trouble ≡ false) }
         ensures sound { (f : files.File) → Tells D.Disk disk.old → IsFileAt (D.content disk.old) at.0 f
-            → IfErr result (λ trouble. is_damage trouble ≡ false) }
-        ensures reads { OnlyReads D.Disk 3 disk.old disk.new }
+            → IsRootAt (D.content disk.old) at.0 root.now → IfErr result (λ trouble. is_damage trouble ≡ false) }
+        ensures reads { OnlyReads D.Disk 2 disk.old disk.new }
     {
-        let root = match read_root(disk, at) {
-            Ok(root) => root,
-            Err(trouble) => return Err(trouble),
-        };
         let touched = Leaves::touched(offset, count);
-        let low = match Part::read(disk, at, &root, touched, touched.from / 128) {
+        let low = match Part::read(disk, at, root, touched, touched.from / 128) {
             Ok(low) => low,
             Err(trouble) => return Err(trouble),
         };
@@ -67,8 +57,8 @@ impl Touched {
             from: low.leaves.to,
             to: touched.to,
         };
-        match Part::read(disk, at, &root, rest, (touched.to - 1) / 128) {
-            Ok(high) => Ok(Touched { root, low, high }),
+        match Part::read(disk, at, root, rest, (touched.to - 1) / 128) {
+            Ok(high) => Ok(Touched { low, high }),
             Err(trouble) => Err(trouble),
         }
     }

@@ -14,7 +14,7 @@ ghost use Rattle.normal_files.specs.Laid.{node_of};
 ghost use Rattle.normal_files.specs.Links.{linked_image, linked_root};
 ghost use Rattle.normal_files.specs.Order.{claims_of};
 ghost use Rattle.normal_files.specs.Parts.{AreParts, IsPart, part_need};
-ghost use Rattle.normal_files.specs.Standing.{BecomesFile, IsPartly};
+ghost use Rattle.normal_files.specs.Standing.{BecomesFile, IsPartly, IsRootAt};
 ghost use Rattle.normal_files.specs.Steps.{Comes, IsAmid, Puts};
 ghost use Rattle.normal_files.specs.WriteRefusal.{IsWriteRefusal, TellsNeed, is_untried, needs};
 ghost use Rattle.normal_files.specs.View.{View, Way};
@@ -152,16 +152,16 @@ pub(crate) fn write_parts<D: Disk>(
     }
 }
 
-/// Writes bytes into a file, from an offset on. The range lies within the size. Each leaf that it touches and that is
-/// absent takes the least-numbered Free block, in increasing order, and after it its node where that is absent too.
-/// `Full` where fewer blocks are Free than it takes, with the floor. `Damaged` names the root block, with code 3, which
-/// is none; a block with a pointer past the disk, with code 4; or a map, with code 2, that is none, or with code 12,
-/// that has no Free block where some were counted. Where a `Disk` was tried each leaf is old or new; else all is as it
-/// was.
+/// Writes bytes into a file with this root, from an offset on. The range lies within the size. Each leaf that it
+/// touches and that is absent takes the least-numbered Free block, in increasing order, and after it its node where
+/// that is absent too. `Full` where fewer blocks are Free than it takes, with the floor. `Damaged` names a block with a
+/// pointer past the disk, with code 4; or a map, with code 2, that is none, or with code 12, that has no Free block
+/// where some were counted. Where a `Disk` was tried each leaf is old or new; else all is as it was.
 pub fn write<D: Disk>(
     disk: &mut D,
     space: &mut Space,
     at: BlockNo,
+    root: &Root,
     offset: u64,
     bytes: &[u8],
     floor: u32,
@@ -175,62 +175,61 @@ pub fn write<D: Disk>(
     ensures written { (graph : Graph) (ds : List Opened) (id : Puid) (f : files.File)
         → StoreHas D.Disk graph ds disk.old space.old
         → object_at graph id ≡ Some (objects.File f) → drafts_of ds id ≡ [] → id.block ≡ at.0
-        → offset + length bytes.now ≤ length f.bytes
+        → IsRootAt (D.content disk.old) at.0 root.now → offset + length bytes.now ≤ length f.bytes
         → OnOk result (BecomesFile D.Disk graph ds id (written_file f offset bytes.now) disk.old disk.new space.new
         × IsSettled D.Disk disk.new) }
     // Each touched leaf that isn't held takes the least Free block, and after it its node: in increasing order.
     ensures order { (graph : Graph) (ds : List Opened) (id : Puid) (f : files.File)
         → StoreHas D.Disk graph ds disk.old space.old
         → object_at graph id ≡ Some (objects.File f) → drafts_of ds id ≡ [] → id.block ≡ at.0
-        → offset + length bytes.now ≤ length f.bytes → OnOk result
+        → IsRootAt (D.content disk.old) at.0 root.now → offset + length bytes.now ≤ length f.bytes → OnOk result
         (AreClaimed (claims_of at.0 f offset (length bytes.now)) (D.content disk.old) (D.content disk.new)) }
     // Done or not, each image that is left has each leaf old or new.
     ensures images { (graph : Graph) (ds : List Opened) (id : Puid) (f : files.File)
         → StoreHas D.Disk graph ds disk.old space.old
         → object_at graph id ≡ Some (objects.File f) → drafts_of ds id ≡ [] → id.block ≡ at.0
-        → offset + length bytes.now ≤ length f.bytes
+        → IsRootAt (D.content disk.old) at.0 root.now → offset + length bytes.now ≤ length f.bytes
         → LeavesOf D.Disk disk.old disk.new (λ c. IsPartly c graph id f (written_file f offset bytes.now)) }
     ensures sound { (graph : Graph) (ds : List Opened) (id : Puid) (f : files.File)
         → StoreHas D.Disk graph ds disk.old space.old
         → object_at graph id ≡ Some (objects.File f) → drafts_of ds id ≡ [] → id.block ≡ at.0
-        → offset + length bytes.now ≤ length f.bytes → IfErr result (λ e. is_damaged e ≡ false) }
+        → IsRootAt (D.content disk.old) at.0 root.now → offset + length bytes.now ≤ length f.bytes
+        → IfErr result (λ e. is_damaged e ≡ false) }
     // Full exactly where fewer blocks are Free than the write needs, with the floor.
     ensures room { (graph : Graph) (ds : List Opened) (id : Puid) (f : files.File)
         → StoreHas D.Disk graph ds disk.old space.old
         → object_at graph id ≡ Some (objects.File f) → drafts_of ds id ≡ [] → id.block ≡ at.0
-        → offset + length bytes.now ≤ length f.bytes
+        → IsRootAt (D.content disk.old) at.0 root.now → offset + length bytes.now ≤ length f.bytes
         → OnOk result (needs f offset (length bytes.now) + floor ≤ sum space.old.free) }
     ensures full { (graph : Graph) (ds : List Opened) (id : Puid) (f : files.File)
         → StoreHas D.Disk graph ds disk.old space.old
         → object_at graph id ≡ Some (objects.File f) → drafts_of ds id ≡ [] → id.block ≡ at.0
-        → offset + length bytes.now ≤ length f.bytes
+        → IsRootAt (D.content disk.old) at.0 root.now → offset + length bytes.now ≤ length f.bytes
         → IfErr result (TellsNeed (needs f offset (length bytes.now))) }
     // Where a write was tried so many were Free.
     ensures begun { (graph : Graph) (ds : List Opened) (id : Puid) (f : files.File)
         → StoreHas D.Disk graph ds disk.old space.old
         → object_at graph id ≡ Some (objects.File f) → drafts_of ds id ≡ [] → id.block ≡ at.0
-        → offset + length bytes.now ≤ length f.bytes
+        → IsRootAt (D.content disk.old) at.0 root.now → offset + length bytes.now ≤ length f.bytes
         → IfErr result (λ e. e ≡ refusals.Disk true → needs f offset (length bytes.now) + floor ≤ sum space.old.free) }
     ensures refused { IfErr result (IsWriteRefusal D.Disk at.0 floor disk.old disk.new space.old space.new) }
     // Where nothing was tried, all is as it was.
     ensures untried { IfErr result (λ e. is_untried e ≡ true → (space.new ≡ space.old)
-        × OnlyReads D.Disk 73 disk.old disk.new) }
+        × OnlyReads D.Disk 72 disk.old disk.new) }
     ensures cylinders { length space.new.free ≡ length space.old.free }
-    ensures calls { MakesAtMost D.Disk 73 43 disk.old disk.new }
+    ensures calls { MakesAtMost D.Disk 72 43 disk.old disk.new }
 {
-    let file = match Touched::read(disk, at, offset, bytes.len() as u64) {
+    let file = match Touched::read(disk, at, root, offset, bytes.len() as u64) {
         Ok(file) => file,
         Err(trouble) => return Err(Refused::from(trouble)),
     };
-    let low = file.low.need(&file.root);
-    let high = file.high.need(&file.root);
+    let low = file.low.need(root);
+    let high = file.high.need(root);
     match has_room(space, low + high, floor) {
         Ok(()) => {}
         Err(error) => return Err(error),
     }
-    match write_parts(
-        disk, space, at, &file.root, &file.low, &file.high, offset, bytes,
-    ) {
+    match write_parts(disk, space, at, root, &file.low, &file.high, offset, bytes) {
         Ok(()) => Ok(()),
         Err(error) => Err(error),
     }

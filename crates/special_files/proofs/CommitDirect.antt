@@ -76,6 +76,10 @@ module _ {D : Type 0} (g : Ghosts D) (graph : Graph) (ds : List Opened) (id : Pu
         entries : (b : ℕ) → entry_in (g.content d2) b ≡ entry_in (g.content d1) b
         entries b = ap (λ (i : Image). entry_in i b) content ∙ entry_in-set (g.content d1) s.0 block b real
 
+        -- the shadow root has what was written
+        pub direct_has : block_at (g.content d2) s.0 ≡ block
+        direct_has = ap (λ (i : Image). block_at i s.0) content ∙ get_or-set_same (g.content d1) s.0 block [] below
+
         pub direct_ready : (taken dropped : List ℕ) → block ≡ root_spelling drafting.root → IsChanged (g.content d0) id (opened_as id drafting m) taken dropped → IsReady (g.content d2) graph id o m.object s.0 taken dropped None
             × (tree_in (g.content d2) (block_at (g.content d2) s.0) ≡ tree_in (g.content d0) (root_spelling drafting.root))
         direct_ready taken dropped spelled lists =
@@ -86,7 +90,7 @@ module _ {D : Type 0} (g : Ghosts D) (graph : Graph) (ds : List Opened) (id : Pu
             (λ b is other. ap (λ (i : Image). block_at i b) content ∙ get_or-set_other (g.content d1) s.0 b block [] other ∙ ap (λ (i : Image). block_at i b) both.2
             ∙ block_at-with_entry (g.content d0) s.0 (intended ShadowRoot id.block) b (λ map. is (omega (arith, map))))
             (ap (stands_for id.block) (entries s.0) ∙ stands)
-            (ap (λ (i : Image). block_at i s.0) content ∙ get_or-set_same (g.content d1) s.0 block [] below ∙ spelled)
+            (direct_has ∙ spelled)
             (λ b is. (let no : None ≡ Some b = sym stood ∙ is in cc))
             (λ b is eq. is.taken.taken (ap (λ (e : MapEntry). e.state) (same_Some _ _ (sym is.taken.here ∙ ap (entry_in (g.content d0)) eq ∙ was.1)) ∙ was.2))
             amid2.carries.holds
@@ -98,5 +102,5 @@ module _ {D : Type 0} (g : Ghosts D) (graph : Graph) (ds : List Opened) (id : Pu
           both.1,
           real,
           λ same. root.taken.taken (ap (λ (e : MapEntry). e.state) (same_Some _ _ (sym root.taken.here ∙ ap (entry_in (g.content d0)) (sym same) ∙ was.1)) ∙ was.2),
-          ap (λ (i : Image). block_at i s.0) content ∙ get_or-set_same (g.content d1) s.0 block [] below ∙ spelled,
+          direct_has ∙ spelled,
         )

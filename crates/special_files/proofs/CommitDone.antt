@@ -1,23 +1,13 @@
 -- A commit from the release of what is dropped to the end.
 use Rattle.std.proofs.Common.{◌≡◌, inl, inr, ⊎_elim, ℕ, ◌≤◌, true, false, List, [], ◌∷◌, ◌++◌, length, set, Ok, Err, Some, refl, sym, ◌∙◌, ap, subst, arith, Option}
-use Rattle.special_files.proofs.Words.{AreCounts, CarriedOut, Carries, ChangesBit, ChangesOnly, ClearBit, Course, Fails, Flip, Flips, Frame, Ghosts, Graph, HasItsBlocks, HasStoppedBy, Holds, IfErr, Image, IsCommitted, IsCourse, IsEntered, IsErrAnd, IsMapTrouble, IsOldOrNew, IsOn, IsReady, IsSettled, Keeps, Kept, Leaves, MakesAtMost, MayFlip, Object, OnOk, Puid, Release, Result, SetBit, Tells, Trouble, bit_set, block_at, carries_ended, carries_framed, entry_in, false_from_ne_true, flipped, flips, frames_hold, given_all, in_image, is_damage, is_fixed, is_meant_for, is_of, is_taken, keeps_frame, keeps_settled, named, not_label, not_map, of_owners, on_holds, option_to_list, reserved, root_placed, same_or_not, settling, taken_apart, the_entry, then, tree_in, trouble_after_try, wider, with_bit, with_entry, with_object}
+use Rattle.special_files.proofs.Words.{AreCounts, CarriedOut, Carries, ChangesBit, ChangesOnly, ClearBit, Course, Fails, Flip, Flips, Frame, Ghosts, Graph, HasItsBlocks, Holds, IfErr, Image, IsCommitted, IsCourse, IsEntered, IsErrAnd, IsMapTrouble, IsOldOrNew, IsOn, IsReady, IsSettled, Keeps, Kept, Leaves, MakesAtMost, MayFlip, Object, OnOk, Puid, Release, Result, SetBit, Tells, Trouble, bit_set, block_at, carries_ended, carries_framed, entry_in, false_from_ne_true, flipped, flips, frames_hold, given_all, in_image, is_damage, is_fixed, is_meant_for, is_of, is_taken, keeps_frame, keeps_settled, named, not_label, not_map, of_owners, on_holds, option_to_list, reserved, root_placed, same_or_not, settling, taken_apart, the_entry, then, tree_in, trouble_after_try, wider, with_bit, with_entry, with_object}
+use Rattle.cfs_base.specs.Calls.{HasStopped}
 use Rattle.cfs_base.specs.declared.refusal.Trouble.TheVariants as trouble
-use Rattle.special_files.proofs.CommitFlips.{flip_is, flipped_append}
+use Rattle.special_files.proofs.CommitFlips.{flip_is, flipped_append, flipped_block}
 use Rattle.special_files.proofs.CommitRoles.{none_meant, now_has, only_owners}
 use Rattle.special_files.proofs.CommitRuns.{fails_after, no_damage}
 use Rattle.special_files.proofs.CommitAfter as after_it
 use Rattle.special_files.proofs.CommitWhole as whole
-
--- ---- the copy
-
-module _ {D : Type 0} (g : Ghosts D) (old new : D) where
-  pub stopped_sound : (t : Trouble) → HasStoppedBy g old new t → is_damage (trouble_after_try t) ≡ false
-  stopped_sound (trouble.Disk tried) is = refl
-  stopped_sound (trouble.Damaged damage) is = absurd is
-
-  pub stopped_fails : (at : ℕ) (kept : Kept) (t : Trouble) → HasStoppedBy g old new t → Fails g at old new kept (trouble_after_try t)
-  stopped_fails at kept (trouble.Disk tried) is = (refl, is.failed)
-  stopped_fails at kept (trouble.Damaged damage) is = absurd is
 
 -- ---- up to the bit
 
@@ -72,6 +62,14 @@ module _ {D : Type 0} (g : Ghosts D) {graph full : Graph} {at word : ℕ} {was o
 
     pub committed1 : IsCommitted (g.content d1) (with_object full (named at word) o) (named at word) o s
     committed1 = subst (λ (i : Image). IsCommitted i (with_object full (named at word) o) (named at word) o s) (sym a2_is) (whole.bit ready).committed
+
+    -- the shadow root is as it was, and so the copy is of it
+    module _ (content : List ℕ) (spelled : block_at (g.content d0) s ≡ content) where
+      pub shadow_now : block_at (g.content d1) s ≡ content
+      shadow_now = ap (λ (i : Image). block_at i s) content_is ∙ flipped_block (flips Release dropped ++ flips SetBit (at ∷ [])) (g.content d0) s (whole.real ready s (whole.shadow ready).taken) ∙ spelled
+
+      pub copied_now : (d2 : D) → g.content d2 ≡ set (g.content d1) at content → g.content d2 ≡ set (g.content d1) at (block_at (g.content d1) s)
+      copied_now d2 copied = copied ∙ ap (set (g.content d1) at) (sym shadow_now)
 
     module _ (d2 : D) (copied : g.content d2 ≡ set (g.content d1) at (block_at (g.content d1) s)) (settled2 : IsSettled g d2) where
       abbrev w : Course
@@ -151,6 +149,14 @@ makes_more g old new n t m s le lt is = record { later = is.later; keeps = is.ke
 pub fails_then : {D : Type 0} (g : Ghosts D) (at : ℕ) (old mid new : D) (kept : Kept) (n t m s : ℕ) → MakesAtMost g n t old mid → (Tells g old → Tells g mid) → MakesAtMost g m s mid new → (r : Result (Unit {0}) Trouble) → IfErr r (Fails g at mid new kept) → IfErr r (Fails g at old new kept)
 fails_then g at old mid new kept n t m s first on second (Ok u) is = tt
 fails_then g at old mid new kept n t m s first on second (Err e) is = fails_after g at old mid new kept n t m s first on second e is
+
+-- a call that tried a write or barrier, and failed
+module _ {D : Type 0} (g : Ghosts D) (old new : D) where
+  pub tried_sound : (t : Trouble) → t ≡ trouble.Disk true → is_damage t ≡ false
+  tried_sound t is = ap is_damage is
+
+  pub tried_fails : (at : ℕ) (kept : Kept) (t : Trouble) → t ≡ trouble.Disk true → HasStopped g true old new → Fails g at old new kept t
+  tried_fails at kept t is stopped = subst (Fails g at old new kept) (sym is) (refl, stopped.failed)
 
 -- what a refused call owes of a result
 pub passed_done : {A : Type 0} (P : Type 0) (r : Result A Trouble) (t : Trouble) → IsErrAnd r (λ e. e ≡ t) → OnOk r P

@@ -210,17 +210,21 @@ module _ {D : Type 0} (g : Ghosts D) (graph : Graph) (ds : List Opened) (id : Pu
       pub store1 : StoreHas g graph ds d1 k0
       store1 = subst (λ (es : List Opened). StoreHas g graph es d1 k0) (replaced_same (opened_as id drafting m) ds opened.alone) (store_goes_on g graph ds id o d0 d1 k0 k0 drafting drafting m m store at opened amid1 draft1 refl)
 
+      -- the shadow root has what was written
+      pub shadow_has : block_at (g.content d1) s ≡ block
+      shadow_has = ap (λ (i : Image). block_at i s) content ∙ get_or-set_same (g.content d0) s block [] below
+
       pub ready1 : (taken dropped : List ℕ) → block ≡ root_spelling drafting.root → IsChanged (g.content d1) id (opened_as id drafting m) taken dropped → IsReady (g.content d1) graph id o m.object s taken dropped None
       ready1 taken dropped spelled lists = (
           ready_with (g.content d1) (g.content d1) graph id o (opened_as id drafting m) s taken dropped store1.account.holds at (store1.account.objects id o at) draft1 lists (store1.account.objects id o at) refl
           (λ n other. refl) (λ n is other. refl) (ap (stands_for id.block) (entries s) ∙ stands)
-          (ap (λ (i : Image). block_at i s) content ∙ get_or-set_same (g.content d0) s block [] below ∙ spelled)
+          (shadow_has ∙ spelled)
           (λ n is. same_Some _ _ (sym is ∙ stood))
           (λ n is. inner_apart n (record { taken = record { is = is.taken.is; here = sym (entries n) ∙ is.taken.here; taken = is.taken.taken; placed = is.taken.placed; owned = is.taken.owned }; no_root = is.no_root; no_shadow = is.no_shadow }))
           store1.account.holds).0
 
       pub tree1 : block ≡ root_spelling drafting.root → tree_in (g.content d1) (block_at (g.content d1) s) ≡ tree_in (g.content d0) (root_spelling drafting.root)
-      tree1 spelled = ap (tree_in (g.content d1)) (ap (λ (i : Image). block_at i s) content ∙ get_or-set_same (g.content d0) s block [] below ∙ spelled) ∙ tree
+      tree1 spelled = ap (tree_in (g.content d1)) (shadow_has ∙ spelled) ∙ tree
 
 -- ---- ends
 

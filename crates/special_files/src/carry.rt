@@ -1,13 +1,12 @@
 //! A draft that stands with its root in its shadow root, carried out.
 ghost use Rattle.intentions.specs.Entries.{Fits};
-ghost use Rattle.std.specs.Prelude.{◌≡◌, ◌<◌, ◌+◌, ◌*◌, ◌++◌, ℕ, List, set, [], ◌∷◌, false, length, option_to_list};
+ghost use Rattle.std.specs.Prelude.{◌≡◌, ◌<◌, ◌+◌, ◌*◌, ◌++◌, ℕ, List, [], ◌∷◌, false, length, option_to_list};
 ghost use Rattle.std.specs.Prelude.{Option, None, Some, IfErr, OnOk};
 ghost use Rattle.std.specs.List.{All};
 ghost use Rattle.cfs_base.specs.Calls.{MakesAtMost};
 ghost use Rattle.cfs_base.specs.Disk.{block_at};
 ghost use Rattle.cfs_base.specs.Run.{IsSettled, Leaves, Tells};
 ghost use Rattle.cyl_alloc.specs.Space.{Kept};
-ghost use Rattle.intentions.specs.Commit.{IsCommitted};
 ghost use Rattle.intentions.specs.declared.change.Change.TheVariants as changes;
 ghost use Rattle.special_files.specs.Committing as spec;
 ghost use Rattle.special_files.specs.Drafting.{number_of};
@@ -15,10 +14,9 @@ ghost use Rattle.block_tree.specs.Reads.{is_damage};
 ghost use Rattle.ufs_model.specs.Graph.{Graph};
 ghost use Rattle.ufs_model.specs.declared.object.Object.{Object};
 ghost use Rattle.vol_image.specs.Run.{Carries};
-ghost use Rattle.vol_image.specs.Sound.{Holds};
 
 use crate::flips::{flip, flip_all};
-use cfs_base::{BlockNo, Disk, Trouble};
+use cfs_base::{Block, BlockNo, Disk, Trouble};
 use cyl_alloc::KnownMaps;
 use intentions::{Change, clear_bit, commit, copy_root};
 
@@ -133,33 +131,14 @@ fn decide<D: Disk>(
     }
 }
 
-/// Copies the shadow root to the root.
-fn copy<D: Disk>(disk: &mut D, at: BlockNo, shadow: BlockNo) -> Result<(), Trouble>
-    requires on_disk { at.0 < D.blocks disk.old }
-    requires shadow_on_disk { shadow.0 < D.blocks disk.old }
-    ensures copied { Tells D.Disk disk.old → OnOk result
-        (D.content disk.new ≡ set (D.content disk.old) at.0 (block_at (D.content disk.old) shadow.0)) }
-    ensures settled { Tells D.Disk disk.old → OnOk result (IsSettled D.Disk disk.new) }
-    ensures holds { (graph : Graph) (word : ℕ) (o : Object) → IsSettled D.Disk disk.old
-        → IsCommitted (D.content disk.old) graph (spec.named at.0 word) o shadow.0
-        → Leaves D.Disk disk.old disk.new (λ c. Holds c graph) }
-    ensures sound { IfErr result (λ t. is_damage t ≡ false) }
-    ensures fails { (kept : Kept) → IfErr result (spec.Fails D.Disk at.0 disk.old disk.new kept) }
-    ensures calls { MakesAtMost D.Disk 3 2 disk.old disk.new }
-{
-    match copy_root(disk, at, shadow) {
-        Ok(()) => Ok(()),
-        Err(trouble) => Err(trouble.after_try()),
-    }
-}
-
-/// Makes a draft its object, whose root is at `at`, and whose shadow root is written. The blocks of its own are
-/// `taken`, and it drops these of the object's.
+/// Makes a draft its object, whose root is at `at`, and whose shadow root was written with this content. The blocks of
+/// its own are `taken`, and it drops these of the object's.
 pub(crate) fn carry_out<D: Disk>(
     disk: &mut D,
     known: &mut KnownMaps,
     at: BlockNo,
     shadow: BlockNo,
+    content: &Block,
     taken: &[u32],
     dropped: &[u32],
     created: Option<BlockNo>,
@@ -169,13 +148,14 @@ pub(crate) fn carry_out<D: Disk>(
     requires taken_on_disk { All (λ n. n < D.blocks disk.old) taken.now }
     requires dropped_on_disk { All (λ n. n < D.blocks disk.old) dropped.now }
     requires created_on_disk { (n : ℕ) → number_of created ≡ Some n → n < D.blocks disk.old }
-    ensures finishes { (before : Kept) → spec.Finishes D.Disk at.0 shadow.0 taken.now dropped.now (number_of created)
-        disk.old disk.new before (spec.given_all (spec.given_all before dropped.now) (shadow.0 ∷ [])) result }
+    ensures finishes { (before : Kept) → block_at (D.content disk.old) shadow.0 ≡ content.now
+        → spec.Finishes D.Disk at.0 shadow.0 taken.now dropped.now (number_of created) disk.old disk.new before
+        (spec.given_all (spec.given_all before dropped.now) (shadow.0 ∷ [])) result }
     ensures fails { (kept : Kept) → IfErr result (spec.Fails D.Disk at.0 disk.old disk.new kept) }
-    ensures calls { MakesAtMost D.Disk (2 * length taken.now + 4 * length dropped.now + 15)
+    ensures calls { MakesAtMost D.Disk (2 * length taken.now + 4 * length dropped.now + 14)
         (length taken.now + 2 * length dropped.now + 10) disk.old disk.new }
 {
     decide(disk, known, at, dropped)?;
-    copy(disk, at, shadow)?;
+    copy_root(disk, at, content)?;
     settle(disk, known, at, shadow, taken, dropped, created)
 }

@@ -2,6 +2,7 @@
 ghost use Rattle.std.specs.Prelude.{◌≡◌, ◌≢◌, ◌<◌, ◌+◌, ◌*◌, ℕ, false, length, Option, Some, IfErr};
 ghost use Rattle.std.specs.List.{All};
 ghost use Rattle.cfs_base.specs.Calls.{HasTried, MakesAtMost};
+ghost use Rattle.cfs_base.specs.Disk.{block_at};
 ghost use Rattle.cfs_base.specs.declared.refusal.Refused.TheVariants as refused;
 ghost use Rattle.cfs_base.specs.declared.refusal.Trouble.TheVariants as troubles;
 ghost use Rattle.special_files.specs.Committing as spec;
@@ -15,15 +16,17 @@ use crate::changed::changed;
 use crate::flips::give_all;
 use crate::leaf::write_own;
 use block_tree::Root;
-use cfs_base::{BlockNo, Disk, Trouble};
+use cfs_base::{Block, BlockNo, Disk, Trouble};
 use cyl_alloc::Space;
 
-/// Makes a draft its object, and counts the blocks that are Free again.
+/// Makes a draft its object, whose shadow root was written with this content, and counts the blocks that are Free
+/// again.
 pub(crate) fn finish<D: Disk>(
     disk: &mut D,
     space: &mut Space,
     at: BlockNo,
     shadow: BlockNo,
+    content: &Block,
     taken: &[u32],
     dropped: &[u32],
     created: Option<BlockNo>,
@@ -34,14 +37,24 @@ pub(crate) fn finish<D: Disk>(
     requires taken_on_disk { All (λ n. n < D.blocks disk.old) taken.now }
     requires dropped_on_disk { All (λ n. n < D.blocks disk.old) dropped.now }
     requires created_on_disk { (n : ℕ) → number_of created ≡ Some n → n < D.blocks disk.old }
-    ensures finishes { spec.Finishes D.Disk at.0 shadow.0 taken.now dropped.now (number_of created) disk.old disk.new
+    ensures finishes { block_at (D.content disk.old) shadow.0 ≡ content.now
+        → spec.Finishes D.Disk at.0 shadow.0 taken.now dropped.now (number_of created) disk.old disk.new
         space.old space.new result }
     ensures fails { IfErr result (spec.Fails D.Disk at.0 disk.old disk.new space.new) }
     ensures cylinders { length space.new.free ≡ length space.old.free }
-    ensures calls { MakesAtMost D.Disk (2 * length taken.now + 4 * length dropped.now + 15)
+    ensures calls { MakesAtMost D.Disk (2 * length taken.now + 4 * length dropped.now + 14)
         (length taken.now + 2 * length dropped.now + 10) disk.old disk.new }
 {
-    match carry_out(disk, space.known(), at, shadow, taken, dropped, created) {
+    match carry_out(
+        disk,
+        space.known(),
+        at,
+        shadow,
+        content,
+        taken,
+        dropped,
+        created,
+    ) {
         Ok(()) => {
             give_all(space, dropped);
             space.gave(shadow, 1);
@@ -76,9 +89,10 @@ pub(crate) fn commit_begun<D: Disk>(
     // No device call comes before the first try.
     ensures untried { IfErr result (λ t. t ≢ troubles.Disk false) }
     ensures cylinders { length space.new.free ≡ length space.old.free }
-    ensures calls { MakesAtMost D.Disk 93136 46451 disk.old disk.new }
+    ensures calls { MakesAtMost D.Disk 93135 46451 disk.old disk.new }
 {
-    match write_own(disk, shadow, &root.encode()) {
+    let content = root.encode();
+    match write_own(disk, shadow, &content) {
         Ok(()) => {}
         Err(_) => return Err(Trouble::Disk { tried: true }),
     }
@@ -91,6 +105,7 @@ pub(crate) fn commit_begun<D: Disk>(
         space,
         at,
         shadow,
+        &content,
         taken.as_slice(),
         dropped.as_slice(),
         created,

@@ -79,18 +79,19 @@ pub(crate) fn commit_listed<D: Disk>(
     ensures untried { IfErr result (λ t. t ≡ troubles.Disk false
         → (space.new ≡ space.old) × OnlyReads D.Disk 1 disk.old disk.new) }
     ensures cylinders { length space.new.free ≡ length space.old.free }
-    ensures calls { MakesAtMost D.Disk (2 * length taken.now + 4 * length dropped.now + 18)
+    ensures calls { MakesAtMost D.Disk (2 * length taken.now + 4 * length dropped.now + 17)
         (length taken.now + 2 * length dropped.now + 12) disk.old disk.new }
 {
     let shadow = match claim_shadow(disk, space, at) {
         Ok(block) => block,
         Err(trouble) => return Err(trouble),
     };
-    match write_own(disk, shadow, &root.encode()) {
+    let content = root.encode();
+    match write_own(disk, shadow, &content) {
         Ok(()) => {}
         Err(_) => return Err(Trouble::Disk { tried: true }),
     }
-    finish(disk, space, at, shadow, taken, dropped, created)
+    finish(disk, space, at, shadow, &content, taken, dropped, created)
 }
 
 /// Commits a draft of these parts, which has no shadow root.
@@ -118,7 +119,7 @@ pub(crate) fn commit_direct<D: Disk>(
     ensures untried { IfErr result (λ t. t ≡ troubles.Disk false
         → (space.new ≡ space.old) × OnlyReads D.Disk 241 disk.old disk.new) }
     ensures cylinders { length space.new.free ≡ length space.old.free }
-    ensures calls { MakesAtMost D.Disk 93138 46452 disk.old disk.new }
+    ensures calls { MakesAtMost D.Disk 93137 46452 disk.old disk.new }
 {
     match changed(disk, at, own, root, taken, dropped) {
         Ok(()) => {}

@@ -46,8 +46,9 @@ const LEAF: Act = Act::Write {
     byte: 0x5a,
 };
 
-/// Maps: three claims, two marks, the bit set, five entries finished, the bit cleared. Others: a leaf, a node, two
-/// roots.
+/// Maps: three claims, two marks, the bit set, five entries finished, the bit cleared. Others are written: a leaf, a
+/// node, two roots; and read: the root, by who asks the size and by the draft, the leaf of which a part stays, and the
+/// node, where it is changed and where it is compared with the draft's, which is read too.
 const SPECIAL: [Row; 2] = [(BYTE, [12, 6], [12, 4], 5), (LEAF, [12, 5], [12, 4], 5)];
 
 #[test]
@@ -151,15 +152,15 @@ const INDEX: Act = Act::Create {
     word: 7,
 };
 
-/// Slots of the greatest index that are filled, or emptied, one after another: what is read and written. Root and
-/// shadow root are read, and the leaf of the slot and its node where they are held; all four are written. Of the maps
+/// Slots of the greatest index that are filled, or emptied, one after another: what is read and written. The root is
+/// read, and the leaf of the slot and its node where they are held; these and the shadow root are written. Of the maps
 /// 8 entries change, and for each of the two that was held two more: its mark, and that it is Free.
 const SLOTS: [(u64, Option<Puid>, [u32; 2], [u32; 2]); 5] = [
-    (0, TOP, [8, 2], [8, 4]),
-    (4095, TOP, [10, 3], [10, 4]),
-    (8192, TOP, [8, 2], [8, 4]),
-    (983_039, TOP, [8, 2], [8, 4]),
-    (0, None, [12, 4], [12, 4]),
+    (0, TOP, [8, 1], [8, 4]),
+    (4095, TOP, [10, 2], [10, 4]),
+    (8192, TOP, [8, 1], [8, 4]),
+    (983_039, TOP, [8, 1], [8, 4]),
+    (0, None, [12, 3], [12, 4]),
 ];
 
 const TOP: Option<Puid> = Some(Puid {

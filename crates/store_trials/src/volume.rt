@@ -9,7 +9,7 @@ use cfs_base::{
 };
 use cfs_fakes::{MemoryDisk, Seen, Watched};
 use cyl_alloc::Space;
-use file_ops::{read, resize, write};
+use file_ops::{read, read_root, resize, write};
 use index_ops::{create, delete, retain, retrieve};
 use special_files::Draft;
 use std::alloc::Global;
@@ -171,12 +171,14 @@ impl Volume {
         {
             return Err(Refused::Memory);
         }
+        let root = read_root(&mut self.disk, at)?;
         write(
             alloc,
             &mut self.disk,
             &mut self.space,
             at,
             kind,
+            &root,
             offset,
             bytes,
             4,
@@ -268,7 +270,8 @@ impl Volume {
         if at.0 >= self.disk.blocks() || offset > LIMIT || count as u64 > LIMIT - offset {
             return Err(Refused::Memory);
         }
-        read(alloc, &mut self.disk, at, offset, count)
+        let root = read_root(&mut self.disk, at)?;
+        read(alloc, &mut self.disk, at, &root, offset, count)
     }
 
     /// What a slot of the index at a block holds.

@@ -37,5 +37,5 @@ returns-else-commit g c = subst (λ b. EndsDraft g.D.Disk b c.args.draft c.args.
   tried = c.abort.ensures.tried;
   refused = c.abort.ensures.refused;
   cylinders = c.abort.ensures.cylinders;
-  calls = fewer_calls g.D.Disk 31205 15483 93138 46452 c.args.disk.now c.abort.new.disk (omega arith) (omega arith) c.abort.ensures.calls;
+  calls = fewer_calls g.D.Disk 31205 15483 93137 46452 c.args.disk.now c.abort.new.disk (omega arith) (omega arith) c.abort.ensures.calls;
 })

@@ -2,21 +2,24 @@ use Rattle.std.proofs.Common.{◌≡◌, ℕ, ◌+◌, length, true, refl, sym, 
 use Rattle.cfs_core.proofs.Words.{is_range, leaves_touched, nodes_touched}
 use Rattle.ufs_model.specs.declared.asked.Reply.TheVariants as replies
 use Rattle.ufs_model.specs.declared.object.Object.TheVariants as objects
-use Rattle.cfs_core.proofs.Calm.{calm_after, knows_on, range_parts}
+use Rattle.cfs_core.proofs.Calm.{calm_after, knows_on, range_parts, rooted}
 use Rattle.cfs_core.proofs.reading.content.Goals as goal
 
 pub read-requires-clause-inside : goal.read-requires-clause-inside
-read-requires-clause-inside g c = omega (arith, (range_parts c.in-Ok.size c.args.offset c.args.count (sym c.is_range.ensures ∙ c.if-not-is_range.false)).2, c.in-Ok.ensures.limit)
+read-requires-clause-inside g c = omega (arith, (range_parts c.in-Ok.root.size c.args.offset c.args.count (sym c.is_range.ensures ∙ c.if-not-is_range.false)).2, c.in-Ok.ensures.limit)
 
 pub returns-in-Ok-read-clause-exact : goal.returns-in-Ok-read-clause-exact
 returns-in-Ok-read-clause-exact g c = λ f knows.
-    let on = knows_on g.D.Disk 1 c.args.disk.now c.bytes_in.new.disk c.args.file.0 (objects.File f) c.bytes_in.ensures.calm.reads knows in
+    let on = knows_on g.D.Disk 1 c.args.disk.now c.root_in.new.disk c.args.file.0 (objects.File f) c.root_in.ensures.calm.reads knows in
     let is : is_range (length f.bytes) c.args.offset c.args.count ≡ true = ap (λ (n : ℕ). is_range n c.args.offset c.args.count) (sym (c.in-Ok.ensures.exact f knows)) ∙ sym c.is_range.ensures ∙ c.if-not-is_range.false in
-    ap replies.Content (c.in-Ok-read.ensures.read on.graph on.drafts on.space on.id f (record { store = on.store; root = on.root; there = on.there; shut = on.shut }) (range_parts (length f.bytes) c.args.offset c.args.count is).2)
+    ap replies.Content (c.in-Ok-read.ensures.read on.graph on.drafts on.space on.id f (record { store = on.store; root = on.root; there = on.there; shut = on.shut }) (rooted g.D.Disk c.root_in.ensures.calm.reads (objects.File f) knows c.in-Ok.ensures.rooted) (range_parts (length f.bytes) c.args.offset c.args.count is).2)
     ∙ rw is refl
 
 pub returns-in-Err-read-clause-calm : goal.returns-in-Err-read-clause-calm
 returns-in-Err-read-clause-calm g c =
-    calm_after g.D.Disk objects.File 1 (1 + nodes_touched c.args.offset c.args.count + leaves_touched c.args.offset c.args.count) (2 + nodes_touched c.args.offset c.args.count + leaves_touched c.args.offset c.args.count) c.args.file.0 c.args.disk.now c.bytes_in.new.disk c.read.new.disk c.in-Err-read.refused
-    c.bytes_in.ensures.calm.reads c.read.ensures.reads (omega arith)
-    (λ f knows. c.in-Err-read.ensures.sound knows.graph knows.drafts knows.space knows.id f (record { store = knows.store; root = knows.root; there = knows.there; shut = knows.shut })) c.in-Err-read.ensures.untried c.in-Err-read.ensures.refused
+    calm_after g.D.Disk objects.File 1 (nodes_touched c.args.offset c.args.count + leaves_touched c.args.offset c.args.count) (1 + nodes_touched c.args.offset c.args.count + leaves_touched c.args.offset c.args.count) c.args.file.0 c.args.disk.now c.root_in.new.disk c.read.new.disk c.in-Err-read.refused
+    c.root_in.ensures.calm.reads c.read.ensures.reads (omega arith)
+    (λ f knows.
+    let on = knows_on g.D.Disk 1 c.args.disk.now c.root_in.new.disk c.args.file.0 (objects.File f) c.root_in.ensures.calm.reads knows in
+    c.in-Err-read.ensures.sound on.graph on.drafts on.space on.id f (record { store = on.store; root = on.root; there = on.there; shut = on.shut }) (rooted g.D.Disk c.root_in.ensures.calm.reads (objects.File f) knows c.in-Ok.ensures.rooted))
+    c.in-Err-read.ensures.untried c.in-Err-read.ensures.refused

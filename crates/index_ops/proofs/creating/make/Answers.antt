@@ -30,7 +30,7 @@ map_before g n old mid before after e reads kept map = record {
       (map.free (tells_on g old mid mid n reads tells) (subst (λ (i : Image). AreCounts i after) (sym reads.content) (subst (AreCounts (g.content old)) (sym kept) counts)));
 }
 
-made_either : {D : Type 0} (g : Ghosts D) (at slot : ℕ) (d0 d2 d3 : D) (k0 k1 k3 : Kept) (n : ℕ) (root : roots.Root) (reads : OnlyReads g 2 d0 d2) (kept : k1 ≡ k0) (cylinders : length k3.free ≡ length k1.free) (calls : MakesAtMost g 41 24 d2 d3)
+made_either : {D : Type 0} (g : Ghosts D) (at slot : ℕ) (d0 d2 d3 : D) (k0 k1 k3 : Kept) (n : ℕ) (root : roots.Root) (reads : OnlyReads g 2 d0 d2) (kept : k1 ≡ k0) (cylinders : length k3.free ≡ length k1.free) (calls : MakesAtMost g 40 24 d2 d3)
     → ((graph : Graph) (ds : List Opened) (id : Puid) (i : Index) → HasSlot g graph ds d0 k0 at id i slot → IsLeastFree (g.content d0) n) → (r : Result Puid Refused) → IfOk r (λ p. p ≡ named n root.word)
     → IfErr r (λ e. IsRefusal g at 0 d2 d3 k3 e × (is_full e ≡ false)) → IfErr r (λ e. e ≡ refusals.Disk false → (k3 ≡ k1) × OnlyReads g 3 d2 d3)
     → ((graph : Graph) (ds : List Opened) (id : Puid) (i : Index) → HasSlot g graph ds d0 k0 at id i slot → MakeEnds g graph ds id i slot (named n root.word) (bare_object root) d2 d3 k3 r)

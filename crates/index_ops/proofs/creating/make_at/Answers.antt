@@ -85,7 +85,7 @@ pub returns-in-Err-fill-clause-cylinders : goal.returns-in-Err-fill-clause-cylin
 returns-in-Err-fill-clause-cylinders g c = c.in-Err-fill.ensures.ends.cylinders ∙ (c.in-Ok.ensures.ends 0).cylinders
 
 pub returns-in-Err-fill-clause-calls : goal.returns-in-Err-fill-clause-calls
-returns-in-Err-fill-clause-calls g c = makes_then g.D.Disk c.args.disk.now c.make_root.new.disk c.fill.new.disk 3 8 41 2 4 24 (c.in-Ok.ensures.ends 0).calls c.in-Err-fill.ensures.ends.calls (omega arith) (omega arith)
+returns-in-Err-fill-clause-calls g c = makes_then g.D.Disk c.args.disk.now c.make_root.new.disk c.fill.new.disk 3 8 40 2 4 24 (c.in-Ok.ensures.ends 0).calls c.in-Err-fill.ensures.ends.calls (omega arith) (omega arith)
 
 pub commit_swap-requires-clause-on_disk : goal.commit_swap-requires-clause-on_disk
 commit_swap-requires-clause-on_disk g c = omega (arith, c.fill.ensures.stays.at, ap (λ (x : Drafting). x.at) c.adopt.ensures, c.requires.at, (c.in-Ok.ensures.ends 0).calls.same.size, c.in-Ok-Some.ensures.ends.calls.same.size)
@@ -139,7 +139,7 @@ returns-in-Ok-commit_swap-clause-cylinders g c = c.in-Ok-commit_swap.ensures.cyl
 pub returns-in-Ok-commit_swap-clause-calls : goal.returns-in-Ok-commit_swap-clause-calls
 returns-in-Ok-commit_swap-clause-calls g c =
     let first = makes_then g.D.Disk c.args.disk.now c.make_root.new.disk c.fill.new.disk 3 8 11 2 4 6 (c.in-Ok.ensures.ends 0).calls c.in-Ok-Some.ensures.ends.calls (omega arith) (omega arith) in
-    makes_then g.D.Disk c.args.disk.now c.fill.new.disk c.commit_swap.new.disk 11 30 41 6 18 24 first c.commit_swap.ensures.calls (omega arith) (omega arith)
+    makes_then g.D.Disk c.args.disk.now c.fill.new.disk c.commit_swap.new.disk 11 29 40 6 18 24 first c.commit_swap.ensures.calls (omega arith) (omega arith)
 
 pub returns-in-Err-commit_swap-clause-makes : goal.returns-in-Err-commit_swap-clause-makes
 returns-in-Err-commit_swap-clause-makes g c = λ graph ds id i store at here shut least bare.
@@ -200,4 +200,4 @@ returns-in-Err-commit_swap-clause-cylinders g c = c.in-Err-commit_swap.ensures.c
 pub returns-in-Err-commit_swap-clause-calls : goal.returns-in-Err-commit_swap-clause-calls
 returns-in-Err-commit_swap-clause-calls g c =
     let first = makes_then g.D.Disk c.args.disk.now c.make_root.new.disk c.fill.new.disk 3 8 11 2 4 6 (c.in-Ok.ensures.ends 0).calls c.in-Ok-Some.ensures.ends.calls (omega arith) (omega arith) in
-    makes_then g.D.Disk c.args.disk.now c.fill.new.disk c.commit_swap.new.disk 11 30 41 6 18 24 first c.commit_swap.ensures.calls (omega arith) (omega arith)
+    makes_then g.D.Disk c.args.disk.now c.fill.new.disk c.commit_swap.new.disk 11 29 40 6 18 24 first c.commit_swap.ensures.calls (omega arith) (omega arith)

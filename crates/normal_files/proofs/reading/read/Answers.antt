@@ -8,17 +8,17 @@ use Rattle.ufs_model.specs.declared.object.Object.TheVariants as objects
 use Rattle.normal_files.proofs.reading.read.Goals as goal
 
 pub returns-in_err-node-clause-sound : goal.returns-in_err-node-clause-sound
-returns-in_err-node-clause-sound g c = λ f tells file.
+returns-in_err-node-clause-sound g c = λ f tells file rooted.
     let d = c.args.disk.now in
     let mid = c.loop-number.disk in
     let image = g.D.Disk.content d in
     let size = g.met.D.Disk.sized d tells.honest in
     let reads = c.loop-number.invariant.reads in
-    let is = near image (block_at image c.args.at.0) c.in_ok-root.root (c.in_ok-root.ensures.root tells) (length image) file.owner file.root (objects.File f) file.tree (omega (arith, c.requires.on_disk, size)) c.loop-number.number in
-    passed (λ t. is_damage t ≡ false) c.from_residual-in_err-node.result c.in_err-node.field-0.0 c.from_residual-in_err-node.ensures.1
+    let is = near image (block_at image c.args.at.0) c.args.root.now rooted (length image) file.owner file.root (objects.File f) file.tree (omega (arith, c.requires.on_disk, size)) c.loop-number.number in
+    passed (λ t. is_damage t ≡ false) c.from_residual.result c.in_err-node.field-0.0 c.from_residual.ensures.1
     (c.in_err-node.ensures.sound (tells_after g.D.Disk d mid reads tells)
-    (subst (λ (s : ℕ). IsNear s (g.D.Disk.content mid) (slice_index c.in_ok-root.root.nodes c.loop-number.number)) (size ∙ sym reads.same.size)
-    (subst (λ (i : Image). IsNear (length image) i (slice_index c.in_ok-root.root.nodes c.loop-number.number)) (sym reads.content) is)))
+    (subst (λ (s : ℕ). IsNear s (g.D.Disk.content mid) (slice_index c.args.root.now.nodes c.loop-number.number)) (size ∙ sym reads.same.size)
+    (subst (λ (i : Image). IsNear (length image) i (slice_index c.args.root.now.nodes c.loop-number.number)) (sym reads.content) is)))
 
 pub returns-in_err-read_below-clause-refused : goal.returns-in_err-read_below-clause-refused
 returns-in_err-read_below-clause-refused g c =
@@ -28,7 +28,7 @@ returns-in_err-read_below-clause-refused g c =
     (trouble_after_reads g.D.Disk c.args.at.0 c.args.disk.now c.read_node.new.disk c.read_below.new.disk _ t both (stopped_is g.D.Disk c.args.at.0 c.read_node.new.disk c.read_below.new.disk t c.in_err-read_below.ensures.refused))
 
 pub returns-in_err-read_below-clause-sound : goal.returns-in_err-read_below-clause-sound
-returns-in_err-read_below-clause-sound g c = λ f tells file.
+returns-in_err-read_below-clause-sound g c = λ f tells file rooted.
     passed (λ t. is_damage t ≡ false) c.from_residual-in_err-read_below.result c.in_err-read_below.field-0.0 c.from_residual-in_err-read_below.ensures.1
     (stopped_undamaged g.D.Disk c.read_node.new.disk c.read_below.new.disk c.in_err-read_below.field-0.0 c.in_err-read_below.ensures.refused)
 
@@ -42,22 +42,22 @@ loop-number-preserved g c =
       long = c.read_below.ensures.long ∙ c.loop-number.invariant.long;
       reads = reads_then g.D.Disk d c.read_node.new.disk c.read_below.new.disk _ _ _ both c.in_ok-read_below.ensures.reads
           (omega (arith, c.loop-number.auto.number, c.loop-number-test.true, c.touched-leaves.ensures.from, c.touched-leaves.ensures.to, c.loop-number.invariant.long));
-      read = λ tells.
+      read = λ tells rooted.
           let image = g.D.Disk.content d in
           let leaf = leaf_in (tree_in image (block_at image c.args.at.0)) in
-          let lead = node_leads image (g.D.Disk.content c.loop-number.disk) (g.D.Disk.content c.read_node.new.disk) (block_at image c.args.at.0) c.in_ok-root.root n c.in_ok-node.node.leaves (c.in_ok-root.ensures.root tells)
+          let lead = node_leads image (g.D.Disk.content c.loop-number.disk) (g.D.Disk.content c.read_node.new.disk) (block_at image c.args.at.0) c.args.root.now n c.in_ok-node.node.leaves rooted
           reads.content both.content (c.in_ok-node.ensures.node (tells_after g.D.Disk d c.loop-number.disk reads tells)) in
-          let done = c.in_ok-read_below.ensures.read leaf (tells_after g.D.Disk d c.read_node.new.disk both tells) lead (c.loop-number.invariant.read tells) in
+          let done = c.in_ok-read_below.ensures.read leaf (tells_after g.D.Disk d c.read_node.new.disk both tells) lead (c.loop-number.invariant.read tells rooted) in
           let next : 128 * n + 128 ≡ 128 * (n + 1) = omega arith in
-          subst (λ (m : ℕ). IsReadTo m c.in_ok-root.root.fill leaf c.args.offset c.read_below.new.into) next done;
+          subst (λ (m : ℕ). IsReadTo m c.args.root.now.fill leaf c.args.offset c.read_below.new.into) next done;
     }
 
 pub returns-clause-read : goal.returns-clause-read
-returns-clause-read g c = λ f tells file inside.
+returns-clause-read g c = λ f tells file rooted inside.
     let image = g.D.Disk.content c.args.disk.now in
     let part = c.loop-number.into in
     let long : length part ≡ length c.args.into.now = c.loop-number.invariant.long in
-    let all = read_on c.in_ok-root.root.fill (leaf_in (tree_in image (block_at image c.args.at.0))) c.args.offset part (128 * c.loop-number.number) (leaves_in (c.args.offset + length part))
-    (omega (arith, c.loop-number-test.false, c.touched-leaves.ensures.to, long)) (c.loop-number.invariant.read tells) in
-    part_is image c.args.at.0 c.in_ok-root.root f c.args.offset part file (c.in_ok-root.ensures.root tells) (omega (arith, inside, long)) all
+    let all = read_on c.args.root.now.fill (leaf_in (tree_in image (block_at image c.args.at.0))) c.args.offset part (128 * c.loop-number.number) (leaves_in (c.args.offset + length part))
+    (omega (arith, c.loop-number-test.false, c.touched-leaves.ensures.to, long)) (c.loop-number.invariant.read tells rooted) in
+    part_is image c.args.at.0 c.args.root.now f c.args.offset part file rooted (omega (arith, inside, long)) all
     ∙ ap (λ (n : ℕ). slice_range f.bytes c.args.offset (c.args.offset + n)) long

@@ -2,7 +2,7 @@ use Rattle.std.proofs.Common.{Some, ◌≡◌, ◌≢◌, ℕ, ◌+◌, ◌*◌,
 use Rattle.special_files.proofs.Words.{All, AreOnDisk, Holds, Image, IsChanged, IsReady, IsTrouble, Trouble, block_at, is_damage, makes_then, number_of, opened_as, reads_make, root_spelling, still_tells, tells_on, then, tree_in, tried_then}
 use Rattle.cfs_base.specs.declared.refusal.Trouble.TheVariants as troubles
 use Rattle.special_files.proofs.Amid.{amid_reads}
-use Rattle.special_files.proofs.CommitDraft.{after_damage, amid1, below_all, finish_apart, finish_tried, ready1, shadow_leaves, store1, tree1, tried_apart}
+use Rattle.special_files.proofs.CommitDraft.{after_damage, amid1, below_all, finish_apart, finish_tried, ready1, shadow_has, shadow_leaves, store1, tree1, tried_apart}
 use Rattle.special_files.proofs.CommitStore.{commit_ends, commit_stops}
 use Rattle.special_files.proofs.CommitDone.{makes_more}
 use Rattle.special_files.proofs.Endings.{trouble_after_tried}
@@ -12,12 +12,12 @@ use Rattle.special_files.proofs.commit.commit_begun.Goals as goal
 pub returns-in-Err : goal.returns-in-Err
 returns-in-Err g c = record {
   commits = λ was v made parts makes. commit_stops g.D.Disk v.graph v.ds v.id v.draft.object made c.args.disk.now c.write_own.new.disk c.args.space.now _
-      (shadow_leaves g.D.Disk v.graph v.ds v.id v.object c.args.disk.now c.write_own.new.disk c.write_own.new.disk c.args.space.now was v.draft c.args.shadow.0 c.encode.result v.store v.at v.opened parts.shadow_is c.write_own.ensures.images) refl;
+      (shadow_leaves g.D.Disk v.graph v.ds v.id v.object c.args.disk.now c.write_own.new.disk c.write_own.new.disk c.args.space.now was v.draft c.args.shadow.0 c.encode-content.result v.store v.at v.opened parts.shadow_is c.write_own.ensures.images) refl;
   refused = c.in-Err.ensures.stopped;
   made = c.write_own.ensures.tried;
   untried = λ same. cc;
   cylinders = refl;
-  calls = makes_more g.D.Disk c.args.disk.now c.write_own.new.disk 1 1 93136 46451 (omega arith) (omega arith) c.write_own.ensures.calls;
+  calls = makes_more g.D.Disk c.args.disk.now c.write_own.new.disk 1 1 93135 46451 (omega arith) (omega arith) c.write_own.ensures.calls;
 }
 
 pub changed-requires : goal.changed-requires
@@ -29,14 +29,14 @@ returns-in-Err-changed g c =
     let reads = c.changed.ensures.reads in
     record {
       commits = λ was v made parts makes. commit_stops g.D.Disk v.graph v.ds v.id v.draft.object made c.args.disk.now c.changed.new.disk c.args.space.now _
-          (then g.D.Disk c.args.disk.now c.write_own.new.disk c.changed.new.disk (λ k. Holds k v.graph) (λ k. ⊥) (shadow_leaves g.D.Disk v.graph v.ds v.id v.object c.args.disk.now c.write_own.new.disk c.changed.new.disk c.args.space.now was v.draft c.args.shadow.0 c.encode.result v.store v.at v.opened parts.shadow_is c.write_own.ensures.images) reads.images (λ k no. absurd no))
-          (subst (λ (t : Trouble). is_damage t ≡ false) (sym c.after_try.ensures) (after_damage c.in-Err-changed.trouble (c.in-Err-changed.ensures.sound c.args.space.now was (view (store1 g.D.Disk v.graph v.ds v.id v.object c.args.disk.now c.write_own.new.disk c.changed.new.disk c.args.space.now was v.draft c.args.shadow.0 c.encode.result v.store v.at v.opened parts.shadow_is c.write_own.ensures.images c.in-Ok.ensures.written told c.write_own.ensures.calls.same) v.at v.opened) parts.own_is parts.root_is)));
+          (then g.D.Disk c.args.disk.now c.write_own.new.disk c.changed.new.disk (λ k. Holds k v.graph) (λ k. ⊥) (shadow_leaves g.D.Disk v.graph v.ds v.id v.object c.args.disk.now c.write_own.new.disk c.changed.new.disk c.args.space.now was v.draft c.args.shadow.0 c.encode-content.result v.store v.at v.opened parts.shadow_is c.write_own.ensures.images) reads.images (λ k no. absurd no))
+          (subst (λ (t : Trouble). is_damage t ≡ false) (sym c.after_try.ensures) (after_damage c.in-Err-changed.trouble (c.in-Err-changed.ensures.sound c.args.space.now was (view (store1 g.D.Disk v.graph v.ds v.id v.object c.args.disk.now c.write_own.new.disk c.changed.new.disk c.args.space.now was v.draft c.args.shadow.0 c.encode-content.result v.store v.at v.opened parts.shadow_is c.write_own.ensures.images c.in-Ok.ensures.written told c.write_own.ensures.calls.same) v.at v.opened) parts.own_is parts.root_is)));
       refused = subst (λ (t : Trouble). IsTrouble g.D.Disk c.args.at.0 c.args.disk.now c.changed.new.disk c.args.space.now t) (sym c.after_try.ensures)
           (trouble_after_tried g.D.Disk c.args.at.0 0 c.args.disk.now c.write_own.new.disk c.changed.new.disk c.args.space.now 1 1 c.write_own.ensures.calls c.write_own.ensures.tried told c.in-Err-changed.trouble (c.in-Err-changed.ensures.refused c.args.space.now));
       made = tried_then g.D.Disk c.args.disk.now c.write_own.new.disk c.changed.new.disk 240 0 c.write_own.ensures.tried (reads_make g.D.Disk c.write_own.new.disk c.changed.new.disk 240 reads);
       untried = subst (λ (t : Trouble). t ≢ troubles.Disk false) (sym c.after_try.ensures) (tried_apart c.in-Err-changed.trouble);
       cylinders = refl;
-      calls = makes_then g.D.Disk c.args.disk.now c.write_own.new.disk c.changed.new.disk 1 240 93136 1 0 46451 c.write_own.ensures.calls (reads_make g.D.Disk c.write_own.new.disk c.changed.new.disk 240 reads) (omega arith) (omega arith);
+      calls = makes_then g.D.Disk c.args.disk.now c.write_own.new.disk c.changed.new.disk 1 240 93135 1 0 46451 c.write_own.ensures.calls (reads_make g.D.Disk c.write_own.new.disk c.changed.new.disk 240 reads) (omega arith) (omega arith);
     }
 
 pub finish-requires : goal.finish-requires
@@ -58,20 +58,20 @@ returns g c =
     let reads = c.changed.ensures.reads in
     let room = c.in-Ok-changed.ensures.room in
     let first = makes_then g.D.Disk c.args.disk.now c.write_own.new.disk c.changed.new.disk 1 240 241 1 0 1 c.write_own.ensures.calls (reads_make g.D.Disk c.write_own.new.disk c.changed.new.disk 240 reads) (omega arith) (omega arith) in
-    let calls = makes_then g.D.Disk c.args.disk.now c.changed.new.disk c.finish.new.disk 241 (2 * length c.as_slice.result.now + 4 * length c.as_slice-2.result.now + 15) 93136 1 (length c.as_slice.result.now + 2 * length c.as_slice-2.result.now + 10) 46451 first c.finish.ensures.calls (omega (arith, room.0, room.1, ap (length {A = ℕ}) c.as_slice.ensures, ap (length {A = ℕ}) c.as_slice-2.ensures)) (omega (arith, room.0, room.1, ap (length {A = ℕ}) c.as_slice.ensures, ap (length {A = ℕ}) c.as_slice-2.ensures)) in
-    let tried = tried_then g.D.Disk c.args.disk.now c.write_own.new.disk c.finish.new.disk 93136 46451 c.write_own.ensures.tried (makes_then g.D.Disk c.write_own.new.disk c.changed.new.disk c.finish.new.disk 240 (2 * length c.as_slice.result.now + 4 * length c.as_slice-2.result.now + 15) 93136 0 (length c.as_slice.result.now + 2 * length c.as_slice-2.result.now + 10) 46451 (reads_make g.D.Disk c.write_own.new.disk c.changed.new.disk 240 reads) c.finish.ensures.calls (omega (arith, room.0, room.1, ap (length {A = ℕ}) c.as_slice.ensures, ap (length {A = ℕ}) c.as_slice-2.ensures)) (omega (arith, room.0, room.1, ap (length {A = ℕ}) c.as_slice.ensures, ap (length {A = ℕ}) c.as_slice-2.ensures))) in
+    let calls = makes_then g.D.Disk c.args.disk.now c.changed.new.disk c.finish.new.disk 241 (2 * length c.as_slice.result.now + 4 * length c.as_slice-2.result.now + 14) 93135 1 (length c.as_slice.result.now + 2 * length c.as_slice-2.result.now + 10) 46451 first c.finish.ensures.calls (omega (arith, room.0, room.1, ap (length {A = ℕ}) c.as_slice.ensures, ap (length {A = ℕ}) c.as_slice-2.ensures)) (omega (arith, room.0, room.1, ap (length {A = ℕ}) c.as_slice.ensures, ap (length {A = ℕ}) c.as_slice-2.ensures)) in
+    let tried = tried_then g.D.Disk c.args.disk.now c.write_own.new.disk c.finish.new.disk 93135 46451 c.write_own.ensures.tried (makes_then g.D.Disk c.write_own.new.disk c.changed.new.disk c.finish.new.disk 240 (2 * length c.as_slice.result.now + 4 * length c.as_slice-2.result.now + 14) 93135 0 (length c.as_slice.result.now + 2 * length c.as_slice-2.result.now + 10) 46451 (reads_make g.D.Disk c.write_own.new.disk c.changed.new.disk 240 reads) c.finish.ensures.calls (omega (arith, room.0, room.1, ap (length {A = ℕ}) c.as_slice.ensures, ap (length {A = ℕ}) c.as_slice-2.ensures)) (omega (arith, room.0, room.1, ap (length {A = ℕ}) c.as_slice.ensures, ap (length {A = ℕ}) c.as_slice-2.ensures))) in
     record {
       commits = λ was v made parts makes.
-          let amid = amid1 g.D.Disk v.graph v.ds v.id v.object c.args.disk.now c.write_own.new.disk c.changed.new.disk c.args.space.now was v.draft c.args.shadow.0 c.encode.result v.store v.at v.opened parts.shadow_is c.write_own.ensures.images c.in-Ok.ensures.written told c.write_own.ensures.calls.same in
-          let lists = c.in-Ok-changed.ensures.changed c.args.space.now was (view (store1 g.D.Disk v.graph v.ds v.id v.object c.args.disk.now c.write_own.new.disk c.changed.new.disk c.args.space.now was v.draft c.args.shadow.0 c.encode.result v.store v.at v.opened parts.shadow_is c.write_own.ensures.images c.in-Ok.ensures.written told c.write_own.ensures.calls.same) v.at v.opened) parts.own_is parts.root_is in
-          let ready = ready1 g.D.Disk v.graph v.ds v.id v.object c.args.disk.now c.write_own.new.disk c.changed.new.disk c.args.space.now was v.draft c.args.shadow.0 c.encode.result v.store v.at v.opened parts.shadow_is c.write_own.ensures.images c.in-Ok.ensures.written told c.write_own.ensures.calls.same c.as_slice.result.now c.as_slice-2.result.now (c.encode.ensures.spelled ∙ ap root_spelling (sym parts.root_is))
+          let amid = amid1 g.D.Disk v.graph v.ds v.id v.object c.args.disk.now c.write_own.new.disk c.changed.new.disk c.args.space.now was v.draft c.args.shadow.0 c.encode-content.result v.store v.at v.opened parts.shadow_is c.write_own.ensures.images c.in-Ok.ensures.written told c.write_own.ensures.calls.same in
+          let lists = c.in-Ok-changed.ensures.changed c.args.space.now was (view (store1 g.D.Disk v.graph v.ds v.id v.object c.args.disk.now c.write_own.new.disk c.changed.new.disk c.args.space.now was v.draft c.args.shadow.0 c.encode-content.result v.store v.at v.opened parts.shadow_is c.write_own.ensures.images c.in-Ok.ensures.written told c.write_own.ensures.calls.same) v.at v.opened) parts.own_is parts.root_is in
+          let ready = ready1 g.D.Disk v.graph v.ds v.id v.object c.args.disk.now c.write_own.new.disk c.changed.new.disk c.args.space.now was v.draft c.args.shadow.0 c.encode-content.result v.store v.at v.opened parts.shadow_is c.write_own.ensures.images c.in-Ok.ensures.written told c.write_own.ensures.calls.same c.as_slice.result.now c.as_slice-2.result.now (c.encode-content.ensures.spelled ∙ ap root_spelling (sym parts.root_is))
           (subst (λ (ns : List ℕ). IsChanged (g.D.Disk.content c.write_own.new.disk) v.id (opened_as v.id was v.draft) ns c.as_slice-2.result.now) (sym c.as_slice.ensures) (subst (IsChanged (g.D.Disk.content c.write_own.new.disk) v.id (opened_as v.id was v.draft) c.changed.new.taken) (sym c.as_slice-2.ensures) lists)) in
           commit_ends g.D.Disk v.graph v.ds v.id v.object v.draft.object (opened_as v.id was v.draft) (number_of c.args.created) c.args.disk.now c.changed.new.disk c.args.space.now c.args.space.now c.args.shadow.0 c.as_slice.result.now c.as_slice-2.result.now v.store v.at v.opened.alone parts.created_is
           (amid_reads g.D.Disk v.graph v.ds v.id v.object c.args.disk.now c.args.space.now v.store v.at c.write_own.new.disk c.changed.new.disk c.args.space.now 240 amid reads)
           (subst (λ (i : Image). IsReady i v.graph v.id v.object v.draft.object c.args.shadow.0 c.as_slice.result.now c.as_slice-2.result.now None) (sym reads.content) ready)
-          (ap (λ (i : Image). tree_in i (block_at i c.args.shadow.0)) reads.content ∙ tree1 g.D.Disk v.graph v.ds v.id v.object c.args.disk.now c.write_own.new.disk c.changed.new.disk c.args.space.now was v.draft c.args.shadow.0 c.encode.result v.store v.at v.opened parts.shadow_is c.write_own.ensures.images c.in-Ok.ensures.written told c.write_own.ensures.calls.same (c.encode.ensures.spelled ∙ ap root_spelling (sym parts.root_is)))
+          (ap (λ (i : Image). tree_in i (block_at i c.args.shadow.0)) reads.content ∙ tree1 g.D.Disk v.graph v.ds v.id v.object c.args.disk.now c.write_own.new.disk c.changed.new.disk c.args.space.now was v.draft c.args.shadow.0 c.encode-content.result v.store v.at v.opened parts.shadow_is c.write_own.ensures.images c.in-Ok.ensures.written told c.write_own.ensures.calls.same (c.encode-content.ensures.spelled ∙ ap root_spelling (sym parts.root_is)))
           (λ none. let no : Some c.args.shadow.0 ≡ None = sym parts.shadow_is ∙ none in cc)
-          made makes c.args.at.0 (v.opened.at ∙ parts.at_is) c.finish.new.disk c.finish.new.space c.finish.result c.finish.ensures.finishes;
+          made makes c.args.at.0 (v.opened.at ∙ parts.at_is) c.finish.new.disk c.finish.new.space c.finish.result (c.finish.ensures.finishes (ap (λ (i : Image). block_at i c.args.shadow.0) reads.content ∙ shadow_has g.D.Disk v.graph v.ds v.id v.object c.args.disk.now c.write_own.new.disk c.changed.new.disk c.args.space.now was v.draft c.args.shadow.0 c.encode-content.result v.store v.at v.opened parts.shadow_is c.write_own.ensures.images c.in-Ok.ensures.written told c.write_own.ensures.calls.same));
       refused = finish_tried g.D.Disk c.args.at.0 c.args.disk.now c.changed.new.disk c.finish.new.disk c.finish.new.space 241 1 _ _ first (λ tells. tells_on g.D.Disk c.write_own.new.disk c.changed.new.disk c.finish.new.disk 240 reads (still_tells g.D.Disk tells told c.write_own.ensures.calls.same)) c.finish.ensures.calls tried c.finish.result c.finish.ensures.fails;
       made = tried;
       untried = finish_apart g.D.Disk c.args.at.0 c.changed.new.disk c.finish.new.disk c.finish.new.space c.finish.result c.finish.ensures.fails;

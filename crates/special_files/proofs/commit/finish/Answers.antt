@@ -13,8 +13,8 @@ pub returns-in-Ok : goal.returns-in-Ok
 returns-in-Ok g c =
     let given = c.gave.ensures.given ∙ ap (λ (k : Kept). after_giving k c.args.shadow.0 1) c.give_all.ensures.given in
     record {
-      finishes = subst (λ (k : Kept). Finishes g.D.Disk c.args.at.0 c.args.shadow.0 c.args.taken.now c.args.dropped.now (number_of c.args.created) c.args.disk.now c.carry_out.new.disk c.args.space.now k (Ok tt)) (sym given)
-          (c.in-Ok.ensures.finishes c.args.space.now);
+      finishes = λ spelled. subst (λ (k : Kept). Finishes g.D.Disk c.args.at.0 c.args.shadow.0 c.args.taken.now c.args.dropped.now (number_of c.args.created) c.args.disk.now c.carry_out.new.disk c.args.space.now k (Ok tt)) (sym given)
+          (c.in-Ok.ensures.finishes c.args.space.now spelled);
       fails = tt;
       cylinders = ap (λ (k : Kept). length k.free) c.gave.ensures.given ∙ length-set _ _ _ ∙ c.give_all.ensures.cylinders;
       calls = c.carry_out.ensures.calls;
@@ -22,9 +22,8 @@ returns-in-Ok g c =
 
 pub returns-in-Err : goal.returns-in-Err
 returns-in-Err g c =
-    let end = c.in-Err.ensures.finishes c.args.space.now in
     record {
-      finishes = record { done = λ graph full word was o run ready. tt; leaves = end.leaves; sound = end.sound };
+      finishes = λ spelled. let end = c.in-Err.ensures.finishes c.args.space.now spelled in record { done = λ graph full word was o run ready. tt; leaves = end.leaves; sound = end.sound };
       fails = c.in-Err.ensures.fails c.args.space.now;
       cylinders = refl;
       calls = c.carry_out.ensures.calls;

@@ -1,6 +1,6 @@
 use Rattle.std.proofs.Common.{ℕ, Ok, Err, refl, ◌∙◌, ap, subst, sym}
 use Rattle.special_files.proofs.Words.{Enters, ShadowRoot, intended, number_of, opened_as, refused_by, root_spelling}
-use Rattle.special_files.proofs.CommitDirect.{amid2, direct_claim, direct_leaves, direct_ready, direct_sound, direct_write_leaves}
+use Rattle.special_files.proofs.CommitDirect.{amid2, direct_claim, direct_has, direct_leaves, direct_ready, direct_sound, direct_write_leaves}
 use Rattle.special_files.proofs.CommitStore.{commit_ends, commit_stops}
 use Rattle.special_files.proofs.direct.commit_listed.Goals as goal
 
@@ -26,7 +26,7 @@ returns-in-Err-write_own-clause-commits g c = λ was v made parts makes lists.
     let block = c.in-Ok.block in
     let enters = subst (λ (r : ℕ). Enters g.D.Disk (intended ShadowRoot r) d0 d1 k0 k1 (Ok block)) (sym (v.opened.at ∙ parts.at_is)) c.in-Ok.ensures.enters in
     commit_stops g.D.Disk v.graph v.ds v.id v.draft.object made d0 d2 k1 _
-    (direct_write_leaves g.D.Disk v.graph v.ds v.id v.object d0 d1 d2 k0 k1 was v.draft v.store v.at v.opened parts.shadow_is block enters c.encode.result c.write_own.ensures.images) refl
+    (direct_write_leaves g.D.Disk v.graph v.ds v.id v.object d0 d1 d2 k0 k1 was v.draft v.store v.at v.opened parts.shadow_is block enters c.encode-content.result c.write_own.ensures.images) refl
 
 pub returns-clause-commits : goal.returns-clause-commits
 returns-clause-commits g c = λ was v made parts makes lists.
@@ -40,9 +40,9 @@ returns-clause-commits g c = λ was v made parts makes lists.
     let told = c.in-Ok-write_own.ensures.told in
     let same = c.write_own.ensures.calls.same in
     let written = c.in-Ok-write_own.ensures.written in
-    let ready = direct_ready g.D.Disk v.graph v.ds v.id v.object d0 d1 d2 k0 k1 was v.draft v.store v.at v.opened parts.shadow_is block enters c.encode.result c.write_own.ensures.images written told same c.args.taken.now c.args.dropped.now
-    (c.encode.ensures.spelled ∙ ap root_spelling (sym parts.root_is)) lists in
+    let ready = direct_ready g.D.Disk v.graph v.ds v.id v.object d0 d1 d2 k0 k1 was v.draft v.store v.at v.opened parts.shadow_is block enters c.encode-content.result c.write_own.ensures.images written told same c.args.taken.now c.args.dropped.now
+    (c.encode-content.ensures.spelled ∙ ap root_spelling (sym parts.root_is)) lists in
     commit_ends g.D.Disk v.graph v.ds v.id v.object v.draft.object (opened_as v.id was v.draft) (number_of c.args.created) d0 d2 k0 k1 block.0 c.args.taken.now c.args.dropped.now v.store v.at v.opened.alone parts.created_is
-    (amid2 g.D.Disk v.graph v.ds v.id v.object d0 d1 d2 k0 k1 was v.draft v.store v.at v.opened parts.shadow_is block enters c.encode.result c.write_own.ensures.images written told same)
-    ready.0 ready.1 (λ none. direct_claim g.D.Disk v.graph v.ds v.id v.object d0 d1 d2 k0 k1 was v.draft v.store v.at v.opened parts.shadow_is block enters c.encode.result c.write_own.ensures.images written told same
-    (c.encode.ensures.spelled ∙ ap root_spelling (sym parts.root_is))) made makes c.args.at.0 (v.opened.at ∙ parts.at_is) c.finish.new.disk c.finish.new.space c.finish.result c.finish.ensures.finishes
+    (amid2 g.D.Disk v.graph v.ds v.id v.object d0 d1 d2 k0 k1 was v.draft v.store v.at v.opened parts.shadow_is block enters c.encode-content.result c.write_own.ensures.images written told same)
+    ready.0 ready.1 (λ none. direct_claim g.D.Disk v.graph v.ds v.id v.object d0 d1 d2 k0 k1 was v.draft v.store v.at v.opened parts.shadow_is block enters c.encode-content.result c.write_own.ensures.images written told same
+    (c.encode-content.ensures.spelled ∙ ap root_spelling (sym parts.root_is))) made makes c.args.at.0 (v.opened.at ∙ parts.at_is) c.finish.new.disk c.finish.new.space c.finish.result (c.finish.ensures.finishes (direct_has g.D.Disk v.graph v.ds v.id v.object d0 d1 d2 k0 k1 was v.draft v.store v.at v.opened parts.shadow_is block enters c.encode-content.result c.write_own.ensures.images written told same))

@@ -22,7 +22,7 @@ returns-in-Err g c = record {
   tried = λ some. far_apart c.args.at.0 c.in-Err.trouble c.in-Err.ensures.far.1;
   untried = λ same. absurd (far_apart c.args.at.0 c.in-Err.trouble c.in-Err.ensures.far.1 same);
   cylinders = refl;
-  calls = nothing_made g.D.Disk c.args.disk.now 93138 46452;
+  calls = nothing_made g.D.Disk c.args.disk.now 93137 46452;
 }
 
 pub returns-in-Err-is_on_disk : goal.returns-in-Err-is_on_disk
@@ -36,7 +36,7 @@ returns-in-Err-is_on_disk g c = record {
   tried = λ some. far_apart c.args.at.0 c.in-Err-is_on_disk.trouble c.in-Err-is_on_disk.ensures.far.1;
   untried = λ same. absurd (far_apart c.args.at.0 c.in-Err-is_on_disk.trouble c.in-Err-is_on_disk.ensures.far.1 same);
   cylinders = refl;
-  calls = nothing_made g.D.Disk c.args.disk.now 93138 46452;
+  calls = nothing_made g.D.Disk c.args.disk.now 93137 46452;
 }
 
 pub returns-in_default-clause-commits : goal.returns-in_default-clause-commits

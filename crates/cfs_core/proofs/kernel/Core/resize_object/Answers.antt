@@ -37,6 +37,6 @@ returns g c =
     let new : Kernel _ = record k { disk = c.resize.new.disk; space = c.resize.new.space } in
     let less : c.args.size ≤ 7864320 = omega (arith, c.if-size-gt-MOST_BYTES.false) in
     let done = tries_changed g.D.Disk g.met.D.Disk.left_sized g.met.D.Disk.sized 0 k k.disk c.resize.new.disk c.resize.new.space (reads_none g.D.Disk 0 k.disk) c.in-Ok.there.0 c.in-Ok.there.1 (SetSize c.args.size) request
-    (resize_changes c.args.to c.args.size) c.resize.result c.resize.ensures c.args.who reach
+    (resize_changes c.args.to c.args.size) c.resize.result (λ tells. c.resize.ensures) c.resize.ensures.ends c.args.who reach
     (λ s f serves r knows. (c.in-Ok.ensures.kind s f (subst (λ x. Serves g.D.Disk x s) c.self.view_is serves) r.there, less, resize_goes k.words.seed s c.args.who c.args.to c.in-Ok.there.0 f c.args.size r (within c.args.size less))) in
     subst (λ x. Tries g.D.Disk x new c.args.who request c.done.result) c.self.view_is (subst (λ r. Tries g.D.Disk k new c.args.who request r) (sym c.done.ensures) done)

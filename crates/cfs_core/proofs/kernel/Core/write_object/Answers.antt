@@ -1,7 +1,8 @@
 use Rattle.std.proofs.Common.{ℕ, length, Ok, Err, refl, sym, ◌∙◌, ap, subst}
 use Rattle.ufs_model.specs.declared.asked.Reply.TheVariants as replies
 use Rattle.ufs_model.specs.declared.asked.Request.TheVariants as asks
-use Rattle.cfs_core.proofs.Words.{is_range, Overwrite}
+use Rattle.cfs_core.proofs.Words.{Image, is_range, Overwrite}
+use Rattle.normal_files.specs.Standing.{IsRootAt}
 use Rattle.ufs_model.specs.declared.object.Object.TheVariants as objects
 use Rattle.cfs_core.specs.Calls.{Tries}
 use Rattle.cfs_core.specs.Kernel.{Kernel}
@@ -16,23 +17,23 @@ use Rattle.cfs_core.proofs.kernel.Core.write_object.Goals as goal
 pub returns-in-Err : goal.returns-in-Err
 returns-in-Err g c = c.in-Err.ensures.refused (asks.Write c.args.to c.args.offset c.args.bytes.now) (record { to = refl; each = λ s who. refl })
 
-pub returns-in-Err-bytes_in : goal.returns-in-Err-bytes_in
-returns-in-Err-bytes_in g c =
+pub returns-in-Err-root_in : goal.returns-in-Err-root_in
+returns-in-Err-root_in g c =
     let k : Kernel _ = record { disk = c.self.inside.disk; root = c.self.inside.root; names = c.self.inside.names; space = c.self.inside.space; words = c.self.inside.words; seats = c.self.inside.seats.seats; collections = c.self.inside.collections; stop = c.self.inside.stop } in
     let request = asks.Write c.args.to c.args.offset c.args.bytes.now in
     let reach = subst (λ x. ReachesAll g.D.Disk objects.File x c.args.who request c.in-Ok.there.0) (sym c.self.view_is) (c.in-Ok.ensures.reached request (record { to = refl; each = λ s who. refl })) in
-    subst (λ x. Tries g.D.Disk x (record k { disk = c.bytes_in.new.disk }) c.args.who request (Err c.in-Err-bytes_in.refused)) c.self.view_is
-    (tries_failed g.D.Disk g.met.D.Disk.left_sized g.met.D.Disk.sized objects.File k c.in-Ok.there.0 c.args.who request reach 1 c.bytes_in.new.disk c.in-Err-bytes_in.refused c.bytes_in.ensures.calm.reads c.in-Err-bytes_in.ensures.calm.sound c.in-Err-bytes_in.ensures.calm.cause)
+    subst (λ x. Tries g.D.Disk x (record k { disk = c.root_in.new.disk }) c.args.who request (Err c.in-Err-root_in.refused)) c.self.view_is
+    (tries_failed g.D.Disk g.met.D.Disk.left_sized g.met.D.Disk.sized objects.File k c.in-Ok.there.0 c.args.who request reach 1 c.root_in.new.disk c.in-Err-root_in.refused c.root_in.ensures.calm.reads c.in-Err-root_in.ensures.calm.sound c.in-Err-root_in.ensures.calm.cause)
 
 pub returns-then-not-is_range : goal.returns-then-not-is_range
 returns-then-not-is_range g c =
     let k : Kernel _ = record { disk = c.self.inside.disk; root = c.self.inside.root; names = c.self.inside.names; space = c.self.inside.space; words = c.self.inside.words; seats = c.self.inside.seats.seats; collections = c.self.inside.collections; stop = c.self.inside.stop } in
     let request = asks.Write c.args.to c.args.offset c.args.bytes.now in
     let reach = subst (λ x. ReachesAll g.D.Disk objects.File x c.args.who request c.in-Ok.there.0) (sym c.self.view_is) (c.in-Ok.ensures.reached request (record { to = refl; each = λ s who. refl })) in
-    subst (λ x. Tries g.D.Disk x (record k { disk = c.bytes_in.new.disk }) c.args.who request (Ok replies.Range)) c.self.view_is
-    (tries_refused g.D.Disk g.met.D.Disk.left_sized g.met.D.Disk.sized objects.File k c.in-Ok.there.0 c.args.who request reach 1 c.bytes_in.new.disk replies.Range tt c.bytes_in.ensures.calm.reads
+    subst (λ x. Tries g.D.Disk x (record k { disk = c.root_in.new.disk }) c.args.who request (Ok replies.Range)) c.self.view_is
+    (tries_refused g.D.Disk g.met.D.Disk.left_sized g.met.D.Disk.sized objects.File k c.in-Ok.there.0 c.args.who request reach 1 c.root_in.new.disk replies.Range tt c.root_in.ensures.calm.reads
     (λ s f serves r knows. write_range k.words.seed s c.args.who c.args.to c.in-Ok.there.0 f c.args.offset c.args.bytes.now r
-    (ap (λ (n : ℕ). is_range n c.args.offset (length c.args.bytes.now)) (sym (c.in-Ok-bytes_in.ensures.exact f knows)) ∙ sym c.is_range.ensures ∙ c.if-not-is_range.true)))
+    (ap (λ (n : ℕ). is_range n c.args.offset (length c.args.bytes.now)) (sym (c.in-Ok-root_in.ensures.exact f knows)) ∙ sym c.is_range.ensures ∙ c.if-not-is_range.true)))
 
 pub returns : goal.returns
 returns g c =
@@ -40,9 +41,10 @@ returns g c =
     let request = asks.Write c.args.to c.args.offset c.args.bytes.now in
     let reach = subst (λ x. ReachesAll g.D.Disk objects.File x c.args.who request c.in-Ok.there.0) (sym c.self.view_is) (c.in-Ok.ensures.reached request (record { to = refl; each = λ s who. refl })) in
     let new : Kernel _ = record k { disk = c.write.new.disk; space = c.write.new.space } in
-    let done = tries_changed g.D.Disk g.met.D.Disk.left_sized g.met.D.Disk.sized 1 k c.bytes_in.new.disk c.write.new.disk c.write.new.space c.bytes_in.ensures.calm.reads c.in-Ok.there.0 c.in-Ok.there.1 (Overwrite c.args.offset c.args.bytes.now) request
-    (write_changes c.args.to c.args.offset c.args.bytes.now c.are_bytes.ensures) c.write.result c.write.ensures c.args.who reach
+    let done = tries_changed g.D.Disk g.met.D.Disk.left_sized g.met.D.Disk.sized 1 k c.root_in.new.disk c.write.new.disk c.write.new.space c.root_in.ensures.calm.reads c.in-Ok.there.0 c.in-Ok.there.1 (Overwrite c.args.offset c.args.bytes.now) request
+    (write_changes c.args.to c.args.offset c.args.bytes.now c.are_bytes.ensures) c.write.result
+    (λ tells. c.write.ensures.changes (subst (λ (a : Image). IsRootAt a c.in-Ok.there.0.block c.in-Ok-root_in.root) (sym c.root_in.ensures.calm.reads.content) (c.in-Ok-root_in.ensures.rooted tells))) c.write.ensures.ends c.args.who reach
     (λ s f serves r knows.
-    let range = ap (λ (n : ℕ). is_range n c.args.offset (length c.args.bytes.now)) (sym (c.in-Ok-bytes_in.ensures.exact f knows)) ∙ sym c.is_range.ensures ∙ c.if-not-is_range.false in
+    let range = ap (λ (n : ℕ). is_range n c.args.offset (length c.args.bytes.now)) (sym (c.in-Ok-root_in.ensures.exact f knows)) ∙ sym c.is_range.ensures ∙ c.if-not-is_range.false in
     (c.in-Ok.ensures.kind s f (subst (λ x. Serves g.D.Disk x s) c.self.view_is serves) r.there, (range_parts (length f.bytes) c.args.offset (length c.args.bytes.now) range).2, write_goes k.words.seed s c.args.who c.args.to c.in-Ok.there.0 f c.args.offset c.args.bytes.now r range)) in
     subst (λ x. Tries g.D.Disk x new c.args.who request c.done.result) c.self.view_is (subst (λ r. Tries g.D.Disk k new c.args.who request r) (sym c.done.ensures) done)

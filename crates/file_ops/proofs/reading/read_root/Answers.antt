@@ -1,5 +1,5 @@
 use Rattle.file_ops.proofs.Words.{sym, ◌∙◌, ap, Root, file_to_leaves, file_of, one_root_block}
-use Rattle.file_ops.proofs.reading.size.Goals as goal
+use Rattle.file_ops.proofs.reading.read_root.Goals as goal
 
 pub returns-in-Ok-clause-size : goal.returns-in-Ok-clause-size
 returns-in-Ok-clause-size g c = λ graph ds space id f has.
