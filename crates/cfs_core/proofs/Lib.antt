@@ -37,5 +37,6 @@ pub mod Asked
 mod SoundGraph
 mod Opened
 mod Tidied
+mod Swept
 mod Stepping
 mod Stepped

@@ -33,6 +33,7 @@ collects_stopped g k stop is = record {
   stopped = λ other same. let one : stop ≡ other = cc in (refl, ap (λ (x : Stop). Err (faults.Stopped x.moment)) one);
   due = tt;
   counted = tt;
+  sweeps = tt;
   over = tt;
   still = (refl, (stop, is, refl));
   called = refl;
@@ -75,6 +76,7 @@ module _ {D : Type 0} (g : Ghosts D) (left_sized : (d : D) (t : ℕ) (c : Image)
     stopped = λ stop same. cc;
     due = is.ends.due;
     counted = is.ends.counted;
+    sweeps = λ s stands. is.ends.sweeps s (serves_from g old s none stands);
     over = λ s stands. is.ends.over s (serves_from g old s none stands);
     still = tt;
     called = ap (λ (k : Kernel D). k.collections.called) is.same;
@@ -152,6 +154,7 @@ module _ {D : Type 0} (g : Ghosts D) (left_sized : (d : D) (t : ℕ) (c : Image)
     stopped = λ stop same. cc;
     due = tt;
     counted = tt;
+    sweeps = tt;
     over = tt;
     still = still_told refused (g.moment mid.disk) tries.ends.still;
     called = ap (λ (k : Kernel D). k.collections.called) tries.same;
@@ -217,6 +220,7 @@ module _ {D : Type 0} (g : Ghosts D) (k : Kernel D) where
         begins g k s serves (running g k s serves none) (record k.collections { collector = Some l }) l refl idle roots these begun;
     due = (runs_not k.collections.collector idle, more);
     counted = (begun.steps, begun.added, refl);
+    sweeps = λ s serves. tt;
     over = λ s serves. tt;
     goes = λ kept. goes_begun (g.blocks k.disk) k.collections (record k.collections { collector = Some l }) l refl refl (runs_not k.collections.collector idle) more refl begun.phase
         (subst (λ n. steps_left l < most_steps n) volume begun.left);
@@ -248,6 +252,7 @@ module _ {D : Type 0} (g : Ghosts D) (k : Kernel D) where
       moves = λ s serves none. ended g k s serves (running g k s serves none) ended_as l refl col (col_there s serves) swept idle;
       due = rw there swept;
       counted = rw there (made, added, refl);
+      sweeps = λ s serves. tt;
       over = λ s serves. (
         λ few. omega (arith, bounded s (g.content k.disk) (col_there s serves).collects (omega (arith, few, added)), added, volume, ap (λ (n : ℕ). n / 64) volume),
         over s serves,

@@ -23,6 +23,7 @@ use Rattle.cfs_core.proofs.Answering.{reads_none}
 use Rattle.cfs_core.proofs.Collected.{as_before, collection_ready, none_is}
 use Rattle.cfs_core.proofs.Lefts.{events_swept, goes_within}
 use Rattle.cfs_core.proofs.Serving.{running, serves_on, stored}
+use Rattle.cfs_core.proofs.Swept.{frees_strays}
 use Rattle.cfs_core.proofs.Went.{fewer_calls}
 
 -- ---- a sweep
@@ -361,6 +362,7 @@ module _ {D : Type 0} (g : Ghosts D) (old : D) (space : Kept) (names : Listing) 
         moves = moves core;
         due = due;
         counted = (counted.0, counted.1, refl);
+        sweeps = λ s serves. tt;
         over = λ s serves. tt;
         goes = λ kept. goes_within (g.blocks old) (record core.collections { collector = Some k }) (record core.collections { collector = Some l }) (steps.Condemned ids) (Some (events.Vanish ids)) refl refl
             (ap (λ p. marks_in p || sweeps_in p) due.0) (ap (λ p. marks_in p || sweeps_in p) phase) (refl, refl) less (omega (arith, ap events_left phase, ap events_left due.0));
@@ -391,8 +393,8 @@ module _ {D : Type 0} (g : Ghosts D) (old : D) (space : Kept) (names : Listing) 
 
   -- ---- a cylinder is swept
 
-  pub steps_swept : (new : D) (after : Kept) (pass : Pass) (result : Result (Unit {0}) Trouble) (told : Result Step Refused) → IsPhaseOf pass k.phase → HasSwept g names.named pass old new space after k l result → told ≡ told_as result → StepsSo g old new space after names names k l told
-  steps_swept new after pass result told phase is same = subst (StepsSo g old new space after names names k l) (sym same) (by result refl)
+  pub steps_swept : (new : D) (after : Kept) (pass : Pass) (result : Result (Unit {0}) Trouble) (told : Result Step Refused) → IsPhaseOf pass k.phase → g.blocks old ≡ volume_of k → HasSwept g names.named pass old new space after k l result → told ≡ told_as result → StepsSo g old new space after names names k l told
+  steps_swept new after pass result told phase blocks is same = subst (StepsSo g old new space after names names k l) (sym same) (by result refl)
     where
       sweeping : (p : Phase) → IsPhaseOf pass p → sweeps_blocks p ≡ true
       sweeping phases.Idle h = absurd h
@@ -428,6 +430,10 @@ module _ {D : Type 0} (g : Ghosts D) (old : D) (space : Kept) (names : Listing) 
             (rw at at (is.keeps s ds has serves.collecting.collects)) (rw at at is.phase) (is.sweep.leaves s ds has);
         due = sweeping k.phase phase;
         counted = (rw at at is.steps, is.added, refl);
+        sweeps = λ s serves. (
+          frees_strays names.named s.graph serves.front.names pass k.phase phase (g.content old) (g.content new) (rw at at (is.sweep.swept serves.store.carries.tells)),
+          (rw at at is.phase) ∙ ap (λ (n : ℕ). next_phase (n / 64) k.phase) (sym blocks),
+        );
         over = λ s serves. tt;
         goes = λ kept. goes_within (g.blocks old) (record core.collections { collector = Some k }) (record core.collections { collector = Some l }) steps.Swept None refl refl (sweeps_on k.phase phase)
             (or_right (marks_in l.phase) (sweeps_in l.phase) (ap sweeps_in (rw at at is.phase) ∙ sweeps_still (volume_of k / 64) pass k.phase phase)) (refl, refl) (rw at at is.less)

@@ -20,16 +20,17 @@ pub use Rattle.cfs_base.specs.declared.refusal.Trouble.{Trouble}
 pub use Rattle.cfs_recover.specs.Recovered.{IsRecovered}
 pub use Rattle.collector_marks.specs.Kept.{colours_of}
 pub use Rattle.collector_steps.proofs.Shaded.{kind_below}
+pub use Rattle.collector_steps.proofs.Sweeping.{goes_stray, stray_goes}
 pub use Rattle.collector_steps.specs.Collecting.{Collecting, Collects, IsAsBefore, IsCollecting, IsWithin, colours_in, volume_of, waiting_in}
 pub use Rattle.collector_steps.specs.Left.{cylinders_of, events_left, left_in, most_steps, reads_left, steps_left}
 pub use Rattle.collector_steps.specs.Scan.{IsDamaged, IsScanTrouble}
-pub use Rattle.collector_steps.specs.Sweep.{IsSweptOf, NoInner, NoStray, goes, swept}
+pub use Rattle.collector_steps.specs.Sweep.{IsSweptOf, NoInner, NoStray, goes, is_of_pass, swept}
 pub use Rattle.collector_steps.specs.Swept.{HasSwept, IsPhaseOf, cylinder_of, next_phase}
 pub use Rattle.collector_steps.specs.declared.phase.Phase.{Phase}
 pub use Rattle.collector_steps.specs.declared.sweep.Pass.{Pass}
 pub use Rattle.cyl_alloc.proofs.Counted.{sum_is}
 pub use Rattle.cyl_alloc.specs.Refusals.{IsMapTrouble}
-pub use Rattle.cyl_alloc.specs.Space.{AreCounts, IsLeastFree, Kept}
+pub use Rattle.cyl_alloc.specs.Space.{AreCounts, IsLeastFree, Kept, free_entry}
 pub use Rattle.cyl_map.specs.Volume.{entry_in, free_from, is_free_entry, is_free_in}
 pub use Rattle.cyl_map.specs.declared.entry.MapEntry.{MapEntry}
 pub use Rattle.file_ops.specs.Changes.{ChangesFile, EndsChange, MayChange, MayLeave, need_for}

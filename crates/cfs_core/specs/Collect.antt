@@ -15,6 +15,7 @@ use Rattle.cfs_base.specs.declared.refusal.Trouble.{Trouble}
 use Rattle.collector_steps.specs.Collecting as Keeps
 use Rattle.collector_steps.specs.Collecting.{Collecting, volume_of, waiting_in}
 use Rattle.collector_steps.specs.Left.{most_steps, steps_left}
+use Rattle.collector_steps.specs.Swept.{next_phase}
 use Rattle.collector_steps.specs.declared.phase.Phase.{Phase}
 use Rattle.collector_steps.specs.declared.phase.Phase.TheVariants as phases
 use Rattle.cyl_alloc.specs.Space.{Kept}
@@ -46,6 +47,7 @@ use Rattle.cfs_core.specs.Left.{GoesOn}
 use Rattle.cfs_core.specs.Rescues.{AreRescued}
 use Rattle.cfs_core.specs.Room.{MayLoseBy, lost_blocks}
 use Rattle.cfs_core.specs.StandsFor.{IsFront, Serves, StandsFor}
+use Rattle.cfs_core.specs.Sweeping.{FreesStrays}
 
 -- ---- which step is due: the first that fits
 
@@ -153,6 +155,16 @@ AreCounted c d steps.Finished = (steps_in d.collector ≡ count_after (steps_in 
 AreCounted c d step = (steps_in d.collector ≡ count_after (steps_in c.collector))
     × (added_in d.collector ≡ added_in c.collector) × (d.finished ≡ c.finished)
 
+-- ---- a sweep
+
+-- One that swept did so in the cylinder that was next, and the one after it is next now.
+abbrev pub SweepsNext : {D : Type 0} → Ghosts D → Kernel D → Kernel D → State → Step → Type 0
+SweepsNext g old new s steps.Swept =
+    FreesStrays s.graph (phase_of old.collections.collector) (g.content old.disk) (g.content new.disk)
+    × (phase_of new.collections.collector
+    ≡ next_phase (g.blocks old.disk / 64) (phase_of old.collections.collector))
+SweepsNext g old new s step = Unit {0}
+
 -- ---- once a collection is over
 
 -- Beside the maps and the label exactly the blocks of the objects aren't Free.
@@ -189,6 +201,7 @@ pub record IsMade {D : Type 0} (g : Ghosts D) (old new : Kernel D) (step : Step)
   pub moves : (s : State) → Serves g old s → old.stop ≡ None → MovesTo g old new s (event_of step)
   pub due : IsDue old.collections step
   pub counted : AreCounted old.collections new.collections step
+  pub sweeps : (s : State) → Serves g old s → SweepsNext g old new s step
   pub over : (s : State) → Serves g old s → IsOver g old new s step
   pub goes : AreKept (g.blocks old.disk) old.collections
       → GoesOn (g.blocks old.disk) old.collections new.collections step (event_of step)
@@ -300,6 +313,8 @@ pub record Collects {D : Type 0} (g : Ghosts D) (old new : Kernel D) (result : R
   -- the first that fits
   pub due : IfOk result (IsDue old.collections)
   pub counted : IfOk result (AreCounted old.collections new.collections)
+  -- one that swept freed exactly the strays of its pass in one cylinder, the next, and changed no other block
+  pub sweeps : IfOk result (λ step. (s : State) → StandsFor g old s → SweepsNext g old new s step)
   -- a whole collection takes so many steps at most, and leaves a tidy volume
   pub over : IfOk result (λ step. (s : State) → StandsFor g old s → IsOver g old new s step)
   pub still : IfErr result (LeavesAll g old new)

@@ -13,4 +13,5 @@ pub mod Makes
 pub mod Asked
 pub mod Opened
 pub mod Rescues
+pub mod Sweeping
 pub mod Collect

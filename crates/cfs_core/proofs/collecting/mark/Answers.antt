@@ -15,6 +15,7 @@ returns-then-has_rescue g c = λ kept.
       moves = moves;
       due = (c.requires.marks, c.has_rescue.ensures.0 c.if-has_rescue.true);
       counted = (c.take.ensures.steps, c.take.ensures.added, refl);
+      sweeps = λ s serves. tt;
       over = λ s serves. tt;
       goes = λ k. marks_on (g.D.Disk.blocks d) core.collections c.args.collector.now c.take.new.self steps.Took c.requires.marks c.take.ensures.phase c.take.ensures.less (refl, refl);
     })
@@ -29,6 +30,7 @@ returns-in-Ok g c = λ kept.
       moves = moves;
       due = (c.requires.marks, taken, c.has_grey.ensures.0 c.if-has_grey.true);
       counted = (c.in-Ok.ensures.steps, c.scan.ensures.added, refl);
+      sweeps = λ s serves. tt;
       over = λ s serves. tt;
       goes = λ kept. marks_on (g.D.Disk.blocks c.args.disk.now) core.collections k c.scan.new.self steps.Scanned c.requires.marks c.scan.ensures.phase c.in-Ok.ensures.less (refl, refl);
     })

@@ -9,10 +9,10 @@ pub returns-in-Inner : goal.returns-in-Inner
 returns-in-Inner g c =
     let phase = subst (IsPhaseOf passes.Inner) (sym c.in-Inner.is ∙ c.phase.ensures) tt in
     steps_swept g.D.Disk c.args.disk.now c.args.space.now c.args.names.now c.args.collector.now c.sweep_inner.new.self (ap blocks_of c.sweep_inner.ensures.marks) c.sweep_inner.new.disk c.sweep_inner.new.space
-    passes.Inner c.sweep_inner.result c.told.result phase c.sweep_inner.ensures c.told.ensures
+    passes.Inner c.sweep_inner.result c.told.result phase c.requires.size c.sweep_inner.ensures c.told.ensures
 
 pub returns-in-Roots : goal.returns-in-Roots
 returns-in-Roots g c =
     let phase = subst (IsPhaseOf passes.Roots) (sym c.in-Roots.is ∙ c.phase.ensures) tt in
     steps_swept g.D.Disk c.args.disk.now c.args.space.now c.args.names.now c.args.collector.now c.sweep_roots.new.self (ap blocks_of c.sweep_roots.ensures.marks) c.sweep_roots.new.disk c.sweep_roots.new.space
-    passes.Roots c.sweep_roots.result c.told-in-Roots.result phase c.sweep_roots.ensures c.told-in-Roots.ensures
+    passes.Roots c.sweep_roots.result c.told-in-Roots.result phase c.requires.size c.sweep_roots.ensures c.told-in-Roots.ensures
