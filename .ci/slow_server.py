@@ -1,5 +1,5 @@
-"""A slow server of one session, written from docs/MODEL.md and docs/PROGRAM.md alone: what request lines a script has,
-and the right reply to each on a new volume beside no other session and no collection."""
+"""A slow server, written from docs/MODEL.md and docs/PROGRAM.md alone: what request lines a script has, and the right
+reply to each on a new volume beside no collection. One session asks at a time, session `who`."""
 
 import re
 from copy import deepcopy
@@ -81,9 +81,10 @@ class Object:
 
 @dataclass
 class Grant:
-    """A grant; a draft has an object and leaves and nodes of its own."""
+    """A grant of a session; a draft has an object and leaves and nodes of its own."""
     id: int
     mode: str
+    who: int = 0
     draft: Object = None
     leaves: set = field(default_factory=set)
     nodes: set = field(default_factory=set)
@@ -103,15 +104,25 @@ class Server:
         self.objects = {root: Object('index', count=64)}
         self.grants = {}
         self.bound = {}
+        self.who = 0
 
     def free(self):
         """The blocks that no object and no draft has, beside maps and label."""
         taken = sum(found.blocks() for found in (*self.objects.values(), *self.grants.values()))
         return 63 * self.cylinders - 1 - taken
 
+    def own_grants(self):
+        """The grants of the session."""
+        return {number: grant for number, grant in self.grants.items() if grant.who == self.who}
+
+    def leave(self):
+        """The session leaves."""
+        for number in self.own_grants():
+            del self.grants[number]
+
     def free_left(self):
         """The blocks that are Free once the session has left."""
-        self.grants.clear()
+        self.leave()
         return self.free()
 
     def rooted(self):
@@ -154,7 +165,7 @@ class Server:
         named = {part: self.stands_for(part) for part in self.parts if part in wanted}
         if any(sort not in wanted[part] for part, (sort, _) in named.items()):
             return 'no name'
-        if any(sort == 'grant' and number not in self.grants for sort, number in named.values()):
+        if any(sort == 'grant' and number not in self.own_grants() for sort, number in named.values()):
             return 'no grant'
         if any(sort == 'id' and number not in self.objects for sort, number in named.values()):
             return 'no object'
@@ -198,7 +209,7 @@ class Server:
         return 'no range' if self.verb == 'resize' and numbers[0] > LARGEST else None
 
     def refused_room(self):
-        if self.verb == 'open' and len(self.grants) == MOST_GRANTS:
+        if self.verb == 'open' and len(self.own_grants()) == MOST_GRANTS:
             return 'no grants'
         need = self.need()
         return f'no full {self.free()} {need}' if need > 0 and self.free() < need + 4 else None
@@ -268,7 +279,8 @@ class Server:
         number = int(reply[3:], 16)
         if self.verb == 'open':
             drafted = self.parts['MODE'] == 'write' and self.target.kind == 'special'
-            self.grants[number] = Grant(self.id, self.parts['MODE'], deepcopy(self.target) if drafted else None)
+            draft = deepcopy(self.target) if drafted else None
+            self.grants[number] = Grant(self.id, self.parts['MODE'], self.who, draft)
         else:
             block = number >> 32
             if not 2 < block < 64 * self.cylinders or any(id >> 32 == block for id in self.objects):

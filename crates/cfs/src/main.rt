@@ -1,8 +1,9 @@
 //! The Cambridge File Server. `cfs play CYLINDERS SEED COLLECTIONS IN OUT ..` serves 1 to 64 sessions on a new volume
 //! in memory, one for each pair IN OUT: it writes a reply to OUT for each request of the file IN, and a report to
-//! standard output. `-` is a standard stream. `cfs format VOLUME CYLINDERS SEED` makes a volume in a file, and `cfs
-//! serve VOLUME SEED COLLECTIONS IN OUT ..` serves it; `pair-format` and `pair-serve` do so on a file that keeps each
-//! block twice, for a device that may tear blocks. `cfs --help` and `cfs --version` print a page.
+//! standard output. `-` is a standard stream. `cfs trace ..` does the same and reports the trail. `cfs format VOLUME
+//! CYLINDERS SEED` makes a volume in a file, and `cfs serve VOLUME SEED COLLECTIONS IN OUT ..` serves it; `pair-format`
+//! and `pair-serve` do so on a file that keeps each block twice, for a device that may tear blocks. `cfs --help` and
+//! `cfs --version` print a page.
 #![tactic(auto)]
 
 mod opening;

@@ -1,4 +1,5 @@
 //! Command lines.
+use crate::crashes::Opened;
 use crate::failures::Plan;
 use crate::fault::Fault;
 use crate::printed::owned;
@@ -180,8 +181,9 @@ pub fn answer(probe: &mut Probe, alloc: Global, line: &str) -> Result<String, Fa
         "compare" => compare(probe, alloc),
         "block" => probe.block(alloc, small(rest)?),
         "poke" => poke(probe, alloc, rest),
-        "crashes" => probe.crashes(alloc, false),
-        "recrashes" => probe.crashes(alloc, true),
+        "crashes" => probe.crashes(alloc, Opened::All),
+        "recrashes" => probe.crashes(alloc, Opened::AllAgain),
+        "picks" => probe.crashes(alloc, Opened::Three),
         "readings" => readings(probe, alloc),
         "failures" => probe.failures(alloc),
         _ => act(probe, alloc, word, rest),

@@ -1,11 +1,21 @@
 //! How all images that a crash may leave read, beside the slow server before and after what was under way.
 use crate::fault::Fault;
-use crate::images::{cuts_at, readings_at, waiting};
+use crate::images::{cuts_at, readings_at, three_at, waiting};
 use crate::twin::Past;
 use cfs_fakes::MemoryDisk;
 use std::alloc::Global;
 
-/// How all images of a moment read.
+/// Which images of a moment are opened.
+#[derive(Clone, Copy)]
+pub enum Opened {
+    All,
+    /// All, and those of their openings.
+    AllAgain,
+    /// Those of three sets of picks.
+    Three,
+}
+
+/// How these images of a moment read.
 #[derive(Clone, Copy, PartialEq, Eq)]
 enum Phase {
     /// As before what is under way, each.
@@ -55,7 +65,7 @@ struct Span<'a> {
 }
 
 /// How the images of the moments of a span read, a word where that changes.
-fn course(alloc: Global, disk: &MemoryDisk, span: Span, is_cut: bool) -> Result<String, Fault> {
+fn course(alloc: Global, disk: &MemoryDisk, span: Span, opened: Opened) -> Result<String, Fault> {
     let mut words = String::new(alloc);
     let mut last = None;
     let mut waits = Vec::new(alloc);
@@ -66,7 +76,7 @@ fn course(alloc: Global, disk: &MemoryDisk, span: Span, is_cut: bool) -> Result<
             continue;
         }
         waits = now;
-        let phase = phase_at(alloc, disk, at, waits.as_slice(), span, is_cut)?;
+        let phase = phase_at(alloc, disk, at, waits.as_slice(), span, opened)?;
         if last != Some(phase) {
             words.push_str(phase.word())?;
         }
@@ -81,12 +91,15 @@ fn phase_at(
     at: u64,
     waits: &[u32],
     span: Span,
-    is_cut: bool,
+    opened: Opened,
 ) -> Result<Phase, Fault> {
-    if is_cut && !cuts_at(alloc, disk, at, waits)?.is_empty() {
+    if matches!(opened, Opened::AllAgain) && !cuts_at(alloc, disk, at, waits)?.is_empty() {
         return Ok(Phase::Neither);
     }
-    let found = readings_at(alloc, disk, at, waits)?;
+    let found = match opened {
+        Opened::Three => three_at(alloc, disk, at, waits)?,
+        _ => readings_at(alloc, disk, at, waits)?,
+    };
     Ok(Phase::of(found.as_slice(), span.before, span.after))
 }
 
@@ -98,7 +111,7 @@ pub fn crashes(
     past: &[Past],
     states: &[String],
     (first, from): (usize, u64),
-    is_cut: bool,
+    opened: Opened,
 ) -> Result<String, Fault> {
     let mut out = String::new(alloc);
     let mut from = from;
@@ -113,7 +126,7 @@ pub fn crashes(
             before: before.as_str(),
             after: after.as_str(),
         };
-        let words = course(alloc, disk, span, is_cut)?;
+        let words = course(alloc, disk, span, opened)?;
         put_course(&mut out, happened, words.as_str())?;
         from = happened.end;
     }

@@ -1,7 +1,7 @@
 //! Each call of the disk that fails while all that happened is done again.
 use crate::desk::Desk;
 use crate::fault::Fault;
-use crate::images::reading;
+use crate::images::{reading, three_at, waiting};
 use crate::printed::owned;
 use crate::service::{Service, happens};
 use crate::twin::Past;
@@ -93,13 +93,29 @@ fn fail_at(
         Err((why, _)) => return Err(why),
     };
     let redone = redo(&mut service, alloc, past, call)?;
-    let is_over = service.server.moment() <= call;
-    let text = reading(alloc, service.server.into_disk())?;
-    if is_over {
+    let now = service.server.moment();
+    if now <= call {
         return Ok(None);
     }
-    let mut may_be = states.iter().skip(redone.events).take(2);
-    Ok(Some(redone.is_right && may_be.any(|state| *state == text)))
+    let found = left(alloc, service.server.into_disk(), now)?;
+    Ok(Some(redone.is_right && may_read(found.as_slice(), states, redone.events)))
+}
+
+/// Whether each is the state after so many events, or after the next.
+fn may_read(found: &[String], states: &[String], events: usize) -> bool {
+    found.iter().all(|text| states
+        .iter()
+        .skip(events)
+        .take(2)
+        .any(|state| state == text))
+}
+
+/// What the disk reads as, and what a crash leaves of it now by three sets of picks.
+fn left(alloc: Global, disk: MemoryDisk, now: u64) -> Result<Vec<String>, Fault> {
+    let waits = waiting(alloc, &disk, now)?;
+    let mut found = three_at(alloc, &disk, now, waits.as_slice())?;
+    found.push(reading(alloc, disk)?)?;
+    Ok(found)
 }
 
 /// Each call since the opening, which ended at this moment, fails: `right`, or the first for which something is not.

@@ -9,9 +9,6 @@ use std::alloc::Global;
 /// So many images of a moment are opened at most.
 const MANY: u64 = 4096;
 
-/// No block is written as often between two barriers.
-const OFTEN: u32 = 64;
-
 pub fn block_of(disk: &mut MemoryDisk, at: u32) -> Result<Block, Fault> {
     if at >= disk.blocks() {
         return Err(Fault::Place);
@@ -47,45 +44,16 @@ fn image(alloc: Global, disk: &MemoryDisk, at: u64, picks: &[Pick]) -> Result<Me
     Ok(disk.image(alloc, at, picks)?)
 }
 
-/// The blocks of the image of which each block has this choice.
-fn blocks_by(alloc: Global, disk: &MemoryDisk, at: u64, choice: u32) -> Result<Vec<Block>, Fault> {
-    let mut picks = Vec::new(alloc);
-    for block in 0..disk.blocks() {
-        picks.push(Pick { block, choice })?;
-    }
-    blocks_of(alloc, &mut image(alloc, disk, at, picks.as_slice())?)
-}
-
-/// Of each block, the last of the writes that wait for a barrier at this moment, as far as they change it. The
-/// writes end where one choice more leaves what the last does: no block is written as it is, and then otherwise,
-/// between two barriers.
+/// Of each block, how many writes wait for a barrier at this moment.
 pub fn waiting(alloc: Global, disk: &MemoryDisk, at: u64) -> Result<Vec<u32>, Fault> {
-    let mut waits = vec![in alloc; 0u32; disk.blocks() as usize]?;
-    let last = blocks_by(alloc, disk, at, u32::MAX)?;
-    let mut before = blocks_by(alloc, disk, at, 0)?;
-    for choice in 1..OFTEN {
-        let after = blocks_by(alloc, disk, at, choice)?;
-        if after == before && after == last {
-            return Ok(waits);
-        }
-        note(
-            waits.as_mut_slice(),
-            before.as_slice(),
-            after.as_slice(),
-            choice,
-        );
-        before = after;
+    if !disk.is_recording() {
+        return Err(Fault::Place);
     }
-    Err(Fault::Many)
-}
-
-/// This choice is the last so far of each block that it changes.
-fn note(waits: &mut [u32], before: &[Block], after: &[Block], choice: u32) {
-    for (wait, (old, new)) in waits.iter_mut().zip(before.iter().zip(after.iter())) {
-        if old != new {
-            *wait = choice;
-        }
+    let mut waits = Vec::new(alloc);
+    for block in 0..disk.blocks() {
+        waits.push(disk.choices(at, block))?;
     }
+    Ok(waits)
 }
 
 /// How many images there are, of which each block's choice is one of its own.
@@ -155,6 +123,49 @@ pub fn readings_at(
     let mut found = Vec::new(alloc);
     for number in 0..count_of(waits)? {
         let text = reading(alloc, numbered(alloc, disk, at, waits, number)?)?;
+        put_once(&mut found, text)?;
+    }
+    Ok(found)
+}
+
+/// Which of the writes that wait a crash leaves.
+#[derive(Clone, Copy)]
+enum Kept {
+    /// None of any block.
+    None,
+    /// The last of each block.
+    Last,
+    /// The last of each block with an even number, and none of any other.
+    LastOfEven,
+}
+
+fn picks_by(alloc: Global, waits: &[u32], kept: Kept) -> Result<Vec<Pick>, Fault> {
+    let mut picks = Vec::new(alloc);
+    let mut block = 0u32;
+    for wait in waits {
+        let choice = match kept {
+            Kept::Last => *wait,
+            Kept::LastOfEven if block % 2 == 0 => *wait,
+            _ => 0,
+        };
+        picks.push(Pick { block, choice })?;
+        block = block.saturating_add(1);
+    }
+    Ok(picks)
+}
+
+/// What three images of a crash at this moment read as, each once: without the writes that wait, with the last of
+/// each block, and with the last of each block with an even number.
+pub fn three_at(
+    alloc: Global,
+    disk: &MemoryDisk,
+    at: u64,
+    waits: &[u32],
+) -> Result<Vec<String>, Fault> {
+    let mut found = Vec::new(alloc);
+    for kept in [Kept::None, Kept::Last, Kept::LastOfEven] {
+        let picks = picks_by(alloc, waits, kept)?;
+        let text = reading(alloc, image(alloc, disk, at, picks.as_slice())?)?;
         put_once(&mut found, text)?;
     }
     Ok(found)

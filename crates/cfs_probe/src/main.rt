@@ -25,10 +25,12 @@
 //!   where that changes: all as `before` the event or as `after` it, each as `either`, or one as `neither`. Events
 //!   of which all images read as before are left out.
 //! - `recrashes`: the same, and each image that a crash leaves of an opening of an image reads as that one does.
+//! - `picks`: as `crashes`, of three images of each moment: without the writes that wait for a barrier, with the last
+//!   of each block, and with the last of each block with an even number.
 //! - `readings`: what all these images read as, each once.
 //! - `failures`: all is done again for each call of the disk since the opening, which fails: `right` if each time
 //!   the event was refused, changed nothing, and was done when asked again, or the core stopped with the event done
-//!   or not.
+//!   or not, on the disk and in the three images of a crash then.
 #![tactic(auto)]
 
 mod command;

@@ -1,5 +1,5 @@
 //! The bench on which a volume is tried.
-use crate::crashes::crashes;
+use crate::crashes::{Opened, crashes};
 use crate::failures::{Plan, failures, formatted, open};
 use crate::fault::Fault;
 use crate::images::{block_of, put_block, readings};
@@ -192,13 +192,13 @@ impl Probe {
     }
 
     /// How the images of each event since the mark read.
-    pub fn crashes(&mut self, alloc: Global, is_cut: bool) -> Result<String, Fault> {
+    pub fn crashes(&mut self, alloc: Global, opened: Opened) -> Result<String, Fault> {
         let states = self.states(alloc)?;
         let Some(disk) = &self.disk else {
             return Err(Fault::NoDisk);
         };
         let past = self.past.as_slice();
-        crashes(alloc, disk, past, states.as_slice(), self.mark, is_cut)
+        crashes(alloc, disk, past, states.as_slice(), self.mark, opened)
     }
 
     /// What the images since the mark read as.

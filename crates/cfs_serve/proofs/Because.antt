@@ -1,6 +1,6 @@
 -- What each cause that is told shows, and what each status says by it.
-use Rattle.std.proofs.Common.{◌≡◌, ◌⊎◌, inl, inr, ℕ, Bool, true, false, List, length, Option, Some, None, IsSome, IsNone, refl, arith}
-use Rattle.cfs_serve.proofs.Cited.{AreWithin, Asked, Cause, Counts, DiskFailed, EachSink, EachSource, EndedWell, Event, Format, Formats, Graph, Ground, HadLeft, HasNone, IsStatus, LimitPassed, Made, MemoryWanting, NoCountRose, Nothing, Outside, Page, Replied, Report, RoseIn, Showed, Shows, SinkFailed, SomeRose, SourceFailed, TellsMade, VolumeRefused, WritesReport, Wrote, collections_of, ended, finishes_in, is_calm, is_service, list_all, list_any, printed_replies, report_text, request_lines, sink_faults, source_faults, turns_in, wants_memory}
+use Rattle.std.proofs.Common.{◌≡◌, ◌⊎◌, inl, inr, ℕ, Bool, true, false, List, ◌++◌, length, Option, Some, None, IsSome, IsNone, refl, sym, ap, ◌∙◌, subst, arith}
+use Rattle.cfs_serve.proofs.Cited.{AreWithin, Asked, Cause, Counts, DiskFailed, EachSink, EachSource, EndedWell, Event, ended_line, Format, Formats, Graph, Ground, HadLeft, HasNone, IsStatus, IsText, IsTextBy, LimitPassed, Made, MemoryWanting, NoCountRose, Nothing, Opening, Outside, Page, Replied, Report, RoseIn, Showed, Shows, SinkFailed, SomeRose, SourceFailed, TellsMade, VolumeRefused, WritesReport, Wrote, collections_of, ended, finishes_in, is_calm, is_service, last_cause, list_all, list_any, printed_line, printed_replies, report_text, request_lines, sink_faults, source_faults, status_line, status_of, text_by, turns_in, wants_memory}
 use Rattle.cfs_serve.specs.declared.report.Cause.TheVariants as causes
 use Rattle.cfs_serve.specs.Top.{IsOver}
 
@@ -13,7 +13,7 @@ pub record Served (asked : Asked) (ground : Ground) (trail : List Event) (old ne
   pub replied : EachSink (λ session sink after. Wrote sink after (printed_replies session trail)) old new
   pub memory : list_any wants_memory trail ≡ false
   pub calm : list_all is_calm trail ≡ true
-  pub collected : (graph : Graph) → ground.reads graph → finishes_in trail ≡ collections_of asked
+  pub collected : finishes_in trail ≡ collections_of asked
 
 no_service : false ≡ true → ⊥
 no_service e = cc
@@ -48,30 +48,86 @@ module _ (asked : Asked) (ground : Ground) (old new : Outside) (counts : Option 
   Because (causes.Long n) = Over (causes.Long n)
   Because causes.LongTotal = Over causes.LongTotal
 
-  -- the report's sink has taken the report, all or some of its beginning
-  abbrev pub Told : Cause → Bool → Type 0
-  Told cause written = Replied old.report new.report (report_text (told cause)) written
+  -- ---- the report's text
 
-  pub reported : (cause : Cause) (written : Bool) → Told cause written → WritesReport (told cause) old new
-  reported cause true wrote = inl wrote
-  reported cause false wrote = inr wrote
+  -- it is its lines where nothing was served
+  pub unprinted : (cause : Cause) (short : Bool) (text : List ℕ) → IsNone counts → IsText asked (told cause) trail short text → (short ≡ false) × (text ≡ report_text (told cause))
+  unprinted cause short text none is = let nothing : counts ≡ None = none_is counts none in rw nothing (rw nothing at is)
 
-  pub status : (cause : Cause) (written : Bool) → Told cause written → IsStatus (ended written cause) cause old new
-  status cause true wrote = inl refl
-  status causes.Nothing false wrote = inr (refl, (refl, wrote.failed))
-  status (causes.Page page) false wrote = inr (refl, (refl, wrote.failed))
-  status causes.Memory false wrote = inr (refl, (refl, wrote.failed))
-  status causes.Words false wrote = inl refl
-  status (causes.Volume fault) false wrote = inl refl
-  status (causes.Disk moment) false wrote = inl refl
-  status causes.Sink false wrote = inl refl
-  status (causes.Source n) false wrote = inl refl
-  status (causes.Long n) false wrote = inl refl
-  status causes.LongTotal false wrote = inl refl
+  whole_by : (line : Option Opening) (report : Report) (text : List ℕ) → IsTextBy line report trail false text → text ≡ text_by line report trail
+  whole_by None report text is = is.1
+  whole_by (Some o) report text is = is.2 ∙ ap (λ start. start ++ ended_line (status_line (status_of report.cause))) is.1
 
-  pub status_0 : (cause : Cause) (written : Bool) → Because cause → Told cause written → ended written cause ≡ 0
+  -- its sink has taken it, all or some of its beginning
+  abbrev pub Told : List ℕ → Bool → Type 0
+  Told text written = Replied old.report new.report text written
+
+  pub reported : (text : List ℕ) (written : Bool) → Told text written → WritesReport text old new
+  reported text true wrote = inl wrote
+  reported text false wrote = inr wrote
+
+  -- ---- what is told last, where memory was wanting for a line or not
+
+  last : (short : Bool) (cause : Cause) → (last_cause short cause ≡ cause) ⊎ ((cause ≡ causes.Nothing) × (last_cause short cause ≡ causes.Memory))
+  last true causes.Nothing = inr (refl, refl)
+  last true causes.Memory = inl refl
+  last true causes.Words = inl refl
+  last true (causes.Page page) = inl refl
+  last true (causes.Volume fault) = inl refl
+  last true (causes.Disk moment) = inl refl
+  last true causes.Sink = inl refl
+  last true (causes.Source n) = inl refl
+  last true (causes.Long n) = inl refl
+  last true causes.LongTotal = inl refl
+  last false cause = inl refl
+
+  pub at_last : (short : Bool) (cause : Cause) → Because cause → Because (last_cause short cause)
+  at_last short cause because = from (last short cause)
+    where
+      from : (last_cause short cause ≡ cause) ⊎ ((cause ≡ causes.Nothing) × (last_cause short cause ≡ causes.Memory)) → Because (last_cause short cause)
+      from (inl same) = subst Because (sym same) because
+      from (inr memory) = subst Because (sym memory.1) tt
+
+  -- another status than those of want of memory is that of the cause
+  pub worse : (short : Bool) (cause : Cause) (written : Bool) (n : ℕ) → ¬ (n ≡ 5) → ¬ (n ≡ 7) → ended written (last_cause short cause) ≡ n → ended written cause ≡ n
+  worse short cause written n some other is = from (last short cause)
+    where
+      wants : (written : Bool) → ended written causes.Memory ≡ n → ⊥
+      wants true so = other (sym so)
+      wants false so = some (sym so)
+
+      from : (last_cause short cause ≡ cause) ⊎ ((cause ≡ causes.Nothing) × (last_cause short cause ≡ causes.Memory)) → ended written cause ≡ n
+      from (inl same) = ap (ended written) (sym same) ∙ is
+      from (inr memory) = absurd (wants written (ap (ended written) (sym memory.1) ∙ is))
+
+  -- and one that isn't of a service that ended well stays
+  stays : (short : Bool) (cause : Cause) (written : Bool) (n : ℕ) → ¬ (n ≡ 0) → ¬ (n ≡ 5) → ended written cause ≡ n → ended written (last_cause short cause) ≡ n
+  stays short cause written n well some is = from (last short cause)
+    where
+      none : (written : Bool) → ended written causes.Nothing ≡ n → ⊥
+      none true so = well (sym so)
+      none false so = some (sym so)
+
+      from : (last_cause short cause ≡ cause) ⊎ ((cause ≡ causes.Nothing) × (last_cause short cause ≡ causes.Memory)) → ended written (last_cause short cause) ≡ n
+      from (inl same) = ap (ended written) same ∙ is
+      from (inr memory) = absurd (none written (ap (ended written) (sym memory.0) ∙ is))
+
+  pub status : (cause : Cause) (text : List ℕ) (written : Bool) → Told text written → IsStatus (ended written cause) cause old new
+  status cause text true wrote = inl refl
+  status causes.Nothing text false wrote = inr (refl, (refl, wrote.failed))
+  status (causes.Page page) text false wrote = inr (refl, (refl, wrote.failed))
+  status causes.Memory text false wrote = inr (refl, (refl, wrote.failed))
+  status causes.Words text false wrote = inl refl
+  status (causes.Volume fault) text false wrote = inl refl
+  status (causes.Disk moment) text false wrote = inl refl
+  status causes.Sink text false wrote = inl refl
+  status (causes.Source n) text false wrote = inl refl
+  status (causes.Long n) text false wrote = inl refl
+  status causes.LongTotal text false wrote = inl refl
+
+  pub status_0 : (cause : Cause) (short : Bool) (text : List ℕ) (written : Bool) → Because cause → IsText asked (told cause) trail short text → Told text written → ended written (last_cause short cause) ≡ 0
       → EndedWell asked ground (told cause) trail old new ⊎ Showed (told cause) old new ⊎ Made asked (told cause) old new
-  status_0 causes.Nothing true (inl because) wrote is = inl (record {
+  status_0 causes.Nothing false text true (inl because) is_text wrote is = inl (record {
     served = because.served;
     nothing = refl;
     answered = because.answered;
@@ -79,19 +135,26 @@ module _ (asked : Asked) (ground : Ground) (old new : Outside) (counts : Option 
     memory = because.memory;
     calm = because.calm;
     collected = because.collected;
-    reported = wrote;
+    reported = subst (λ t. Wrote old.report new.report t) (whole_by (printed_line asked counts) (told causes.Nothing) text is_text) wrote;
   })
-  status_0 causes.Nothing true (inr because) wrote is = inr (inr (record {
+  status_0 causes.Nothing false text true (inr because) is_text wrote is = inr (inr (record {
     format = because.1.0;
     asks = because.1.1;
     is = rw (none_is counts because.0) refl;
-    written = wrote;
+    written = subst (λ t. Wrote old.report new.report t) (unprinted causes.Nothing false text because.0 is_text).1 wrote;
   }))
-  status_0 (causes.Page page) true because wrote is =
-      let none = none_is counts because.0 in inr (inl (record { page = page; is = rw none refl; written = rw none at wrote }))
-  status_0 causes.Nothing false because wrote is = absurd (omega (arith, is))
-  status_0 cause true because wrote is = absurd (omega (arith, is))
-  status_0 cause false because wrote is = absurd (omega (arith, is))
+  status_0 (causes.Page page) false text true because is_text wrote is =
+      let none = none_is counts because.0 in
+      let lines : Wrote old.report new.report (report_text (told (causes.Page page))) = subst (λ t. Wrote old.report new.report t) (unprinted (causes.Page page) false text because.0 is_text).1 wrote in
+      inr (inl (record { page = page; is = rw none refl; written = rw none at lines }))
+  status_0 (causes.Page page) true text written because is_text wrote is = absurd (no_service (sym (unprinted (causes.Page page) true text because.0 is_text).0))
+  status_0 causes.Nothing false text false because is_text wrote is = absurd (omega (arith, is))
+  status_0 causes.Nothing true text true because is_text wrote is = absurd (omega (arith, is))
+  status_0 causes.Nothing true text false because is_text wrote is = absurd (omega (arith, is))
+  status_0 cause false text true because is_text wrote is = absurd (omega (arith, is))
+  status_0 cause false text false because is_text wrote is = absurd (omega (arith, is))
+  status_0 cause true text true because is_text wrote is = absurd (omega (arith, is))
+  status_0 cause true text false because is_text wrote is = absurd (omega (arith, is))
 
   pub status_2 : (cause : Cause) (written : Bool) → Because cause → ended written cause ≡ 2 → asked ≡ Nothing
   status_2 causes.Words written because is = because.1
@@ -108,25 +171,27 @@ module _ (asked : Asked) (ground : Ground) (old new : Outside) (counts : Option 
   status_4 cause true because is = absurd (omega (arith, is))
   status_4 cause false because is = absurd (omega (arith, is))
 
-  pub status_5 : (cause : Cause) (written : Bool) → Because cause → Told cause written → ended written cause ≡ 5
+  pub status_5 : (cause : Cause) (short : Bool) (text : List ℕ) (written : Bool) → Because cause → Told text written → ended written (last_cause short cause) ≡ 5
       → SinkFailed (told cause) old new
-  status_5 causes.Sink written because wrote is = inl (because.0, refl, because.2)
-  status_5 causes.Nothing false because wrote is = inr (refl, wrote.failed)
-  status_5 (causes.Page page) false because wrote is = inr (refl, wrote.failed)
-  status_5 causes.Memory false because wrote is = inr (refl, wrote.failed)
-  status_5 cause true because wrote is = absurd (omega (arith, is))
-  status_5 cause false because wrote is = absurd (omega (arith, is))
+  status_5 causes.Sink short text written because wrote is = inl (because.0, refl, because.2)
+  status_5 causes.Nothing short text false because wrote is = inr (refl, wrote.failed)
+  status_5 (causes.Page page) short text false because wrote is = inr (refl, wrote.failed)
+  status_5 causes.Memory short text false because wrote is = inr (refl, wrote.failed)
+  status_5 cause false text true because wrote is = absurd (omega (arith, is))
+  status_5 cause false text false because wrote is = absurd (omega (arith, is))
+  status_5 cause true text true because wrote is = absurd (omega (arith, is))
+  status_5 cause true text false because wrote is = absurd (omega (arith, is))
 
   pub status_6 : (cause : Cause) (written : Bool) → Because cause → ended written cause ≡ 6 → SourceFailed (told cause) old new
   status_6 (causes.Source n) written because is = because.0
   status_6 cause true because is = absurd (omega (arith, is))
   status_6 cause false because is = absurd (omega (arith, is))
 
-  pub status_7 : (cause : Cause) (written : Bool) → Told cause written → ended written cause ≡ 7 → MemoryWanting (told cause) old new
-  status_7 causes.Memory true wrote is = (refl, wrote)
-  status_7 causes.Memory false wrote is = absurd (omega (arith, is))
-  status_7 cause true wrote is = absurd (omega (arith, is))
-  status_7 cause false wrote is = absurd (omega (arith, is))
+  pub status_7 : (cause : Cause) (text : List ℕ) (written : Bool) → Told text written → ended written cause ≡ 7 → MemoryWanting false cause text old new
+  status_7 causes.Memory text true wrote is = (refl, wrote)
+  status_7 causes.Memory text false wrote is = absurd (omega (arith, is))
+  status_7 cause text true wrote is = absurd (omega (arith, is))
+  status_7 cause text false wrote is = absurd (omega (arith, is))
 
   pub status_9 : (cause : Cause) (written : Bool) → Because cause → ended written cause ≡ 9 → LimitPassed (told cause) old new
   status_9 (causes.Long n) written because is = (because.0, because.1)
@@ -134,7 +199,7 @@ module _ (asked : Asked) (ground : Ground) (old new : Outside) (counts : Option 
   status_9 cause true because is = absurd (omega (arith, is))
   status_9 cause false because is = absurd (omega (arith, is))
 
-  pub over : (cause : Cause) (written : Bool) → Because cause → (scripts : List (List ℕ)) → HadLeft old scripts → ¬ (AreWithin scripts)
+  over : (cause : Cause) (written : Bool) → Because cause → (scripts : List (List ℕ)) → HadLeft old scripts → ¬ (AreWithin scripts)
       → (ended written cause ≡ 9) ⊎ (cause ≡ causes.Memory) ⊎ (ended written cause ≡ 6)
   over causes.Nothing written (inl because) scripts had past = absurd (past (because.within scripts had))
   over causes.Nothing written (inr because) scripts had past = absurd (past (because.2 scripts had))
@@ -151,37 +216,46 @@ module _ (asked : Asked) (ground : Ground) (old new : Outside) (counts : Option 
   over causes.LongTotal true because scripts had past = inl refl
   over causes.LongTotal false because scripts had past = inl refl
 
-  pub complete : (cause : Cause) (written : Bool) → Because cause → Told cause written → is_service asked ≡ true → (scripts : List (List ℕ)) → HadLeft old scripts → AreWithin scripts
+  pub over_last : (short : Bool) (cause : Cause) (written : Bool) → Because cause → (scripts : List (List ℕ)) → HadLeft old scripts → ¬ (AreWithin scripts)
+      → (ended written (last_cause short cause) ≡ 9) ⊎ (cause ≡ causes.Memory) ⊎ (ended written (last_cause short cause) ≡ 6)
+  over_last short cause written because scripts had past = from (over cause written because scripts had past)
+    where
+      from : (ended written cause ≡ 9) ⊎ (cause ≡ causes.Memory) ⊎ (ended written cause ≡ 6) → (ended written (last_cause short cause) ≡ 9) ⊎ (cause ≡ causes.Memory) ⊎ (ended written (last_cause short cause) ≡ 6)
+      from (inl is) = inl (stays short cause written 9 (λ e. cc e) (λ e. cc e) is)
+      from (inr (inl is)) = inr (inl is)
+      from (inr (inr is)) = inr (inr (stays short cause written 6 (λ e. cc e) (λ e. cc e) is))
+
+  pub complete : (cause : Cause) (text : List ℕ) (written : Bool) → Because cause → Told text written → is_service asked ≡ true → (scripts : List (List ℕ)) → HadLeft old scripts → AreWithin scripts
       → NoCountRose old new → (graph : Graph) → ground.reads graph → (ended written cause ≡ 0) ⊎ (ended written cause ≡ 7)
-  complete causes.Nothing true because wrote is scripts had within quiet graph reads = inl refl
-  complete causes.Memory true because wrote is scripts had within quiet graph reads = inr refl
-  complete causes.Nothing false because wrote is scripts had within quiet graph reads = absurd (quiet.report wrote.failed)
-  complete causes.Memory false because wrote is scripts had within quiet graph reads = absurd (quiet.report wrote.failed)
-  complete (causes.Volume fault) written because wrote is scripts had within quiet graph reads = absurd (because.0 graph reads)
-  complete (causes.Disk moment) written because wrote is scripts had within quiet graph reads = absurd (quiet.disk because.0)
-  complete causes.Words written because wrote is scripts had within quiet graph reads = absurd (no_service (rw because.1 at is))
-  complete (causes.Page page) written because wrote is scripts had within quiet graph reads = absurd (no_service (rw because.1 at is))
-  complete causes.Sink written because wrote is scripts had within quiet graph reads = absurd (quiet.sinks because.2)
-  complete (causes.Source n) written because wrote is scripts had within quiet graph reads = absurd (quiet.sources because.1)
-  complete (causes.Long n) written because wrote is scripts had within quiet graph reads = absurd (because.2 scripts had within)
-  complete causes.LongTotal written because wrote is scripts had within quiet graph reads = absurd (because.2 scripts had within)
+  complete causes.Nothing text true because wrote is scripts had within quiet graph reads = inl refl
+  complete causes.Memory text true because wrote is scripts had within quiet graph reads = inr refl
+  complete causes.Nothing text false because wrote is scripts had within quiet graph reads = absurd (quiet.report wrote.failed)
+  complete causes.Memory text false because wrote is scripts had within quiet graph reads = absurd (quiet.report wrote.failed)
+  complete (causes.Volume fault) text written because wrote is scripts had within quiet graph reads = absurd (because.0 graph reads)
+  complete (causes.Disk moment) text written because wrote is scripts had within quiet graph reads = absurd (quiet.disk because.0)
+  complete causes.Words text written because wrote is scripts had within quiet graph reads = absurd (no_service (rw because.1 at is))
+  complete (causes.Page page) text written because wrote is scripts had within quiet graph reads = absurd (no_service (rw because.1 at is))
+  complete causes.Sink text written because wrote is scripts had within quiet graph reads = absurd (quiet.sinks because.2)
+  complete (causes.Source n) text written because wrote is scripts had within quiet graph reads = absurd (quiet.sources because.1)
+  complete (causes.Long n) text written because wrote is scripts had within quiet graph reads = absurd (because.2 scripts had within)
+  complete causes.LongTotal text written because wrote is scripts had within quiet graph reads = absurd (because.2 scripts had within)
 
   -- of a volume that is known to be no sound one
-  pub refused : (cause : Cause) (written : Bool) → Because cause → Told cause written → is_service asked ≡ true → (scripts : List (List ℕ)) → HadLeft old scripts → AreWithin scripts
+  pub refused : (cause : Cause) (text : List ℕ) (written : Bool) → Because cause → Told text written → is_service asked ≡ true → (scripts : List (List ℕ)) → HadLeft old scripts → AreWithin scripts
       → NoCountRose old new → ground.unsound → (ended written cause ≡ 3) ⊎ (ended written cause ≡ 7)
-  refused causes.Nothing written (inl because) wrote is scripts had within quiet unsound = absurd (because.sound unsound)
-  refused causes.Nothing written (inr because) wrote is scripts had within quiet unsound = absurd (no_service (rw because.1.1 at is))
-  refused (causes.Page page) written because wrote is scripts had within quiet unsound = absurd (no_service (rw because.1 at is))
-  refused causes.Words written because wrote is scripts had within quiet unsound = absurd (no_service (rw because.1 at is))
-  refused (causes.Volume fault) true because wrote is scripts had within quiet unsound = inl refl
-  refused (causes.Volume fault) false because wrote is scripts had within quiet unsound = inl refl
-  refused (causes.Disk moment) written because wrote is scripts had within quiet unsound = absurd (quiet.disk because.0)
-  refused causes.Sink written because wrote is scripts had within quiet unsound = absurd (quiet.sinks because.2)
-  refused (causes.Source n) written because wrote is scripts had within quiet unsound = absurd (quiet.sources because.1)
-  refused causes.Memory true because wrote is scripts had within quiet unsound = inr refl
-  refused causes.Memory false because wrote is scripts had within quiet unsound = absurd (quiet.report wrote.failed)
-  refused (causes.Long n) written because wrote is scripts had within quiet unsound = absurd (because.2 scripts had within)
-  refused causes.LongTotal written because wrote is scripts had within quiet unsound = absurd (because.2 scripts had within)
+  refused causes.Nothing text written (inl because) wrote is scripts had within quiet unsound = absurd (because.sound unsound)
+  refused causes.Nothing text written (inr because) wrote is scripts had within quiet unsound = absurd (no_service (rw because.1.1 at is))
+  refused (causes.Page page) text written because wrote is scripts had within quiet unsound = absurd (no_service (rw because.1 at is))
+  refused causes.Words text written because wrote is scripts had within quiet unsound = absurd (no_service (rw because.1 at is))
+  refused (causes.Volume fault) text true because wrote is scripts had within quiet unsound = inl refl
+  refused (causes.Volume fault) text false because wrote is scripts had within quiet unsound = inl refl
+  refused (causes.Disk moment) text written because wrote is scripts had within quiet unsound = absurd (quiet.disk because.0)
+  refused causes.Sink text written because wrote is scripts had within quiet unsound = absurd (quiet.sinks because.2)
+  refused (causes.Source n) text written because wrote is scripts had within quiet unsound = absurd (quiet.sources because.1)
+  refused causes.Memory text true because wrote is scripts had within quiet unsound = inr refl
+  refused causes.Memory text false because wrote is scripts had within quiet unsound = absurd (quiet.report wrote.failed)
+  refused (causes.Long n) text written because wrote is scripts had within quiet unsound = absurd (because.2 scripts had within)
+  refused causes.LongTotal text written because wrote is scripts had within quiet unsound = absurd (because.2 scripts had within)
 
 pub shown : (page : Page) (old new : Outside) (text : List ℕ) (written : Bool) → Replied old.report new.report text written → NoCountRose old new → ended written (causes.Page page) ≡ 0
 shown page old new text true wrote quiet = refl

@@ -32,22 +32,24 @@ pub use Rattle.cfs_recover.specs.Refusals.{IsCaused}
 pub use Rattle.cfs_recover.specs.declared.fault.RecoverFault.{RecoverFault}
 pub use Rattle.cfs_script.specs.NameTable.{names_of}
 pub use Rattle.cfs_script.specs.Room.{FitsLine}
-pub use Rattle.cfs_serve.specs.Calls.{AreExact, AsBefore, EndsCollecting, Fits, GoesOn, IsExact, IsExactEvent, IsTallied, Makes, MayGoOn, MayMake, MayTally, Rests, Tallies, Tally, Tells, TellsSo, TellsStep, begun, event_by, fails, is_calm_step, lost_by, lost_in, refusal_by, tally_of, tells_outcome, tells_stop_at}
+pub use Rattle.cfs_serve.specs.Calls.{AreExact, AsBefore, EndsCollecting, Fits, GoesOn, IsExact, IsExactEvent, IsTallied, Makes, MayCount, MayGoOn, MayMake, MayTally, Passes, PassesStep, Rests, Spends, SpendsOne, Tallies, Tally, Tells, TellsSo, TellsStep, begun, event_by, fails, is_calm_step, lost_by, lost_in, refusal_by, tally_of, tells_outcome, tells_stop_at}
 pub use Rattle.cfs_serve.specs.Charter.{Seat, Terms}
 pub use Rattle.cfs_serve.specs.Disks.{IsLater, LeavesSinceTry, MakesVolume, OnDisk, ServesVolume}
 pub use Rattle.cfs_serve.specs.Ending.{EndsSo, IsWanting, Stops, TellsStop, cause_of, damage_in, has_failed, has_fallen, is_failure, is_fault, is_short, is_want, listed, moment_in, not_begun, spoiled_by, stops_in, told_stop}
 pub use Rattle.cfs_serve.specs.Events.{BreaksOff, begins_in, events_of, finishes_in, is_begin, is_calm, is_finish, is_of, is_reply, is_sessions, tells_damage, tells_disk, tells_fault, tells_stop, wants_memory}
 pub use Rattle.cfs_serve.specs.Ground.{Ground, ground_of, ground_on, new_ground, opened}
-pub use Rattle.cfs_serve.specs.Hall.{AllLeft, AreFresh, AreHeard, AreNew, AreOver, Departs, HasNoCollector, Hearing, IsFresh, IsLeave, IsOver, IsSession, IsSessionTurn, IsTurn, Turned, charter_of, has_left_at, is_done_in, left_in, seat_of, turns_left, turns_left_at}
-pub use Rattle.cfs_serve.specs.Journal.{AreCollected, AreCounted, AreWanting, IsRun, IsRunOn, IsTold, Kept, Lasts, Raises, Steps, Told, faults_after, first_fault, is_quiet_fault, is_recorded, recorded, stamps}
+pub use Rattle.cfs_serve.specs.Hall.{AllLeft, AreFresh, AreHeard, AreNew, AreOver, Departs, HasNoCollector, HasTurns, Hearing, IsFresh, IsLeave, IsOver, IsSession, IsSessionTurn, IsTurn, Turned, charter_of, has_left_at, is_done_in, left_in, seat_of, turns_left, turns_left_at}
+pub use Rattle.cfs_serve.specs.Journal.{AreCounted, IsKept, IsRun, IsRunOn, IsTold, Kept, Lasts, Raises, Rise, Steps, Told, faults_after, first_fault, is_made, is_quiet_fault, is_recorded, recorded, stamps}
 pub use Rattle.cfs_serve.specs.Limits.{most_lines, most_script}
 pub use Rattle.cfs_serve.specs.Opening.{IsRefusal, told_of}
 pub use Rattle.cfs_serve.specs.Played.{AreSeated, HasNone, IsCause, IsPlayed, IsRunFrom, IsRunOf, IsStop, counts_of, free_of, has_broken}
 pub use Rattle.cfs_serve.specs.Report.{cause_text, counts_text, ending_text, report_text, served_text, status_of}
 pub use Rattle.cfs_serve.specs.Scripts.{AreShort, AreWithin, Had, HasScript, HaveFirst, HaveScripts, IsFirst, IsOneCause, IsSourceCause, faults_of, lines_in}
 pub use Rattle.cfs_serve.specs.SureDisk.{IsSure}
+pub use Rattle.cfs_serve.specs.Text.{IsStart, IsText, IsTextBy, IsTrail, first_line, first_lines, last_cause, printed_line, text_by, text_of}
 pub use Rattle.cfs_serve.specs.Told.{told}
 pub use Rattle.cfs_serve.specs.Top.{Did, DiskFailed, EachFrom, EachSink, EachSource, EndedWell, HadLeft, HasBroken, IsServedFrom, IsStatus, LimitPassed, Made, MemoryWanting, NoCountRose, Outside, Said, Showed, SinkFailed, SomeRose, SourceFailed, VolumeRefused, WritesReport, after, before, sink_faults, source_faults}
+pub use Rattle.cfs_serve.specs.Traced.{IsTraced, IsWritten}
 pub use Rattle.cfs_serve.specs.Volume.{IsNewCore, IsUnserved, ServesScripts, ServesSessions, ground_at}
 pub use Rattle.cfs_serve.specs.Whole.{Asks, AsksSessions, FitsVolume, HasDisk, HasPlaces, IsWhole, NamesVolume, Places, RoseIn, TellsMade, ended}
 pub use Rattle.cfs_serve.specs.Words.{Asked, Files, Format, Formats, InFile, InMemory, Nothing, Place, Service, Shows, asked_by, collections_of, files_in, inputs_in, is_file_word, is_service, outputs_in, play_in, serve_in, streams_in}
@@ -69,18 +71,22 @@ pub use Rattle.std.proofs.lemmas.Bool.{and_parts, cases_lt}
 pub use Rattle.std.proofs.lemmas.Bool.Decides.{nat_tests}
 pub use Rattle.std.proofs.lemmas.Iterator.{YieldsList-from_slice}
 pub use Rattle.std.proofs.lemmas.Iterator.Search.{all_from_yields_List}
-pub use Rattle.std.proofs.lemmas.List.{append-nil, length-map, map-append, reverse-append, reverse-reverse}
+pub use Rattle.std.proofs.lemmas.Grind.{flat_map-append}
+pub use Rattle.std.proofs.lemmas.List.{append-nil, length-map, map-append, reverse-append, reverse-reverse, take-append-drop}
 pub use Rattle.std.proofs.lemmas.List.Folds.{list_all-append, list_all-map}
 pub use Rattle.std.proofs.lemmas.List.Sums.{get_or-le-sum_by, sum_by-cons, sum_by-set, sum_by_push}
 pub use Rattle.std.proofs.lemmas.Option.{get_or_from_slice_get, slice_get-get_or, slice_get-map, slice_get_within}
 pub use Rattle.std.proofs.lemmas.Result.{err_from_is_err_and}
 pub use Rattle.std.specs.Fmt.{decimal}
-pub use Rattle.std.specs.List.{list_all, list_any, sum_by}
+pub use Rattle.std.specs.List.{flat_map, list_all, list_any, sum_by}
 pub use Rattle.std.specs.Option.{option_map_or}
 pub use Rattle.std.specs.Prelude.{Contains, IfSome, String, codes, is_none, option_and_then, option_map, reverse, slice_index_or, string_bytes, sum, vec_capacity}
 pub use Rattle.std.specs.Result.{is_ok, result_ok}
 pub use Rattle.survival.specs.Call.{CallKeeps, Survived}
 pub use Rattle.survival.specs.Trail.{RunSurvives}
+pub use Rattle.trail_text.specs.EventLine.{event_line}
+pub use Rattle.trail_text.specs.Trail.{begun as begun_lines, ended as ended_line, opening_line, printed_trail, status_line}
+pub use Rattle.trail_text.specs.declared.ends.Opening.{Opening}
 pub use Rattle.ufs_model.proofs.Legal.{replay_from-push}
 pub use Rattle.ufs_model.proofs.Outcomes.{outcome_plain}
 pub use Rattle.ufs_model.proofs.Tests.{all_filter, all_passing}

@@ -1,6 +1,7 @@
 -- A step of the collector of a core, as the hall sees it.
-use Rattle.std.proofs.Common.{◌≡◌, ◌⊎◌, inl, inr, ℕ, ◌+◌, ◌-◌, ◌≤◌, Bool, true, false, List, [], ◌∷◌, ◌++◌, Option, Some, None, Result, Ok, Err, is_some, refl, sym, ap, ◌∙◌, subst, arith, ◌||◌}
-use Rattle.cfs_serve.proofs.Cited.{CallKeeps, CollectFault, Collecting, Collection, Collections, Collects, EndsCollecting, Event, Ghosts, Graph, Happens, HappensOrRests, HasCollection, IsNextOf, IsStep, IsUnchanged, Kernel, MayGoOn, MayLose, MayMake, MayTally, Puid, Rests, Rose, RunSurvives, Serves, Stands, StandsFor, State, Step, Stop, Stops, Survived, Tallies, TellsStep, TellsStop, allowed, append-nil, damage_in, event_by, event_of, fails, is_calm_step, is_collecting, is_marking, is_sweeping, listed, lost_blocks, marks_in, next, option_and_then, pairs_of, recorded, refusal_by, replay, runs, starts_now, stops_in, sweeps_in, tally_of, tells_stop_at, without}
+use Rattle.std.proofs.Common.{◌≡◌, ◌⊎◌, inl, inr, ℕ, ◌+◌, ◌-◌, ◌<◌, ◌≤◌, Bool, true, false, List, [], ◌∷◌, ◌++◌, Option, Some, None, Result, Ok, Err, is_some, length, option_to_list, refl, sym, ap, ◌∙◌, subst, arith, ◌||◌}
+use Rattle.cfs_serve.proofs.Cited.{AsBefore, CallKeeps, CollectFault, Collecting, Collection, Collections, Collects, EndsCollecting, Event, Ghosts, Graph, Happens, HappensOrRests, HasCollection, IsNextOf, IsStep, IsUnchanged, Kernel, MayCount, MayGoOn, MayLose, MayMake, MayTally, PassesStep, Puid, Rests, Rose, RunSurvives, Serves, Spends, Stands, StandsFor, State, Step, Stop, Stops, Survived, Tallies, TellsStep, TellsStop, allowed, append-nil, damage_in, event_by, event_of, fails, is_calm_step, is_collecting, is_marking, is_sweeping, listed, lost_blocks, marks_in, next, option_and_then, pairs_of, recorded, refusal_by, replay, runs, starts_now, stops_in, sweeps_in, tally_of, tells_stop_at, without}
+use Rattle.cfs_core.specs.Left.{events_ahead, steps_ahead}
 use Rattle.cfs_core.specs.declared.collecting.CollectFault.TheVariants as faults
 use Rattle.cfs_core.specs.declared.collecting.Step.TheVariants as steps
 use Rattle.ufs_model.specs.declared.asked.Event.TheVariants as events
@@ -234,13 +235,10 @@ module _ {D : Type 0} (g : Ghosts D) (old new : Kernel D) (result : Result Step 
   serves_new step same t stands = subst (Stands g new t) (goes step same) stands
 
   -- it made no event
-  rests_so : (step : Step) → result ≡ Ok step → (s : State) → StandsFor g old s → event_of step ≡ None → new.collections.finished ≡ old.collections.finished → Rests stopped (tally_of g) old new s
-  rests_so step same s stands none finished =
+  rests_so : (step : Step) → result ≡ Ok step → (s : State) → StandsFor g old s → event_of step ≡ None → Rests stopped (tally_of g) old new s
+  rests_so step same s stands none =
       let rest = subst (λ o. HappensOrRests g old new s o) none (subst (λ r. IsStep g old new s r) same (did.event s stands)) in
-      record {
-        counts = (finished, runs_so g new s (serves_new step same s rest.stands) ∙ sym (runs_so g old s (serves_old step same s stands)));
-        lost = λ runs. rest.lost;
-      }
+      record { lost = λ runs. rest.lost }
 
   -- the blocks of what is gone, by an event
   lost_so : (s t : State) (e : Event) → Happens g old new s e → is_some new.stop ≡ false → next old.words.seed s e ≡ Some t
@@ -248,24 +246,15 @@ module _ {D : Type 0} (g : Ghosts D) (old new : Kernel D) (result : Result Step 
   lost_so s t e here runs step =
       subst (λ (u : State). MayLose e s.graph u.graph (lost_blocks (g.content old.disk) s.graph) (lost_blocks (g.content new.disk) u.graph)) (some_same here.after t (sym here.step ∙ step)) (here.lost (no_some new.stop runs))
 
-  unchanged : (s : State) → IsUnchanged g old new → ((is_some new.stop ≡ false) → lost_blocks (g.content new.disk) s.graph ≤ lost_blocks (g.content old.disk) s.graph) → Rests stopped (tally_of g) old new s
-  unchanged s same lost = record { counts = (same.finished, rescued_runs old.collections.collector new.collections.collector [] same.collector); lost = lost }
-
   halted : (s : State) (moment : ℕ) (stop : Stop) → new.stop ≡ Some stop → Tallies stopped (tally_of g) old.words.seed old new s (events.Halted moment)
   halted s moment stop is = record {
-    counts = λ runs. absurd (never (sym (ap is_some is) ∙ runs));
-    runs = λ begins. absurd (cc begins);
     lost = λ runs. absurd (never (sym (ap is_some is) ∙ runs));
   }
 
-  -- the phase in which objects vanish, and that in which a collection ends
-  marks_due : (s : State) (ids : List Puid) (o : Option Collecting) → HasCollection (g.content old.disk) s o → IsNextOf o (steps.Condemned ids) → (is_sweeping s.collection ≡ false) × (runs o ≡ true)
+  -- objects vanish as a collection marks
+  marks_due : (s : State) (ids : List Puid) (o : Option Collecting) → HasCollection (g.content old.disk) s o → IsNextOf o (steps.Condemned ids) → is_sweeping s.collection ≡ false
   marks_due s ids None has due = absurd due
-  marks_due s ids (Some k) has due = (has.sweeping ∙ ap sweeps_in due.0, ap (λ p. marks_in p || sweeps_in p) due.0)
-
-  swept_due : (o : Option Collecting) → IsNextOf o steps.Finished → runs o ≡ true
-  swept_due None due = absurd due
-  swept_due (Some k) due = ap (λ p. marks_in p || sweeps_in p) due
+  marks_due s ids (Some k) has due = has.sweeping ∙ ap sweeps_in due.0
 
   pub tallies : ((s : State) → Serves g old s → is_sweeping s.collection ≡ false → lost_blocks (g.content old.disk) s.graph ≡ 0) → (s : State) → StandsFor g old s → TalliesBy s (event_by result)
   tallies swept s stands = by result refl
@@ -274,49 +263,97 @@ module _ {D : Type 0} (g : Ghosts D) (old new : Kernel D) (result : Result Step 
       event r same = subst (λ x. IsStep g old new s x) same (did.event s stands)
 
       by : (r : Result Step CollectFault) → result ≡ r → TalliesBy s (event_by r)
-      by (Ok steps.Idle) same = rests_so steps.Idle same s stands refl (ap (λ (x : Collections). x.finished) (rw same at did.counted))
-      by (Ok steps.Took) same = rests_so steps.Took same s stands refl (rw same at did.counted).2
-      by (Ok steps.Scanned) same = rests_so steps.Scanned same s stands refl (rw same at did.counted).2
-      by (Ok steps.Swept) same = rests_so steps.Swept same s stands refl (rw same at did.counted).2
-      by (Ok steps.Began) same =
-          let here = event (Ok steps.Began) same in
-          let due = rw same at did.due in
-          let after = allowed _ (record s { collection = collections.Marking (pairs_of s) (starts_now s) }) here.after here.step in
-          record {
-            counts = λ runs. (due.1, due.0, (rw same at did.counted).2, runs_so g new here.after (serves_new steps.Began same here.after here.stands) ∙ ap (λ (u : State). is_collecting u.collection) (sym after.1));
-            runs = λ begins. ap is_some (goes steps.Began same);
-            lost = λ runs t step. lost_so s t events.Began here runs step;
-          }
+      by (Ok steps.Idle) same = rests_so steps.Idle same s stands refl
+      by (Ok steps.Took) same = rests_so steps.Took same s stands refl
+      by (Ok steps.Scanned) same = rests_so steps.Scanned same s stands refl
+      by (Ok steps.Swept) same = rests_so steps.Swept same s stands refl
+      by (Ok steps.Began) same = record { lost = λ runs t step. lost_so s t events.Began (event (Ok steps.Began) same) runs step }
       by (Ok (steps.Condemned ids)) same =
-          let here = event (Ok (steps.Condemned ids)) same in
           let serves = serves_old (steps.Condemned ids) same s stands in
           let due = marks_due s ids old.collections.collector serves.collecting (rw same at did.due) in
-          let after = allowed _ (record s { graph = without s.graph ids; collection = collections.Sweeping }) here.after here.step in
-          record {
-            counts = λ runs. (
-              (rw same at did.counted).2,
-              runs_so g new here.after (serves_new (steps.Condemned ids) same here.after here.stands) ∙ ap (λ (u : State). is_collecting u.collection) (sym after.1) ∙ sym due.1,
-            );
-            runs = λ begins. absurd (cc begins);
-            lost = λ runs t step. gone_less _ _ _ _ (lost_so s t (events.Vanish ids) here runs step) (swept s serves due.0);
-          }
-      by (Ok steps.Finished) same =
-          let here = event (Ok steps.Finished) same in
-          let after = allowed _ (record s { collection = collections.None }) here.after here.step in
-          record {
-            counts = λ runs. (
-              swept_due old.collections.collector (rw same at did.due),
-              (rw same at did.counted).2,
-              runs_so g new here.after (serves_new steps.Finished same here.after here.stands) ∙ ap (λ (u : State). is_collecting u.collection) (sym after.1),
-            );
-            runs = λ begins. absurd (cc begins);
-            lost = λ runs t step. lost_so s t events.Finished here runs step;
-          }
-      by (Err faults.Memory) same = unchanged s (rw same at did.still) (λ runs. (event (Err faults.Memory) same).lost)
-      by (Err (faults.Disk None)) same = unchanged s (rw same at did.still) (λ runs. (event (Err (faults.Disk None)) same).lost)
+          record { lost = λ runs t step. gone_less _ _ _ _ (lost_so s t (events.Vanish ids) (event (Ok (steps.Condemned ids)) same) runs step) (swept s serves due) }
+      by (Ok steps.Finished) same = record { lost = λ runs t step. lost_so s t events.Finished (event (Ok steps.Finished) same) runs step }
+      by (Err faults.Memory) same = record { lost = λ runs. (event (Err faults.Memory) same).lost }
+      by (Err (faults.Disk None)) same = record { lost = λ runs. (event (Err (faults.Disk None)) same).lost }
       by (Err (faults.Disk (Some moment))) same = halted s moment (record { moment = moment; damage = None }) (rw same at did.stops)
       by (Err (faults.Damaged damage moment)) same = halted s moment (record { moment = moment; damage = Some damage }) (rw same at did.stops)
-      by (Err (faults.Stopped moment)) same = subst (λ (k : Kernel D). Rests stopped (tally_of g) old k s) (sym (event (Err (faults.Stopped moment)) same)) (record { counts = (refl, refl); lost = λ runs. omega arith })
+      by (Err (faults.Stopped moment)) same = subst (λ (k : Kernel D). Rests stopped (tally_of g) old k s) (sym (event (Err (faults.Stopped moment)) same)) (record { lost = λ runs. omega arith })
+
+  -- ---- whatever disk it is
+
+  pub passes : PassesStep (λ (k : Kernel D). g.moment k.disk) stopped (tally_of g) old new result
+  passes = record {
+    later = did.calls.later;
+    counts = counts result refl;
+    stops = λ tells. stops_at result refl tells;
+    begins = λ is. begins_at result refl is;
+    spends = spends result refl;
+  }
+    where
+      as_before : (step : Step) → result ≡ Ok step → new.collections.finished ≡ old.collections.finished → (runs old.collections.collector ≡ true) × (runs new.collections.collector ≡ true) → AsBefore (tally_of g old) (tally_of g new)
+      as_before step same finished both = (finished, both.1 ∙ sym both.0)
+
+      unchanged : IsUnchanged g old new → AsBefore (tally_of g old) (tally_of g new)
+      unchanged same = (same.finished, rescued_runs old.collections.collector new.collections.collector [] same.collector)
+
+      counts : (r : Result Step CollectFault) → result ≡ r → MayCount (event_by r) (tally_of g old) (tally_of g new)
+      counts (Ok steps.Idle) same = let both = (rw same at did.goes).runs_by in (ap (λ (x : Collections). x.finished) (rw same at did.counted), both.1 ∙ sym both.0)
+      counts (Ok steps.Took) same = as_before steps.Took same (rw same at did.counted).2 (rw same at did.goes).runs_by
+      counts (Ok steps.Scanned) same = as_before steps.Scanned same (rw same at did.counted).2 (rw same at did.goes).runs_by
+      counts (Ok steps.Swept) same = as_before steps.Swept same (rw same at did.counted).2 (rw same at did.goes).runs_by
+      counts (Ok (steps.Condemned ids)) same = as_before (steps.Condemned ids) same (rw same at did.counted).2 (rw same at did.goes).runs_by
+      counts (Ok steps.Began) same = let due = rw same at did.due in (due.1, due.0, (rw same at did.counted).2, (rw same at did.goes).runs_by.1)
+      counts (Ok steps.Finished) same = let both = (rw same at did.goes).runs_by in (both.0, (rw same at did.counted).2, both.1)
+      counts (Err faults.Memory) same = unchanged (rw same at did.still)
+      counts (Err (faults.Disk None)) same = unchanged (rw same at did.still)
+      counts (Err (faults.Disk (Some moment))) same = tt
+      counts (Err (faults.Damaged damage moment)) same = tt
+      counts (Err (faults.Stopped moment)) same = subst (λ (k : Kernel D). AsBefore (tally_of g old) (tally_of g k)) (sym (rw same at did.still).0) (refl, refl)
+
+      stops_at : (r : Result Step CollectFault) → result ≡ r → tells_stop_at (event_by r) ≡ true → is_some new.stop ≡ true
+      stops_at (Err (faults.Disk (Some moment))) same tells = ap is_some (rw same at did.stops)
+      stops_at (Err (faults.Damaged damage moment)) same tells = ap is_some (rw same at did.stops)
+      stops_at (Ok steps.Idle) same tells = absurd (cc tells)
+      stops_at (Ok steps.Took) same tells = absurd (cc tells)
+      stops_at (Ok steps.Scanned) same tells = absurd (cc tells)
+      stops_at (Ok steps.Swept) same tells = absurd (cc tells)
+      stops_at (Ok (steps.Condemned ids)) same tells = absurd (cc tells)
+      stops_at (Ok steps.Began) same tells = absurd (cc tells)
+      stops_at (Ok steps.Finished) same tells = absurd (cc tells)
+      stops_at (Err faults.Memory) same tells = absurd (cc tells)
+      stops_at (Err (faults.Disk None)) same tells = absurd (cc tells)
+      stops_at (Err (faults.Stopped moment)) same tells = absurd (cc tells)
+
+      begins_at : (r : Result Step CollectFault) → result ≡ r → event_by r ≡ Some events.Began → is_some new.stop ≡ false
+      begins_at (Ok steps.Began) same is = ap is_some (goes steps.Began same)
+      begins_at (Ok steps.Idle) same is = absurd (cc is)
+      begins_at (Ok steps.Took) same is = absurd (cc is)
+      begins_at (Ok steps.Scanned) same is = absurd (cc is)
+      begins_at (Ok steps.Swept) same is = absurd (cc is)
+      begins_at (Ok (steps.Condemned ids)) same is = absurd (cc is)
+      begins_at (Ok steps.Finished) same is = absurd (cc is)
+      begins_at (Err faults.Memory) same is = absurd (cc is)
+      begins_at (Err (faults.Disk None)) same is = absurd (cc is)
+      begins_at (Err (faults.Disk (Some moment))) same is = absurd (cc is)
+      begins_at (Err (faults.Damaged damage moment)) same is = absurd (cc is)
+      begins_at (Err (faults.Stopped moment)) same is = absurd (cc is)
+
+      spent : (step : Step) → result ≡ Ok step → ¬ (step ≡ steps.Idle) → ((tally_of g new).steps < (tally_of g old).steps) × ((tally_of g new).events + length (option_to_list (event_of step)) ≤ (tally_of g old).events)
+      spent step same other =
+          let left = rw same at did.goes in (
+            subst (λ n. steps_ahead n new.collections < steps_ahead (g.blocks old.disk) old.collections) (sym did.calls.same.size) (left.fewer other),
+            omega (arith, left.events),
+          )
+
+      spends : (r : Result Step CollectFault) → result ≡ r → Spends (tally_of g old) (tally_of g new) r
+      spends (Ok steps.Idle) same = tt
+      spends (Ok steps.Took) same = spent steps.Took same (λ e. cc)
+      spends (Ok steps.Scanned) same = spent steps.Scanned same (λ e. cc)
+      spends (Ok steps.Swept) same = spent steps.Swept same (λ e. cc)
+      spends (Ok (steps.Condemned ids)) same = spent (steps.Condemned ids) same (λ e. cc)
+      spends (Ok steps.Began) same = spent steps.Began same (λ e. cc)
+      spends (Ok steps.Finished) same = spent steps.Finished same (λ e. cc)
+      spends (Err fault) same = tt
 
   -- nothing is left to do once all that were called for are finished
   idle : result ≡ Ok steps.Idle → (is_some new.stop ≡ false) × (new.collections.finished ≡ new.collections.called)

@@ -52,7 +52,6 @@ never_refused (Some (faults.Stopped moment)) fault want tells = absurd (cc want)
 pub record WentWell (ending : Ending) (trail : List Event) : Type 0 where
   pub runs : ending.stop ≡ None
   pub refused : ending.refused ≡ None
-  pub spent : ending.spent ≡ false
   pub disk : list_any tells_disk trail ≡ false
   pub memory : list_any wants_memory trail ≡ false
 
@@ -63,14 +62,12 @@ went_well ending trail broken tells well =
     let calm = or_false (list_any tells_disk trail) (has_fallen ending) all.0 in
     let fallen = or_false (is_fault ending.refused) (is_failure ending.stop) calm.1 in
     let sated = or_false (list_any wants_memory trail) (is_short ending) all.2 in
-    let short = or_false (is_want ending.refused) ending.spent sated.1 in
     let damage : damage_in ending.stop ≡ None = undamaged_by (moment_in ending.stop) (damage_in ending.stop) broken (list_any wants_memory trail || is_short ending)
     (subst (λ b. spoiled_by b (moment_in ending.stop) (damage_in ending.stop) broken (list_any wants_memory trail || is_short ending) ≡ causes.Nothing) all.0 well) in
     let runs = runs_if ending.stop damage fallen.1 in
     record {
       runs = runs;
-      refused = never_refused ending.refused fallen.0 short.0 (subst (TellsStop ending.refused) runs tells);
-      spent = short.1;
+      refused = never_refused ending.refused fallen.0 sated.1 (subst (TellsStop ending.refused) runs tells);
       disk = calm.0;
       memory = sated.0;
     }
@@ -128,7 +125,7 @@ module _ (n m : ℕ) (trail : List Event) where
 -- How a service ended, by what is known of its server.
 pub ends : {A : Type 0} (count : A → ℕ) (has_stopped is_damaged : A → Bool) (stop : A → Option Stop) (begun server : A) (ending : Ending) (collections : ℕ) (trail : List Event)
     → has_stopped server ≡ is_some (stop server) → is_damaged server ≡ is_some (damage_in (stop server)) → ending.stop ≡ stop server
-    → Stops None (stop server) trail → TellsStop ending.refused (stop server) → (collections ≡ 0 → (ending.refused ≡ None) × (ending.spent ≡ false))
+    → Stops None (stop server) trail → TellsStop ending.refused (stop server) → (collections ≡ 0 → ending.refused ≡ None)
     → Told count has_stopped is_damaged begun server trail → faults_after tells_disk trail (first_fault ending.refused (count begun)) ≤ count server
     → EndsSo (Rose (count begun) (count server)) collections ending trail
 ends count has_stopped is_damaged stop begun server ending collections trail stopped damaged is stops tells quiet told counted = record {

@@ -167,10 +167,8 @@ module _ (service : Service) (ground : Ground) (disk disk_after : Option ℕ) (s
         exact = run.exact;
         calm = run.calm;
         undamaged = (undamaged ending.stop trail (played.undamaged graph reads) played.ends.stops, played.undamaged graph reads);
-        wanting = λ wants. played.wanting wants graph reads;
         stop = λ served. run.stop;
         counted = (subst (λ n. counts ≡ counts_of n trail run.last.graph counts.free) seats_count run.counted, run.free);
-        few = run.few;
         rests = run.rests;
       };
       sound = λ served. sound;
@@ -195,6 +193,9 @@ module _ (service : Service) (ground : Ground) (disk disk_after : Option ℕ) (s
       ends = λ served. played.ends;
       spoiled = λ served. played.spoiled;
       counts = subst (λ n. AreCounted n trail counts) seats_count played.counted;
+      few = played.few;
+      collected = λ served. played.collected;
+      wanting = played.wanting;
     },
     because,
   )
@@ -216,7 +217,7 @@ module _ (service : Service) (ground : Ground) (disk disk_after : Option ℕ) (s
             (λ k sink after at there. wrote_at played.root played.over is.1 k sink after (at_sink played.root played.over k sink after at there));
         memory = well.memory;
         calm = played.ends.calm well.runs well.disk;
-        collected = played.collected well.refused well.spent;
+        collected = played.collected well.refused;
       }))
   by_cause (causes.Disk moment) played is = sessions (causes.Disk moment) played (λ e. cc) (λ page e. cc) (played.ends.failed is, few)
   by_cause (causes.Volume fault) played is = sessions (causes.Volume fault) played (λ e. cc) (λ page e. cc) ((λ graph reads. (played.run graph reads).stop), few, (λ none. absurd (clash none)))

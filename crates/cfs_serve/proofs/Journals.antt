@@ -1,8 +1,7 @@
 -- A call keeps the run.
 use Rattle.std.proofs.Common.{◌≡◌, ◌⊎◌, inl, inr, ℕ, ◌+◌, ◌<◌, ◌≤◌, Bool, true, false, cond, List, [], ◌∷◌, ◌++◌, length, filter, Option, Some, None, refl, sym, ap, ◌∙◌, subst, arith, ◌||◌}
-use Rattle.cfs_serve.proofs.Cited.{AreExact, AsBefore, Event, GoesOn, Graph, IsExactEvent, IsRun, IsTallied, IsTold, Lasts, Makes, MayGoOn, Rests, Rose, State, Tallies, Tally, Tells, TellsSo, Terms, Told, Unread, append-nil, begins_in, begun, is_begin, is_calm, is_calm_step, is_finish, list_all, list_all-append, list_any, lost_by, lost_in, next, opening, option_and_then, option_map_or, recorded, replay_from, replay_from-push, tells_disk}
+use Rattle.cfs_serve.proofs.Cited.{AreExact, Event, GoesOn, Graph, IsExactEvent, IsRun, IsTold, Lasts, Makes, MayGoOn, Rests, Rose, State, Tallies, Tally, Tells, TellsSo, Terms, Told, Unread, append-nil, is_calm, is_calm_step, list_all, list_all-append, list_any, lost_by, lost_in, next, opening, option_and_then, option_map_or, recorded, replay_from, replay_from-push, tells_disk}
 use Rattle.ufs_model.specs.declared.asked.Event.TheVariants as events
-use Rattle.cfs_serve.specs.Calls.{Counts}
 
 -- ---- lists with one event more
 
@@ -31,7 +30,7 @@ count_push test (x ∷ trail) e =
       | false ↦ rest
     ]
 
-push_in : (test : Event → Bool) (trail : List Event) (e : Event) → test e ≡ true → length (filter test (trail ++ e ∷ [])) ≡ length (filter test trail) + 1
+pub push_in : (test : Event → Bool) (trail : List Event) (e : Event) → test e ≡ true → length (filter test (trail ++ e ∷ [])) ≡ length (filter test trail) + 1
 push_in test trail e is = count_push test trail e ∙ ap (λ b. length (filter test trail) + cond b 1 0) is
 
 pub push_out : (test : Event → Bool) (trail : List Event) (e : Event) → test e ≡ false → length (filter test (trail ++ e ∷ [])) ≡ length (filter test trail)
@@ -79,44 +78,13 @@ pub was_running : (a b : Bool) → (a ≡ true → b ≡ true) → b ≡ false �
 was_running true b stays is = absurd (cc (stays refl, is))
 was_running false b stays is = refl
 
--- collections are counted on
-begun_same : (c d : Tally) → AsBefore c d → begun d ≡ begun c
-begun_same c d same =
-    let first : begun d ≡ c.finished + cond d.running 1 0 = ap (λ n. n + cond d.running 1 0) same.0 in
-    let second : c.finished + cond d.running 1 0 ≡ begun c = ap (λ b. c.finished + cond b 1 0) same.1 in
-    first ∙ second
-
-same_tally : (e : Event) (c d : Tally) (trail : List Event) → is_begin e ≡ false → is_finish e ≡ false → AsBefore c d → IsTallied c trail → IsTallied d (trail ++ e ∷ [])
-same_tally e c d trail begins finishes same was =
-    (push_out is_begin trail e begins ∙ was.0 ∙ sym (begun_same c d same), push_out is_finish trail e finishes ∙ was.1 ∙ sym same.0)
-
-tallied_on : (e : Event) (c d : Tally) (trail : List Event) → Counts e c d → IsTallied c trail → IsTallied d (trail ++ e ∷ [])
-tallied_on events.Began c d trail to was =
-    let before : begun c ≡ c.finished + 0 = ap (λ b. c.finished + cond b 1 0) to.1 in
-    let after : begun d ≡ d.finished + 1 = ap (λ b. d.finished + cond b 1 0) to.3 in (
-      omega (arith, push_in is_begin trail events.Began refl, was.0, before, after, to.2),
-      push_out is_finish trail events.Began refl ∙ was.1 ∙ sym to.2,
-    )
-tallied_on events.Finished c d trail to was =
-    let before : begun c ≡ c.finished + 1 = ap (λ b. c.finished + cond b 1 0) to.0 in
-    let after : begun d ≡ d.finished + 0 = ap (λ b. d.finished + cond b 1 0) to.2 in (
-      omega (arith, push_out is_begin trail events.Finished refl, was.0, before, after, to.1),
-      omega (arith, push_in is_finish trail events.Finished refl, was.1, to.1),
-    )
-tallied_on (events.Halted moment) c d trail to was = absurd to
-tallied_on (events.Vanish ids) c d trail to was = same_tally (events.Vanish ids) c d trail refl refl to was
-tallied_on (events.Unread who why) c d trail to was = same_tally (events.Unread who why) c d trail refl refl to was
-tallied_on (events.Leave who stopped) c d trail to was = same_tally (events.Leave who stopped) c d trail refl refl to was
-tallied_on (events.Ask who request reply) c d trail to was = same_tally (events.Ask who request reply) c d trail refl refl to was
-
 module _ {A : Type 0} (stands : A → State → Type 0) (has_stopped is_damaged : A → Bool) (tally : A → Tally) (t : Terms A) (trail : List Event) (old new : A)
     (was : IsRun stands has_stopped is_damaged tally t old trail) (stays : has_stopped old ≡ true → has_stopped new ≡ true) (sound : (s : State) → stands old s → is_damaged old ≡ false → is_damaged new ≡ false) where
   -- by one event, from each state that the server stood for
   pub run_on : (e : Event) → ((s : State) → stands old s → Makes (stands new) t.seed s e)
       → ((s : State) → stands old s → 0 < t.cylinders → (lost : ℕ) → (has_stopped old ≡ false → (tally old).lost s.graph ≤ lost) → IsExactEvent t.cylinders lost s e)
-      → ((s : State) → stands old s → Tallies has_stopped tally t.seed old new s e) → (tally old).called ≡ t.collections
-      → IsRun stands has_stopped is_damaged tally t new (trail ++ e ∷ [])
-  run_on e makes exact tallies called = λ begun graph is began.
+      → ((s : State) → stands old s → Tallies has_stopped tally t.seed old new s e) → IsRun stands has_stopped is_damaged tally t new (trail ++ e ∷ [])
+  run_on e makes exact tallies = λ begun graph is began.
       let run = was begun graph is began in
       let call = makes run.last run.standing in
       let counted = tallies run.last run.standing in
@@ -126,8 +94,6 @@ module _ {A : Type 0} (stands : A → State → Type 0) (has_stopped is_damaged 
         standing = call.standing;
         exact = λ some. exact_on t.cylinders t.seed 0 (opening graph) run.last trail e run.legal (run.exact some) (exact run.last run.standing some (lost_in t.seed 0 (opening graph) trail) run.lost);
         undamaged = λ none. sound run.last run.standing (run.undamaged none);
-        few = began_few e (tally old) (tally new) run.few (λ begins. run.tallied (running (counted.runs begins))) (λ begins. counted.counts (counted.runs begins)) called;
-        tallied = λ runs. tallied_on e (tally old) (tally new) trail (counted.counts runs) (run.tallied (running runs));
         lost = λ runs.
             let less = lost_more e run.last call.after ((tally old).lost run.last.graph) (lost_in t.seed 0 (opening graph) trail) (run.lost (running runs)) in
             omega (arith, counted.lost runs call.after call.step, less, lost_push t.seed 0 (opening graph) run.last call.after trail e run.legal call.step);
@@ -135,19 +101,6 @@ module _ {A : Type 0} (stands : A → State → Type 0) (has_stopped is_damaged 
     where
       running : has_stopped new ≡ false → has_stopped old ≡ false
       running runs = was_running (has_stopped old) (has_stopped new) stays runs
-
-      began_few : (x : Event) (c d : Tally) → begins_in trail ≤ t.collections → (is_begin x ≡ true → IsTallied c trail) → (is_begin x ≡ true → Counts x c d) → c.called ≡ t.collections
-          → begins_in (trail ++ x ∷ []) ≤ t.collections
-      began_few events.Began c d few tallied counts called =
-          let to = counts refl in
-          let before : begun c ≡ c.finished + 0 = ap (λ b. c.finished + cond b 1 0) to.1 in
-          omega (arith, push_in is_begin trail events.Began refl, (tallied refl).0, before, to.0, called)
-      began_few events.Finished c d few tallied counts called = omega (arith, push_out is_begin trail events.Finished refl, few)
-      began_few (events.Halted moment) c d few tallied counts called = omega (arith, push_out is_begin trail (events.Halted moment) refl, few)
-      began_few (events.Vanish ids) c d few tallied counts called = omega (arith, push_out is_begin trail (events.Vanish ids) refl, few)
-      began_few (events.Unread who why) c d few tallied counts called = omega (arith, push_out is_begin trail (events.Unread who why) refl, few)
-      began_few (events.Leave who stopped) c d few tallied counts called = omega (arith, push_out is_begin trail (events.Leave who stopped) refl, few)
-      began_few (events.Ask who request reply) c d few tallied counts called = omega (arith, push_out is_begin trail (events.Ask who request reply) refl, few)
 
   -- and by a call that makes none
   pub run_rests : ((s : State) → stands old s → stands new s) → ((s : State) → stands old s → Rests has_stopped tally old new s) → IsRun stands has_stopped is_damaged tally t new trail
@@ -160,13 +113,8 @@ module _ {A : Type 0} (stands : A → State → Type 0) (has_stopped is_damaged 
         standing = on run.last run.standing;
         exact = run.exact;
         undamaged = λ none. sound run.last run.standing (run.undamaged none);
-        few = run.few;
-        tallied = λ runs. as_tallied (tally old) (tally new) rest.counts (run.tallied (was_running (has_stopped old) (has_stopped new) stays runs));
         lost = λ runs. omega (arith, rest.lost runs, run.lost (was_running (has_stopped old) (has_stopped new) stays runs));
       }
-    where
-      as_tallied : (c d : Tally) → AsBefore c d → IsTallied c trail → IsTallied d trail
-      as_tallied c d same now = (now.0 ∙ sym (begun_same c d same), now.1 ∙ sym same.0)
 
 pub or_true : (a b : Bool) → (a || b) ≡ true → (a ≡ true) ⊎ (b ≡ true)
 or_true true b is = inl refl
@@ -251,25 +199,17 @@ unread_makes stands seed server who why s standing = record { after = s; step = 
 
 pub unread_tallies : {A : Type 0} (has_stopped : A → Bool) (tally : A → Tally) (seed : ℕ) (server : A) (s : State) (who : ℕ) (why : Unread) → Tallies has_stopped tally seed server server s (events.Unread who why)
 unread_tallies has_stopped tally seed server s who why = record {
-  counts = λ runs. (refl, refl);
-  runs = λ begins. absurd (cc begins);
   lost = λ runs t step. subst (λ (u : State). (tally server).lost u.graph ≤ (tally server).lost s.graph) (some_same s t step) (omega arith);
 }
 
 none_is : (n : ℕ) → n ≡ 0 → (m : ℕ) → n ≤ m
 none_is n is m = omega (arith, is)
 
-none_begun : (c : Tally) → (c.finished ≡ 0) × (c.running ≡ false) → begun c ≡ 0
-none_begun c idle =
-    let first : begun c ≡ 0 + cond c.running 1 0 = ap (λ n. n + cond c.running 1 0) idle.0 in
-    let second : 0 + cond c.running 1 0 ≡ 0 + 0 = ap (λ b. 0 + cond b 1 0) idle.1 in
-    omega (arith, first, second)
-
 -- as it begins
 pub begins : {A : Type 0} (stands : A → State → Type 0) (has_stopped is_damaged : A → Bool) (tally : A → Tally) (t : Terms A) (server : A) → t.began ≡ Some server
-    → ((tally server).finished ≡ 0) × ((tally server).running ≡ false) → ((graph : Graph) → stands server (opening graph) → (tally server).lost graph ≡ 0)
+    → ((graph : Graph) → stands server (opening graph) → (tally server).lost graph ≡ 0)
     → IsRun stands has_stopped is_damaged tally t server []
-begins stands has_stopped is_damaged tally t server is idle swept = λ begun graph at standing.
+begins stands has_stopped is_damaged tally t server is swept = λ begun graph at standing.
     let here = subst (λ a. stands a (opening graph)) (some_same begun server (sym at ∙ is)) standing in
     record {
       last = opening graph;
@@ -277,8 +217,6 @@ begins stands has_stopped is_damaged tally t server is idle swept = λ begun gra
       standing = here;
       exact = λ some. tt;
       undamaged = λ none. subst (λ a. is_damaged a ≡ false) (some_same begun server (sym at ∙ is)) none;
-      few = none_is 0 refl t.collections;
-      tallied = λ runs. (sym (none_begun (tally server) idle), sym idle.0);
       lost = λ runs. none_is ((tally server).lost graph) (swept graph here) 0;
     }
 

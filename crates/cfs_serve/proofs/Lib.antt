@@ -2,6 +2,7 @@ mod Asking
 mod Journals
 mod Stopping
 mod Endings
+mod Keeping
 mod Sessions
 mod Stepping
 mod Raising
@@ -10,6 +11,7 @@ mod Served
 mod SureDisks
 mod Counting
 mod Texts
+mod Tracing
 mod Because
 mod NoneServed
 mod Facts

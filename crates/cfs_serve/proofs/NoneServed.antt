@@ -24,6 +24,9 @@ clash e = cc
 pub clash-sym : false ≡ true → ⊥
 clash-sym e = cc
 
+none_begins : (n : ℕ) → begins_in [] ≤ n
+none_begins n = let none : begins_in [] ≡ 0 = refl in omega (arith, none)
+
 no_scripts : (scripts : List (List ℕ)) → Had [] scripts → AreWithin scripts
 no_scripts [] had = ((λ k d below. absurd (omega (arith, below))), omega arith)
 no_scripts (left ∷ rest) had = absurd (some had)
@@ -58,6 +61,9 @@ of_nothing ground disk disk_after report report_after = (
     ends = λ served. absurd (clash-sym served);
     spoiled = λ served. absurd (clash-sym served);
     counts = tt;
+    few = none_begins 0;
+    collected = λ served. absurd (clash-sym served);
+    wanting = λ wants. absurd (cc wants);
   },
   (refl, refl, no_scripts),
 )
@@ -88,6 +94,9 @@ of_page ground shown disk disk_after report report_after = (
     ends = λ served. absurd (clash-sym served);
     spoiled = λ served. absurd (clash-sym served);
     counts = tt;
+    few = none_begins 0;
+    collected = λ served. absurd (clash-sym served);
+    wanting = λ wants. absurd (cc wants);
   },
   (refl, refl, no_scripts),
 )
@@ -124,6 +133,9 @@ module _ (ground : Ground) (format : Format) (disk disk_after : Option ℕ) (rep
       ends = λ served. absurd (clash-sym served);
       spoiled = λ served. absurd (clash-sym served);
       counts = tt;
+      few = none_begins 0;
+      collected = λ served. absurd (clash-sym served);
+      wanting = λ wants. absurd (cc wants);
     },
     because,
   )
@@ -161,10 +173,8 @@ module _ (service : Service) (ground : Ground) (disk disk_after : Option ℕ) (s
         exact = λ some. tt;
         calm = λ never. refl;
         undamaged = (refl, refl);
-        wanting = λ wants. absurd (cc wants);
         stop = λ served. absurd (clash-sym served);
         counted = tt;
-        few = let none : begins_in [] ≡ 0 = refl in omega (arith, none);
         rests = λ runs all. refl;
       };
       sound = λ served. absurd (clash-sym served);
@@ -183,6 +193,9 @@ module _ (service : Service) (ground : Ground) (disk disk_after : Option ℕ) (s
       ends = λ served. absurd (clash-sym served);
       spoiled = λ served. absurd (clash-sym served);
       counts = tt;
+      few = none_begins service.collections;
+      collected = λ served. absurd (clash-sym served);
+      wanting = λ wants. absurd (cc wants);
     },
     because,
   )

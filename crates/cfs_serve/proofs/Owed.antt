@@ -1,7 +1,8 @@
 -- A reply that is owed is exact.
 use Rattle.std.proofs.Common.{◌≡◌, ◌⊎◌, inl, inr, ℕ, ◌+◌, ◌<◌, ◌≤◌, Bool, true, false, ◌&&◌, Option, List, [], ◌∷◌, Some, None, refl, sym, ap, ◌∙◌, subst, arith, length, ◌||◌, is_some}
-use Rattle.cfs_serve.proofs.Cited.{AreRescued, ByOutcome, ByRefusal, ByWant, Collecting, Collections, Fits, FitsLine, Ghosts, Happens, Image, IsAsked, IsExact, IsOwed, IsPlainReply, IsRoom, IsShortContent, Kernel, Need, Owes, Reply, Request, Rescue, Rose, Serves, Stands, StandsFor, State, Stop, Stops, Tallies, Tells, allowed_if, answered, append-nil, by_outcome, cases_lt, goes_through, is_calm, is_delete, is_full, is_none, is_outcome, is_running, is_sweeping, listed, lost_blocks, marks_in, need_of, option_and_then, outcome_of, outcome_plain, refusal_of, reserve, runs, stopped_by, sum, sweeps_in, tally_of, tells_disk, tells_outcome}
+use Rattle.cfs_serve.proofs.Cited.{AreRescued, ByOutcome, ByRefusal, ByWant, Collecting, Collections, Fits, FitsLine, Ghosts, Happens, Image, IsAsked, IsExact, IsOwed, IsPlainReply, IsRoom, IsShortContent, Kernel, Need, Owes, Reply, Request, Rescue, Rose, Serves, Stands, StandsFor, State, Stop, Stops, Tallies, Tells, allowed_if, answered, append-nil, by_outcome, cases_lt, goes_through, is_calm, is_delete, is_full, is_none, is_outcome, is_running, is_sweeping, listed, lost_blocks, marks_in, need_of, Passes, option_and_then, outcome_of, outcome_plain, refusal_of, reserve, runs, stopped_by, sum, sweeps_in, tally_of, tells_disk, tells_outcome}
 use Rattle.cfs_core.specs.Asked.{Asks}
+use Rattle.cfs_core.specs.Left.{events_ahead, steps_ahead}
 use Rattle.ufs_model.specs.declared.asked.Event.TheVariants as events
 use Rattle.ufs_model.specs.declared.asked.Reply.TheVariants as replies
 use Rattle.cfs_serve.proofs.Journals.{some_same, was_running}
@@ -195,15 +196,19 @@ module _ {D : Type 0} (g : Ghosts D) (old new : Kernel D) (who : ℕ) (request :
   -- what becomes of the collections
   pub tallied : (s : State) → StandsFor g old s → Tallies (λ (k : Kernel D). is_some k.stop) (tally_of g) old.words.seed old new s (events.Ask who request reply)
   tallied s stands = record {
-    counts = λ runs. (asks.finished, rescued_runs old.collections.collector new.collections.collector _ (asks.rescued (before runs) s stands));
-    runs = λ begins. absurd (cc begins);
     lost = λ runs t step.
         let here = asks.event s stands in
         subst (λ (u : State). lost_blocks (g.content new.disk) u.graph ≤ lost_blocks (g.content old.disk) s.graph) (some_same here.after t (sym here.step ∙ step)) (here.lost (no_some new.stop runs));
   }
-    where
-      before : is_some new.stop ≡ false → old.stop ≡ None
-      before runs = no_some old.stop (was_running (is_some old.stop) (is_some new.stop) tells.stays runs)
+
+  -- and of the clock
+  pub passes : Passes (λ (k : Kernel D). g.moment k.disk) (tally_of g) old new
+  passes = record {
+    later = asks.later;
+    counts = (asks.finished, asks.waits.running);
+    steps = subst (λ n. steps_ahead n new.collections ≤ steps_ahead (g.blocks old.disk) old.collections + 1) (sym asks.size) asks.waits.more;
+    events = omega (arith, asks.waits.events);
+  }
 
   -- no block of a disk that holds the store is found damaged
   pub undamaged : (s : State) → StandsFor g old s → is_some (option_and_then (λ (x : Stop). x.damage) old.stop) ≡ false → is_some (option_and_then (λ (x : Stop). x.damage) new.stop) ≡ false
@@ -225,11 +230,19 @@ short_fits reply short = tt
 
 -- ---- a session leaves
 
-pub left_tallies : {D : Type 0} (g : Ghosts D) (old new : Kernel D) (who : ℕ) (stopped : Option ℕ) (s : State) → Happens g old new s (events.Leave who stopped) → new.collections ≡ old.collections
+pub left_tallies : {D : Type 0} (g : Ghosts D) (old new : Kernel D) (who : ℕ) (stopped : Option ℕ) (s : State) → Happens g old new s (events.Leave who stopped)
     → Tallies (λ (k : Kernel D). is_some k.stop) (tally_of g) old.words.seed old new s (events.Leave who stopped)
-left_tallies g old new who stopped s here same = record {
-  counts = λ on. (ap (λ (c : Collections). c.finished) same, ap (λ (c : Collections). runs c.collector) same);
-  runs = λ begins. absurd (cc begins);
+left_tallies g old new who stopped s here = record {
   lost = λ runs t step.
       subst (λ (u : State). lost_blocks (g.content new.disk) u.graph ≤ lost_blocks (g.content old.disk) s.graph) (some_same here.after t (sym here.step ∙ step)) (here.lost (no_some new.stop runs));
+}
+
+pub left_passes : {D : Type 0} (g : Ghosts D) (old new : Kernel D) → new.collections ≡ old.collections → g.blocks new.disk ≡ g.blocks old.disk → g.moment old.disk ≤ g.moment new.disk
+    → Passes (λ (k : Kernel D). g.moment k.disk) (tally_of g) old new
+left_passes g old new same size later = record {
+  later = later;
+  counts = (ap (λ (c : Collections). c.finished) same, ap (λ (c : Collections). runs c.collector) same);
+  steps = subst (λ n. steps_ahead n new.collections ≤ steps_ahead (g.blocks old.disk) old.collections + 1) (sym size)
+      (subst (λ (c : Collections). steps_ahead (g.blocks old.disk) c ≤ steps_ahead (g.blocks old.disk) old.collections + 1) (sym same) (omega arith));
+  events = subst (λ (c : Collections). events_ahead c ≤ events_ahead old.collections) (sym same) (omega arith);
 }

@@ -1,6 +1,6 @@
 -- A service on a core.
 use Rattle.std.proofs.Common.{◌≡◌, ℕ, ◌/◌, ◌≤◌, Bool, true, false, cond, List, [], ◌∷◌, length, map, filter, Some, None, IsTrue, is_some, refl, sym, ap, ◌∙◌, subst, arith, ◌+◌}
-use Rattle.cfs_serve.proofs.Cited.{AreOver, Cause, Collection, Counts, Ending, EndsSo, Event, Ghosts, Graph, Holds, Image, IsFront, IsRoom, IsRunFrom, IsRunOn, IsSoundAs, IsStop, IsTallied, IsWanting, Kernel, Object, Puid, Reading, Report, Rose, RunSurvives, Serves, ServesSessions, Stands, StandsFor, State, begins_in, blocks_of, cause_of, counts_of, damage_in, faults_after, finishes_in, first_fault, fits, free_of, front_of, graph_blocks, has_broken, is_among, is_calm, is_collecting, is_reply, is_sweeping, left_now, length-map, list_all, moment_in, opening, pending, rooted, rooted_part, rooted_reads, runs, seat_of, sum, sum_by, sum_by-cons, tally_of, tells_disk, tells_fault}
+use Rattle.cfs_serve.proofs.Cited.{AreOver, Cause, Collection, Counts, Ending, EndsSo, Event, Ghosts, Graph, Holds, Image, IsFront, IsRoom, IsRunFrom, IsRunOn, IsSoundAs, IsStop, IsTallied, IsWanting, Kernel, Object, Puid, Reading, Report, Rise, Rose, RunSurvives, Serves, ServesSessions, Stands, StandsFor, State, begins_in, blocks_of, cause_of, counts_of, damage_in, faults_after, finishes_in, first_fault, fits, free_of, front_of, graph_blocks, has_broken, is_among, is_calm, is_collecting, is_reply, is_sweeping, left_now, length-map, list_all, moment_in, opening, pending, rooted, rooted_part, rooted_reads, runs, seat_of, sum, sum_by, sum_by-cons, tally_of, tells_disk, tells_fault}
 use Rattle.cfs_core.specs.declared.collecting.CollectFault.TheVariants as faulted
 use Rattle.survival.specs.Held.{Fits}
 use Rattle.ufs_model.specs.declared.collection.Collection.TheVariants as collections
@@ -90,13 +90,15 @@ rests_at g k s n trail serves few tallied all = at (runs k.collections.collector
 pub record IsServed {D : Type 0} (g : Ghosts D) (n : ℕ) (ending : Ending) (server : Kernel D) (trail : List Event)
     (moments : List ℕ) (k : Kernel D) : Type 0 where
   pub run : (graph : Graph) → StandsFor g k (opening graph)
-      → IsRunOn (λ x s. StandsFor g x s) (λ (x : Kernel D). is_some x.stop) (λ (x : Kernel D). is_some (damage_in x.stop)) (tally_of g) k.words.seed (length k.space.free) n graph k server trail
+      → IsRunOn (λ x s. StandsFor g x s) (λ (x : Kernel D). is_some x.stop) (λ (x : Kernel D). is_some (damage_in x.stop)) (tally_of g) k.words.seed (length k.space.free) graph k server trail
   pub later : g.faults k.disk ≤ g.faults server.disk
   pub ends : EndsSo (Rose (g.faults k.disk) (g.faults server.disk)) n ending trail
   pub stop : ending.stop ≡ server.stop
-  pub collected : ending.refused ≡ None → ending.spent ≡ false → (graph : Graph) → StandsFor g k (opening graph)
-      → finishes_in trail ≡ n
-  pub wanting : ending.refused ≡ Some faulted.Memory → (graph : Graph) → StandsFor g k (opening graph) → IsWanting n trail
+  pub few : begins_in trail ≤ n
+  pub collected : ending.refused ≡ None → finishes_in trail ≡ n
+  pub wanting : ending.refused ≡ Some faulted.Memory → IsWanting n trail
+  pub tallied : is_some server.stop ≡ false → IsTallied (tally_of g server) trail
+  pub rise : Rise (g.moment k.disk) moments (g.moment server.disk)
   pub size : length server.space.free ≡ length k.space.free
   pub lasts : (graph : Graph) → StandsFor g k (opening graph) → RunSurvives g k.words.seed graph [] (g.moment k.disk ∷ []) k.disk
       → RunSurvives g k.words.seed graph trail (g.moment k.disk ∷ moments) server.disk
@@ -136,7 +138,7 @@ module _ {D : Type 0} (g : Ghosts D) (sized : (d : D) → IsTrue (g.honest d) �
       stands_on : StandsFor g (called core n) (opening graph)
       stands_on = subst (Stands g (called core n) (opening graph)) (sym runs) (called_serves g core n (opening graph) begun)
 
-      on : IsRunOn (λ k s. StandsFor g k s) stopped damaged (tally_of g) core.words.seed (length core.space.free) n graph (called core n) server trail
+      on : IsRunOn (λ k s. StandsFor g k s) stopped damaged (tally_of g) core.words.seed (length core.space.free) graph (called core n) server trail
       on = is.run graph stands_on
 
       front : IsFront server on.last
@@ -161,10 +163,9 @@ module _ {D : Type 0} (g : Ghosts D) (sized : (d : D) → IsTrue (g.honest d) �
         counted = counts_same sessions (length (map seat_of before)) trail (sum server.space.free) (length server.names.named) on.last.graph (count ∙ over.count) (ap length front.names ∙ length-map on.last.graph.objects _);
         free = λ none swept. free_is on.last (serving (stop_none server.stop (sym front.stopped ∙ none))) swept
             (none_stands core.root n (map seat_of before) trail ports core.words.seed graph on.last over on.legal) ∙ ap (λ m. free_of m on.last.graph) is.size;
-        few = on.few;
         rests = λ none all.
             let here = stop_none server.stop (sym front.stopped ∙ none) in
-            rests_at g server on.last n trail (serving here) on.few (on.tallied (ap is_some here)) all;
+            rests_at g server on.last n trail (serving here) is.few (is.tallied (ap is_some here)) all;
       }
 
     pub served : (begins : (graph : Graph) → ((c : Image) → left_now g core.disk c → IsSoundAs c (rooted_part graph)) → RunSurvives g core.words.seed graph [] (g.moment core.disk ∷ []) core.disk)
@@ -180,12 +181,14 @@ module _ {D : Type 0} (g : Ghosts D) (sized : (d : D) → IsTrue (g.honest d) �
         over = over;
         counted = (count ∙ over.count, refl, refl);
         ends = is.ends;
-        collected = λ none unspent graph stands. is.collected none unspent graph (stands_on graph stands);
-        wanting = λ wants graph stands. is.wanting wants graph (stands_on graph stands);
+        few = is.few;
+        collected = is.collected;
+        wanting = is.wanting;
         undamaged = whole;
         spoiled = refl;
       };
       later = is.later;
+      rise = is.rise;
       faults = is.faults;
       stops = λ graph stands. is.stops graph (stands_on graph stands);
       crashes = λ graph stands. is.lasts graph (stands_on graph stands) (begins graph (sound_left g sized left_sized core (opening graph) (begun graph stands)));

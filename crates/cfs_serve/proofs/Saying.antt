@@ -1,8 +1,15 @@
 -- What `top` says follows from the steps of the run.
-use Rattle.std.proofs.Common.{◌≡◌, ℕ, List, length, sym, ◌∙◌}
-use Rattle.cfs_serve.proofs.Cited.{Asked, Ending, Event, Ground, HasPlaces, IsWhole, Outside, Report, Said, ended}
+use Rattle.std.proofs.Common.{◌≡◌, ℕ, true, false, List, length, refl, sym, ap, ◌∙◌}
+use Rattle.cfs_serve.proofs.Cited.{Asked, Ending, Event, Formats, Ground, HasPlaces, IsWhole, Nothing, Outside, Report, Said, Shows, ended, is_service, last_cause}
+use Rattle.cfs_serve.specs.Words.{Serves, is_format}
 use Rattle.cfs_serve.proofs.Because as why
 use Rattle.cfs_serve.proofs.Facts.{facts}
+
+no_service : (asked : Asked) → is_format asked ≡ true → is_service asked ≡ false
+no_service (Formats format) makes = refl
+no_service (Shows page) makes = refl
+no_service (Serves service) makes = absurd (cc makes)
+no_service Nothing makes = refl
 
 pub said : (asked : Asked) (ground : Ground) (old new : Outside) (told : Report) (status : ℕ) (ending : Ending) (trail : List Event)
     → HasPlaces asked (length old.sources) (length old.sinks)
@@ -12,26 +19,33 @@ said asked ground old new told status ending trail given whole =
     let f = facts old.disk new.disk old.sources new.sources old.sinks new.sinks old.report new.report told ending trail asked ground given whole.run in
     let counts = told.counts in
     let cause = told.cause in
+    let last = last_cause whole.short cause in
+    let last_because = why.at_last asked ground old new counts trail whole.short cause f.1 in
     let wrote = whole.reported in
-    let is : (n : ℕ) → status ≡ n → ended whole.written cause ≡ n = λ n so. sym whole.said ∙ so in
+    let is : (n : ℕ) → status ≡ n → ended whole.written last ≡ n = λ n so. sym whole.said ∙ so in
+    let worse : (n : ℕ) → ¬ (n ≡ 5) → ¬ (n ≡ 7) → status ≡ n → ended whole.written cause ≡ n = λ n some other so. why.worse asked ground old new counts trail whole.short cause whole.written n some other (is n so) in
+    let whole_by : is_service asked ≡ false → last ≡ cause = λ none. ap (λ b. last_cause b cause) (why.unprinted asked ground old new counts trail cause whole.short whole.text (f.0.unasked none) whole.is_text).0 in
     record {
       did = f.0;
-      reported = why.reported asked ground old new counts trail cause whole.written wrote;
-      is_status = rw whole.said (why.status asked ground old new counts trail cause whole.written wrote);
-      status_0 = λ so. why.status_0 asked ground old new counts trail cause whole.written f.1 wrote (is 0 so);
+      short = whole.short;
+      text = whole.text;
+      is_text = whole.is_text;
+      reported = why.reported asked ground old new counts trail whole.text whole.written wrote;
+      is_status = rw whole.said (why.status asked ground old new counts trail last whole.text whole.written wrote);
+      status_0 = λ so. why.status_0 asked ground old new counts trail cause whole.short whole.text whole.written f.1 whole.is_text wrote (is 0 so);
       status_2 = (
-        (λ so. why.status_2 asked ground old new counts trail cause whole.written f.1 (is 2 so)),
-        (λ none. whole.said ∙ rw (f.0.words.1 none) (why.is_2 whole.written)),
+        (λ so. why.status_2 asked ground old new counts trail cause whole.written f.1 (worse 2 (λ e. cc e) (λ e. cc e) so)),
+        (λ none. whole.said ∙ ap (ended whole.written) (whole_by (ap is_service none)) ∙ rw (f.0.words.1 none) (why.is_2 whole.written)),
       );
-      status_3 = λ so. why.status_3 asked ground old new counts trail cause whole.written f.1 (is 3 so);
-      status_4 = λ so. why.status_4 asked ground old new counts trail cause whole.written f.1 (is 4 so);
-      status_5 = λ so. why.status_5 asked ground old new counts trail cause whole.written f.1 wrote (is 5 so);
-      status_6 = λ so. why.status_6 asked ground old new counts trail cause whole.written f.1 (is 6 so);
-      status_7 = λ so. why.status_7 asked ground old new counts trail cause whole.written wrote (is 7 so);
-      status_9 = λ so. why.status_9 asked ground old new counts trail cause whole.written f.1 (is 9 so);
-      over = rw whole.said (why.over asked ground old new counts trail cause whole.written f.1);
-      complete = rw whole.said (why.complete asked ground old new counts trail cause whole.written f.1 wrote);
-      refused = rw whole.said (why.refused asked ground old new counts trail cause whole.written f.1 wrote);
-      formatted = λ makes quiet. whole.said ∙ why.formatted cause old new _ whole.written (f.0.made makes) wrote quiet;
-      shown = λ page shows quiet. whole.said ∙ rw ((f.0.page page).1 shows) (why.shown page old new _ whole.written wrote quiet);
+      status_3 = λ so. why.status_3 asked ground old new counts trail cause whole.written f.1 (worse 3 (λ e. cc e) (λ e. cc e) so);
+      status_4 = λ so. why.status_4 asked ground old new counts trail cause whole.written f.1 (worse 4 (λ e. cc e) (λ e. cc e) so);
+      status_5 = λ so. why.status_5 asked ground old new counts trail cause whole.short whole.text whole.written f.1 wrote (is 5 so);
+      status_6 = λ so. why.status_6 asked ground old new counts trail cause whole.written f.1 (worse 6 (λ e. cc e) (λ e. cc e) so);
+      status_7 = λ so. why.status_7 asked ground old new counts trail last whole.text whole.written wrote (is 7 so);
+      status_9 = λ so. why.status_9 asked ground old new counts trail cause whole.written f.1 (worse 9 (λ e. cc e) (λ e. cc e) so);
+      over = rw whole.said (why.over_last asked ground old new counts trail whole.short cause whole.written f.1);
+      complete = rw whole.said (why.complete asked ground old new counts trail last whole.text whole.written last_because wrote);
+      refused = rw whole.said (why.refused asked ground old new counts trail last whole.text whole.written last_because wrote);
+      formatted = λ makes quiet. whole.said ∙ ap (ended whole.written) (whole_by (no_service asked makes)) ∙ why.formatted cause old new _ whole.written (f.0.made makes) wrote quiet;
+      shown = λ page shows quiet. whole.said ∙ ap (ended whole.written) (whole_by (ap is_service shows) ∙ (f.0.page page).1 shows) ∙ why.shown page old new _ whole.written wrote quiet;
     }

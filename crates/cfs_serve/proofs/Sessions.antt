@@ -1,6 +1,6 @@
 -- An event keeps what the hall keeps of its sessions.
 use Rattle.std.proofs.Common.{◌≡◌, ◌≢◌, ◌⊎◌, inl, inr, ℕ, ◌+◌, ◌<◌, ◌≤◌, ◌==◌, Bool, true, false, not, cond, List, [], ◌∷◌, ◌++◌, length, filter, set, get_or, Option, Some, None, slice_get, refl, sym, ap, ◌∙◌, subst, arith, append_assoc, length-append, length-set}
-use Rattle.cfs_serve.proofs.Cited.{AreCollected, AreHeard, AreWanting, Departs, Event, Hearing, Hears, IsLeave, IsSession, IsSessionTurn, Names, Puid, Replied, Request, Seat, State, TakesLine, Terms, Turned, Unread, Wrote, all_forms, append-nil, get_or_from_slice_get, has_left_at, is_begin, is_finish, is_of, is_sessions, is_turn_of, name_spoken, names_after, names_after_reply, names_of, nat_tests, no_names, printed, printed_replies, reading_of, slice_get-get_or, slice_get_within, sum_by, sum_by-set, then, then_some, turn_of, turns_from, turns_in, turns_left, turns_left_at, words_of}
+use Rattle.cfs_serve.proofs.Cited.{AreHeard, Departs, Event, Hearing, Hears, IsLeave, IsSession, IsSessionTurn, IsWanting, Names, Puid, Replied, Request, Seat, State, TakesLine, Terms, Turned, Unread, Wrote, all_forms, append-nil, finishes_in, get_or_from_slice_get, has_left_at, is_begin, is_finish, is_of, is_sessions, is_turn_of, name_spoken, names_after, names_after_reply, names_of, nat_tests, no_names, printed, printed_replies, reading_of, slice_get-get_or, slice_get_within, sum_by, sum_by-set, then, then_some, turn_of, turns_from, turns_in, turns_left, turns_left_at, words_of}
 use Rattle.ufs_model.specs.declared.asked.Event.TheVariants as events
 use Rattle.ufs_model.specs.declared.asked.Reply.TheVariants as replies
 use Rattle.ufs_model.specs.declared.asked.Unread.TheVariants as unread
@@ -298,14 +298,12 @@ no_end : (i : ℕ) (p q : ports.Reading) (e : Event) → Turned i p q e ⊎ Depa
 no_end i p q e (inl turned) = no_bound i e turned.whole
 no_end i p q e (inr departs) = rw departs.is (refl, refl)
 
-pub collected_by : {A : Type 0} (stands : A → State → Type 0) (t : Terms A) (trail : List Event) (i : ℕ) (p q : ports.Reading) (e : Event) → Turned i p q e ⊎ Departs i p q e
-    → AreCollected stands t trail → AreCollected stands t (trail ++ e ∷ [])
-collected_by stands t trail i p q e kind all = λ begun graph is standing. push_out is_finish trail e (no_end i p q e kind).1 ∙ all begun graph is standing
+-- no collection ends by it, and none begins
+pub collected_by : (n : ℕ) (trail : List Event) (i : ℕ) (p q : ports.Reading) (e : Event) → Turned i p q e ⊎ Departs i p q e → finishes_in trail ≡ n → finishes_in (trail ++ e ∷ []) ≡ n
+collected_by n trail i p q e kind all = push_out is_finish trail e (no_end i p q e kind).1 ∙ all
 
-pub wanting_by : {A : Type 0} (stands : A → State → Type 0) (t : Terms A) (trail : List Event) (i : ℕ) (p q : ports.Reading) (e : Event) → Turned i p q e ⊎ Departs i p q e
-    → AreWanting stands t trail → AreWanting stands t (trail ++ e ∷ [])
-wanting_by stands t trail i p q e kind all = λ begun graph is standing.
-    let two = all begun graph is standing in
+pub wanting_by : (n : ℕ) (trail : List Event) (i : ℕ) (p q : ports.Reading) (e : Event) → Turned i p q e ⊎ Departs i p q e → IsWanting n trail → IsWanting n (trail ++ e ∷ [])
+wanting_by n trail i p q e kind two =
     let begins = push_out is_begin trail e (no_end i p q e kind).0 in
     let ends = push_out is_finish trail e (no_end i p q e kind).1 in
     (begins ∙ two.0 ∙ sym ends, omega (arith, ends, two.1))

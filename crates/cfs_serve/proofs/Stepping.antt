@@ -1,10 +1,9 @@
 -- A step of the collector keeps what the journal keeps.
 use Rattle.std.proofs.Common.{◌≡◌, ℕ, ◌+◌, ◌<◌, ◌==◌, Bool, true, false, cond, arith, List, [], ◌++◌, Option, Some, None, Result, Ok, Err, refl, sym, ap, ◌∙◌, subst, ◌||◌}
-use Rattle.cfs_serve.proofs.Cited.{AreCollected, AreWanting, CollectFault, Event, Graph, IsExactEvent, IsRun, Lasts, MayGoOn, MayMake, MayTally, State, Step, Tally, Terms, append-nil, event_by, is_of, is_quiet_fault, list_any, recorded, refusal_by, stamps, tells_disk, wants_memory}
+use Rattle.cfs_serve.proofs.Cited.{CollectFault, Event, Graph, IsExactEvent, IsRun, Lasts, MayGoOn, MayMake, MayTally, State, Step, Tally, Terms, append-nil, event_by, is_of, is_quiet_fault, list_any, recorded, refusal_by, stamps, tells_disk, wants_memory}
 use Rattle.cfs_core.specs.declared.collecting.CollectFault.TheVariants as faults
 use Rattle.cfs_core.specs.declared.collecting.Step.TheVariants as steps
 use Rattle.ufs_model.specs.declared.asked.Event.TheVariants as events
-use Rattle.cfs_serve.specs.Calls as calls
 use Rattle.cfs_serve.proofs.Journals.{any-push, lasts_on, lasts_rests, run_on, run_rests}
 use Rattle.cfs_serve.proofs.Sessions.{test_refl}
 
@@ -65,32 +64,18 @@ module _ (trail : List Event) where
   silent_step test silent None nobody = ap (λ es. list_any test es) (sym (append-nil trail))
   silent_step test silent (Some e) nobody = sym (any-push test trail e ∙ ap (λ b. b || list_any test trail) (silent e (nobody e refl)))
 
-  -- a server that runs, and for which nothing is left to do
-  pub collected_at : {A : Type 0} (stands : A → State → Type 0) (has_stopped is_damaged : A → Bool) (tally : A → Tally) (t : Terms A) (server : A) (o : Option Event)
-      → IsRun stands has_stopped is_damaged tally t server (trail ++ recorded o) → has_stopped server ≡ false → (tally server).finished ≡ t.collections → AreCollected stands t (trail ++ recorded o)
-  collected_at stands has_stopped is_damaged tally t server o run runs all = λ begun graph is standing. ((run begun graph is standing).tallied runs).1 ∙ all
-
-  -- where no collection runs, and more were called for
-  pub wanting_at : {A : Type 0} (stands : A → State → Type 0) (has_stopped is_damaged : A → Bool) (tally : A → Tally) (t : Terms A) (server : A)
-      → IsRun stands has_stopped is_damaged tally t server trail → has_stopped server ≡ false → (tally server).running ≡ false
-      → (tally server).finished < (tally server).called → (tally server).called ≡ t.collections → AreWanting stands t trail
-  wanting_at stands has_stopped is_damaged tally t server run runs none more called = λ begun graph is standing.
-      let tallied = (run begun graph is standing).tallied runs in
-      let count : calls.begun (tally server) ≡ (tally server).finished + 0 = ap (λ b. (tally server).finished + cond b 1 0) none in
-      (omega (arith, tallied.0, tallied.1, count), omega (arith, tallied.1, more, called))
-
   module _ {A : Type 0} (stands : A → State → Type 0) (has_stopped is_damaged : A → Bool) (tally : A → Tally) (t : Terms A) (old new : A) (was : IsRun stands has_stopped is_damaged tally t old trail)
       (o : Option Event) (nobody : (e : Event) → o ≡ Some e → (k : ℕ) → is_of k e ≡ false) where
     pub run_step : (has_stopped old ≡ true → has_stopped new ≡ true) → ((s : State) → stands old s → is_damaged old ≡ false → is_damaged new ≡ false)
-        → ((s : State) → stands old s → MayMake (stands new) t.seed s o) → ((s : State) → stands old s → MayTally has_stopped tally t.seed old new s o) → (tally old).called ≡ t.collections
+        → ((s : State) → stands old s → MayMake (stands new) t.seed s o) → ((s : State) → stands old s → MayTally has_stopped tally t.seed old new s o)
         → IsRun stands has_stopped is_damaged tally t new (trail ++ recorded o)
-    run_step stays sound makes tallies called = by o nobody makes tallies
+    run_step stays sound makes tallies = by o nobody makes tallies
       where
         by : (x : Option Event) → ((e : Event) → x ≡ Some e → (k : ℕ) → is_of k e ≡ false) → ((s : State) → stands old s → MayMake (stands new) t.seed s x)
             → ((s : State) → stands old s → MayTally has_stopped tally t.seed old new s x) → IsRun stands has_stopped is_damaged tally t new (trail ++ recorded x)
         by None nobody makes tallies = subst (λ es. IsRun stands has_stopped is_damaged tally t new es) (sym (append-nil trail)) (run_rests stands has_stopped is_damaged tally t trail old new was stays sound makes tallies)
         by (Some e) nobody makes tallies =
-            run_on stands has_stopped is_damaged tally t trail old new was stays sound e makes (λ s standing some lost least. exact_nobody t.cylinders lost s e (nobody e refl)) tallies called
+            run_on stands has_stopped is_damaged tally t trail old new was stays sound e makes (λ s standing some lost least. exact_nobody t.cylinders lost s e (nobody e refl)) tallies
 
     pub lasts_step : (clock : A → ℕ) (lasts : A → ℕ → Graph → List Event → List ℕ → Type 0) (moments : List ℕ) → Lasts stands clock lasts t old trail moments → MayGoOn stands clock lasts t.seed old new o
         → Lasts stands clock lasts t new (trail ++ recorded o) (moments ++ stamps o (clock new))

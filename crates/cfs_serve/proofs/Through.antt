@@ -38,6 +38,7 @@ module _ {D : Type 0} (g : Ghosts D) where
     opened = is.opened.lower;
     later = is.later;
     rises = is.rises;
+    rise = is.rise;
     opening = λ honest graph sound. elim (is.opening honest graph sound) [
       | inl same ↦ inl (ap (λ (c : Cache D). c.lower) same)
       | inr since ↦ inr (since_try old is.opened (λ c. IsSoundAs c graph) since)

@@ -52,7 +52,6 @@ module _ (a b : Ground) (seed collections : ℕ) (rose wide : Type 0) (cylinders
     stop = run.stop;
     counted = run.counted;
     free = run.free;
-    few = run.few;
     rests = run.rests;
   })
 
@@ -65,8 +64,9 @@ module _ (a b : Ground) (seed collections : ℕ) (rose wide : Type 0) (cylinders
     over = played.over;
     counted = played.counted;
     ends = ends_on rose wide collections ending trail to played.ends;
-    collected = λ none unspent graph is. played.collected none unspent graph (reads graph is);
-    wanting = λ wants graph is. played.wanting wants graph (reads graph is);
+    few = played.few;
+    collected = played.collected;
+    wanting = played.wanting;
     undamaged = λ graph is. played.undamaged graph (reads graph is);
     spoiled = played.spoiled;
   }
@@ -153,6 +153,7 @@ module _ {D : Type 0} (g : Ghosts D) (old : D) (seed : ℕ) where
     opened = new;
     later = later;
     rises = omega arith;
+    rise = λ served. absurd (cc (rw told at served));
     opening = images;
     unserved = λ none. refl;
     crashes = λ served. absurd (cc (rw told at served));
@@ -171,6 +172,7 @@ module _ {D : Type 0} (g : Ghosts D) (old : D) (seed : ℕ) where
     opened = core.disk;
     later = later;
     rises = s.serves.later;
+    rise = λ some. s.serves.rise;
     opening = λ honest graph sound. inr (since_try g old core.disk _ (images honest graph sound));
     unserved = λ none. absurd (some_none (sym (ap (λ (r : Report). r.counts) s.serves.told) ∙ none));
     crashes = λ some honest graph sound. rw (← words) (s.serves.crashes graph (stands honest graph sound));

@@ -95,9 +95,9 @@ as_told true o none = one_at_most o
 as_told false o none = rw (none refl) (omega arith)
 
 -- what the hall keeps, where the collector has a turn left
-module _ {A : Type 0} (t : Terms A) (clock : A → ℕ) (old new : Kept A) (ports : List Reading) (progress : Progress) (turns events : ℕ) (refused : Option CollectFault) (spent : Bool)
+module _ {A : Type 0} (t : Terms A) (clock : A → ℕ) (old new : Kept A) (ports : List Reading) (progress : Progress) (turns events : ℕ) (refused : Option CollectFault)
     (heard : AreHeard t old.events ports) (room : sum_by turns_left ports + events ≤ old.room) (few : length old.events + sum_by turns_left ports + events < 4294967295)
-    (paired : 0 < turns → 0 < events) (quiet : HasNoCollector t turns refused spent) (some : 0 < turns) (steps : Steps clock old new progress) where
+    (paired : 0 < turns → 0 < events) (quiet : HasNoCollector t turns refused) (some : 0 < turns) (steps : Steps clock old new progress) where
   called : t.collections ≡ 0 → ⊥
   called none = absurd (omega (arith, (quiet none).0, some))
 
@@ -117,5 +117,5 @@ module _ {A : Type 0} (t : Terms A) (clock : A → ℕ) (old new : Kept A) (port
   pub few_on : (left : ℕ) → left + length (recorded steps.event) ≤ events → length new.events + sum_by turns_left ports + left < 4294967295
   few_on left less = omega (arith, few, less, ap length steps.events, length-append old.events (recorded steps.event))
 
-  pub quiet_on : (now : ℕ) (after : Option CollectFault) (ends : Bool) → HasNoCollector t now after ends
-  quiet_on now after ends = λ none. absurd (called none)
+  pub quiet_on : (now : ℕ) (after : Option CollectFault) → HasNoCollector t now after
+  quiet_on now after = λ none. absurd (called none)

@@ -1,6 +1,6 @@
 -- What a server's calls make: one event each, or none; how exact a reply is; and what becomes of the collections.
 use Rattle.std.specs.Prelude.{◌≡◌, ◌⊎◌, ℕ, ◌+◌, ◌-◌, ◌≤◌, ◌<◌, Bool, true, false, if◌then◌else◌, List, [], ◌∷◌, ◌++◌}
-use Rattle.std.specs.Prelude.{Option, Some, None, Result, Ok, Err}
+use Rattle.std.specs.Prelude.{Option, Some, None, option_to_list, Result, Ok, Err, length}
 use Rattle.std.specs.Option.{option_map_or}
 use Rattle.cfs_base.specs.Outside.{Rose}
 use Rattle.cfs_base.specs.declared.disk.Disk.{Ghosts}
@@ -8,6 +8,7 @@ use Rattle.cfs_base.specs.declared.refusal.Need.{Need}
 use Rattle.cfs_core.specs.Calls.{is_delete}
 use Rattle.cfs_core.specs.Collect.{event_of}
 use Rattle.cfs_core.specs.Kernel.{Kernel, runs}
+use Rattle.cfs_core.specs.Left.{events_ahead, steps_ahead}
 use Rattle.cfs_core.specs.Room.{IsRoom, lost_blocks}
 use Rattle.cfs_core.specs.StandsFor.{is_sweeping}
 use Rattle.cfs_core.specs.declared.collecting.CollectFault.{CollectFault}
@@ -160,12 +161,14 @@ MayGoOn stands clock lasts seed old new (Some e) = GoesOn stands clock lasts see
 
 -- ---- collections
 
--- How many collections were called for and how many of them are finished; whether one runs; and how many blocks objects
--- have still that are gone from a graph.
+-- How many collections were called for and how many of them are finished; whether one runs; how many steps, and how
+-- many events, they have left; and how many blocks objects have still that are gone from a graph.
 pub record Tally : Type 0 where
   pub called : ℕ
   pub finished : ℕ
   pub running : Bool
+  pub steps : ℕ
+  pub events : ℕ
   pub lost : Graph → ℕ
 
 -- Where nothing is left to do a server that runs has finished as many collections as were called for. It wants memory
@@ -185,6 +188,8 @@ tally_of g k = record {
   called = k.collections.called;
   finished = k.collections.finished;
   running = runs k.collections.collector;
+  steps = steps_ahead (g.blocks k.disk) k.collections;
+  events = events_ahead k.collections;
   lost = λ graph. lost_blocks (g.content k.disk) graph;
 }
 
@@ -195,25 +200,53 @@ begun c = c.finished + (if c.running then 1 else 0)
 abbrev pub AsBefore : Tally → Tally → Type 0
 AsBefore c d = (d.finished ≡ c.finished) × (d.running ≡ c.running)
 
--- what an event does to the counts of a server that runs on: a collection begins where none runs and more were called
--- for
+-- What an event does to the counts: a collection begins where none runs and more were called for. A step at which the
+-- server stops says nothing of them.
 abbrev pub Counts : Event → Tally → Tally → Type 0
 Counts events.Began c d = (c.finished < c.called) × (c.running ≡ false) × (d.finished ≡ c.finished) × (d.running ≡ true)
 Counts events.Finished c d = (c.running ≡ true) × (d.finished ≡ c.finished + 1) × (d.running ≡ false)
-Counts (events.Halted moment) c d = ⊥
+Counts (events.Halted moment) c d = Unit {0}
 Counts e c d = AsBefore c d
 
--- and to the blocks of what is gone
+abbrev pub MayCount : Option Event → Tally → Tally → Type 0
+MayCount None c d = AsBefore c d
+MayCount (Some e) c d = Counts e c d
+
+-- What a call of a session does, on any disk: it moves no collection on, adds one step at most, for a rescue, and the
+-- clock doesn't fall.
+pub record Passes {A : Type 0} (clock : A → ℕ) (tally : A → Tally) (old new : A) : Type 0 where
+  pub later : clock old ≤ clock new
+  pub counts : AsBefore (tally old) (tally new)
+  pub steps : (tally new).steps ≤ (tally old).steps + 1
+  pub events : (tally new).events ≤ (tally old).events
+
+-- a step that was made leaves fewer
+abbrev pub Spends : Tally → Tally → Result Step CollectFault → Type 0
+Spends c d (Ok steps.Idle) = Unit {0}
+Spends c d (Ok step) = (d.steps < c.steps) × (d.events + length (option_to_list (event_of step)) ≤ c.events)
+Spends c d (Err fault) = Unit {0}
+
+-- fewer steps are left, and one event less where it is told
+abbrev pub SpendsOne : Tally → Tally → (told : Bool) → Type 0
+SpendsOne c d told = (d.steps < c.steps) × (d.events + (if told then 1 else 0) ≤ c.events)
+
+-- And what a step of the collector does.
+pub record PassesStep {A : Type 0} (clock : A → ℕ) (has_stopped : A → Bool) (tally : A → Tally) (old new : A)
+    (result : Result Step CollectFault) : Type 0 where
+  pub later : clock old ≤ clock new
+  pub counts : MayCount (event_by result) (tally old) (tally new)
+  pub stops : tells_stop_at (event_by result) ≡ true → has_stopped new ≡ true
+  pub begins : event_by result ≡ Some events.Began → has_stopped new ≡ false
+  pub spends : Spends (tally old) (tally new) result
+
+-- what an event does to the blocks of what is gone
 pub record Tallies {A : Type 0} (has_stopped : A → Bool) (tally : A → Tally) (seed : ℕ) (old new : A) (s : State)
     (e : Event) : Type 0 where
-  pub counts : has_stopped new ≡ false → Counts e (tally old) (tally new)
-  pub runs : is_begin e ≡ true → has_stopped new ≡ false
   pub lost : has_stopped new ≡ false → (t : State) → next seed s e ≡ Some t
       → (tally new).lost t.graph ≤ lost_by e s t ((tally old).lost s.graph)
 
--- no event leaves the counts, and no more such blocks than before
+-- and no event leaves no more of them than before
 pub record Rests {A : Type 0} (has_stopped : A → Bool) (tally : A → Tally) (old new : A) (s : State) : Type 0 where
-  pub counts : AsBefore (tally old) (tally new)
   pub lost : has_stopped new ≡ false → (tally new).lost s.graph ≤ (tally old).lost s.graph
 
 abbrev pub MayTally : {A : Type 0} → (has_stopped : A → Bool) → (tally : A → Tally) → (seed : ℕ) → A → A → State

@@ -17,7 +17,7 @@ use Rattle.cfs_serve.specs.declared.report.VolumeFault.TheVariants as refusals
 
 -- nothing was served
 abbrev pub not_begun : Ending
-not_begun = record { stop = None; refused = None; spent = false }
+not_begun = record { stop = None; refused = None }
 
 abbrev pub moment_in : Option Stop → Option ℕ
 moment_in stop = option_map (λ (s : Stop). s.moment) stop
@@ -82,9 +82,9 @@ is_want (Some faults.Memory) = true
 is_want (Some (faults.Stopped moment)) = true
 is_want refused = false
 
--- the collector was refused so, or was given no more turns
+-- the collector was refused so
 abbrev pub is_short : Ending → Bool
-is_short ending = is_want ending.refused || ending.spent
+is_short ending = is_want ending.refused
 
 abbrev pub spoiled_by : (failed : Bool) (stopped : Option ℕ) (damage : Option Damage) (broken wanting : Bool) → Cause
 spoiled_by true stopped damage broken wanting = causes.Disk stopped
@@ -115,7 +115,7 @@ pub record EndsSo (rose : Type 0) (collections : ℕ) (ending : Ending) (trail :
   pub stops : Stops None ending.stop trail
   pub refusal : TellsStop ending.refused ending.stop
   -- where no collection is called for the collector makes no step
-  pub quiet : collections ≡ 0 → (ending.refused ≡ None) × (ending.spent ≡ false)
+  pub quiet : collections ≡ 0 → ending.refused ≡ None
   pub failed : has_failed ending trail ≡ true → rose
   -- of a core that runs no event tells other trouble than a failed call
   pub calm : ending.stop ≡ None → list_any tells_disk trail ≡ false → list_all is_calm trail ≡ true

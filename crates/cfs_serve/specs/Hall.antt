@@ -16,6 +16,7 @@ use Rattle.ufs_model.specs.Turns.{is_turn_of, turns_in, turn_of, turns_from, nam
 use Rattle.ufs_model.specs.Printed.{printed, printed_replies}
 use Rattle.cfs_script.specs.NameTable.{names_of}
 use Rattle.cfs_ports.specs.Port.{Reading, IsNew, Replied}
+use Rattle.cfs_serve.specs.Calls.{Tally}
 use Rattle.cfs_serve.specs.Charter.{Seat, Terms}
 use Rattle.cfs_serve.specs.Events.{BreaksOff, events_of, is_of, is_sessions}
 use Rattle.cfs_core.specs.declared.collecting.CollectFault.{CollectFault}
@@ -28,9 +29,8 @@ pub record Hearing (A : Type 0) : Type 0 where
   -- the turns that the collector has left, and how many events of it there is room for
   pub turns : ℕ
   pub events : ℕ
-  -- the refusal at which it was done, or that it was given no more turns
+  -- the refusal at which it was done
   pub refused : Option CollectFault
-  pub spent : Bool
 
 -- ---- what is kept of a session
 
@@ -63,8 +63,13 @@ pub record AreHeard {A : Type 0} (t : Terms A) (trail : List Event) (ports : Lis
   pub sessions : t.collections ≡ 0 → list_all is_sessions trail ≡ true
 
 -- where no collection is called for, the collector has no turn and was refused none
-abbrev pub HasNoCollector : {A : Type 0} → Terms A → (turns : ℕ) → Option CollectFault → (spent : Bool) → Type 0
-HasNoCollector t turns refused spent = t.collections ≡ 0 → (turns ≡ 0) × (refused ≡ None) × (spent ≡ false)
+abbrev pub HasNoCollector : {A : Type 0} → Terms A → (turns : ℕ) → Option CollectFault → Type 0
+HasNoCollector t turns refused = t.collections ≡ 0 → (turns ≡ 0) × (refused ≡ None)
+
+-- A collector that isn't done has a turn more than it makes steps, though each line still to come should add one; and
+-- room for an event more than they are.
+abbrev pub HasTurns : (turns events : ℕ) → (lines : ℕ) → Tally → Type 0
+HasTurns turns events lines c = 0 < turns → (c.steps + lines < turns) × (c.events < events)
 
 -- ---- the turns that are left
 
@@ -123,7 +128,6 @@ pub record IsSessionTurn {A : Type 0} (clock : A → ℕ) (i : ℕ) (old new : H
   pub moves : Moves i old.journal new.journal before after
   pub stamped : IsStamped clock old.journal new.journal
   pub collector : (new.turns ≡ old.turns) × (new.events ≡ old.events) × (new.refused ≡ old.refused)
-      × (new.spent ≡ old.spent)
 
 -- A turn of the collector, which wasn't done: a step, and one turn less at least; the ports are as they were.
 pub record IsStep {A : Type 0} (clock : A → ℕ) (old new : Hearing A) : Type 0 where

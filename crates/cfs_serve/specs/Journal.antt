@@ -13,9 +13,9 @@ use Rattle.cfs_ports.specs.Port.{Reading, Answers}
 use Rattle.cfs_base.specs.Outside.{Rose, count_after}
 use Rattle.cfs_serve.specs.Calls.{AreExact, IsTallied, Tally, lost_in}
 use Rattle.cfs_serve.specs.Charter.{Terms}
-use Rattle.cfs_serve.specs.Ending.{EndsSo, IsWanting}
+use Rattle.cfs_serve.specs.Ending.{EndsSo}
 use Rattle.cfs_serve.specs.declared.ending.Ending.{Ending}
-use Rattle.cfs_serve.specs.Events.{begins_in, finishes_in, is_calm, is_of, tells_disk, tells_fault, tells_stop}
+use Rattle.cfs_serve.specs.Events.{begins_in, is_calm, is_of, tells_disk, tells_fault, tells_stop}
 use Rattle.cfs_core.specs.declared.collecting.CollectFault.{CollectFault}
 use Rattle.cfs_core.specs.declared.collecting.CollectFault.TheVariants as faults
 use Rattle.cfs_core.specs.declared.kernel.Stop.{Stop}
@@ -38,17 +38,15 @@ abbrev pub IsStamped : {A : Type 0} → (A → ℕ) → Kept A → Kept A → Ty
 IsStamped clock old new = new.moments ≡ old.moments ++ clock new.server ∷ []
 
 -- The trail is a legal run on this graph, and the server stands for the state after it; on a disk each answer is exact;
--- and no block was found damaged. No more collections began than were called for; and as long as the server runs, it
--- counts those of the trail, and of objects that are gone it has no more blocks than the last ones had.
+-- and no block was found damaged. As long as the server runs, it has of objects that are gone no more blocks than the
+-- last ones had.
 pub record IsRunOn {A : Type 0} (stands : A → State → Type 0) (has_stopped is_damaged : A → Bool) (tally : A → Tally)
-    (seed cylinders collections : ℕ) (graph : Graph) (begun server : A) (trail : List Event) : Type 0 where
+    (seed cylinders : ℕ) (graph : Graph) (begun server : A) (trail : List Event) : Type 0 where
   pub last : State
   pub legal : replay seed graph trail ≡ Some last
   pub standing : stands server last
   pub exact : 0 < cylinders → AreExact cylinders seed 0 (opening graph) trail
   pub undamaged : is_damaged begun ≡ false → is_damaged server ≡ false
-  pub few : begins_in trail ≤ collections
-  pub tallied : has_stopped server ≡ false → IsTallied (tally server) trail
   pub lost : has_stopped server ≡ false → (tally server).lost last.graph ≤ lost_in seed 0 (opening graph) trail
 
 -- so it is on each graph on which the server began
@@ -56,17 +54,20 @@ abbrev pub IsRun : {A : Type 0} → (A → State → Type 0) → (has_stopped is
     → List Event → Type 0
 IsRun {A} stands has_stopped is_damaged tally t server trail = (begun : A) (graph : Graph) → t.began ≡ Some begun
     → stands begun (opening graph)
-    → IsRunOn stands has_stopped is_damaged tally t.seed t.cylinders t.collections graph begun server trail
+    → IsRunOn stands has_stopped is_damaged tally t.seed t.cylinders graph begun server trail
 
--- on each graph on which the server began, as many collections are finished as were called for
-abbrev pub AreCollected : {A : Type 0} → (A → State → Type 0) → Terms A → List Event → Type 0
-AreCollected {A} stands t trail = (begun : A) (graph : Graph) → t.began ≡ Some begun → stands begun (opening graph)
-    → finishes_in trail ≡ t.collections
+-- each is at least the one before it, from this one on, and the last one at least them all
+abbrev pub Rise : (first : ℕ) → List ℕ → (last : ℕ) → Type 0
+Rise first [] last = first ≤ last
+Rise first (m ∷ moments) last = (first ≤ m) × Rise m moments last
 
--- on each graph on which the server began, no collection runs that was called for, and one more would begin
-abbrev pub AreWanting : {A : Type 0} → (A → State → Type 0) → Terms A → List Event → Type 0
-AreWanting {A} stands t trail = (begun : A) (graph : Graph) → t.began ≡ Some begun → stands begun (opening graph)
-    → IsWanting t.collections trail
+-- What is so whatever disk it is: no more collections began than were called for; as long as the server runs, it counts
+-- those of the trail; and since it began no moment is below the one before it.
+pub record IsKept {A : Type 0} (clock : A → ℕ) (has_stopped : A → Bool) (tally : A → Tally) (t : Terms A) (server : A)
+    (trail : List Event) (moments : List ℕ) : Type 0 where
+  pub few : begins_in trail ≤ t.collections
+  pub tallied : has_stopped server ≡ false → IsTallied (tally server) trail
+  pub rise : (begun : A) → t.began ≡ Some begun → Rise (clock begun) moments (clock server)
 
 -- What the trail tells of the disk, whatever disk it is. Of a server that runs, and no failed call of which is told, no
 -- trouble is; one that stopped did so by a failed call, unless a block was damaged.

@@ -3,6 +3,8 @@ pub mod Limits
 pub mod Pages
 pub mod Report
 pub mod Words
+pub mod Text
+pub mod Traced
 pub mod Events
 pub mod Ending
 pub mod Calls

@@ -32,7 +32,3 @@ most_sessions = 64
 -- the collections that a service may be called for
 abbrev pub most_collections : ℕ
 most_collections = 1000
-
--- the steps of the collector for each of them
-abbrev pub most_steps : ℕ
-most_steps = 8589934592

@@ -9,6 +9,8 @@ page_text pages.Help =
     ++ codes "    serve 1 to 64 sessions on a new volume in memory, one for each pair IN OUT:\n"
     ++ codes "    replies to the request lines of IN go to OUT, a report to standard output;\n"
     ++ codes "    one IN and one OUT may be -, for a standard stream\n"
+    ++ codes "cfs trace CYLINDERS SEED COLLECTIONS IN OUT ..\n"
+    ++ codes "    the same; the report is the trail, a line for each event\n"
     ++ codes "cfs format VOLUME CYLINDERS SEED\n"
     ++ codes "    make a volume in the file VOLUME, which must not be there yet\n"
     ++ codes "cfs serve VOLUME SEED COLLECTIONS IN OUT ..\n"

@@ -57,7 +57,7 @@ IsStop cause stopped = stopped ≡ None
 -- ---- sessions that were served
 
 -- From this graph the trail is a legal run, and each reply exact; where no call of the disk failed, none is behind an
--- event. No more collections began than were called for.
+-- event.
 pub record IsRunFrom (cylinders seed collections : ℕ) (graph : Graph) (rose : Type 0) (sessions : ℕ) (counts : Counts)
     (cause : Cause) (trail : List Event) : Type 0 where
   pub last : State
@@ -67,8 +67,7 @@ pub record IsRunFrom (cylinders seed collections : ℕ) (graph : Graph) (rose : 
   pub stop : IsStop cause last.stopped
   pub counted : counts ≡ counts_of sessions trail last.graph counts.free
   pub free : last.stopped ≡ None → is_sweeping last.collection ≡ false → counts.free ≡ free_of cylinders last.graph
-  pub few : begins_in trail ≤ collections
-  -- and once all those are finished, nothing sweeps
+  -- once as many collections are finished as were called for, nothing sweeps
   pub rests : last.stopped ≡ None → finishes_in trail ≡ collections → is_sweeping last.collection ≡ false
 
 -- the sink of one of them failed
@@ -87,11 +86,12 @@ pub record IsPlayed (ground : Ground) (seed collections : ℕ) (rose : Type 0) (
   pub over : AreOver root collections seats trail ports
   pub counted : AreCounted (length seats) trail counts
   pub ends : EndsSo rose collections ending trail
-  -- where the collector was done at no refusal, as many collections are finished as were called for
-  pub collected : ending.refused ≡ None → ending.spent ≡ false → (graph : Graph) → ground.reads graph
-      → finishes_in trail ≡ collections
+  -- no more collections began than were called for
+  pub few : begins_in trail ≤ collections
+  -- where the collector was done at no refusal, as many are finished
+  pub collected : ending.refused ≡ None → finishes_in trail ≡ collections
   -- it wanted memory only where one would begin
-  pub wanting : ending.refused ≡ Some faults.Memory → (graph : Graph) → ground.reads graph → IsWanting collections trail
+  pub wanting : ending.refused ≡ Some faults.Memory → IsWanting collections trail
   -- no block of a sound volume is found damaged
   pub undamaged : (graph : Graph) → ground.reads graph → damage_in ending.stop ≡ None
   pub spoiled : cause ≡ cause_of ending trail (has_broken ports)

@@ -34,6 +34,7 @@ use Rattle.cfs_serve.specs.Events.{BreaksOff, begins_in, events_of, finishes_in,
 use Rattle.cfs_serve.specs.Events.{wants_memory}
 use Rattle.cfs_serve.specs.Ground.{Ground}
 use Rattle.cfs_serve.specs.Played.{AreCounted, HasNone, IsStop, counts_of, free_of}
+use Rattle.cfs_serve.specs.Text.{IsText, last_cause, text_of}
 use Rattle.cfs_serve.specs.Scripts.{AreShort, AreWithin, Had, IsFirst, faults_of, lines_in}
 use Rattle.cfs_serve.specs.Whole.{HasPlaces, RoseIn, TellsMade}
 use Rattle.cfs_serve.specs.Words.{Asked, Format, Service, Formats, Shows, Nothing, IfServes, collections_of, is_format}
@@ -140,10 +141,9 @@ is_mild causes.Memory = true
 is_mild (causes.Long n) = false
 is_mild causes.LongTotal = false
 
--- the report was written whole, or its sink failed and has some of its beginning
-abbrev pub WritesReport : Report → Outside → Outside → Type 0
-WritesReport told old new = Wrote old.report new.report (report_text told) ⊎ WroteSome old.report new.report
-    (report_text told)
+-- the report's text was written whole, or its sink failed and has some of its beginning
+abbrev pub WritesReport : (text : List ℕ) → Outside → Outside → Type 0
+WritesReport text old new = Wrote old.report new.report text ⊎ WroteSome old.report new.report text
 
 -- the sink of the report failed, and nothing worse is told
 abbrev pub SpoilsReport : Cause → Outside → Outside → Type 0
@@ -169,8 +169,9 @@ pub record EndedWell (asked : Asked) (ground : Ground) (told : Report) (trail : 
   -- no failed call of the disk, no damage and no stop is behind an event
   pub calm : list_all is_calm trail ≡ true
   -- as many collections are finished as were called for
-  pub collected : (graph : Graph) → ground.reads graph → finishes_in trail ≡ collections_of asked
-  pub reported : Wrote old.report new.report (report_text told)
+  pub collected : finishes_in trail ≡ collections_of asked
+  -- its report is written whole: its lines or, of a trace, the trail that is handed back
+  pub reported : Wrote old.report new.report (text_of asked told trail)
 
 -- or a page was asked for, and its text is written whole
 pub record Showed (told : Report) (old new : Outside) : Type 0 where
@@ -207,9 +208,9 @@ SourceFailed told old new =
     (n : ℕ) × (told ≡ record { counts = None; cause = causes.Source n }) × (n < length old.sources)
     × Rose (get_or (source_faults old) n 0) (get_or (source_faults new) n 0) × IsFirst old.sources new.sources n
 
--- 7: want of memory is told, in a report that is whole
-abbrev pub MemoryWanting : Report → Outside → Outside → Type 0
-MemoryWanting told old new = (told.cause ≡ causes.Memory) × Wrote old.report new.report (report_text told)
+-- 7: memory was wanting, also for a line of the report where nothing worse is told; and its text is whole
+abbrev pub MemoryWanting : (short : Bool) → Cause → (text : List ℕ) → Outside → Outside → Type 0
+MemoryWanting short cause text old new = (last_cause short cause ≡ causes.Memory) × Wrote old.report new.report text
 
 -- the source of that number is the first that failed or had more than its limit; or all of them together had more, and
 -- none alone
@@ -249,16 +250,13 @@ pub record DidOn (service : Service) (ground : Ground) (graph : Graph) (old new 
   pub calm : ¬ (RoseIn old.disk new.disk) → list_all is_calm trail ≡ true
   -- no block is damaged: no event tells one, and the core stopped at none
   pub undamaged : (list_any tells_damage trail ≡ false) × (damage_in ending.stop ≡ None)
-  -- memory was wanting for the collector only where a collection would begin
-  pub wanting : ending.refused ≡ Some faults.Memory → IsWanting service.collections trail
   -- the moment that is told of a disk is that of the stop; with another cause there was none, and no block was damaged
   pub stop : WasServed told → IsStop told.cause last.stopped
   -- the counts are those of the trail and of the last graph; of what is Free, where there was no stop and nothing
   -- sweeps
   pub counted : IfSome told.counts (λ counts. (counts ≡ counts_of (length old.sources) trail last.graph counts.free)
       × (last.stopped ≡ None → is_sweeping last.collection ≡ false → counts.free ≡ free_of ground.cylinders last.graph))
-  -- no more collections began than were called for; and once so many are finished, nothing sweeps
-  pub few : begins_in trail ≤ service.collections
+  -- once as many collections are finished as were called for, nothing sweeps
   pub rests : last.stopped ≡ None → finishes_in trail ≡ service.collections → is_sweeping last.collection ≡ false
 
 -- What a run does and tells: by what its words ask for, what its volume is, what is outside before and after, what is
@@ -306,22 +304,32 @@ pub record Did (asked : Asked) (ground : Ground) (old new : Outside) (told : Rep
   pub spoiled : WasServed told → told.cause ≡ cause_of ending trail fell
   -- whatever volume it is, the report counts the sessions, the replies and the finished collections of the trail
   pub counts : IfSome told.counts (AreCounted (length old.sources) trail)
+  -- no more collections began than were called for
+  pub few : begins_in trail ≤ collections_of asked
+  -- the collector was done at a refusal, or as many are finished as were called for
+  pub collected : WasServed told → ending.refused ≡ None → finishes_in trail ≡ collections_of asked
+  -- memory was wanting for it only where one would begin
+  pub wanting : ending.refused ≡ Some faults.Memory → IsWanting (collections_of asked) trail
 
 -- What `top` says: all this, and what the status says.
 pub record Said (asked : Asked) (ground : Ground) (old new : Outside) (told : Report) (status : ℕ) (ending : Ending)
     (trail : List Event) : Type 0 where
   pub did : Did asked ground old new told ending trail
-  -- the report's sink has taken the report, all or some of its beginning
-  pub reported : WritesReport told old new
+  -- The report's sink has taken its text, all or some of its beginning: the lines or, of a trace that was served, the
+  -- trail, as far as its lines found memory.
+  pub short : Bool
+  pub text : List ℕ
+  pub is_text : IsText asked told trail short text
+  pub reported : WritesReport text old new
   -- the status is that of the cause, or 5 for a report that failed; and what each status says
-  pub is_status : IsStatus status told.cause old new
+  pub is_status : IsStatus status (last_cause short told.cause) old new
   pub status_0 : status ≡ 0 → EndedWell asked ground told trail old new ⊎ Showed told old new ⊎ Made asked told old new
   pub status_2 : (status ≡ 2) ↔ (asked ≡ Nothing)
   pub status_3 : status ≡ 3 → VolumeRefused ground told
   pub status_4 : status ≡ 4 → DiskFailed told old new
   pub status_5 : status ≡ 5 → SinkFailed told old new
   pub status_6 : status ≡ 6 → SourceFailed told old new
-  pub status_7 : status ≡ 7 → MemoryWanting told old new
+  pub status_7 : status ≡ 7 → MemoryWanting short told.cause text old new
   pub status_9 : status ≡ 9 → LimitPassed told old new
   -- a limit that was passed gives 9, unless a source failed or memory was wanting
   pub over : (scripts : List (List ℕ)) → HadLeft old scripts → ¬ (AreWithin scripts)

@@ -20,7 +20,7 @@ use Rattle.cfs_serve.specs.Ground.{Ground, opened}
 use Rattle.cfs_ports.specs.Port.{Reading}
 use Rattle.cfs_serve.specs.Charter.{Seat}
 use Rattle.cfs_serve.specs.Events.{tells_disk, tells_fault}
-use Rattle.cfs_serve.specs.Journal.{faults_after, first_fault}
+use Rattle.cfs_serve.specs.Journal.{Rise, faults_after, first_fault}
 use Rattle.cfs_serve.specs.Played.{AreSeated, IsPlayed, ServesNothing}
 
 -- the core stands for a root index of empty slots on so many cylinders; no word was drawn, it hasn't stopped, and no
@@ -53,6 +53,7 @@ pub record ServesSessions {D : Type 0} (g : Ghosts D) (core : Kernel D) (collect
       ports
       counts cause ending trail
   pub later : g.faults core.disk ≤ g.faults disk
+  pub rise : Rise (g.moment core.disk) moments (g.moment disk)
   pub crashes : (graph : Graph) → StandsFor g core (opening graph) → RunSurvives g core.words.seed graph trail
       (g.moment core.disk ∷ moments) disk
   pub sound : cause ≡ causes.Nothing → (graph : Graph) → StandsFor g core (opening graph) → (last : State)

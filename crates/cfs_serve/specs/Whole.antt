@@ -13,7 +13,8 @@ use Rattle.cfs_serve.specs.declared.paths.Volume.TheVariants as volumes
 use Rattle.cfs_serve.specs.Words.{Asked, Place, InFile, InMemory, Shows, Formats, Serves, Nothing, most_made}
 use Rattle.cfs_serve.specs.Ending.{not_begun}
 use Rattle.cfs_serve.specs.Ground.{Ground}
-use Rattle.cfs_serve.specs.Report.{status_of, report_text}
+use Rattle.cfs_serve.specs.Report.{status_of}
+use Rattle.cfs_serve.specs.Text.{IsText, last_cause}
 use Rattle.cfs_serve.specs.Played.{IsRunOf}
 
 -- what is outside: how often the volume's disk failed, where there is one, and what is known of the sources and of the
@@ -118,7 +119,10 @@ ended false causes.LongTotal = 9
 pub record IsWhole (asked : Asked) (ground : Ground) (old new : Places) (report report_after : Intake) (told : Report)
     (status : ℕ) (ending : Ending) (trail : List Event) : Type 0 where
   pub run : Asks asked ground old new told ending trail
-  -- the sink of the report has taken all of it, or some of its beginning
+  -- the sink of the report has taken all of its text, or some of its beginning
+  pub short : Bool
+  pub text : List ℕ
+  pub is_text : IsText asked told trail short text
   pub written : Bool
-  pub reported : Replied report report_after (report_text told) written
-  pub said : status ≡ ended written told.cause
+  pub reported : Replied report report_after text written
+  pub said : status ≡ ended written (last_cause short told.cause)

@@ -22,12 +22,14 @@ pub record Files : Type 0 where
   pub input : List ℕ
   pub output : List ℕ
 
--- a service: its volume, its seed, how many collections are called for, and the files of its sessions
+-- a service: its volume, its seed, how many collections are called for, the files of its sessions, and whether its
+-- report is the trail
 pub record Service : Type 0 where
   pub volume : Place
   pub seed : ℕ
   pub collections : ℕ
   pub sessions : List Files
+  pub traced : Bool
 
 -- a volume that is made: its file, its size and its seed, and whether it is of pairs of blocks
 pub record Format : Type 0 where
@@ -71,21 +73,23 @@ are_files words =
     is_file_word words
     && nat_le (streams_in (inputs_in words)) 1 && nat_le (streams_in (outputs_in words)) 1
 
-abbrev play_of : (cylinders seed collections : ℕ) (files : List (List ℕ)) → Option Service
-play_of cylinders seed collections files =
+abbrev play_of : (traced : Bool) (cylinders seed collections : ℕ) (files : List (List ℕ)) → Option Service
+play_of traced cylinders seed collections files =
     if nat_lt 0 cylinders && nat_le cylinders most_cylinders && nat_le collections most_collections && are_files files
     then Some (record {
       volume = InMemory cylinders;
       seed = seed;
       collections = collections;
       sessions = files_in files;
+      traced = traced;
     }) else None
 
-abbrev numbered : Option ℕ → Option ℕ → Option ℕ → List (List ℕ) → Option Service
-numbered (Some cylinders) (Some seed) (Some collections) files = play_of cylinders seed collections files
-numbered (Some cylinders) (Some seed) None files = None
-numbered (Some cylinders) None collections files = None
-numbered None seed collections files = None
+abbrev numbered : (traced : Bool) → Option ℕ → Option ℕ → Option ℕ → List (List ℕ) → Option Service
+numbered traced (Some cylinders) (Some seed) (Some collections) files =
+    play_of traced cylinders seed collections files
+numbered traced (Some cylinders) (Some seed) None files = None
+numbered traced (Some cylinders) None collections files = None
+numbered traced None seed collections files = None
 
 -- a standard stream is no volume
 abbrev is_volume_word : List ℕ → Bool
@@ -99,6 +103,7 @@ serve_of pair volume seed collections files =
       seed = seed;
       collections = collections;
       sessions = files_in files;
+      traced = false;
     }) else None
 
 abbrev seeded : (pair : Bool) → List ℕ → Option ℕ → Option ℕ → List (List ℕ) → Option Service
@@ -116,11 +121,14 @@ serve_in (verb ∷ volume ∷ seed ∷ collections ∷ files) =
     else None
 serve_in words = None
 
--- `play CYLINDERS SEED COLLECTIONS`, and then the pairs `IN OUT`
+-- `play CYLINDERS SEED COLLECTIONS` or `trace ..`, and then the pairs `IN OUT`
 abbrev pub play_in : List (List ℕ) → Option Service
 play_in (verb ∷ cylinders ∷ seed ∷ collections ∷ files) =
-    if bytes_eq verb (codes "play") then numbered (read_or_none (number_in cylinders)) (read_or_none (number_in seed))
-    (read_or_none (number_in collections)) files else None
+    if bytes_eq verb (codes "play") then numbered false (read_or_none (number_in cylinders))
+    (read_or_none (number_in seed)) (read_or_none (number_in collections)) files
+    else if bytes_eq verb (codes "trace") then numbered true (read_or_none (number_in cylinders))
+    (read_or_none (number_in seed)) (read_or_none (number_in collections)) files
+    else None
 play_in words = None
 
 -- the cylinders of the largest volume that is made, of pairs of blocks or not

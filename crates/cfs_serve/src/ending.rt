@@ -12,8 +12,6 @@ pub struct Ending {
     pub stop: Option<Stop>,
     /// The refusal at which the collector was done.
     pub refused: Option<CollectFault>,
-    /// The collector was done since it had made 2^33 steps for each collection, or more than three events for each.
-    pub spent: bool,
 }
 
 impl Ending {
@@ -24,7 +22,6 @@ impl Ending {
         Ending {
             stop: None,
             refused: None,
-            spent: false,
         }
     }
 
@@ -39,14 +36,14 @@ impl Ending {
         }
     }
 
-    /// Whether the collector was refused for want of memory or since the core had stopped, or was given no more turns.
+    /// Whether the collector was refused for want of memory or since the core had stopped.
     fn is_short(self) -> bool
         ensures { result ≡ spec.is_short self }
     {
-        match self.refused {
-            Some(CollectFault::Memory | CollectFault::Stopped { .. }) => true,
-            _ => self.spent,
-        }
+        matches!(
+            self.refused,
+            Some(CollectFault::Memory | CollectFault::Stopped { .. })
+        )
     }
 
     /// What spoiled the service, the worst first: where a reply told a failed call of the disk, a sink broke, or an

@@ -1,10 +1,11 @@
 //! The hall of one service.
 ghost use Rattle.std.specs.Prelude.{◌≡◌, ◌<◌, ◌≤◌, ◌+◌, ◌*◌, [], false, None, Some, length, slice_get};
 ghost use Rattle.std.specs.List.{list_any, sum_by};
-ghost use Rattle.cfs_serve.specs.Events.{tells_disk, wants_memory};
+ghost use Rattle.cfs_serve.specs.Events.{finishes_in, tells_disk, wants_memory};
 ghost use Rattle.cfs_core.specs.declared.collecting.CollectFault.TheVariants as faults;
-ghost use Rattle.cfs_serve.specs.Journal.{AreCollected, AreWanting, AreCounted, HasEnded, IsRun, IsStamped};
-ghost use Rattle.cfs_serve.specs.Journal.{IsTold, Lasts};
+ghost use Rattle.cfs_serve.specs.Calls.{Passes};
+ghost use Rattle.cfs_serve.specs.Ending.{IsWanting};
+ghost use Rattle.cfs_serve.specs.Journal.{AreCounted, HasEnded, IsKept, IsRun, IsStamped, IsTold, Lasts};
 ghost use Rattle.cfs_serve.specs.Journal.{Raises, StaysStopped, first_fault};
 ghost use Rattle.cfs_serve.specs.Hall.{AreFresh, AreHeard, IsSessionTurn, IsStep, IsTurn};
 ghost use Rattle.cfs_serve.specs.Hall.{Moves, has_left_at, is_done_in, left_in, turns_left, turns_left_at};
@@ -31,12 +32,13 @@ pub struct Hall<A: Server, J: Charter<A>, K: Sink> {
 }
 
 impl<A: Server, J: Charter<A>, K: Sink> Model for Hall<A, J, K> {
-    ghost use Rattle.std.specs.Prelude.{◌≡◌, ◌+◌, ◌≤◌, ◌<◌, None, Some, false, length};
+    ghost use Rattle.std.specs.Prelude.{◌≡◌, ◌+◌, ◌≤◌, ◌<◌, None, Some, length};
     ghost use Rattle.cfs_core.specs.declared.collecting.CollectFault.TheVariants as faults;
     ghost use Rattle.std.specs.List.{sum_by};
-    ghost use Rattle.cfs_serve.specs.Hall.{Hearing, AreHeard, HasNoCollector, turns_left};
-    ghost use Rattle.cfs_serve.specs.Ending.{TellsStop};
-    ghost use Rattle.cfs_serve.specs.Journal.{AreCollected, AreCounted, AreWanting, first_fault};
+    ghost use Rattle.cfs_serve.specs.Events.{finishes_in};
+    ghost use Rattle.cfs_serve.specs.Hall.{Hearing, AreHeard, HasNoCollector, HasTurns, turns_left};
+    ghost use Rattle.cfs_serve.specs.Ending.{IsWanting, TellsStop};
+    ghost use Rattle.cfs_serve.specs.Journal.{AreCounted, first_fault};
 
     ghost Value = { Hearing A };
 
@@ -46,20 +48,19 @@ impl<A: Server, J: Charter<A>, K: Sink> Model for Hall<A, J, K> {
       turns = h.rest.turns;
       events = h.rest.events;
       refused = h.rest.refused;
-      spent = h.rest.spent;
     } };
 
     ghost invariant = { λ h. AreHeard J.charter h.journal.events h.ports.items
         × (sum_by turns_left h.ports.items + h.rest.events ≤ h.journal.room)
         × (length h.journal.events + sum_by turns_left h.ports.items + h.rest.events < 4294967295)
-        × (length h.ports.items ≤ 64) × (0 < h.rest.turns → 0 < h.rest.events)
-        × HasNoCollector J.charter h.rest.turns h.rest.refused h.rest.spent
-        × (h.rest.turns ≡ 0 → h.rest.refused ≡ None → h.rest.spent ≡ false
-        → AreCollected A.stands J.charter h.journal.events)
+        × (length h.ports.items ≤ 64)
+        × HasTurns h.rest.turns h.rest.events (sum_by turns_left h.ports.items) (A.tally h.journal.server)
+        × HasNoCollector J.charter h.rest.turns h.rest.refused
+        × (h.rest.turns ≡ 0 → h.rest.refused ≡ None → finishes_in h.journal.events ≡ J.charter.collections)
         × (0 < h.rest.turns → h.rest.refused ≡ None)
         × AreCounted A.faults A.stands J.charter (first_fault h.rest.refused) h.journal.server h.journal.events
         × TellsStop h.rest.refused (A.stop h.journal.server)
-        × (h.rest.refused ≡ Some faults.Memory → AreWanting A.stands J.charter h.journal.events) };
+        × (h.rest.refused ≡ Some faults.Memory → IsWanting J.charter.collections h.journal.events) };
 }
 
 /// One turn of a session: its next line or, at the script's end and once its sink failed, its leave.
@@ -77,6 +78,7 @@ fn port_turn<A: Server, J: Charter<A>, K: Sink>(
     ensures stamped { IsStamped A.clock journal.old journal.new }
     ensures stays { StaysStopped A.stop journal.old journal.new }
     ensures raised { Raises A.faults A.stands J.charter journal.old journal.new }
+    ensures passes { Passes A.clock A.tally journal.old.server journal.new.server }
 {
     if port.has_failed() {
         port.leave();
@@ -97,18 +99,22 @@ fn port_turn<A: Server, J: Charter<A>, K: Sink>(
 }
 
 impl<A: Server, J: Charter<A>, K: Sink> Hall<A, J, K> {
-    /// A hall in which nothing happened.
+    /// A hall in which nothing happened, and whose collector makes so many turns at most.
     pub fn new(
         alloc: Global,
         server: A,
         trail: Trail,
         ports: Vec<Port<K>>,
         collections: u32,
+        turns: u64,
     ) -> Hall<A, J, K>
         requires no_event { trail.events ≡ [] }
         requires opens { IsRun A.stands A.has_stopped A.is_damaged A.tally J.charter server [] }
         requires lasts { Lasts A.stands A.clock A.lasts J.charter server [] [] }
         requires told { IsTold A.faults A.has_stopped A.is_damaged J.charter server [] }
+        requires kept { IsKept A.clock A.has_stopped A.tally J.charter server [] [] }
+        requires turns { (A.tally server).steps + sum_by turns_left ports.items < turns }
+        requires events { (A.tally server).events ≤ 3 * collections }
         requires runs { A.has_stopped server ≡ false }
         requires seed { A.seed server ≡ J.charter.seed }
         requires size { A.cylinders server ≡ J.charter.cylinders }
@@ -126,7 +132,7 @@ impl<A: Server, J: Charter<A>, K: Sink> Hall<A, J, K> {
         Hall {
             journal: Journal::new(server, trail),
             ports,
-            rest: Rest::new(collections),
+            rest: Rest::new(collections, turns),
             alloc,
         }
     }
@@ -223,10 +229,12 @@ impl<A: Server, J: Charter<A>, K: Sink> Hall<A, J, K> {
         ensures ports { result.ports.items ≡ self.ports }
         ensures starved { result.starved ≡ list_any wants_memory result.trail.events }
         ensures failed { result.failed ≡ list_any tells_disk result.trail.events }
-        ensures collected { self.turns ≡ 0 → result.ending.refused ≡ None → result.ending.spent ≡ false
-            → AreCollected A.stands J.charter result.trail.events }
+        ensures kept { IsKept A.clock A.has_stopped A.tally J.charter result.server result.trail.events
+            result.trail.moments }
+        ensures collected { self.turns ≡ 0 → result.ending.refused ≡ None
+            → finishes_in result.trail.events ≡ J.charter.collections }
         ensures wanting { result.ending.refused ≡ Some faults.Memory
-            → AreWanting A.stands J.charter result.trail.events }
+            → IsWanting J.charter.collections result.trail.events }
         ensures counted { AreCounted A.faults A.stands J.charter (first_fault result.ending.refused) result.server
             result.trail.events }
     {
@@ -247,7 +255,6 @@ impl<A: Server, J: Charter<A>, K: Sink> Hall<A, J, K> {
             ending: Ending {
                 stop,
                 refused: rest.refused,
-                spent: rest.spent,
             },
         }
     }

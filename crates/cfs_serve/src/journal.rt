@@ -8,9 +8,10 @@ ghost use Rattle.cfs_ports.specs.Heard.{HasRoom};
 ghost use Rattle.cfs_base.specs.Outside.{Rose};
 ghost use Rattle.cfs_serve.specs.Charter.{Terms};
 ghost use Rattle.cfs_serve.specs.Events.{tells_disk, wants_memory};
-ghost use Rattle.cfs_serve.specs.Calls.{event_by, refusal_by};
-ghost use Rattle.cfs_serve.specs.Ending.{Stops, TellsStop};
-ghost use Rattle.cfs_serve.specs.Journal.{AreCollected, AreWanting, IsRun, IsStamped, IsTold, Lasts, Raises, Serves};
+ghost use Rattle.cfs_serve.specs.Calls.{Passes, Spends, SpendsOne, Tally, event_by, refusal_by};
+ghost use Rattle.cfs_serve.specs.Ending.{IsWanting, Stops, TellsStop};
+ghost use Rattle.cfs_serve.specs.Events.{finishes_in};
+ghost use Rattle.cfs_serve.specs.Journal.{IsKept, IsRun, IsStamped, IsTold, Lasts, Raises, Serves, is_made};
 ghost use Rattle.cfs_serve.specs.Journal.{StaysStopped};
 ghost use Rattle.cfs_serve.specs.Journal.{Steps, is_quiet_fault, is_recorded, recorded, refusal_in, stamps};
 
@@ -70,7 +71,7 @@ impl<A: Server, J: Charter<A>> Model for Journal<A, J> {
     ghost use Rattle.cfs_serve.specs.Events.{tells_disk, wants_memory};
     ghost use Rattle.std.specs.Prelude.{None};
     ghost use Rattle.cfs_serve.specs.Ending.{Stops};
-    ghost use Rattle.cfs_serve.specs.Journal.{Kept, IsRun, IsTold, Lasts};
+    ghost use Rattle.cfs_serve.specs.Journal.{Kept, IsKept, IsRun, IsTold, Lasts};
 
     ghost Value = { Kept A };
 
@@ -89,7 +90,8 @@ impl<A: Server, J: Charter<A>> Model for Journal<A, J> {
         × Lasts A.stands A.clock A.lasts J.charter j.server j.trail.events j.trail.moments
         × IsTold A.faults A.has_stopped A.is_damaged J.charter j.server j.trail.events
         × ((A.tally j.server).called ≡ J.charter.collections) × (j.failed ≡ list_any tells_disk j.trail.events)
-        × Stops None (A.stop j.server) j.trail.events };
+        × Stops None (A.stop j.server) j.trail.events
+        × IsKept A.clock A.has_stopped A.tally J.charter j.server j.trail.events j.trail.moments };
 }
 
 impl<A: Server, J: Charter<A>> Journal<A, J> {
@@ -99,6 +101,7 @@ impl<A: Server, J: Charter<A>> Journal<A, J> {
         requires opens { IsRun A.stands A.has_stopped A.is_damaged A.tally J.charter server [] }
         requires lasts { Lasts A.stands A.clock A.lasts J.charter server [] [] }
         requires told { IsTold A.faults A.has_stopped A.is_damaged J.charter server [] }
+        requires kept { IsKept A.clock A.has_stopped A.tally J.charter server [] [] }
         requires runs { A.has_stopped server ≡ false }
         requires seed { A.seed server ≡ J.charter.seed }
         requires size { A.cylinders server ≡ J.charter.cylinders }
@@ -132,6 +135,7 @@ impl<A: Server, J: Charter<A>> Journal<A, J> {
         ensures stamped { IsStamped A.clock self.old self.new }
         ensures stays { StaysStopped A.stop self.old self.new }
         ensures raised { Raises A.faults A.stands J.charter self.old self.new }
+        ensures passes { Passes A.clock A.tally self.old.server self.new.server }
         ensures room { self.new.room + 1 ≡ self.old.room }
     {
         self.starved = starved_at(why, self.starved);
@@ -155,6 +159,7 @@ impl<A: Server, J: Charter<A>> Journal<A, J> {
         ensures stamped { IsStamped A.clock self.old self.new }
         ensures stays { StaysStopped A.stop self.old self.new }
         ensures raised { Raises A.faults A.stands J.charter self.old self.new }
+        ensures passes { Passes A.clock A.tally self.old.server self.new.server }
     {
         let reply = self.server.answer(alloc, session, &request);
         self.starved = starved_by(&reply, self.starved);
@@ -179,6 +184,7 @@ impl<A: Server, J: Charter<A>> Journal<A, J> {
         ensures stamped { IsStamped A.clock self.old self.new }
         ensures stays { StaysStopped A.stop self.old self.new }
         ensures raised { Raises A.faults A.stands J.charter self.old self.new }
+        ensures passes { Passes A.clock A.tally self.old.server self.new.server }
         ensures room { self.new.room + 1 ≡ self.old.room }
     {
         let stopped = self.server.leave(session);
@@ -195,9 +201,12 @@ impl<A: Server, J: Charter<A>> Journal<A, J> {
         ensures quiet { is_quiet_fault (refusal_in result) ≡ true
             → Rose (A.faults self.old.server) (A.faults self.new.server) × (self.new.events ≡ self.old.events) }
         ensures wanting { refusal_in result ≡ Some CollectFault.Memory
-            → AreWanting A.stands J.charter self.new.events }
+            → IsWanting J.charter.collections self.new.events }
         // Nothing is left to do once as many collections are finished as were called for.
-        ensures idle { result ≡ Progress.Idle → AreCollected A.stands J.charter self.new.events }
+        ensures idle { result ≡ Progress.Idle → finishes_in self.new.events ≡ J.charter.collections }
+        // One that was made leaves fewer steps, and one event less where it is one.
+        ensures spends { is_made result ≡ true
+            → SpendsOne (A.tally self.old.server) (A.tally self.new.server) (is_recorded result) }
     {
         let made = self.server.collect(alloc);
         let moment = self.server.moment();
@@ -217,6 +226,7 @@ impl<A: Server, J: Charter<A>> Journal<A, J> {
         ensures run { IsRun A.stands A.has_stopped A.is_damaged A.tally J.charter self.server self.events }
         ensures lasts { Lasts A.stands A.clock A.lasts J.charter self.server self.events result.1.moments }
         ensures told { IsTold A.faults A.has_stopped A.is_damaged J.charter self.server self.events }
+        ensures kept { IsKept A.clock A.has_stopped A.tally J.charter self.server self.events result.1.moments }
     {
         let Journal {
             server,
@@ -266,6 +276,8 @@ fn told_of(made: Result<Step, CollectFault>) -> (Option<Event>, Progress)
     ensures event { result.0 ≡ event_by made }
     ensures none { is_recorded result.1 ≡ false → event_by made ≡ None }
     ensures idle { result.1 ≡ Progress.Idle → made ≡ Ok Step.Idle }
+    ensures spends { is_made result.1 ≡ true → (c : Tally) (d : Tally) → Spends c d made
+        → SpendsOne c d (is_recorded result.1) }
     ensures refusal { refusal_in result.1 ≡ refusal_by made }
 {
     match made {

@@ -21,6 +21,7 @@ mod seats;
 mod server;
 mod serving;
 mod sure_disk;
+mod traced;
 mod volume;
 mod words;
 

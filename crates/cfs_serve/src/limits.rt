@@ -23,7 +23,3 @@ pub const MOST_SESSIONS: usize = 64;
 
 /// The collections that a service may be called for.
 pub const MOST_COLLECTIONS: u64 = 1_000;
-
-/// The steps of the collector for each collection. No volume has as many blocks, with all request lines and two sweeps
-/// of each cylinder.
-pub const MOST_STEPS: u64 = 8_589_934_592;

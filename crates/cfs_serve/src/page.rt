@@ -21,6 +21,8 @@ impl Page {
     serve 1 to 64 sessions on a new volume in memory, one for each pair IN OUT:
     replies to the request lines of IN go to OUT, a report to standard output;
     one IN and one OUT may be -, for a standard stream
+cfs trace CYLINDERS SEED COLLECTIONS IN OUT ..
+    the same; the report is the trail, a line for each event
 cfs format VOLUME CYLINDERS SEED
     make a volume in the file VOLUME, which must not be there yet
 cfs serve VOLUME SEED COLLECTIONS IN OUT ..

@@ -140,7 +140,19 @@ fn report_on<D: Disk>(
     }
 }
 
-/// Serves the sessions of these ports, which come back, and calls for so many collections. The disk comes back.
+/// The turns that the collector may make: so many steps for each collection, one for each turn of a session, which may
+/// add one, and one in which nothing is left to do.
+fn count_steps(collections: u32, each: u64, turns: u64) -> u64
+    requires most { collections ≤ 1000 }
+    requires small { each < 70368744177664 }
+    requires few { turns < 4294967295 }
+    ensures { result ≡ collections * each + turns + 1 }
+{
+    u64::from(collections) * each + turns + 1
+}
+
+/// Serves the sessions of these ports, which come back, and calls for so many collections. The disk comes back. The
+/// sessions make no more turns than these, and so add no more steps to those of the collections.
 fn serve_ports<D: Disk + Send, K: Sink + Send, G: Gate + Sync, R: Threads + Wait + Sync>(
     rt: &R,
     alloc: Global,
@@ -149,10 +161,12 @@ fn serve_ports<D: Disk + Send, K: Sink + Send, G: Gate + Sync, R: Threads + Wait
     trail: Trail,
     ports: Vec<Port<K>>,
     collections: u32,
+    turns: u64,
 ) -> (Played, Vec<Port<K>>, D)
     requires no_event { trail.events ≡ [] }
-    requires room { sum_by turns_left ports.items + 3 * collections + 1 ≤ trail.room }
-    requires few { sum_by turns_left ports.items + 3 * collections + 1 < 4294967295 }
+    requires turns { sum_by turns_left ports.items ≤ turns }
+    requires room { turns + 3 * collections + 1 ≤ trail.room }
+    requires few { turns + 3 * collections + 1 < 4294967295 }
     requires sessions { length ports.items ≤ 64 }
     requires most { collections ≤ 1000 }
     requires new { AreNew core.root ports.items }
@@ -168,7 +182,18 @@ fn serve_ports<D: Disk + Send, K: Sink + Send, G: Gate + Sync, R: Threads + Wait
     core.has_room();
     runs_survive::<D>();
     images_are_whole::<D>();
-    let parts = match serve(rt, alloc, gate, core, trail, root, ports, collections) {
+    let steps = count_steps(collections, core.most_steps(), turns);
+    let parts = match serve(
+        rt,
+        alloc,
+        gate,
+        core,
+        trail,
+        root,
+        ports,
+        collections,
+        steps,
+    ) {
         Ok(parts) => parts,
         Err(Unserved { server, ports }) => {
             return (nothing(alloc, Cause::Memory), ports, server.into_disk());
@@ -217,14 +242,24 @@ fn serve_scripts<D: Disk + Send, K: Sink + Send, G: Gate + Sync, R: Threads + Wa
     ensures count { length sinks.new.items ≡ length sinks.old.items }
 {
     let mut trail = Trail::new(alloc);
-    let events = scripts.lines + sinks.len() as u64 + 3 * u64::from(collections) + 1;
+    let turns = scripts.lines + sinks.len() as u64;
+    let events = turns + 3 * u64::from(collections) + 1;
     if let Err(_) = trail.reserve(events) {
         return (nothing(alloc, Cause::Memory), core.into_disk());
     }
     let Some(ports) = make_ports(alloc, core.root(), scripts.scripts, sinks) else {
         return (nothing(alloc, Cause::Memory), core.into_disk());
     };
-    let (played, ports, disk) = serve_ports(rt, alloc, gate, core, trail, ports, collections);
+    let (played, ports, disk) = serve_ports(
+        rt,
+        alloc,
+        gate,
+        core,
+        trail,
+        ports,
+        collections,
+        turns,
+    );
     take_sinks(ports, sinks);
     (played, disk)
 }

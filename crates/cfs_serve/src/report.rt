@@ -78,6 +78,18 @@ impl Cause {
         }
     }
 
+    ghost use Rattle.cfs_serve.specs.Text.{last_cause};
+
+    /// What the status is of, where memory was wanting for a line of the report or not.
+    pub(crate) fn at_last(self, short: bool) -> Cause
+        ensures { result ≡ last_cause short self }
+    {
+        match self {
+            Cause::Nothing if short => Cause::Memory,
+            cause => cause,
+        }
+    }
+
     ghost use Rattle.cfs_serve.specs.Report.{cause_text};
 
     /// Writes the line of the cause, where it has one.
@@ -121,7 +133,7 @@ impl Cause {
 }
 
 /// Writes a line of a word and a number.
-fn write_number<K: Sink>(sink: &mut K, word: &[u8], number: u64) -> Result<(), Failed>
+pub(crate) fn write_number<K: Sink>(sink: &mut K, word: &[u8], number: u64) -> Result<(), Failed>
     ensures { WritesWhole (K.intake sink.old) (K.intake sink.new) (told word.now number) result }
 {
     let mut digits = Buffer::new();

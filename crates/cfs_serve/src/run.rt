@@ -1,16 +1,19 @@
 //! A whole run, and the one public call that makes it.
 ghost use Rattle.std.specs.Prelude.{◌≡◌, ◌⊎◌, ◌%◌, ◌*◌, ◌≤◌, None, Some, string_bytes, map, length, option_map};
 ghost use Rattle.cfs_base.specs.Outside.{Rose};
-ghost use Rattle.cfs_serve.specs.Words.{Format, asked_by, format_in, page_in};
+ghost use Rattle.cfs_serve.specs.Words.{Asked, Format, InMemory, asked_by, format_in, page_in};
 ghost use Rattle.cfs_serve.specs.Whole.{Asks, HasDisk, HasPlaces, ended};
 ghost use Rattle.cfs_serve.specs.Disks.{MakesVolume, OnDisk};
 ghost use Rattle.cfs_serve.specs.Ground.{ground_of};
+ghost use Rattle.cfs_serve.specs.Text.{first_line, line_if, printed_line};
+ghost use Rattle.cfs_serve.specs.Traced.{IsWritten};
 ghost use Rattle.cfs_serve.specs.Top.{Said, before, after};
 
 use crate::cached::serve_cached;
 use crate::ending::Ending;
 use crate::play::{Played, nothing, play};
 use crate::report::{Cause, Report};
+use crate::traced::{Written, write_trail};
 use crate::words::{format_asked, page_asked, play_asked, serve_asked};
 use cfs_base::{Disk, Failed, Gate, Sink, Source};
 use cfs_core::Core;
@@ -18,6 +21,7 @@ use cfs_trail::Trail;
 use std::alloc::Global;
 use std::sync::Wait;
 use std::thread::Threads;
+use trail_text::Opening;
 
 /// What is outside a run: its volume, and where bytes come from and go.
 #[derive(Drop)]
@@ -72,11 +76,23 @@ fn make_volume<D: Disk>(disk: &mut D, seed: u64) -> Cause
     }
 }
 
-/// What a run did, and the disk of its volume.
+/// What a run did, the first line of its trail where a trace was asked for, and the disk of its volume.
 #[derive(Drop)]
 struct Done<D> {
     played: Played,
+    trace: Option<Opening>,
     disk: Option<D>,
+}
+
+/// The first line of the trail of a volume in memory, where a trace is asked for.
+fn line_of(traced: bool, cylinders: u32, seed: u64) -> Option<Opening>
+    ensures { result ≡ line_if traced (InMemory cylinders) seed }
+{
+    if traced {
+        Some(Opening { cylinders, seed })
+    } else {
+        None
+    }
 }
 
 /// Serves the sessions that are asked for on the volume of the disk, where there is one; nothing where the words are of
@@ -115,6 +131,7 @@ fn serve_asked_on<
           sinks = map K.intake sinks.new.items;
         })
         result.played.report result.played.ending result.played.trail.events }
+    ensures trace { result.trace ≡ first_line (asked_by words.now) }
 {
     if let Some(asked) = play_asked(words) {
         let played = play(
@@ -127,7 +144,11 @@ fn serve_asked_on<
             sources,
             sinks,
         );
-        return Done { played, disk };
+        return Done {
+            played,
+            trace: line_of(asked.traced, asked.cylinders as u32, asked.seed),
+            disk,
+        };
     }
     match (serve_asked(words), disk) {
         (Some(served), Some(disk)) => {
@@ -143,11 +164,13 @@ fn serve_asked_on<
             );
             Done {
                 played,
+                trace: None,
                 disk: Some(disk),
             }
         }
         (_, disk) => Done {
             played: nothing(alloc, Cause::Words),
+            trace: None,
             disk,
         },
     }
@@ -180,10 +203,12 @@ fn do_asked<D: Disk + Send, S: Source, K: Sink + Send, G: Gate + Sync, R: Thread
           sinks = map K.intake sinks.new.items;
         })
         result.played.report result.played.ending result.played.trail.events }
+    ensures trace { result.trace ≡ first_line (asked_by words.now) }
 {
     if let Some(page) = page_asked(words) {
         return Done {
             played: nothing(alloc, Cause::Page(page)),
+            trace: None,
             disk,
         };
     }
@@ -193,9 +218,40 @@ fn do_asked<D: Disk + Send, S: Source, K: Sink + Send, G: Gate + Sync, R: Thread
     match disk {
         Some(mut disk) => Done {
             played: nothing(alloc, make_volume(&mut disk, format.seed)),
+            trace: None,
             disk: Some(disk),
         },
         None => unreachable!(),
+    }
+}
+
+/// The same, where sessions were served.
+fn printed(trace: Option<Opening>, told: Report) -> Option<Opening>
+    ensures { (asked : Asked) → trace ≡ first_line asked → result ≡ printed_line asked told.counts }
+{
+    match told.counts {
+        Some(_) => trace,
+        None => None,
+    }
+}
+
+/// Writes the report: its lines or, of a trace that was served, its trail.
+fn write_report<K: Sink>(
+    alloc: Global,
+    trace: Option<Opening>,
+    told: Report,
+    trail: &Trail,
+    sink: &mut K,
+) -> Written
+    ensures { (asked : Asked) → trace ≡ first_line asked → IsWritten asked told trail.now.events
+        (K.intake sink.old) (K.intake sink.new) result }
+{
+    match printed(trace, told) {
+        Some(opening) => write_trail(alloc, opening, trail, told.cause, sink),
+        None => Written {
+            whole: told.write(sink).is_ok(),
+            short: false,
+        },
     }
 }
 
@@ -221,15 +277,19 @@ pub fn top<D: Disk + Send, S: Source, K: Sink + Send, G: Gate + Sync, R: Threads
         mut sinks,
         mut report,
     } = bay;
-    let Done { played, disk } = do_asked(rt, alloc, gate, words, disk, &mut sources, &mut sinks);
+    let Done {
+        played,
+        trace,
+        disk,
+    } = do_asked(rt, alloc, gate, words, disk, &mut sources, &mut sinks);
     let Played {
         report: told,
         trail,
         ending,
     } = played;
-    let written = told.write(&mut report).is_ok();
+    let written = write_report(alloc, trace, told, &trail, &mut report);
     Ended {
-        status: status_of(written, told.cause),
+        status: status_of(written.whole, told.cause.at_last(written.short)),
         disk,
         sources,
         sinks,

@@ -8,7 +8,8 @@ ghost use Rattle.ufs_model.specs.declared.asked.Event.TheVariants as events;
 ghost use Rattle.ufs_model.specs.Asks.{IsAsked};
 ghost use Rattle.ufs_model.specs.State.{State};
 ghost use Rattle.cfs_serve.specs.Calls.{GoesOn, IsExact, Makes, MayGoOn, MayMake, MayTally, Tallies, Tally, Tells};
-ghost use Rattle.cfs_serve.specs.Calls.{EndsCollecting, TellsStep, event_by, refusal_by, tells_stop_at};
+ghost use Rattle.cfs_serve.specs.Calls.{EndsCollecting, Passes, PassesStep, TellsStep, event_by, refusal_by};
+ghost use Rattle.cfs_serve.specs.Calls.{tells_stop_at};
 ghost use Rattle.cfs_serve.specs.Ending.{Stops, TellsStop, damage_in};
 ghost use Rattle.cfs_serve.specs.Journal.{recorded};
 ghost use Rattle.cfs_core.specs.declared.kernel.Stop.{Stop};
@@ -62,6 +63,7 @@ pub trait Server: Asker {
         ensures tallies { (s : State) → Self.stands self.old s
             → Tallies has_stopped tally (Self.seed self.old) self.old self.new s (events.Ask who request.now result) }
         ensures called { (tally self.new).called ≡ (tally self.old).called }
+        ensures passes { Passes clock tally self.old self.new }
         ensures lasts { GoesOn Self.stands clock lasts (Self.seed self.old) self.old self.new
             (events.Ask who request.now result) }
         ensures tells { Tells faults has_stopped is_damaged self.old self.new (events.Ask who request.now result) }
@@ -82,6 +84,7 @@ pub trait Server: Asker {
         ensures halts { (s : State) → Self.stands self.old s → IsSome result
             → Rose (faults self.old) (faults self.new) }
         ensures called { (tally self.new).called ≡ (tally self.old).called }
+        ensures passes { Passes clock tally self.old self.new }
         ensures lasts { GoesOn Self.stands clock lasts (Self.seed self.old) self.old self.new
             (events.Leave who result) }
         ensures tells { Tells faults has_stopped is_damaged self.old self.new (events.Leave who result) }
@@ -107,6 +110,7 @@ pub trait Server: Asker {
         ensures halts { (s : State) → Self.stands self.old s → tells_stop_at (event_by result) ≡ true
             → Rose (faults self.old) (faults self.new) }
         ensures called { (tally self.new).called ≡ (tally self.old).called }
+        ensures passes { PassesStep clock has_stopped tally self.old self.new result }
         ensures ends { EndsCollecting has_stopped tally self.old self.new result }
         ensures size { cylinders self.new ≡ cylinders self.old }
         ensures seed { Self.seed self.new ≡ Self.seed self.old }
@@ -143,7 +147,14 @@ impl Server for Plain {
 
     ghost clock = { λ p. 0 };
 
-    ghost tally = { λ p. record { called = 0; finished = 0; running = false; lost = λ graph. 0 } };
+    ghost tally = { λ p. record {
+      called = 0;
+      finished = 0;
+      running = false;
+      steps = 0;
+      events = 0;
+      lost = λ graph. 0;
+    } };
 
     ghost lasts = { λ p seed graph trail marks. Unit {0} };
 

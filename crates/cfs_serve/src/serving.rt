@@ -2,12 +2,12 @@
 ghost use Rattle.std.specs.Prelude.{◌≡◌, ◌<◌, ◌≤◌, ◌+◌, ◌*◌, [], ◌∷◌, false, IfErr, IfOk, None, Some, map, length};
 ghost use Rattle.std.specs.List.{list_any, sum_by};
 ghost use Rattle.cfs_base.specs.Outside.{Rose};
+ghost use Rattle.cfs_serve.specs.Calls.{IsTallied};
 ghost use Rattle.cfs_serve.specs.Ending.{EndsSo, IsWanting};
 ghost use Rattle.cfs_core.specs.declared.collecting.CollectFault.TheVariants as faults;
-ghost use Rattle.cfs_serve.specs.Events.{finishes_in, tells_disk, tells_fault, wants_memory};
+ghost use Rattle.cfs_serve.specs.Events.{begins_in, finishes_in, tells_disk, tells_fault, wants_memory};
 ghost use Rattle.cfs_serve.specs.Hall.{AllLeft, AreFresh, AreHeard, AreNew, AreOver, seat_of, turns_left};
-ghost use Rattle.cfs_serve.specs.Journal.{AreCollected, AreCounted, AreWanting, HasEnded, IsRun, IsRunOn, IsTold};
-ghost use Rattle.cfs_serve.specs.Journal.{Lasts};
+ghost use Rattle.cfs_serve.specs.Journal.{AreCounted, HasEnded, IsKept, IsRun, IsRunOn, IsTold, Lasts, Rise};
 ghost use Rattle.cfs_serve.specs.Journal.{faults_after, first_fault};
 ghost use Rattle.ufs_model.specs.Graph.{Graph};
 ghost use Rattle.ufs_model.specs.State.{opening};
@@ -40,11 +40,15 @@ fn serve_so<
     _root: Puid,
     ports: Vec<Port<K>>,
     collections: u32,
+    turns: u64,
 ) -> Result<Parts<A, K>, Unserved<A, K>>
     requires no_event { trail.events ≡ [] }
     requires opens { IsRun A.stands A.has_stopped A.is_damaged A.tally J.charter server [] }
     requires lasts { Lasts A.stands A.clock A.lasts J.charter server [] [] }
     requires told { IsTold A.faults A.has_stopped A.is_damaged J.charter server [] }
+    requires kept { IsKept A.clock A.has_stopped A.tally J.charter server [] [] }
+    requires turns { (A.tally server).steps + sum_by turns_left ports.items < turns }
+    requires events { (A.tally server).events ≤ 3 * collections }
     requires runs { A.has_stopped server ≡ false }
     requires seed { A.seed server ≡ J.charter.seed }
     requires size { A.cylinders server ≡ J.charter.cylinders }
@@ -67,14 +71,16 @@ fn serve_so<
     ensures left { IfOk result (λ p. AllLeft p.ports.items) }
     ensures starved { IfOk result (λ p. p.starved ≡ list_any wants_memory p.trail.events) }
     ensures failed { IfOk result (λ p. p.failed ≡ list_any tells_disk p.trail.events) }
-    ensures collected { IfOk result (λ p. (p.ending.refused ≡ None → p.ending.spent ≡ false
-        → AreCollected A.stands J.charter p.trail.events)
-        × (p.ending.refused ≡ Some faults.Memory → AreWanting A.stands J.charter p.trail.events)) }
+    ensures kept { IfOk result (λ p. IsKept A.clock A.has_stopped A.tally J.charter p.server p.trail.events
+        p.trail.moments) }
+    ensures collected { IfOk result (λ p.
+        (p.ending.refused ≡ None → finishes_in p.trail.events ≡ J.charter.collections)
+        × (p.ending.refused ≡ Some faults.Memory → IsWanting J.charter.collections p.trail.events)) }
     ensures counted { IfOk result (λ p. AreCounted A.faults A.stands J.charter (first_fault p.ending.refused) p.server
         p.trail.events) }
     ensures unserved { IfErr result (λ u. (u.server ≡ server) × (u.ports.items ≡ ports.items)) }
 {
-    let hall: Hall<A, J, K> = Hall::new(alloc, server, trail, ports, collections);
+    let hall: Hall<A, J, K> = Hall::new(alloc, server, trail, ports, collections, turns);
     match make_all_turns(rt, alloc, gate, hall) {
         Ok(hall) => Ok(hall.into_parts()),
         Err(FrontFault { machine }) => Err(machine.into_unserved()),
@@ -82,10 +88,11 @@ fn serve_so<
 }
 
 /// Serves the sessions of these ports, each in a thread, until each has left: at its script's end, or once its sink
-/// failed. Beside them, in a thread of its own, the collector makes its steps, until as many collections are finished
-/// as were called for or a step is refused. Before each of its turns a session or the collector passes the gate, and is
-/// told how many events the trail has. Turns are made by tickets. Takes no memory but for the front, the threads, the
-/// answers and the collector. Where memory is wanting for the front nothing is served.
+/// failed. Beside them, in a thread of its own, the collector makes its steps, of which there are fewer than the turns
+/// that it is given, until as many collections are finished as were called for or a step is refused. Before each of its
+/// turns a session or the collector passes the gate, and is told how many events the trail has. Turns are made by
+/// tickets. Takes no memory but for the front, the threads, the answers and the collector. Where memory is wanting for
+/// the front nothing is served.
 pub fn serve<A: Server + Send, K: Sink + Send, G: Gate + Sync, R: Threads + Wait + Sync>(
     rt: &R,
     alloc: Global,
@@ -95,12 +102,15 @@ pub fn serve<A: Server + Send, K: Sink + Send, G: Gate + Sync, R: Threads + Wait
     root: Puid,
     ports: Vec<Port<K>>,
     collections: u32,
+    turns: u64,
 ) -> Result<Parts<A, K>, Unserved<A, K>>
     requires no_event { trail.events ≡ [] }
     requires runs { A.has_stopped server ≡ false }
     requires words { A.words server ≡ 0 }
     requires new { AreNew root ports.items }
     requires called { (A.tally server).called ≡ collections }
+    requires turns { (A.tally server).steps + sum_by turns_left ports.items < turns }
+    requires events { (A.tally server).events ≤ 3 * collections }
     requires idle { ((A.tally server).finished ≡ 0) × ((A.tally server).running ≡ false) }
     requires swept { (graph : Graph) → A.stands server (opening graph) → (A.tally server).lost graph ≡ 0 }
     requires room { sum_by turns_left ports.items + 3 * collections + 1 ≤ trail.room }
@@ -109,8 +119,8 @@ pub fn serve<A: Server + Send, K: Sink + Send, G: Gate + Sync, R: Threads + Wait
     requires most { collections ≤ 1000 }
     // on each graph that the server stood for, a legal run, of which it stands for the last state
     ensures run { IfOk result (λ p. (graph : Graph) → A.stands server (opening graph)
-        → IsRunOn A.stands A.has_stopped A.is_damaged A.tally (A.seed server) (A.cylinders server) collections graph
-        server p.server p.trail.events) }
+        → IsRunOn A.stands A.has_stopped A.is_damaged A.tally (A.seed server) (A.cylinders server) graph server
+        p.server p.trail.events) }
     // how it ended, whatever disk it is
     ensures later { IfOk result (λ p. A.faults server ≤ A.faults p.server) }
     ensures ends { IfOk result (λ p. EndsSo (Rose (A.faults server) (A.faults p.server)) collections p.ending
@@ -124,12 +134,15 @@ pub fn serve<A: Server + Send, K: Sink + Send, G: Gate + Sync, R: Threads + Wait
     ensures over { IfOk result (λ p. AreOver root collections (map seat_of ports.items) p.trail.events p.ports.items) }
     ensures starved { IfOk result (λ p. p.starved ≡ list_any wants_memory p.trail.events) }
     ensures failed { IfOk result (λ p. p.failed ≡ list_any tells_disk p.trail.events) }
-    // Where no step was refused, as many collections are finished as were called for; and memory was wanting only where
-    // one would begin.
-    ensures collected { IfOk result (λ p. (p.ending.refused ≡ None → p.ending.spent ≡ false
-        → (graph : Graph) → A.stands server (opening graph) → finishes_in p.trail.events ≡ collections)
-        × (p.ending.refused ≡ Some faults.Memory → (graph : Graph) → A.stands server (opening graph)
-        → IsWanting collections p.trail.events)) }
+    // Whatever disk it is, no more collections began than were called for. Where no step was refused, as many are
+    // finished; and memory was wanting only where one would begin.
+    ensures few { IfOk result (λ p. begins_in p.trail.events ≤ collections) }
+    ensures collected { IfOk result (λ p. (p.ending.refused ≡ None → finishes_in p.trail.events ≡ collections)
+        × (p.ending.refused ≡ Some faults.Memory → IsWanting collections p.trail.events)) }
+    // A server that runs counts the collections of the trail.
+    ensures tallied { IfOk result (λ p. A.has_stopped p.server ≡ false → IsTallied (A.tally p.server) p.trail.events) }
+    // No moment is below the one before it.
+    ensures rise { IfOk result (λ p. Rise (A.clock server) p.trail.moments (A.clock p.server)) }
     // The disk's count of failed calls is at least what the Disk replies come to, and a step that was refused for one
     // without a doubt; and the stops with them, on each graph that the server stood for.
     ensures counted { IfOk result (λ p. faults_after tells_disk p.trail.events
@@ -139,7 +152,17 @@ pub fn serve<A: Server + Send, K: Sink + Send, G: Gate + Sync, R: Threads + Wait
         p.server) }
     ensures unserved { IfErr result (λ u. (u.server ≡ server) × (u.ports.items ≡ ports.items)) }
 {
-    match serve_so::<A, Brand, K, G, R>(rt, alloc, gate, server, trail, root, ports, collections) {
+    match serve_so::<A, Brand, K, G, R>(
+        rt,
+        alloc,
+        gate,
+        server,
+        trail,
+        root,
+        ports,
+        collections,
+        turns,
+    ) {
         Ok(parts) => Ok(parts),
         Err(unserved) => Err(unserved),
     }

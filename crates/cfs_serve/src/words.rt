@@ -1,6 +1,6 @@
 //! The words of a command.
 ghost use Rattle.std.specs.Prelude.{◌≡◌, ◌↔◌, ◌≤◌, [], ◌∷◌, length, map, Some, None, IsNone, IfSome};
-ghost use Rattle.std.specs.Prelude.{string_bytes, true};
+ghost use Rattle.std.specs.Prelude.{string_bytes, false, true};
 ghost use Rattle.std.specs.List.{list_all};
 ghost use Rattle.ufs_model.specs.Spoken.{number_in};
 ghost use Rattle.cfs_serve.specs.Words as spec;
@@ -20,6 +20,8 @@ pub(crate) struct Played<'a> {
     pub seed: u64,
     pub collections: u64,
     pub files: &'a [String],
+    /// Its report is the trail.
+    pub traced: bool,
 }
 
 /// A service on a volume in a file. The files of its sessions are named two and two.
@@ -115,16 +117,18 @@ fn play_words<'a>(
           volume = InMemory a.cylinders;
           seed = a.seed;
           collections = a.collections;
-          sessions = files_in
-              (map string_bytes a.files.now);
+          sessions = files_in (map string_bytes a.files.now);
+          traced = a.traced;
         })) }
     ensures few { IfSome result (λ a. length (files_in (map string_bytes a.files.now)) ≤ 64) }
     ensures sized { IfSome result (λ a. (1 ≤ a.cylinders) × (a.cylinders ≤ 1024)) }
     ensures most { IfSome result (λ a. a.collections ≤ 1000) }
 {
-    if verb != "play" {
-        return None;
-    }
+    let traced = match verb {
+        "play" => false,
+        "trace" => true,
+        _ => return None,
+    };
     let cylinders = number(cylinders)?;
     let seed = number(seed)?;
     let collections = number(collections)?;
@@ -139,6 +143,7 @@ fn play_words<'a>(
         seed,
         collections,
         files,
+        traced,
     })
 }
 
@@ -150,8 +155,8 @@ pub(crate) fn play_asked(words: &[String]) -> Option<Played<'_>>
           volume = InMemory a.cylinders;
           seed = a.seed;
           collections = a.collections;
-          sessions = files_in
-              (map string_bytes a.files.now);
+          sessions = files_in (map string_bytes a.files.now);
+          traced = a.traced;
         })) }
     ensures few { IfSome result (λ a. length (files_in (map string_bytes a.files.now)) ≤ 64) }
     ensures sized { IfSome result (λ a. (1 ≤ a.cylinders) × (a.cylinders ≤ 1024)) }
@@ -186,6 +191,7 @@ fn volume_words<'a>(
           seed = a.seed;
           collections = a.collections;
           sessions = files_in (map string_bytes a.files.now);
+          traced = false;
         })) }
     ensures few { IfSome result (λ a. length (files_in (map string_bytes a.files.now)) ≤ 64) }
     ensures most { IfSome result (λ a. a.collections ≤ 1000) }
@@ -221,6 +227,7 @@ pub(crate) fn serve_asked(words: &[String]) -> Option<Served<'_>>
           seed = a.seed;
           collections = a.collections;
           sessions = files_in (map string_bytes a.files.now);
+          traced = false;
         })) }
     ensures few { IfSome result (λ a. length (files_in (map string_bytes a.files.now)) ≤ 64) }
     ensures most { IfSome result (λ a. a.collections ≤ 1000) }

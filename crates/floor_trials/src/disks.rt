@@ -1,6 +1,7 @@
 //! Volumes on disks of which a call fails, and what a crash leaves of one.
 use crate::service::{Came, Seat, ask_for, gate_of, hold, play, serve, session};
 use crate::sink::{ALL, Taking, failing};
+use crate::stated::{LOOKING, REPLIES, STATED, holds};
 use cfs_base::Disk;
 use cfs_fakes::{MemoryDisk, Pick, Watched};
 use std::alloc::Global;
@@ -92,7 +93,7 @@ fn serve_failing(
     let mut disk = volume(rt, alloc, moment)?;
     let seat = Seat {
         lines: "create-index a 4 root 0\n",
-        is_broken: false,
+        source_fails: u64::MAX,
         sink: failing(0),
     };
     let came = play(rt, alloc, &mut disk, &ask_for(&SERVE, &[seat]))?;
@@ -231,61 +232,41 @@ fn a_write_that_fails_stops_the_service_for_all(rt: HostRuntime) -> Result<(), F
     Ok(())
 }
 
-/// Lines of which each changes a slot.
-const MAKING: &str = "create-index a 4 root 0\nretain a 3 root\n";
-
-/// A volume of which what a crash leaves is known, served once; and what came of it.
+/// A volume of which what a crash leaves is known, on which the stated script was served beside a collection.
 fn record(
     rt: &(impl Abort + Threads + Wait + Sync),
     alloc: Global,
 ) -> Result<(Option<MemoryDisk>, Came), Fail> {
     let mut disk = Some(MemoryDisk::recording(alloc, 64, Vec::new(alloc))?);
     format(rt, alloc, &mut disk, ALL)?;
-    let came = play(rt, alloc, &mut disk, &ask_for(&SERVE, &[session(MAKING)]))?;
-    assert!(rt; came.events.as_slice() == b"aal".as_slice());
+    let came = play(rt, alloc, &mut disk, &ask_for(&COLLECT, &[session(STATED)]))?;
+    assert!(rt; came.first() == REPLIES.as_bytes());
     Ok((disk, came))
 }
 
-/// What a crash at this moment leaves: of each block this choice.
+/// Which blocks hold the last write that waits, where a crash leaves it: those with even numbers, and those with odd
+/// ones. All others hold what they held at the last barrier.
+type Kept = (bool, bool);
+
+/// What a crash at this moment leaves so.
 fn left(
     alloc: Global,
     disk: &Option<MemoryDisk>,
     at: u64,
-    choice: u32,
+    (even, odd): Kept,
 ) -> Result<Option<MemoryDisk>, Fail> {
     let mut picks = Vec::new(alloc);
-    for block in 0..64 {
-        picks.push(Pick { block, choice })?;
-    }
     match disk {
         Some(disk) if disk.is_recording() && at <= disk.moment() => {
+            for block in 0..64u32 {
+                let is_kept = if block % 2 == 0 { even } else { odd };
+                let choice = if is_kept { disk.choices(at, block) } else { 0 };
+                picks.push(Pick { block, choice })?;
+            }
             Ok(Some(disk.image(alloc, at, &picks)?))
         }
         _ => Err("no disk that records")?,
     }
-}
-
-/// What a look at both slots is answered, on a volume that holds so many of the two lines.
-const LOOKS: [&str; 3] = [
-    "no empty\nno name\n",
-    "ok 00000003903df1a0\nno empty\n",
-    "ok 00000003903df1a0\nok 00000002ade0b876\n",
-];
-
-/// How many of the two lines a volume holds, as it is served.
-fn lines_held(
-    rt: &(impl Abort + Threads + Wait + Sync),
-    alloc: Global,
-    mut disk: Option<MemoryDisk>,
-) -> Result<usize, Fail> {
-    let looking = session("retrieve b root 0\nretrieve c b 3\n");
-    let came = play(rt, alloc, &mut disk, &ask_for(&SERVE, &[looking]))?;
-    for (lines, look) in LOOKS.iter().enumerate() {
-        if came.first() == look.as_bytes() {
-            return Ok(lines);
-        }
-    }
-    Err("neither line by line")?
 }
 
 #[test]
@@ -293,14 +274,16 @@ fn what_was_answered_outlasts_a_crash_at_any_moment(rt: HostRuntime) -> Result<(
     let alloc = rt.alloc();
     let (disk, came) = record(&rt, alloc)?;
     for at in FORMAT_CALLS..=calls_of(&disk) {
-        let answered = came.answered_by(2, at);
-        // the content at the last barrier, and the last write since then
-        for choice in [0, u32::MAX] {
-            let held = lines_held(&rt, alloc, left(alloc, &disk, at, choice)?)?;
-            assert!(rt;
-                held == answered || held == answered.saturating_add(1),
-                "moment {at}"
-            );
+        let answered = came.answered_by(at);
+        for kept in [(false, false), (true, true), (true, false)] {
+            let mut image = left(alloc, &disk, at, kept)?;
+            let looked = play(
+                &rt,
+                alloc,
+                &mut image,
+                &ask_for(&SERVE, &[session(LOOKING)]),
+            )?;
+            assert!(rt; holds(&looked, answered), "moment {at}");
         }
     }
     Ok(())

@@ -1,6 +1,7 @@
 //! Services whose memory is ample, and whose sources and sinks fail at some call or take a byte a call.
 use crate::service::{Came, Seat, ask_for, play, session};
 use crate::sink::{ALL, Taking, failing, slow};
+use crate::stated::{LINES, REPLIES, STATED};
 use cfs_fakes::MemoryDisk;
 use std::alloc::Global;
 use std::process::Abort;
@@ -40,6 +41,14 @@ const WHOLE: Want<'static> = Want {
     events: 6,
 };
 
+/// The stated script: a turn for each line, and the leave.
+const STATED_WHOLE: Want<'static> = Want {
+    status: 0,
+    report: "sessions 1\nreplies 15\ncollections 0\nobjects 3\nfree 53\nstatus 0\n",
+    replies: &[REPLIES],
+    events: 16,
+};
+
 /// The first reply is not written, so the create is the last line that is served.
 const CUT_REPORT: &str =
     "sessions 1\nreplies 1\ncollections 0\nobjects 2\nfree 58\nsink\nstatus 5\n";
@@ -56,16 +65,16 @@ const LOOKED: &str = "ok 64\nno empty\nno name\nok 64\n";
 fn lines_to(lines: &str, sink: Taking) -> Seat<'_> {
     Seat {
         lines,
-        is_broken: false,
+        source_fails: u64::MAX,
         sink,
     }
 }
 
-/// The source of these lines fails.
-fn broken(lines: &str) -> Seat<'_> {
+/// The source of these lines fails at this call.
+fn broken(lines: &str, source_fails: u64) -> Seat<'_> {
     Seat {
         lines,
-        is_broken: true,
+        source_fails,
         sink: ALL,
     }
 }
@@ -118,22 +127,67 @@ fn the_stored_run_is_served(rt: HostRuntime) -> Result<(), Fail> {
 
 #[test]
 fn a_sink_that_fails_ends_its_session(rt: HostRuntime) -> Result<(), Fail> {
-    let alloc = rt.alloc();
-    let none = ended(5, CUT_REPORT, &[""], 2);
-    expect(&rt, alloc, &[lines_to(STORED, failing(0))], ALL, &none)?;
     let part = ended(5, CUT_REPORT, &["o"], 2);
-    expect(&rt, alloc, &[lines_to(STORED, slow(1))], ALL, &part)?;
-    let report = "sessions 1\nreplies 2\ncollections 0\nobjects 2\nfree 58\nsink\nstatus 5\n";
-    let line = ended(5, report, &["ok 00000003903df1a0\n"], 3);
-    expect(&rt, alloc, &[lines_to(STORED, failing(1))], ALL, &line)
+    expect(&rt, rt.alloc(), &[lines_to(STORED, slow(1))], ALL, &part)
+}
+
+/// How many lines end in these bytes.
+fn lines_in(replies: &[u8]) -> usize {
+    let mut lines = 0usize;
+    for byte in replies {
+        if *byte == b'\n' {
+            lines = lines.saturating_add(1);
+        }
+    }
+    lines
+}
+
+/// The stated script beside a collection, to a sink that takes so: it holds these of the replies, and the session
+/// leaves after the line whose reply it hasn't whole.
+fn expect_taken(
+    rt: &(impl Abort + Threads + Wait + Sync),
+    alloc: Global,
+    sink: Taking,
+    taken: &[u8],
+) -> Result<(), Fail> {
+    let seats = [lines_to(STATED, sink)];
+    let asked = ask_for(&["play", "1", "0", "1"], &seats);
+    let came = play(rt, alloc, &mut None::<MemoryDisk>, &asked)?;
+    let lines = lines_in(taken).saturating_add(1).min(LINES);
+    assert!(rt; came.first() == taken && came.answered_by(u64::MAX) == lines);
+    let (status, end) = if taken.len() < REPLIES.len() {
+        (5, "\nsink\nstatus 5\n")
+    } else {
+        (0, "\nobjects 3\nfree 53\nstatus 0\n")
+    };
+    assert!(rt; came.status == status && came.report.as_slice().ends_with(end.as_bytes()));
+    Ok(())
+}
+
+#[test]
+fn each_call_of_a_sink_that_fails_cuts_the_replies(rt: HostRuntime) -> Result<(), Fail> {
+    let alloc = rt.alloc();
+    for count in 0..=REPLIES.len() {
+        let taken = &REPLIES.as_bytes()[..count];
+        expect_taken(&rt, alloc, slow(count as u64), taken)?;
+        // a sink that takes all has a call for each line
+        if count == 0 || taken[count - 1] == b'\n' {
+            expect_taken(&rt, alloc, failing(lines_in(taken) as u64), taken)?;
+        }
+    }
+    Ok(())
 }
 
 #[test]
 fn the_first_source_that_fails_is_told(rt: HostRuntime) -> Result<(), Fail> {
     let alloc = rt.alloc();
     let want = ended(6, "source 0\nstatus 6\n", &[""], 0);
-    expect(&rt, alloc, &[broken(STORED)], ALL, &want)?;
-    let seats = [session(MAKING), broken(LOOKING), broken(LOOKING)];
+    // one call gives the lines, and one tells that they end
+    for call in 0..2 {
+        expect(&rt, alloc, &[broken(STATED, call)], ALL, &want)?;
+    }
+    expect(&rt, alloc, &[broken(STATED, 2)], ALL, &STATED_WHOLE)?;
+    let seats = [session(MAKING), broken(LOOKING, 0), broken(LOOKING, 0)];
     let want = ended(6, "source 1\nstatus 6\n", &["", "", ""], 0);
     expect(&rt, alloc, &seats, ALL, &want)
 }
@@ -147,7 +201,7 @@ fn a_report_that_fails_hides_no_worse_status(rt: HostRuntime) -> Result<(), Fail
     let part = ended(5, "sessions ", &[STORED_REPLIES], 6);
     expect(&rt, alloc, &[session(STORED)], slow(9), &part)?;
     let worse = ended(6, "", &[""], 0);
-    expect(&rt, alloc, &[broken(STORED)], failing(0), &worse)
+    expect(&rt, alloc, &[broken(STORED, 0)], failing(0), &worse)
 }
 
 #[test]

@@ -17,6 +17,8 @@ mod service;
 #[cfg(test)]
 mod sink;
 #[cfg(test)]
+mod stated;
+#[cfg(test)]
 mod tests;
 #[cfg(test)]
 mod torn;

@@ -15,11 +15,11 @@ use std::test::Fail;
 use std::thread::Threads;
 use ufs_model::Event;
 
-/// A session: its request lines, whether its source fails at once, and how its sink takes.
+/// A session: its request lines, the call at which its source fails, and how its sink takes.
 #[derive(Clone, Copy)]
 pub struct Seat<'a> {
     pub lines: &'a str,
-    pub is_broken: bool,
+    pub source_fails: u64,
     pub sink: Taking,
 }
 
@@ -27,7 +27,7 @@ pub struct Seat<'a> {
 pub fn session(lines: &str) -> Seat<'_> {
     Seat {
         lines,
-        is_broken: false,
+        source_fails: u64::MAX,
         sink: ALL,
     }
 }
@@ -70,13 +70,15 @@ impl Came {
         }
     }
 
-    /// How many of the first so many lines had been answered by this moment.
-    pub fn answered_by(&self, lines: usize, at: u64) -> usize {
-        self.moments
-            .iter()
-            .take(lines)
-            .filter(|moment| **moment <= at)
-            .count()
+    /// How many lines had been answered by this moment.
+    pub fn answered_by(&self, at: u64) -> usize {
+        let mut lines = 0usize;
+        for (event, moment) in self.events.iter().zip(self.moments.iter()) {
+            if *event == b'a' && *moment <= at {
+                lines = lines.saturating_add(1);
+            }
+        }
+        lines
     }
 }
 
@@ -115,9 +117,7 @@ fn sources_of(alloc: Global, seats: &[Seat<'_>]) -> Result<Vec<MemorySource>, Al
     let mut sources = Vec::new(alloc);
     for seat in seats {
         let mut fails = Vec::new(alloc);
-        if seat.is_broken {
-            fails.push(0)?;
-        }
+        fails.push(seat.source_fails)?;
         let lines = Vec::from_slice(alloc, seat.lines.as_bytes())?;
         sources.push(MemorySource::new(lines, fails))?;
     }

@@ -1,5 +1,6 @@
 //! Whole services on a pair disk over a disk that tears its blocks, and what a crash leaves of one.
 use crate::service::{Came, ask_for, play, session};
+use crate::stated::{LOOKING, REPLIES, STATED, holds};
 use cfs_base::{Block, Disk};
 use pair_disk::{PairDisk, TornDisk, TornMemory, TornPick};
 use std::alloc::Global;
@@ -12,49 +13,9 @@ const FORMAT: [&str; 4] = ["pair-format", "volume", "1", "0"];
 
 const SERVE: [&str; 4] = ["pair-serve", "volume", "0", "0"];
 
-/// A line of each request.
-const TWELVE: &str =
-    "create-index a 4 root 0\ncreate-file f special 2e root 1\nresize f 4\nretain a 3 f\nopen g f write\n\
-    write g 1 5a\nread g 0 4\nclose g commit\nsize f\nretrieve b a 3\ndelete root 1\nslots a\n";
-
-const LOOKING: &str =
-    "retrieve a root 0\nslots a\nretrieve f root 1\nsize f\nretrieve h a 3\nread h 0 4\n";
-
-/// What a look is answered after so many of the lines, and on until the next.
-const LOOKS: [(usize, &str); 7] = [
-    (
-        0,
-        "no empty\nno name\nno empty\nno name\nno name\nno name\n",
-    ),
-    (
-        1,
-        "ok 00000003903df1a0\nok 4\nno empty\nno name\nno empty\nno name\n",
-    ),
-    (
-        2,
-        "ok 00000003903df1a0\nok 4\nok 00000006e56a5d40\nok 0\nno empty\nno name\n",
-    ),
-    (
-        3,
-        "ok 00000003903df1a0\nok 4\nok 00000006e56a5d40\nok 4\nno empty\nno name\n",
-    ),
-    (
-        4,
-        "ok 00000003903df1a0\nok 4\nok 00000006e56a5d40\nok 4\nok 00000006e56a5d40\nok 2e2e2e2e\n",
-    ),
-    (
-        8,
-        "ok 00000003903df1a0\nok 4\nok 00000006e56a5d40\nok 4\nok 00000006e56a5d40\nok 2e5a2e2e\n",
-    ),
-    (
-        11,
-        "ok 00000003903df1a0\nok 4\nno empty\nno name\nok 00000006e56a5d40\nok 2e5a2e2e\n",
-    ),
-];
-
 type Pair = PairDisk<TornMemory>;
 
-/// A volume that was made, at which moment, and what came of the twelve lines on it.
+/// A volume that was made, at which moment, and what came of the stated script on it.
 #[derive(Drop)]
 struct Recorded {
     disk: TornMemory,
@@ -73,8 +34,8 @@ fn record(rt: &(impl Abort + Threads + Wait + Sync), alloc: Global) -> Result<Re
     let mut disk = Some(PairDisk::new(TornMemory::new(alloc, 192, Vec::new(alloc))?));
     play(rt, alloc, &mut disk, &ask_for(&FORMAT, &[]))?;
     let made = moment_of(&disk);
-    let came = play(rt, alloc, &mut disk, &ask_for(&SERVE, &[session(TWELVE)]))?;
-    assert!(rt; came.events.as_slice() == b"aaaaaaaaaaaal".as_slice());
+    let came = play(rt, alloc, &mut disk, &ask_for(&SERVE, &[session(STATED)]))?;
+    assert!(rt; came.first() == REPLIES.as_bytes());
     match disk {
         Some(disk) => Ok(Recorded {
             disk: disk.into_lower(),
@@ -114,18 +75,6 @@ fn torn_at(disk: &TornMemory, at: u64) -> Option<u32> {
     None
 }
 
-/// Whether a volume that answers so holds the lines that had been answered, and at most one more.
-fn holds(came: &Came, answered: usize) -> bool {
-    let mut until = TWELVE.len();
-    for (from, look) in LOOKS.iter().rev() {
-        if came.first() == look.as_bytes() {
-            return *from <= answered.saturating_add(1) && answered < until;
-        }
-        until = *from;
-    }
-    false
-}
-
 /// Opens what a crash at this moment leaves, with these torn blocks.
 fn expect_opened(
     rt: &(impl Abort + Threads + Wait + Sync),
@@ -136,10 +85,7 @@ fn expect_opened(
 ) -> Result<(), Fail> {
     let mut disk = left(alloc, &recorded.disk, at, picks);
     let came = play(rt, alloc, &mut disk, &ask_for(&SERVE, &[session(LOOKING)]))?;
-    assert!(rt;
-        holds(&came, recorded.came.answered_by(12, at)),
-        "moment {at}"
-    );
+    assert!(rt; holds(&came, recorded.came.answered_by(at)), "moment {at}");
     Ok(())
 }
 

@@ -1,10 +1,38 @@
-use Rattle.std.proofs.Common.{◌∙◌, inl, inr, map, ap, refl, subst, arith}
+use Rattle.std.proofs.Common.{◌≡◌, ◌∙◌, ℕ, ◌+◌, ◌-◌, ◌*◌, inl, inr, map, ap, refl, subst, arith, add-zero, zero-add, None}
+use Rattle.collector_steps.specs.Left.{most_steps}
+use Rattle.cfs_core.specs.Left.{events_ahead, steps_ahead}
+use Rattle.cfs_core.specs.declared.collecting.Collections.{Collections}
 use Rattle.cfs_serve.proofs.Cited.{AreOver, Stands, opening, seat_of}
 use Rattle.cfs_serve.proofs.Playing.{IsServed, none_lost, served}
 use Rattle.cfs_serve.proofs.play.serve_ports.Goals as goal
 
 pub serve-requires-clause-new : goal.serve-requires-clause-new
 serve-requires-clause-new g c = λ lifetimes outlives. rw c.root-root.ensures c.requires.new
+
+-- so many steps, and events, as the collections have that were called for
+called_steps : (blocks n : ℕ) (c : Collections) → c ≡ record { collector = None; called = n; finished = 0 } → (steps_ahead blocks c ≡ n * most_steps blocks) × (events_ahead c ≡ 3 * n)
+called_steps blocks n c is =
+    let all : n - (0 + 0) ≡ n = omega arith in (
+      ap (steps_ahead blocks) is ∙ ap (λ m. m * most_steps blocks + 0) all ∙ add-zero (n * most_steps blocks),
+      ap events_ahead is ∙ omega (arith, all),
+    )
+
+called_for : (c : Collections) (n : ℕ) → c ≡ record { collector = None; called = 0; finished = 0 } → record c { called = c.called + n } ≡ record { collector = None; called = n; finished = 0 }
+called_for c n is = ap (λ (x : Collections). record x { called = x.called + n }) is ∙ ap (λ (m : ℕ). record { collector = None; called = m; finished = 0 }) (zero-add n)
+
+pub serve-requires-clause-turns : goal.serve-requires-clause-turns
+serve-requires-clause-turns g c = λ lifetimes outlives.
+    let core = c.call_for.new.self in
+    let is = ap (λ k. k.collections) c.call_for.ensures ∙ called_for c.args.core.collections c.args.collections c.requires.idle in
+    let called = called_steps (g.D.Disk.blocks core.disk) c.args.collections core.collections is in
+    let each : c.args.collections * c.most_steps.result ≡ c.args.collections * most_steps (g.D.Disk.blocks core.disk) = ap (λ n. c.args.collections * n) c.most_steps.ensures.steps in
+    omega (arith, called.0, each, c.requires.turns, c.count_steps-steps.ensures)
+
+pub serve-requires-clause-events : goal.serve-requires-clause-events
+serve-requires-clause-events g c = λ lifetimes outlives.
+    let core = c.call_for.new.self in
+    let is = ap (λ k. k.collections) c.call_for.ensures ∙ called_for c.args.core.collections c.args.collections c.requires.idle in
+    omega (arith, (called_steps 0 c.args.collections core.collections is).1)
 
 pub serve-requires-clause-swept : goal.serve-requires-clause-swept
 serve-requires-clause-swept g c = λ lifetimes outlives graph stands.
@@ -24,8 +52,11 @@ returns g c =
       later = facts.later;
       ends = facts.ends;
       stop = facts.stop;
+      few = facts.few;
       collected = facts.collected.0;
       wanting = facts.collected.1;
+      tallied = facts.tallied;
+      rise = facts.rise;
       size = facts.size;
       lasts = facts.lasts;
       faults = facts.counted;

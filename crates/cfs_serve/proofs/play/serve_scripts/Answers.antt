@@ -35,17 +35,14 @@ module _ {D : Type 0} (g : Ghosts D) (core : Kernel D) (collections : ℕ) (befo
   )
 
 -- the ports' turns are the lines, and a leave each
-pub serve_ports-played-requires-clause-room : goal.serve_ports-played-requires-clause-room
-serve_ports-played-requires-clause-room g c =
+pub serve_ports-played-requires-clause-turns : goal.serve_ports-played-requires-clause-turns
+serve_ports-played-requires-clause-turns g c =
     let made = c.in-Some.ensures in
     let work = new_work c.root.result c.in-Some.ports.items c.args.scripts.scripts.items made.new made.lines in
-    omega (arith, work, c.requires.lines, c.requires.count, c.in_default.ensures.room)
+    omega (arith, work, c.requires.lines, c.requires.count)
 
 pub serve_ports-played-requires-clause-few : goal.serve_ports-played-requires-clause-few
-serve_ports-played-requires-clause-few g c =
-    let made = c.in-Some.ensures in
-    let work = new_work c.root.result c.in-Some.ports.items c.args.scripts.scripts.items made.new made.lines in
-    omega (arith, work, c.requires.lines, c.requires.fits, c.requires.count, c.requires.sessions, c.requires.most)
+serve_ports-played-requires-clause-few g c = omega (arith, c.requires.fits, c.requires.count, c.requires.sessions, c.requires.most)
 
 pub serve_ports-played-requires-clause-sessions : goal.serve_ports-played-requires-clause-sessions
 serve_ports-played-requires-clause-sessions g c =

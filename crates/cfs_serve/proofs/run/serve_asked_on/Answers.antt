@@ -1,22 +1,22 @@
-use Rattle.std.proofs.Common.{◌≡◌, ℕ, List, Option, Some, None, map, rules}
+use Rattle.std.proofs.Common.{◌≡◌, ℕ, Bool, List, Option, Some, None, map, rules}
 use Rattle.cfs_serve.proofs.Cited.{Asked, Asks, AsksSessions, Ending, Event, Files, Ghosts, HasDisk, InMemory, Intake, Report, Service, Supply, asked_by, files_in, ground_of, new_ground, option_map, string_bytes}
 use Rattle.cfs_serve.specs.Words.{Serves}
 use Rattle.cfs_serve.proofs.run.serve_asked_on.Goals as goal
 
 -- a service on a volume in memory has no disk
-asks_in_memory : {D : Type 0} (g : Ghosts D) (asked : Asked) (cylinders seed collections : ℕ) (sessions : List Files) (disk : Option D) (sources sources_after : List Supply) (sinks sinks_after : List Intake) (report : Report)
-    (ending : Ending) (trail : List Event) → asked ≡ Serves (record { volume = InMemory cylinders; seed = seed; collections = collections; sessions = sessions }) → HasDisk asked (option_map g.blocks disk)
+asks_in_memory : {D : Type 0} (g : Ghosts D) (asked : Asked) (cylinders seed collections : ℕ) (sessions : List Files) (traced : Bool) (disk : Option D) (sources sources_after : List Supply) (sinks sinks_after : List Intake) (report : Report)
+    (ending : Ending) (trail : List Event) → asked ≡ Serves (record { volume = InMemory cylinders; seed = seed; collections = collections; sessions = sessions; traced = traced }) → HasDisk asked (option_map g.blocks disk)
     → AsksSessions (new_ground cylinders seed) seed collections (record { disk = None; sources = sources; sinks = sinks }) (record { disk = None; sources = sources_after; sinks = sinks_after }) report ending trail
     → Asks asked (ground_of g asked disk) (record { disk = option_map g.faults disk; sources = sources; sinks = sinks }) (record { disk = option_map g.faults disk; sources = sources_after; sinks = sinks_after }) report ending trail
-asks_in_memory g asked cylinders seed collections sessions None sources sources_after sinks sinks_after report ending trail is has asks = rw is asks
-asks_in_memory g asked cylinders seed collections sessions (Some d) sources sources_after sinks sinks_after report ending trail is has asks = absurd (cc (rw is at has))
+asks_in_memory g asked cylinders seed collections sessions traced None sources sources_after sinks sinks_after report ending trail is has asks = rw is asks
+asks_in_memory g asked cylinders seed collections sessions traced (Some d) sources sources_after sinks sinks_after report ending trail is has asks = absurd (cc (rw is at has))
 
 pub returns-in-Some-clause-asks : goal.returns-in-Some-clause-asks
 returns-in-Some-clause-asks g c =
     let asked = c.in-Some.asked in
     let sessions = files_in (map string_bytes asked.files.now) in
-    let service : Service = record { volume = InMemory asked.cylinders; seed = asked.seed; collections = asked.collections; sessions = sessions } in
+    let service : Service = record { volume = InMemory asked.cylinders; seed = asked.seed; collections = asked.collections; sessions = sessions; traced = asked.traced } in
     let is : asked_by c.args.words.now ≡ Serves service = search rules in
     let played = c.play-played in
-    asks_in_memory g.D.Disk (asked_by c.args.words.now) asked.cylinders asked.seed asked.collections sessions c.args.disk (map g.S.Source.supply c.args.sources.now.items) (map g.S.Source.supply played.new.sources.items)
+    asks_in_memory g.D.Disk (asked_by c.args.words.now) asked.cylinders asked.seed asked.collections sessions asked.traced c.args.disk (map g.S.Source.supply c.args.sources.now.items) (map g.S.Source.supply played.new.sources.items)
     (map g.K.Sink.intake c.args.sinks.now.items) (map g.K.Sink.intake played.new.sinks.items) played.result.report played.result.ending played.result.trail.events is c.requires.disk played.ensures

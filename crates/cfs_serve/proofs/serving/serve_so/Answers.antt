@@ -8,6 +8,6 @@ returns-in-Ok-clause-left g c =
 
 pub returns-in-Ok-clause-collected : goal.returns-in-Ok-clause-collected
 returns-in-Ok-clause-collected g c = (
-  λ whole unspent. c.into_parts.ensures.collected (none_left c.in-Ok.hall.ports c.in-Ok.hall.turns c.in-Ok.ensures.done) whole unspent,
+  λ whole. c.into_parts.ensures.collected (none_left c.in-Ok.hall.ports c.in-Ok.hall.turns c.in-Ok.ensures.done) whole,
   c.into_parts.ensures.wanting,
 )

@@ -7,7 +7,19 @@ use Rattle.cfs_serve.proofs.hall.Hall.collector_turn.Goals as goal
 pub collect-progress-requires : goal.collect-progress-requires
 collect-progress-requires g c =
     let some : 0 < c.self.inside.rest.turns = omega (arith, ap (λ h. h.turns) c.self.view_is, c.requires) in
-    omega (arith, c.self.invariant.1, c.self.invariant.4 some)
+    let left = c.self.invariant.4 some in
+    omega (arith, c.self.invariant.1, left.1)
+
+pub after-self-inside-requires : goal.after-self-inside-requires
+after-self-inside-requires g c =
+    let some : 0 < c.self.inside.rest.turns = omega (arith, ap (λ h. h.turns) c.self.view_is, c.requires) in
+    let left = c.self.invariant.4 some in
+    record {
+      some = some;
+      more = λ made. let spends = c.collect-progress.ensures.spends made in omega (arith, spends.0, left.0);
+      room = λ made. let spends = c.collect-progress.ensures.spends made in omega (arith, spends.1, left.1);
+      paired = omega (arith, left.1);
+    }
 
 pub invariant_of-self : goal.invariant_of-self
 invariant_of-self g c =
@@ -23,16 +35,21 @@ invariant_of-self g c =
     let turns = c.self.inside.rest.turns in
     let events = c.self.inside.rest.events in
     let refused = c.self.inside.rest.refused in
-    let spent = c.self.inside.rest.spent in
     let some : 0 < turns = omega (arith, ap (λ h. h.turns) c.self.view_is, c.requires) in
-    let left = c.after-self-inside.result.events in (
-      heard_on t g.A.Server.clock old new ports progress turns events refused spent k.0 k.1 k.2 k.4 k.5 some steps,
-      room_on t g.A.Server.clock old new ports progress turns events refused spent k.0 k.1 k.2 k.4 k.5 some steps left (omega (arith, told, rest.room)),
-      few_on t g.A.Server.clock old new ports progress turns events refused spent k.0 k.1 k.2 k.4 k.5 some steps left (omega (arith, told, rest.room)),
+    let left = k.4 some in
+    let paired : 0 < turns → 0 < events = (λ more. omega (arith, left.1)) in
+    let now = c.after-self-inside.result.events in (
+      heard_on t g.A.Server.clock old new ports progress turns events refused k.0 k.1 k.2 paired k.5 some steps,
+      room_on t g.A.Server.clock old new ports progress turns events refused k.0 k.1 k.2 paired k.5 some steps now (omega (arith, told, rest.room)),
+      few_on t g.A.Server.clock old new ports progress turns events refused k.0 k.1 k.2 paired k.5 some steps now (omega (arith, told, rest.room)),
       k.3,
-      rest.paired,
-      quiet_on t g.A.Server.clock old new ports progress turns events refused spent k.0 k.1 k.2 k.4 k.5 some steps _ _ _,
-      λ over whole unspent. c.collect-progress.ensures.idle (rest.idle over whole unspent),
+      λ more.
+          let made = rest.stays more in
+          let spends = c.collect-progress.ensures.spends made in
+          let costs = rest.made made in
+          (omega (arith, spends.0, left.0, costs.0), omega (arith, spends.1, left.1, costs.1)),
+      quiet_on t g.A.Server.clock old new ports progress turns events refused k.0 k.1 k.2 paired k.5 some steps _ _,
+      λ over whole. c.collect-progress.ensures.idle (rest.idle over whole),
       rest.on,
       counted_step g.A.Server.faults g.A.Asker.stands t old new c.collect-progress.ensures.raised c.after-self-inside.result.refused
           (subst (λ o. AreCounted g.A.Server.faults g.A.Asker.stands t (first_fault o) old.server old.events) (k.7 some) k.8) (λ quiet. c.collect-progress.ensures.quiet (rw rest.refused at quiet)),

@@ -10,11 +10,11 @@ returns-clause-ends g c =
     let kept = c.self.invariant in
     let server = c.self.inside.journal.server in
     let rest = c.self.inside.rest in
-    let ending : Ending = record { stop = c.stopped-stop.result; refused = rest.refused; spent = rest.spent } in
+    let ending : Ending = record { stop = c.stopped-stop.result; refused = rest.refused } in
     rw (made.server, made.events) (record {
       later = λ begun at. (made.told.since begun at).later;
       since = λ begun at.
           ends g.A.Server.faults g.A.Server.has_stopped g.A.Server.is_damaged g.A.Server.stop begun server ending t.collections c.self.inside.journal.events
           (g.A.Server.stopped_so server) (g.A.Server.damaged_so server) (c.stopped-stop.ensures ∙ ap g.A.Server.stop made.server) made.stops kept.9
-          (λ none. let quiet = kept.5 none in (quiet.1, quiet.2)) (made.told.since begun at) (kept.8.told begun at);
+          (λ none. (kept.5 none).1) (made.told.since begun at) (kept.8.told begun at);
     })

@@ -1,31 +1,56 @@
-use Rattle.std.proofs.Common.{◌≡◌, ◌+◌, ◌*◌, false, Option, None, arith, ap, length, subst, sym}
-use Rattle.cfs_serve.proofs.Cited.{AreCounted, CollectFault, Rest, TellsStop, first_fault}
+use Rattle.std.proofs.Common.{◌≡◌, ◌⊎◌, ◌+◌, ◌*◌, ◌<◌, ◌≤◌, ℕ, inl, inr, Option, None, arith, ap, length, subst, sym}
+use Rattle.cfs_serve.proofs.Cited.{AreCounted, CollectFault, Rest, TellsStop, cases_lt, first_fault}
 use Rattle.cfs_serve.proofs.Served.{fresh_heard}
 use Rattle.cfs_serve.proofs.hall.Hall.new.Goals as goal
+
+-- what is left at first: nothing where no collection is called for
+record IsFirst (collections turns : ℕ) (rest : Rest) : Type 0 where
+  pub refused : rest.refused ≡ None
+  pub events : rest.events ≤ 3 * collections + 1
+  pub none : collections ≡ 0 → rest.turns ≡ 0
+  pub some : 0 < collections → (rest.turns ≡ turns) × (rest.events ≡ 3 * collections + 1)
+
+first_is : (collections turns : ℕ) (rest : Rest) → (collections ≡ 0 → rest ≡ record { turns = 0; events = 0; refused = None })
+    → (0 < collections → rest ≡ record { turns = turns; events = 3 * collections + 1; refused = None }) → IsFirst collections turns rest
+first_is collections turns rest none some = elim (cases_lt 0 collections) [
+  | inl more ↦ (let is = some more in record {
+    refused = ap (λ (r : Rest). r.refused) is;
+    events = omega (arith, ap (λ (r : Rest). r.events) is);
+    none = λ no. absurd (omega (arith, no, more));
+    some = λ _. (ap (λ (r : Rest). r.turns) is, ap (λ (r : Rest). r.events) is);
+  })
+  | inr few ↦ (let is = none (omega (arith, few)) in record {
+    refused = ap (λ (r : Rest). r.refused) is;
+    events = omega (arith, ap (λ (r : Rest). r.events) is);
+    none = λ _. ap (λ (r : Rest). r.turns) is;
+    some = λ more. absurd (omega (arith, more, few));
+  })
+]
 
 pub invariant_of-result : goal.invariant_of-result
 invariant_of-result g c =
     let t = g.J.Charter.charter in
     let made = c.new.ensures in
-    let turns : c.new-2.result.turns ≡ c.args.collections * 8589934592 = ap (λ (r : Rest). r.turns) c.new-2.ensures in
-    let events : c.new-2.result.events ≡ 3 * c.args.collections + 1 = ap (λ (r : Rest). r.events) c.new-2.ensures in
-    let refused : c.new-2.result.refused ≡ None = ap (λ (r : Rest). r.refused) c.new-2.ensures in
-    let spent : c.new-2.result.spent ≡ false = ap (λ (r : Rest). r.spent) c.new-2.ensures in (
+    let rest = first_is c.args.collections c.args.turns c.new-2.result c.new-2.ensures.none c.new-2.ensures.some in (
       rw made.events (fresh_heard t c.args.ports.items c.requires.fresh),
-      omega (arith, made.room, c.requires.room, events),
-      omega (arith, ap length made.events, c.requires.few, events),
+      omega (arith, made.room, c.requires.room, rest.events),
+      omega (arith, ap length made.events, c.requires.few, rest.events),
       c.requires.sessions,
-      λ some. omega (arith, events),
-      λ none. (omega (arith, none, c.requires.charter, turns), refused, spent),
-      λ over whole unspent begun graph is standing.
-          let none : t.collections ≡ 0 = omega (arith, over, turns, c.requires.charter) in
-          rw made.events (sym none),
-      λ some. refused,
-      subst (λ (o : Option CollectFault). AreCounted g.A.Server.faults g.A.Asker.stands t (first_fault o) c.new.result.server c.new.result.events) (sym refused)
+      λ more. elim (cases_lt 0 c.args.collections) [
+        | inl some ↦ (let is = rest.some some in rw made.server (omega (arith, is.0, c.requires.turns), omega (arith, is.1, c.requires.events)))
+        | inr none ↦ absurd (omega (arith, more, rest.none (omega (arith, none))))
+      ],
+      λ none. (rest.none (omega (arith, none, c.requires.charter)), rest.refused),
+      λ over whole. elim (cases_lt 0 c.args.collections) [
+        | inl some ↦ absurd (omega (arith, over, (rest.some some).0, c.requires.turns))
+        | inr none ↦ (let called : t.collections ≡ 0 = omega (arith, none, c.requires.charter) in rw made.events (sym called))
+      ],
+      λ some. rest.refused,
+      subst (λ (o : Option CollectFault). AreCounted g.A.Server.faults g.A.Asker.stands t (first_fault o) c.new.result.server c.new.result.events) (sym rest.refused)
           (rw (made.events, made.server) (record {
             told = λ begun at. (c.requires.told.since begun at).later;
             stops = λ begun graph at standing. (c.requires.told.since begun at).later;
           })),
-      subst (λ (o : Option CollectFault). TellsStop o (g.A.Server.stop c.new.result.server)) (sym refused) tt,
-      λ wants. absurd (cc (refused, wants)),
+      subst (λ (o : Option CollectFault). TellsStop o (g.A.Server.stop c.new.result.server)) (sym rest.refused) tt,
+      λ wants. absurd (cc (rest.refused, wants)),
     )

@@ -30,13 +30,13 @@ invariant_of-self g c =
       omega (arith, less, k.1, moves.room),
       omega (arith, less, k.2, ap length moves.recorded, length-append c.self.inside.journal.events (moves.event ∷ [])),
       rw length-set k.3,
-      k.4,
+      λ more. let left = k.4 more in let passes = c.port_turn.ensures.passes in (omega (arith, left.0, passes.steps, less), omega (arith, left.1, passes.events)),
       k.5,
-      λ over whole unspent. rw moves.recorded (collected_by g.A.Asker.stands g.J.Charter.charter c.self.inside.journal.events c.args.session p q moves.event moves.kind (k.6 over whole unspent)),
+      λ over whole. rw moves.recorded (collected_by g.J.Charter.charter.collections c.self.inside.journal.events c.args.session p q moves.event moves.kind (k.6 over whole)),
       k.7,
       counted_turn g.A.Server.faults g.A.Asker.stands g.J.Charter.charter c.self.inside.journal c.port_turn.new.journal c.port_turn.ensures.raised _ k.8,
       tells_on c.self.inside.rest.refused (g.A.Server.stop c.self.inside.journal.server) (g.A.Server.stop c.port_turn.new.journal.server) c.port_turn.ensures.stays k.9,
-      λ wants. rw moves.recorded (wanting_by g.A.Asker.stands g.J.Charter.charter c.self.inside.journal.events c.args.session p q moves.event moves.kind (k.10 wants)),
+      λ wants. rw moves.recorded (wanting_by g.J.Charter.charter.collections c.self.inside.journal.events c.args.session p q moves.event moves.kind (k.10 wants)),
     )
 
 pub returns-clause-turn : goal.returns-clause-turn
@@ -51,7 +51,7 @@ returns-clause-turn g c =
       ports = refl;
       moves = c.port_turn.ensures.moves;
       stamped = c.port_turn.ensures.stamped;
-      collector = (refl, refl, refl, refl);
+      collector = (refl, refl, refl);
     })
 
 pub returns-clause-raised : goal.returns-clause-raised

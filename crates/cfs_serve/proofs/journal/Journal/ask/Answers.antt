@@ -1,8 +1,9 @@
-use Rattle.std.proofs.Common.{◌∷◌, [], ◌∙◌, ap, sym, length-append, arith, ◌||◌}
+use Rattle.std.proofs.Common.{refl, ◌∷◌, [], ◌∙◌, ap, sym, length-append, arith, ◌||◌}
 use Rattle.cfs_serve.proofs.Cited.{tells_disk, wants_memory}
 use Rattle.ufs_model.specs.declared.asked.Event.TheVariants as events
 use Rattle.cfs_serve.proofs.Asking.{asked_makes}
 use Rattle.cfs_serve.proofs.Journals.{any-push, lasts_on, run_on, told_on}
+use Rattle.cfs_serve.proofs.Keeping.{kept_on}
 use Rattle.cfs_serve.proofs.Raising.{asked_raised}
 use Rattle.cfs_serve.proofs.Stopping.{stays, stops_on}
 use Rattle.cfs_serve.proofs.journal.Journal.ask.Goals as goal
@@ -21,7 +22,7 @@ invariant_of-self g c =
       run_on g.A.Asker.stands g.A.Server.has_stopped g.A.Server.is_damaged g.A.Server.tally t trail old new kept.0 answer.tells.stays answer.undamaged e
           (λ s standing. asked_makes (g.A.Asker.stands new) (g.A.Asker.seed old) t.seed kept.1 s c.args.session c.args.request reply (answer.event s standing))
           (λ s standing some lost least. rw (← kept.2) (answer.exact s standing (rw kept.2 some) lost least))
-          (λ s standing. rw (← kept.1) (answer.tallies s standing)) kept.7,
+          (λ s standing. rw (← kept.1) (answer.tallies s standing)),
       answer.seed ∙ kept.1,
       answer.size ∙ kept.2,
       omega (arith, answer.drawn, kept.3, length-append trail (e ∷ [])),
@@ -31,6 +32,7 @@ invariant_of-self g c =
       answer.called ∙ kept.7,
       c.failed_by-self-inside.ensures c.args.session c.args.request ∙ ap (λ b. tells_disk e || b) kept.8 ∙ sym (any-push tells_disk trail e),
       stops_on (g.A.Server.stop old) (g.A.Server.stop new) trail (e ∷ []) kept.9 answer.stops,
+      kept_on g.A.Server.clock g.A.Server.has_stopped g.A.Server.tally t trail c.self.inside.trail.moments old new kept.10 answer.tells.stays answer.passes e refl refl,
     )
 
 pub returns-clause-stays : goal.returns-clause-stays
@@ -45,3 +47,6 @@ pub returns-clause-raised : goal.returns-clause-raised
 returns-clause-raised g c =
     let answer = c.answer-reply.ensures in
     rw (← c.self.view_is) (asked_raised g.A.Server.faults g.A.Asker.stands g.J.Charter.charter _ _ c.args.session c.args.request c.answer-reply.result c.push.ensures.events answer.tells.later answer.tells.told)
+
+pub returns-clause-passes : goal.returns-clause-passes
+returns-clause-passes g c = rw (← c.self.view_is) c.answer-reply.ensures.passes

@@ -1,7 +1,8 @@
 use Rattle.std.proofs.Common.{◌≡◌, ◌∙◌, ◌++◌, ap, sym, length-append, arith}
 use Rattle.cfs_serve.proofs.Cited.{append-nil, event_by, fails, recorded, tells_disk, wants_memory}
 use Rattle.cfs_serve.proofs.Journals.{told_step}
-use Rattle.cfs_serve.proofs.Stepping.{collected_at, lasts_step, nobodys, quiet_made, run_step, silent, silent_step, unwanting, wanting_at, wanting_made}
+use Rattle.cfs_serve.proofs.Keeping.{collected_at, kept_step, wanting_at}
+use Rattle.cfs_serve.proofs.Stepping.{lasts_step, nobodys, quiet_made, run_step, silent, silent_step, unwanting, wanting_made}
 use Rattle.cfs_serve.proofs.Stopping.{stops_on}
 use Rattle.cfs_serve.proofs.Raising.{step_raised}
 use Rattle.cfs_serve.proofs.journal.Journal.collect.Goals as goal
@@ -17,7 +18,7 @@ invariant_of-self g c =
     let kept = c.self.invariant in
     rw (c.push_some.ensures.events, c.push_some.ensures.moments, c.told_of-event.ensures.event, c.moment-moment.ensures.clock) (
       run_step trail g.A.Asker.stands g.A.Server.has_stopped g.A.Server.is_damaged g.A.Server.tally t old new kept.0 (event_by made) (nobodys made) did.tells.0.stays did.undamaged
-          (λ s standing. rw (← kept.1) (did.event s standing)) (λ s standing. rw (← kept.1) (did.tallies s standing)) kept.7,
+          (λ s standing. rw (← kept.1) (did.event s standing)) (λ s standing. rw (← kept.1) (did.tallies s standing)),
       did.seed ∙ kept.1,
       did.size ∙ kept.2,
       omega (arith, did.drawn, kept.3, length-append trail (recorded (event_by made))),
@@ -28,6 +29,7 @@ invariant_of-self g c =
       did.called ∙ kept.7,
       kept.8 ∙ silent_step trail tells_disk silent (event_by made) (nobodys made),
       stops_on (g.A.Server.stop old) (g.A.Server.stop new) trail (recorded (event_by made)) kept.9 did.stops.0,
+      kept_step g.A.Server.clock g.A.Server.has_stopped g.A.Server.tally t trail c.self.inside.trail.moments old new kept.10 did.tells.0.stays kept.7 made did.passes,
     )
 
 pub returns-clause-refusal : goal.returns-clause-refusal
@@ -55,10 +57,12 @@ returns-clause-idle g c = λ idle.
     let did = c.collect-made.ensures in
     let kept = c.self.invariant in
     let all = rw (c.told_of-event.ensures.idle idle) at did.ends in
-    let run = run_step trail g.A.Asker.stands g.A.Server.has_stopped g.A.Server.is_damaged g.A.Server.tally t old new kept.0 (event_by made) (nobodys made) did.tells.0.stays did.undamaged
-    (λ s standing. rw (← kept.1) (did.event s standing)) (λ s standing. rw (← kept.1) (did.tallies s standing)) kept.7 in
+    let now = kept_step g.A.Server.clock g.A.Server.has_stopped g.A.Server.tally t trail c.self.inside.trail.moments old new kept.10 did.tells.0.stays kept.7 made did.passes in
     rw (c.push_some.ensures.events, c.told_of-event.ensures.event)
-    (collected_at trail g.A.Asker.stands g.A.Server.has_stopped g.A.Server.is_damaged g.A.Server.tally t new (event_by made) run all.0 (all.1 ∙ did.called ∙ kept.7))
+    (collected_at g.A.Server.clock g.A.Server.has_stopped g.A.Server.tally t (trail ++ recorded (event_by made)) _ new now all.0 (all.1 ∙ did.called ∙ kept.7))
+
+pub returns-clause-spends : goal.returns-clause-spends
+returns-clause-spends g c = λ made. rw (← c.self.view_is) (c.told_of-event.ensures.spends made (g.A.Server.tally c.self.inside.server) (g.A.Server.tally c.collect-made.new.self) c.collect-made.ensures.passes.spends)
 
 pub returns-clause-raised : goal.returns-clause-raised
 returns-clause-raised g c =
@@ -82,4 +86,4 @@ returns-clause-wanting g c = λ wants.
     let made = wanting_made c.collect-made.result (sym c.told_of-event.ensures.refusal ∙ wants) in
     let due = rw made at did.ends in
     rw (c.push_some.ensures.events, c.told_of-event.ensures.event, made, append-nil trail)
-    (wanting_at trail g.A.Asker.stands g.A.Server.has_stopped g.A.Server.is_damaged g.A.Server.tally t c.self.inside.server c.self.invariant.0 due.0 due.1 due.2 c.self.invariant.7)
+    (wanting_at g.A.Server.clock g.A.Server.has_stopped g.A.Server.tally t trail c.self.inside.trail.moments c.self.inside.server c.self.invariant.10 due.0 due.1 due.2 c.self.invariant.7)

@@ -1,7 +1,8 @@
-use Rattle.std.proofs.Common.{◌∷◌, [], ◌∙◌, sym, length-append, arith}
+use Rattle.std.proofs.Common.{refl, ◌∷◌, [], ◌∙◌, sym, length-append, arith}
 use Rattle.cfs_serve.proofs.Cited.{tells_disk, wants_memory}
 use Rattle.ufs_model.specs.declared.asked.Event.TheVariants as events
 use Rattle.cfs_serve.proofs.Journals.{any-push, lasts_on, run_on, told_on}
+use Rattle.cfs_serve.proofs.Keeping.{kept_on}
 use Rattle.cfs_serve.proofs.Raising.{left_raised}
 use Rattle.cfs_serve.proofs.Stopping.{stays, stops_on}
 use Rattle.cfs_serve.proofs.journal.Journal.leave.Goals as goal
@@ -18,7 +19,7 @@ invariant_of-self g c =
     let kept = c.self.invariant in
     rw (c.push.ensures.events, c.push.ensures.moments, c.moment-moment.ensures.clock) (
       run_on g.A.Asker.stands g.A.Server.has_stopped g.A.Server.is_damaged g.A.Server.tally t trail old new kept.0 left.tells.stays left.undamaged e
-          (λ s standing. rw (← kept.1) (left.event s standing)) (λ s standing some lost least. tt) (λ s standing. rw (← kept.1) (left.tallies s standing)) kept.7,
+          (λ s standing. rw (← kept.1) (left.event s standing)) (λ s standing some lost least. tt) (λ s standing. rw (← kept.1) (left.tallies s standing)),
       left.seed ∙ kept.1,
       left.size ∙ kept.2,
       omega (arith, left.drawn, kept.3, length-append trail (e ∷ [])),
@@ -28,6 +29,7 @@ invariant_of-self g c =
       left.called ∙ kept.7,
       kept.8 ∙ sym (any-push tells_disk trail e),
       stops_on (g.A.Server.stop old) (g.A.Server.stop new) trail (e ∷ []) kept.9 left.stops,
+      kept_on g.A.Server.clock g.A.Server.has_stopped g.A.Server.tally t trail c.self.inside.trail.moments old new kept.10 left.tells.stays left.passes e refl refl,
     )
 
 pub returns-clause-stays : goal.returns-clause-stays
@@ -40,3 +42,6 @@ returns-clause-raised g c =
     let left = c.leave-stopped.ensures in
     rw (← c.self.view_is) (left_raised g.A.Asker.stands g.A.Server.has_stopped g.A.Server.is_damaged g.A.Server.tally g.A.Server.faults g.J.Charter.charter _ _ c.args.session c.leave-stopped.result c.self.invariant.0
     c.push.ensures.events left.tells.later left.halts)
+
+pub returns-clause-passes : goal.returns-clause-passes
+returns-clause-passes g c = rw (← c.self.view_is) c.leave-stopped.ensures.passes

@@ -2,6 +2,7 @@ use Rattle.std.proofs.Common.{◌∷◌, [], ◌∙◌, ap, sym, refl, length-ap
 use Rattle.cfs_serve.proofs.Cited.{tells_disk, wants_memory}
 use Rattle.ufs_model.specs.declared.asked.Event.TheVariants as events
 use Rattle.cfs_serve.proofs.Journals.{any-push, lasts_on, run_on, told_on, unread_makes, unread_tallies, unread_tells}
+use Rattle.cfs_serve.proofs.Keeping.{kept_on, unread_passes}
 use Rattle.cfs_serve.proofs.Raising.{never_raised}
 use Rattle.cfs_serve.proofs.Stopping.{stops_calm, stops_on}
 use Rattle.cfs_serve.proofs.journal.Journal.unread.Goals as goal
@@ -15,7 +16,7 @@ invariant_of-self g c =
     let kept = c.self.invariant in
     rw (c.push.ensures.events, c.push.ensures.moments, c.moment-moment.ensures.clock) (
       run_on g.A.Asker.stands g.A.Server.has_stopped g.A.Server.is_damaged g.A.Server.tally t trail server server kept.0 (λ is. is) (λ s standing sound. sound) e
-          (unread_makes g.A.Asker.stands t.seed server c.args.session c.args.why) (λ s standing some lost least. tt) (λ s standing. unread_tallies g.A.Server.has_stopped g.A.Server.tally t.seed server s c.args.session c.args.why) kept.7,
+          (unread_makes g.A.Asker.stands t.seed server c.args.session c.args.why) (λ s standing some lost least. tt) (λ s standing. unread_tallies g.A.Server.has_stopped g.A.Server.tally t.seed server s c.args.session c.args.why),
       kept.1,
       kept.2,
       omega (arith, kept.3, length-append trail (e ∷ [])),
@@ -27,7 +28,11 @@ invariant_of-self g c =
       kept.7,
       kept.8 ∙ sym (any-push tells_disk trail e),
       stops_on (g.A.Server.stop server) (g.A.Server.stop server) trail (e ∷ []) kept.9 (stops_calm (g.A.Server.stop server) e refl),
+      kept_on g.A.Server.clock g.A.Server.has_stopped g.A.Server.tally t trail c.self.inside.trail.moments server server kept.10 (λ is. is) (unread_passes g.A.Server.clock g.A.Server.tally server) e refl refl,
     )
 
 pub returns-clause-raised : goal.returns-clause-raised
 returns-clause-raised g c = rw (← c.self.view_is) (never_raised g.A.Server.faults g.A.Asker.stands g.J.Charter.charter _ _ (events.Unread c.args.session c.args.why) c.push.ensures.events (omega arith) refl refl)
+
+pub returns-clause-passes : goal.returns-clause-passes
+returns-clause-passes g c = rw (← c.self.view_is) (unread_passes g.A.Server.clock g.A.Server.tally c.self.inside.server)

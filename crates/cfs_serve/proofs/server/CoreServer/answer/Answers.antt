@@ -1,5 +1,5 @@
 use Rattle.std.proofs.Common.{arith}
-use Rattle.cfs_serve.proofs.Owed.{asked, exact_of, short_fits, stops, tallied, tells, undamaged}
+use Rattle.cfs_serve.proofs.Owed.{asked, exact_of, passes, short_fits, stops, tallied, tells, undamaged}
 use Rattle.ufs_model.specs.declared.asked.Event.TheVariants as events
 use Rattle.cfs_serve.proofs.server.CoreServer.answer.Goals as goal
 
@@ -33,3 +33,6 @@ pub returns-clause-lasts : goal.returns-clause-lasts
 returns-clause-lasts g c = λ graph trail marks s at stands run.
     c.runs_survive.ensures.event c.args.self.now.words.seed graph trail marks s c.args.self.now.disk c.ask-reply.new.self.disk at run
     (events.Ask c.args.who c.args.request.now c.ask-reply.result) (c.ask-reply.ensures.event s stands).survives
+
+pub returns-clause-passes : goal.returns-clause-passes
+returns-clause-passes g c = passes g.D.Disk c.args.self.now c.ask-reply.new.self c.args.who c.args.request.now c.ask-reply.result c.ask-reply.ensures

@@ -1,5 +1,5 @@
 use Rattle.std.proofs.Common.{arith}
-use Rattle.cfs_serve.proofs.Collecting.{ends, goes_on, halts, made, stops, tallies, tells, undamaged}
+use Rattle.cfs_serve.proofs.Collecting.{ends, goes_on, halts, made, passes, stops, tallies, tells, undamaged}
 use Rattle.cfs_serve.proofs.Playing.{none_lost}
 use Rattle.cfs_serve.proofs.server.CoreServer.collect.Goals as goal
 
@@ -31,3 +31,6 @@ returns-clause-size g c = omega (arith, c.has_room.ensures.size, c.has_room-2.en
 
 pub returns-clause-halts : goal.returns-clause-halts
 returns-clause-halts g c = λ s stands. halts g.D.Disk c.args.self.now c.collect-step.new.self c.collect-step.result c.collect-step.ensures s stands
+
+pub returns-clause-passes : goal.returns-clause-passes
+returns-clause-passes g c = passes g.D.Disk c.args.self.now c.collect-step.new.self c.collect-step.result c.collect-step.ensures

@@ -1,7 +1,7 @@
 use Rattle.std.proofs.Common.{arith, refl, None, Some}
 use Rattle.ufs_model.specs.declared.asked.Event.TheVariants as events
 use Rattle.cfs_serve.proofs.Leaves.{raised, stops_calm, stops_halted, undamaged}
-use Rattle.cfs_serve.proofs.Owed.{left_tallies}
+use Rattle.cfs_serve.proofs.Owed.{left_passes, left_tallies}
 use Rattle.cfs_serve.proofs.server.CoreServer.leave.Goals as goal
 
 pub returns-in-Ok-clause-event : goal.returns-in-Ok-clause-event
@@ -16,11 +16,11 @@ returns-in-Err-clause-event g c = λ s stands.
 
 pub returns-in-Ok-clause-tallies : goal.returns-in-Ok-clause-tallies
 returns-in-Ok-clause-tallies g c = λ s stands.
-    left_tallies g.D.Disk c.args.self.now c.leave-left.new.self c.args.who None s (c.in-Ok.ensures.event s stands) c.leave-left.ensures.collections
+    left_tallies g.D.Disk c.args.self.now c.leave-left.new.self c.args.who None s (c.in-Ok.ensures.event s stands)
 
 pub returns-in-Err-clause-tallies : goal.returns-in-Err-clause-tallies
 returns-in-Err-clause-tallies g c = λ s stands.
-    left_tallies g.D.Disk c.args.self.now c.leave-left.new.self c.args.who (Some c.in-Err.halt.moment) s (c.in-Err.ensures.event s stands) c.leave-left.ensures.collections
+    left_tallies g.D.Disk c.args.self.now c.leave-left.new.self c.args.who (Some c.in-Err.halt.moment) s (c.in-Err.ensures.event s stands)
 
 pub returns-in-Ok-clause-lasts : goal.returns-in-Ok-clause-lasts
 returns-in-Ok-clause-lasts g c = λ graph trail marks s at stands run.
@@ -60,3 +60,9 @@ pub returns-in-Err-clause-halts : goal.returns-in-Err-clause-halts
 returns-in-Err-clause-halts g c = λ s stands some.
     let halts = c.in-Err.ensures.halts in
     raised g.D.Disk c.args.self.now c.leave-left.new.self s stands halts.0 halts.1 halts.2 halts.4 c.leave-left.ensures.sound
+
+pub returns-in-Ok-clause-passes : goal.returns-in-Ok-clause-passes
+returns-in-Ok-clause-passes g c = left_passes g.D.Disk c.args.self.now c.leave-left.new.self c.leave-left.ensures.collections c.leave-left.ensures.size c.leave-left.ensures.later
+
+pub returns-in-Err-clause-passes : goal.returns-in-Err-clause-passes
+returns-in-Err-clause-passes g c = left_passes g.D.Disk c.args.self.now c.leave-left.new.self c.leave-left.ensures.collections c.leave-left.ensures.size c.leave-left.ensures.later
