@@ -9,3 +9,4 @@ mod Rows
 pub mod Steps
 pub mod Nodes
 mod Words
+pub mod Ways

@@ -6,3 +6,4 @@ pub mod Reads
 pub mod Tree
 pub mod Walk
 pub mod Step
+pub mod Way

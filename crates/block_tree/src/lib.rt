@@ -12,6 +12,7 @@ mod reads;
 mod root;
 mod step;
 mod walk;
+mod way;
 
 pub use fault::TreeFault;
 pub use leaf::{LEAF_LIMIT, leaf_at, leaf_of, node_of, read_leaf};
@@ -20,3 +21,4 @@ pub use reads::{read_block, read_node, read_root};
 pub use root::{BadRoot, NODE_LEVELS, NODES, Root, SIZE_LIMIT};
 pub use step::{HeldStep, step_held};
 pub use walk::{HeldLeaf, walk_held};
+pub use way::one_path_changes;

@@ -23,8 +23,15 @@ module _ {D : Type 0} (g : Ghosts D) (old mid new : D) where
   }
 
   -- a failure of a later call is one of the whole
+  pub failed_since : g.moment old ≤ g.moment mid → g.faults old ≤ g.faults mid → HasFailed g mid new → HasFailed g old new
+  failed_since later faults is = record {
+    cause = omega (arith, is.cause, faults);
+    clock = omega (arith, is.clock, later);
+    last = record { mid = is.last.mid; later = omega (arith, later, is.last.later); no_fewer = omega (arith, faults, is.last.no_fewer); one_call = is.last.one_call; clock = is.last.clock; cause = is.last.cause };
+  }
+
   pub failed_after : (n : ℕ) → OnlyReads g n old mid → HasFailed g mid new → HasFailed g old new
-  failed_after n reads is = record { cause = omega (arith, is.cause, reads.faults); clock = omega (arith, is.clock, reads.images.later) }
+  failed_after n reads is = failed_since reads.images.later reads.faults is
 
 pub reads_within : {D : Type 0} (g : Ghosts D) (old new : D) (n m : ℕ) → n ≤ m → OnlyReads g n old new → OnlyReads g m old new
 reads_within g old new n m le reads = record {
@@ -82,7 +89,7 @@ module _ {D : Type 0} (g : Ghosts D) (old mid new : D) where
   -- or after some that tried a write or a barrier
   pub stopped_after_try : (n t : ℕ) (tried : Bool) → MakesAtMost g n t old mid → HasTried g old mid → HasStopped g tried mid new → HasStopped g true old new
   stopped_after_try n t tried first was stop = record {
-    failed = record { cause = omega (arith, first.faults, stop.failed.cause); clock = omega (arith, first.later, stop.failed.clock) };
+    failed = failed_since g old mid new first.later first.faults stop.failed;
     tries = λ yes. elim tried as (λ b. HasStopped g b mid new → HasTried g old new) [
       | true ↦ λ is. omega (arith, first.no_fewer, is.tries refl)
       | false ↦ λ is. omega (arith, was, is.no_try refl)

@@ -1,7 +1,7 @@
 -- Calls of a store on a disk: those that only read, and those that a device call stopped.
 use Rattle.std.specs.Prelude.{◌≡◌, ℕ, ◌+◌, ◌-◌, ◌^◌, ◌≤◌, min, Bool, true, false, IsTrue}
 use Rattle.cfs_base.specs.Disk.{Nothing, IsSameDisk, KeepsLeft}
-use Rattle.cfs_base.specs.Outside.{Rose}
+use Rattle.cfs_base.specs.Outside.{Rose, count_after}
 use Rattle.cfs_base.specs.Run.{Leaves}
 use Rattle.cfs_base.specs.declared.disk.Disk.{Ghosts}
 
@@ -16,10 +16,20 @@ pub record OnlyReads {D : Type 0} (g : Ghosts D) (most : ℕ) (old new : D) : Ty
   pub faults : g.faults old ≤ g.faults new
   pub calls : g.calls new ≤ g.calls old + most
 
--- a device call failed: the count of faults rose, and the clock
+-- The last device call failed, and none came after it: so the disk stood as that call was made.
+pub record FailedLast {D : Type 0} (g : Ghosts D) (old new : D) : Type 0 where
+  pub mid : D
+  pub later : g.moment old ≤ g.moment mid
+  pub no_fewer : g.faults old ≤ g.faults mid
+  pub one_call : g.calls new ≡ count_after (g.calls mid)
+  pub clock : Rose (g.moment mid) (g.moment new)
+  pub cause : Rose (g.faults mid) (g.faults new)
+
+-- A device call failed, and it was the last: the count of faults rose, and the clock.
 pub record HasFailed {D : Type 0} (g : Ghosts D) (old new : D) : Type 0 where
   pub cause : Rose (g.faults old) (g.faults new)
   pub clock : Rose (g.moment old) (g.moment new)
+  pub last : FailedLast g old new
 
 -- a write or a barrier was tried
 abbrev pub HasTried : {D : Type 0} → Ghosts D → D → D → Type 0

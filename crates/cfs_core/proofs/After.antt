@@ -1,6 +1,6 @@
 -- A call that reads, and then goes on.
 use Rattle.std.proofs.Common.{◌≡◌, ℕ, ◌<◌, length, true, false, None, Result, Ok, Err, refl, ◌∙◌, subst, sum}
-use Rattle.cfs_core.proofs.Words.{draws, Ghosts, Image, Index, Leaves, OnlyReads, Puid, refusal_of, Refused, Reply, Request, State, then, wider}
+use Rattle.cfs_core.proofs.Words.{Ghosts, Image, Index, Leaves, OnlyReads, Puid, refusal_of, Refused, Reply, Request, State, then, wider}
 use Rattle.cfs_base.specs.declared.refusal.Refused.TheVariants as refusals
 use Rattle.ufs_model.specs.declared.asked.Reply.TheVariants as replies
 use Rattle.ufs_model.specs.declared.object.Object.TheVariants as objects
@@ -39,8 +39,8 @@ module _ {D : Type 0} (g : Ghosts D) (n : ℕ) (old : Kernel D) (d : D) (new : K
       → ((s : State) (i : Index) → Serves g old s → Reaches s who request index (objects.Index i) → (slot < length i.slots) × (refusal_of s who request ≡ None)) → Tries g old new who request result
   tries_then index slot who result reaches tries goes = record {
     ends = λ s serves none.
-        let i = reaches s serves in
+        let i = reaches.0 s serves in
         let may = goes s i.0 serves i.1 in
         ends s who result (tries.ends s who i.0 (serves_on g n old mid reads refl s serves) none i.1 may.0 may.1);
-    went = went_then g n old d new reads (draws request) result tries.went;
+    went = went_then g n old d new reads request result (tries.went reaches.1);
   }

@@ -1,6 +1,6 @@
 -- A file through a grant with a draft: when a request on it is refused, what it is told, and what a change makes of the state.
 use Rattle.std.proofs.Common.{◌≡◌, ◌⊎◌, inl, inr, ℕ, zero, suc, ◌+◌, ◌<◌, ◌≤◌, List, [], ◌∷◌, ◌++◌, length, get_or, Bool, true, false, cond, not, Option, Some, None, Ok, Err, IsTrue, refl, sym, ◌∙◌, ap, subst, arith, IfErr, IfOk, Result, filter, find, map, nat_lt, option_and_then, option_to_list, sum}
-use Rattle.cfs_core.proofs.Words.{and_parts, Becomes, blocks_taken, Change, change_need, changed, changed_draft, changed_object, Draft, draft_blocks, draft_of, Drafting, draws, File, file_to_leaves, Fill, filter-rises, first_level, fresh_of, Ghosts, Grant, grant_of, Graph, has_number, HasDraft, held_levels, here, Holds, Image, in_filter, in_with, is_damaged, is_draft_of, is_grant, is_normal}
+use Rattle.cfs_core.proofs.Words.{and_parts, Becomes, blocks_taken, Change, change_need, changed, changed_draft, changed_object, Draft, draft_blocks, draft_of, Drafting, File, file_to_leaves, Fill, filter-rises, first_level, fresh_of, Ghosts, Grant, grant_of, Graph, has_number, HasDraft, held_levels, here, Holds, Image, in_filter, in_with, is_damaged, is_draft_of, is_grant, is_normal}
 use Rattle.cfs_core.proofs.Words.{is_range, is_reading, IsOpen, IsPlainReply, Kept, later, Leaves, list_all, MapEntry, merged, missing, need_beside, need_of, next, next_keeps, next_levels, numbers-rise, numbers_rise, Object, object_at, of_draft, OnlyReads, Opened, opened_as, outcome_legal, Overwrite, Puid, put_draft-at, range_with_len, refusal_of, Refused, replaced, Reply, Request, same_puid}
 use Rattle.cfs_core.proofs.Words.{same_puid_itself, seen, seen_draft, SetSize, shadow_need, shared, State, StoreHas, sum_by, sum_by-cons, target, the_draft, Through, Tuid, wider, with_draft, with_numbers, within, without_draft, written_anew}
 use Rattle.cfs_base.specs.declared.refusal.Need as needs
@@ -13,13 +13,14 @@ use Rattle.ufs_model.specs.declared.object.Object.TheVariants as objects
 use Rattle.cfs_core.specs.Calls.{Answers, ByOutcome, ByWant, EndsSo, IsInDoubt, Tries, Undone, done_or}
 use Rattle.cfs_core.specs.Drafts.{AltersDraft, ChangesDraft, KnowsDraft}
 use Rattle.cfs_core.specs.Kernel.{Kernel, Seat, is_ready}
-use Rattle.cfs_core.specs.Looks.{IsCalmCause, content_of, measured}
+use Rattle.cfs_core.specs.Looks.{IsDraftCause, content_of, measured}
 use Rattle.cfs_core.specs.Seats.{drafting_at, is_drawn, with_drafting}
 use Rattle.cfs_core.specs.StandsFor.{HasDraftOf, Serves, bare, drafts_of_seats}
 use Rattle.cfs_core.proofs.Answering.{disk_failed, memory, owes, reads_none, seen as told, tries_so}
 use Rattle.cfs_core.proofs.Drafted.{changed_drafts, changed_have, drawn, has_draft, place_of, special, with_is, written}
 use Rattle.cfs_core.proofs.Ended.{IsHeld, alone_take, block, find_drawn, of_its_draft, open_in, so}
 use Rattle.cfs_core.proofs.Few.{few_more}
+use Rattle.cfs_core.proofs.Damages.{told_of_draft}
 use Rattle.cfs_core.proofs.Went.{went_done}
 use Rattle.cfs_core.proofs.Filed.{IsChanging}
 use Rattle.cfs_core.proofs.Readied.{ready_at, ready_for}
@@ -378,7 +379,7 @@ undrafted g k s serves who t none = at (grant_of s who t) refl
 -- ---- calls that only read
 
 module _ {D : Type 0} (g : Ghosts D) (left_sized : (d : D) (t : ℕ) (c : Image) → g.left_since d t c → length c ≡ g.blocks d) (sized : (d : D) → IsTrue (g.honest d) → length (g.content d) ≡ g.blocks d)
-    (k : Kernel D) (who : ℕ) (t : Tuid) (was : Drafting) (the : (s : State) → Serves g k s → IsHeld g k s who t was) where
+    (k : Kernel D) (who : ℕ) (t : Tuid) (was : Drafting) (drafting : drafting_at k.seats t.draw ≡ Some was) (the : (s : State) → Serves g k s → IsHeld g k s who t was) where
   pub tries_size : Tries g k k who (asks.Size (Through t)) (Ok (replies.Number was.root.size))
   tries_size = tries_so g left_sized sized 0 k k (reads_none g 0 k.disk) refl who (asks.Size (Through t)) (Ok (replies.Number was.root.size))
       (λ s serves none. told g left_sized sized 0 k k (reads_none g 0 k.disk) refl s who serves none (asks.Size (Through t)) (replies.Number was.root.size) refl refl
@@ -394,7 +395,7 @@ module _ {D : Type 0} (g : Ghosts D) (left_sized : (d : D) (t : ℕ) (c : Image)
         → IfOk result (λ reply. reply ≡ content_of f offset count))
         → IfOk result IsPlainReply
         → ((graph : Graph) (ds : List Opened) (space : Kept) (id : Puid) (o : Object) (m : Draft) → StoreHas g graph ds k.disk space → object_at graph id ≡ Some o → IsOpen ds id was m → IfErr result (λ e. is_damaged e ≡ false))
-        → IfErr result (IsCalmCause g k.disk d) → Tries g k (record k { disk = d }) who read result
+        → IfErr result (IsDraftCause g was.at k.disk d) → Tries g k (record k { disk = d }) who read result
     unfolding knows files
     tries_read (Ok reply) exact plain sound cause = tries_so g left_sized sized n k (record k { disk = d }) reads refl who read (Ok reply)
         (λ s serves none.
@@ -408,18 +409,20 @@ module _ {D : Type 0} (g : Ghosts D) (left_sized : (d : D) (t : ℕ) (c : Image)
         (tries_so g left_sized sized n k (record k { disk = d }) reads refl who read (Err (refusals.Disk false)) (λ s serves none. disk_failed g left_sized sized n k (record k { disk = d }) reads refl s who serves none read) tt cause.1)
     tries_read (Err (refusals.Damaged damage)) exact plain sound cause = tries_so g left_sized sized n k (record k { disk = d }) reads refl who read (Err (refusals.Damaged damage))
         (λ s serves none. let knows = knows g k s serves who t was (the s serves) in
-        let no : true ≡ false = sound s.graph _ k.space _ knows.object _ knows.store knows.there knows.is_open in cc) tt tt
+        let no : true ≡ false = sound s.graph _ k.space _ knows.object _ knows.store knows.there knows.is_open in cc) tt
+        (told_of_draft g k (record k { disk = d }) (Some read) was.at (inr (t.draw, was, drafting, refl)) damage reads.same.size (cause k.space))
     tries_read (Err refusals.Memory) exact plain sound cause = tries_so g left_sized sized n k (record k { disk = d }) reads refl who read (Err refusals.Memory)
         (λ s serves none. memory g left_sized sized n k (record k { disk = d }) reads refl s who serves none read) tt tt
 
 -- the whole call, of a grant that has a draft
 pub tries_altered : {D : Type 0} (g : Ghosts D) (left_sized : (d : D) (t : ℕ) (c : Image) → g.left_since d t c → length c ≡ g.blocks d) (sized : (d : D) → IsTrue (g.honest d) → length (g.content d) ≡ g.blocks d)
-    (k : Kernel D) (ready : list_all (is_ready k.names.room) k.seats ≡ true) (who : ℕ) (t : Tuid) (was : Drafting) (the : (s : State) → Serves g k s → IsHeld g k s who t was)
+    (k : Kernel D) (ready : list_all (is_ready k.names.room) k.seats ≡ true) (who : ℕ) (t : Tuid) (was : Drafting) (drafting : drafting_at k.seats t.draw ≡ Some was) (the : (s : State) → Serves g k s → IsHeld g k s who t was)
     (change : Change) (request : Request) (is : IsChanging request change) (goes_to : target request ≡ Through t) → ((s : State) → Serves g k s → refusal_of s who request ≡ None)
     → (now : Drafting) (disk : D) (space : Kept) (result : Result (Unit {0}) Refused) → ChangesDraft g change k.disk disk k.space space was now result
     → Tries g k (record k { disk = disk; space = space; seats = with_drafting t.draw (Some now) k.seats }) who request (done_or result)
-tries_altered g left_sized sized k ready who t was the change request is goes_to goes now disk space result changes = record {
+tries_altered g left_sized sized k ready who t was drafting the change request is goes_to goes now disk space result changes = record {
   ends = λ s serves none.
       ends_so g k s serves who t was (the s serves) ready change request is goes_to (goes s serves) now disk space left_sized sized none result changes;
-  went = went_done g k disk space (with_drafting t.draw (Some now) k.seats) changes.calls.same.size changes.calls.faults changes.calls.later (draws request) result (λ tried is. rw is at changes.refused);
+  went = went_done g k disk space (with_drafting t.draw (Some now) k.seats) changes.calls.same.size changes.calls.faults changes.calls.later request result (λ tried is. rw is at changes.refused)
+      (λ damage met. told_of_draft g k (record k { disk = disk; space = space; seats = with_drafting t.draw (Some now) k.seats }) (Some request) was.at (inr (t.draw, was, drafting, refl)) damage changes.calls.same.size (rw met at changes.refused));
 }

@@ -1,6 +1,6 @@
 -- How a call ends that only reads: a refusal, what was asked for, or the failure of a device call.
 use Rattle.std.proofs.Common.{◌≡◌, inl, inr, ℕ, [], length, Bool, true, false, Option, Some, None, Result, Ok, Err, IsTrue, refl, sym, ◌∙◌, ap, subst, arith, IfErr, IfOk, sum}
-use Rattle.cfs_core.proofs.Words.{AFile, AnIndex, answer_legal, creates, drafts_of, draws, Either, Event, Ghosts, Image, Index, is_damaged, IsPlainReply, Kind, need_of, next, Object, object_at, OnlyReads, outcome_legal, outcome_plain, Puid, refusal_of, Refused, refused_answer, refused_plain, Reply, Request, State, Wanted}
+use Rattle.cfs_core.proofs.Words.{AFile, AnIndex, answer_legal, creates, drafts_of, Either, Event, Ghosts, Image, Index, is_damaged, IsPlainReply, Kind, need_of, next, Object, object_at, OnlyReads, outcome_legal, outcome_plain, Puid, refusal_of, Refused, refused_answer, refused_plain, Reply, Request, State, Wanted}
 use Rattle.cfs_base.specs.declared.kind.Kind.TheVariants as kinds
 use Rattle.cfs_base.specs.declared.refusal.Refused.TheVariants as refusals
 use Rattle.ufs_model.specs.declared.asked.Event.TheVariants as events
@@ -12,6 +12,8 @@ use Rattle.cfs_core.specs.Looks.{IsCalm, IsCalmCause, Knows, ReachesAll}
 use Rattle.cfs_core.specs.StandsFor.{Serves, drafts_of_seats}
 use Rattle.cfs_core.specs.Ways.{Reaches, unfit_of}
 use Rattle.cfs_core.proofs.Refusing.{IsSeen}
+use Rattle.cfs_core.specs.Damage.{IsRootHere}
+use Rattle.cfs_core.proofs.Damages.{told_of_read}
 use Rattle.cfs_core.proofs.Went.{went_so}
 use Rattle.cfs_core.proofs.Serving.{running, shut, stays}
 
@@ -75,21 +77,21 @@ module _ {D : Type 0} (g : Ghosts D) (left_sized : (d : D) (t : ℕ) (c : Image)
 
   -- what the call itself owes
   pub tries_so : (who : ℕ) (request : Request) (result : Result Reply Refused) → ((s : State) → Serves g old s → old.stop ≡ None → EndsSo g old new s who request result)
-      → IfOk result IsPlainReply → IfErr result (IsCause g old.disk new.disk) → Tries g old new who request result
+      → IfOk result IsPlainReply → IfErr result (IsCause g old new (Some request)) → Tries g old new who request result
   tries_so who request result ends plain cause = record {
     ends = ends;
-    went = subst (λ (k : Kernel D). Went g old k (draws request) result) (sym same) (went_so g old new.disk old.space old.seats reads.same.size reads.faults reads.images.later (draws request) result plain cause);
+    went = subst (λ (k : Kernel D). Went g old k request result) (sym same) (went_so g old new.disk old.space old.seats reads.same.size reads.faults reads.images.later request result plain (subst (λ (k : Kernel D). IfErr result (IsCause g old k (Some request))) same cause));
   }
 
   -- a read that failed, where such an object is
-  failed : {A : Type 0} (sort : A → Object) (at : ℕ) (e : Refused) → ((a : A) → Knows g old.disk at (sort a) → is_damaged e ≡ false) → IsCalmCause g old.disk new.disk e → (who : ℕ) (request : Request)
+  failed : {A : Type 0} (sort : A → Object) (at : ℕ) (e : Refused) → ((a : A) → Knows g old.disk at (sort a) → is_damaged e ≡ false) → IsCalmCause g at old.disk new.disk e → (who : ℕ) (request : Request) → IsRootHere old (Some request) at
       → ((s : State) → Serves g old s → (a : A) × Knows g old.disk at (sort a)) → Tries g old new who request (Err e)
-  failed sort at (refusals.Full need) sound cause who request knows = absurd cause
-  failed sort at (refusals.Disk tried) sound cause who request knows = subst (λ (b : Bool). Tries g old new who request (Err (refusals.Disk b))) (sym cause.0)
+  failed sort at (refusals.Full need) sound cause who request here knows = absurd cause
+  failed sort at (refusals.Disk tried) sound cause who request here knows = subst (λ (b : Bool). Tries g old new who request (Err (refusals.Disk b))) (sym cause.0)
       (tries_so who request (Err (refusals.Disk false)) (λ s serves none. disk_failed s who serves none request) tt cause.1)
-  failed sort at (refusals.Damaged damage) sound cause who request knows = tries_so who request (Err (refusals.Damaged damage))
-      (λ s serves none. let k = knows s serves in let no = sound k.0 k.1 in cc) tt tt
-  failed sort at refusals.Memory sound cause who request knows = tries_so who request (Err refusals.Memory) (λ s serves none. memory s who serves none request) tt tt
+  failed sort at (refusals.Damaged damage) sound cause who request here knows = tries_so who request (Err (refusals.Damaged damage))
+      (λ s serves none. let k = knows s serves in let no = sound k.0 k.1 in cc) tt (told_of_read g old new request at damage here cause)
+  failed sort at refusals.Memory sound cause who request here knows = tries_so who request (Err refusals.Memory) (λ s serves none. memory s who serves none request) tt tt
 
 -- the store has the object that is reached, of which there is no draft
 pub knows_that : {D : Type 0} (g : Ghosts D) (k : Kernel D) (s : State) → Serves g k s → (id : Puid) (o : Object) → object_at s.graph id ≡ Some o → drafts_of (drafts_of_seats k.seats s.grants) id ≡ [] → Knows g k.disk id.block o
@@ -123,17 +125,17 @@ module _ {D A : Type 0} (g : Ghosts D) (left_sized : (d : D) (t : ℕ) (c : Imag
   IsReplied says = (s : State) (a : A) → Serves g k s → Reaches s who request id (sort a) → (need_of s who request ≡ 0) × IsSeen k.words.seed s who request (says a)
 
   abbrev knows : (s : State) → Serves g k s → (a : A) × Knows g k.disk id.block (sort a)
-  knows s serves = let r = reaches s serves in (r.0, knows_that g k s serves id (sort r.0) r.1.there r.2)
+  knows s serves = let r = reaches.0 s serves in (r.0, knows_that g k s serves id (sort r.0) r.1.there r.2)
 
   -- the disk couldn't be read
-  pub tries_failed : (e : Refused) → OnlyReads g n k.disk d → ((a : A) → Knows g k.disk id.block (sort a) → is_damaged e ≡ false) → IsCalmCause g k.disk d e → Tries g k (record k { disk = d }) who request (Err e)
-  tries_failed e reads sound cause = failed g left_sized sized n k (record k { disk = d }) reads refl sort id.block e sound cause who request knows
+  pub tries_failed : (e : Refused) → OnlyReads g n k.disk d → ((a : A) → Knows g k.disk id.block (sort a) → is_damaged e ≡ false) → IsCalmCause g id.block k.disk d e → Tries g k (record k { disk = d }) who request (Err e)
+  tries_failed e reads sound cause = failed g left_sized sized n k (record k { disk = d }) reads refl sort id.block e sound cause who request (inl reaches.1) knows
 
   pub tries_seen : (says : A → Reply) (result : Result Reply Refused) → creates request ≡ false → IsReplied says → IfOk result IsPlainReply
       → ((a : A) → Knows g k.disk id.block (sort a) → IfOk result (λ reply. reply ≡ says a)) → IsCalm g sort n id.block k.disk d result → Tries g k (record k { disk = d }) who request result
   tries_seen says (Ok reply) makes replied plain exact calm = tries_so g left_sized sized n k (record k { disk = d }) calm.reads refl who request (Ok reply)
       (λ s serves none.
-      let r = reaches s serves in
+      let r = reaches.0 s serves in
       let two = replied s r.0 serves r.1 in
       subst (Answers g k (record k { disk = d }) s who request) (sym (exact r.0 (knows s serves).1)) (seen g left_sized sized n k (record k { disk = d }) calm.reads refl s who serves none request (says r.0) two.0 makes two.1))
       plain tt
@@ -143,4 +145,4 @@ module _ {D A : Type 0} (g : Ghosts D) (left_sized : (d : D) (t : ℕ) (c : Imag
   pub tries_refused : (reply : Reply) → IsPlainReply reply → OnlyReads g n k.disk d
       → ((s : State) (a : A) → Serves g k s → Reaches s who request id (sort a) → Knows g k.disk id.block (sort a) → refusal_of s who request ≡ Some reply) → Tries g k (record k { disk = d }) who request (Ok reply)
   tries_refused reply plain reads is = tries_so g left_sized sized n k (record k { disk = d }) reads refl who request (Ok reply)
-      (λ s serves none. let r = reaches s serves in refused g left_sized sized n k (record k { disk = d }) reads refl s who serves none request reply (is s r.0 serves r.1 (knows s serves).1)) plain tt
+      (λ s serves none. let r = reaches.0 s serves in refused g left_sized sized n k (record k { disk = d }) reads refl s who serves none request reply (is s r.0 serves r.1 (knows s serves).1)) plain tt

@@ -7,6 +7,7 @@ use Rattle.ufs_model.specs.declared.asked.Reply.TheVariants as replies
 use Rattle.cfs_core.specs.declared.collecting.Collections.{Collections}
 use Rattle.cfs_core.specs.declared.kernel.Stop.{Stop}
 use Rattle.cfs_core.specs.Asked.{Asks, Happens, IsShortContent, IsToldCause, stopped_by, told}
+use Rattle.cfs_core.proofs.Damages.{told_as, told_asked}
 use Rattle.cfs_core.specs.Calls.{Answers, CutShort, EndsSo, IsCause, IsInDoubt, MayStand, Owes, Tries, Undone, Whole, leaves_all}
 use Rattle.cfs_core.specs.Kernel.{Kernel}
 use Rattle.cfs_core.specs.Rescues.{AreRescued}
@@ -20,10 +21,11 @@ plain_goes_on (replies.Disk doubt) plain before = absurd plain
 plain_goes_on (replies.Damaged damage moment) plain before = absurd plain
 plain_goes_on reply plain before = refl
 
-plain_cause : {D : Type 0} (g : Ghosts D) (old new : D) (reply : Reply) → IsPlainReply reply → IsToldCause g old new reply
-plain_cause g old new (replies.Disk doubt) plain = absurd plain
-plain_cause g old new (replies.Stopped moment) plain = absurd plain
-plain_cause g old new reply plain = tt
+plain_cause : {D : Type 0} (g : Ghosts D) (old new : Kernel D) (request : Request) (reply : Reply) → IsPlainReply reply → IsToldCause g old new request reply
+plain_cause g old new request (replies.Disk doubt) plain = absurd plain
+plain_cause g old new request (replies.Damaged damage moment) plain = absurd plain
+plain_cause g old new request (replies.Stopped moment) plain = absurd plain
+plain_cause g old new request reply plain = tt
 
 plain_short : (reply : Reply) → IsPlainReply reply → IsShortContent reply
 plain_short (replies.Content bytes) plain = plain
@@ -124,7 +126,7 @@ asks_answered g sized old x ready called finished mid y who request reply more a
   still = λ _ s stands. (tries.ends s (serves_roomy g old x ready s (serves_from g old s none stands)) none).still;
   stopped = λ stop is. cc;
   stops = λ _. tries.went.stop ∙ none ∙ sym (plain_goes_on reply tries.went.plain None);
-  cause = λ _. plain_cause g old.disk mid.disk reply tries.went.plain;
+  cause = λ _. plain_cause g old (record mid { collections = y }) request reply tries.went.plain;
   rescued = λ _ s stands. rescued_after old.collections.collector x.collector y.collector (rescues_of s who request reply) ready (all_rescued s (serves_from g old s none stands));
   called = called_on ∙ ap (λ (c : Collections). c.called) tries.went.collections ∙ called;
   finished = finished_on ∙ ap (λ (c : Collections). c.finished) tries.went.collections ∙ finished;
@@ -206,12 +208,12 @@ module _ {D : Type 0} (g : Ghosts D) (left_sized : (d : D) (t : ℕ) (c : Image)
   told_still (refusals.Damaged damage) moment s is leaves = absurd (cc leaves)
   told_still refusals.Memory moment s is leaves = is.still leaves
 
-  told_cause : (refused : Refused) → IsCause g old.disk mid.disk refused → IsToldCause g old.disk mid.disk (told refused (g.moment mid.disk))
-  told_cause (refusals.Full need) is = tt
-  told_cause (refusals.Disk false) is = is
-  told_cause (refusals.Disk true) is = (is, refl)
-  told_cause (refusals.Damaged damage) is = tt
-  told_cause refusals.Memory is = tt
+  told_cause : (refused : Refused) → (stop : Option Stop) → IsCause g (roomy g old x ready) mid (Some request) refused → IsToldCause g old (record mid { stop = stop }) request (told refused (g.moment mid.disk))
+  told_cause (refusals.Full need) stop is = tt
+  told_cause (refusals.Disk false) stop is = is
+  told_cause (refusals.Disk true) stop is = (is, refl)
+  told_cause (refusals.Damaged damage) stop is = (told_as g old mid (record mid { stop = stop }) (Some request) damage refl refl (told_asked g old mid x request damage is), refl)
+  told_cause refusals.Memory stop is = tt
 
   undone : (refused : Refused) (moment : ℕ) → is_done (told refused moment) ≡ false
   undone (refusals.Full need) moment = refl
@@ -227,7 +229,7 @@ module _ {D : Type 0} (g : Ghosts D) (left_sized : (d : D) (t : ℕ) (c : Image)
     owed = λ _ s stands. told_owed refused (g.moment mid.disk) s (tries.ends s (serves_roomy g old x ready s (serves_from g old s none stands)) none);
     stopped = λ stop same. cc;
     stops = λ _. ap (λ (o : Option Stop). stopped_by (told refused (g.moment mid.disk)) o) (tries.went.stop ∙ none);
-    cause = λ _. told_cause refused tries.went.cause;
+    cause = λ _. told_cause refused _ tries.went.cause;
     rescued = λ _ s stands. subst (λ (more : List Rescue). AreRescued old.collections.collector mid.collections.collector more) (sym (nothing s (told refused (g.moment mid.disk)) (undone refused (g.moment mid.disk))))
         (subst (λ (c : Collections). AreRescued old.collections.collector c.collector []) (sym tries.went.collections) ready);
     called = ap (λ (c : Collections). c.called) tries.went.collections ∙ called;

@@ -1,14 +1,19 @@
 -- Calls that only read a file, as the core has them.
 use Rattle.std.proofs.Common.{◌≡◌, ℕ, ◌+◌, ◌≤◌, Bool, true, false, Err, refl, sym, subst, arith}
-use Rattle.cfs_core.proofs.Words.{Ghosts, had_tried, HasStopped, Image, is_damaged, is_range, IsReadRefusal, nat_tests, Object, OnlyReads, reads_then, Refused, refused_by, stopped_after_reads, store_reads, Trouble, trouble_had_tried}
+use Rattle.cfs_core.proofs.Words.{Ghosts, had_tried, HasStopped, Image, Index, is_damaged, is_range, IsReadRefusal, nat_tests, Object, OnlyReads, reads_then, Refused, refused_by, stopped_after_reads, store_reads, Trouble, trouble_had_tried}
 use Rattle.cfs_base.specs.declared.refusal.Refused.TheVariants as refusals
 use Rattle.cfs_base.specs.declared.refusal.Trouble.TheVariants as trouble
-use Rattle.normal_files.specs.Refusal.{IsTrouble, is_damage}
+use Rattle.block_tree.specs.Reads.{is_damage}
+use Rattle.normal_files.specs.Refusal.{IsTrouble}
 use Rattle.block_tree.specs.declared.root.Root.{Root}
 use Rattle.cfs_base.specs.Run.{Tells}
 use Rattle.normal_files.specs.Standing.{IsRootAt}
 use Rattle.cfs_core.specs.Looks.{IsCalm, IsCalmCause, Knows}
+use Rattle.cfs_base.proofs.Calls.{tells_on}
 use Rattle.cfs_core.proofs.Answering.{reads_none}
+use Rattle.cfs_core.proofs.Damages.{outside_as, outside_file, outside_slot}
+use Rattle.index_ops.specs.Causes.{IsSlotTrouble}
+use Rattle.ufs_model.specs.declared.object.Object.TheVariants as objects
 
 -- the store still has the object
 pub knows_on : {D : Type 0} (g : Ghosts D) (n : ℕ) (old new : D) (at : ℕ) (o : Object) → OnlyReads g n old new → Knows g old at o → Knows g new at o
@@ -36,10 +41,12 @@ calm_after g sort n m k at old mid new e first reads few sound untried is = reco
   cause = cause e untried is;
 }
   where
-    cause : (x : Refused) → had_tried x ≡ false → IsReadRefusal g at mid new x → IsCalmCause g old new x
+    cause : (x : Refused) → had_tried x ≡ false → IsReadRefusal g at mid new x → IsCalmCause g at old new x
     cause (refusals.Full need) none never = never
     cause (refusals.Disk tried) none stopped = (none, stopped_after_reads g old mid new n false first (subst (λ (b : Bool). HasStopped g b mid new) none stopped))
-    cause (refusals.Damaged damage) none is = tt
+    cause (refusals.Damaged damage) none is =
+        outside_as (Tells g mid) (Tells g old) (g.content mid) (g.content old) (g.blocks mid) (g.blocks old) (λ x. x ≡ at) (λ x. x ≡ at) 0 0 damage (λ tells. tells_on g old mid mid n first tells) (sym first.content) (sym first.same.size) (λ x here. here) (λ x less. less)
+        (outside_file g at mid damage is)
     cause refusals.Memory none is = tt
 
 pub read_refusal : {D : Type 0} (g : Ghosts D) (at : ℕ) (old new : D) (t : Trouble) → IsTrouble g at old new t → IsReadRefusal g at old new (refused_by t)
@@ -59,6 +66,17 @@ calm_trouble g sort n at old new t reads sound untried why =
     untried_told : (x : Trouble) → trouble_had_tried x ≡ false → had_tried (refused_by x) ≡ false
     untried_told (trouble.Disk tried) is = is
     untried_told (trouble.Damaged damage) is = refl
+
+-- a slot that couldn't be read, after the number of them was
+pub calm_slot : {D B : Type 0} (g : Ghosts D) (slot at : ℕ) (old mid new : D) (t : Trouble) → OnlyReads g 1 old mid → OnlyReads g 3 mid new → ((i : Index) → Knows g old at (objects.Index i) → is_damaged (refused_by t) ≡ false) → IsSlotTrouble g at slot mid new t
+    → IsCalm {B = B} g objects.Index 4 at old new (Err (refused_by t))
+calm_slot g slot at old mid new t first reads sound is = record { reads = reads_then g old mid new 1 3 4 first reads (omega arith); sound = sound; cause = cause t is }
+  where
+    cause : (u : Trouble) → IsSlotTrouble g at slot mid new u → IsCalmCause g at old new (refused_by u)
+    cause (trouble.Disk tried) is = (is.0, stopped_after_reads g old mid new 1 false first (record { failed = is.1; tries = λ e. cc; no_try = λ e. reads.tries; untouched = λ e. reads.content }))
+    cause (trouble.Damaged damage) is =
+        outside_as (Tells g mid) (Tells g old) (g.content mid) (g.content old) (g.blocks mid) (g.blocks old) (λ x. x ≡ at) (λ x. x ≡ at) 0 0 damage (λ tells. tells_on g old mid mid 1 first tells) (sym first.content) (sym first.same.size) (λ x here. here) (λ x less. less)
+        (outside_slot g at slot mid damage is)
 
 -- what lies in a range lies within the size, and is no more than is read at once
 pub range_parts : (size offset count : ℕ) → is_range size offset count ≡ true → (1 ≤ count) × (count ≤ 4096) × (offset + count ≤ size)

@@ -1,7 +1,7 @@
 -- How a call ends that makes an outcome of the definitions durable by one commit.
 use Rattle.std.proofs.Common.{◌≡◌, ◌⊎◌, inl, inr, ℕ, ◌+◌, ◌≤◌, List, length, Bool, true, false, Option, Some, None, IsTrue, sym, ◌∙◌, ap, subst, arith, sum}
 use Rattle.cfs_core.proofs.Words.{After, Before, call, ChangesInPlace, closed_graph, creates, Cut, Early, Event, File, Fits, frames_hold, Ghosts, Grant, Graph, graph_blocks, Holds, HoldsSome, Image, is_free_root, IsBetween, IsClosedGraph, IsLeastFree, IsPlainReply, IsSpeakable, IsState, Late, Leaves, MapEntry, next, next_keeps, of_owners, Opened, outcome_legal, outcome_of, Puid, refusal_of, Reply}
-use Rattle.cfs_core.proofs.Words.{Request, room, State, wider, with_object}
+use Rattle.cfs_core.proofs.Words.{Request, State, wider, with_object}
 use Rattle.ufs_model.specs.declared.asked.Event.TheVariants as events
 use Rattle.ufs_model.specs.declared.asked.Reply.TheVariants as replies
 use Rattle.ufs_model.specs.declared.object.Object.TheVariants as objects

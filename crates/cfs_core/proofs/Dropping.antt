@@ -1,5 +1,5 @@
 -- A grant of a session that leaves is dropped.
-use Rattle.std.proofs.Common.{◌≡◌, ℕ, List, [], ◌∷◌, Bool, true, false, cond, not, Some, None, refl, sym, ◌∙◌, ap, subst, arith, ◌==◌, filter}
+use Rattle.std.proofs.Common.{◌≡◌, inl, ℕ, List, [], ◌∷◌, Bool, true, false, cond, not, Some, None, refl, sym, ◌∙◌, ap, subst, arith, ◌==◌, filter}
 use Rattle.cfs_core.proofs.Words.{closed, Drafting, Ghosts, Grant, grant_of, Holds, is_grant, next, nothing_left, outcome_legal, State, Tuid, without_session-without_grant}
 use Rattle.open_table.specs.declared.grant.Grant as seats
 use Rattle.open_table.specs.Grants as tables
@@ -11,6 +11,7 @@ use Rattle.cfs_core.specs.Leaving.{GaveUp, GivesUp, ServesFewer, Sheds, of_other
 use Rattle.cfs_core.specs.Seats.{drafting_at, have_draft, is_at, seats_but, with_drafting}
 use Rattle.cfs_core.specs.StandsFor.{Serves, drafts_of_seats}
 use Rattle.cfs_core.proofs.Collected.{collection_asked, same_rescued}
+use Rattle.cfs_core.proofs.Damages.{told_of_draft}
 use Rattle.cfs_core.proofs.Ended.{IsHeld, gone_is, held_by, open_in, stores_aborted, strays_aborted}
 use Rattle.cfs_core.proofs.Granted.{close_goes, stores_closed}
 use Rattle.cfs_core.proofs.Seated.{grants_with}
@@ -55,7 +56,7 @@ module _ {D : Type 0} (g : Ghosts D) (k : Kernel D) (who : ℕ) (t : Tuid) (the 
     size = refl;
     faults = omega arith;
     later = omega arith;
-    idle = λ stop is. (is, refl);
+    idle = λ stop is. (is, refl, refl);
     leaves = λ s serves none. nothing_left g k.disk (λ c. Holds c s.graph);
     serves = λ s serves none runs. record {
       grants = (closed s who t false).grants;
@@ -65,7 +66,7 @@ module _ {D : Type 0} (g : Ghosts D) (k : Kernel D) (who : ℕ) (t : Tuid) (the 
       others = others_stay who t s.grants;
     };
     strays = λ s serves none runs. none_more (g.content k.disk) (g.content k.disk) s.graph refl;
-    halts = λ stop none is quiet. let no : None ≡ Some stop = sym none ∙ is in cc;
+    halts = λ stop none is. let no : None ≡ Some stop = sym none ∙ is in cc;
     sound = λ s serves none stop is. let no : None ≡ Some stop = sym none ∙ is in cc;
   }
 
@@ -107,10 +108,13 @@ module _ {D : Type 0} (g : Ghosts D) (k : Kernel D) (who : ℕ) (t : Tuid) (the 
         size = gives.size;
         faults = gives.faults;
         later = gives.later;
-        idle = λ stop is. let same = gives.idle stop is in (ap (λ (j : Kernel D). j.stop) same ∙ is, ap (λ (j : Kernel D). j.disk) same);
+        idle = λ stop is. let same = gives.idle stop is in (ap (λ (j : Kernel D). j.stop) same ∙ is, ap (λ (j : Kernel D). j.disk) same, ap (λ (j : Kernel D). j.space) same);
         leaves = λ s serves none. (gave s serves none).leaves;
         serves = fewer;
         strays = λ s serves none runs. strays_aborted g k s serves who t was (held s serves) new.disk new.space bare ((gave s serves none).dropped runs);
-        halts = gives.halts;
+        halts = λ stop none is. record {
+          failed = gives.failed stop none is;
+          damaged = λ damage met. (let two = gives.damaged stop damage none is met in (record { mid = k; later = omega arith; told = told_of_draft g k new None was.at (inl (t.draw, was, drafting, refl)) damage gives.size two.0 }, two.1));
+        };
         sound = λ s serves none. (gave s serves none).sound;
       }

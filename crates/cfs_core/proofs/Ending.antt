@@ -1,6 +1,6 @@
 -- How a call ends that closes a grant with a draft, on any disk.
-use Rattle.std.proofs.Common.{◌≡◌, ℕ, List, length, Bool, Option, Some, None, Ok, Err, IsTrue, refl, sym, ◌∙◌, ap, subst, IsSome, OnErr, OnOk, Result, option_map}
-use Rattle.cfs_core.proofs.Words.{Drafting, Ghosts, Grant, grant_of, Image, IsTrouble, Kept, MakesAtMost, NoGrant, refused_by, shown, State, table_of, Trouble, Tuid}
+use Rattle.std.proofs.Common.{◌≡◌, inr, ℕ, List, length, Bool, Option, Some, None, Ok, Err, IsTrue, refl, sym, ◌∙◌, ap, subst, IsSome, OnErr, OnOk, Result, option_map}
+use Rattle.cfs_core.proofs.Words.{Drafting, Ghosts, Grant, grant_of, Image, IsTrouble, Kept, MakesAtMost, NoGrant, refused_by, Request, shown, State, table_of, Trouble, Tuid}
 use Rattle.cfs_base.specs.declared.refusal.Trouble.TheVariants as troubles
 use Rattle.open_table.specs.Grants as tables
 use Rattle.open_table.specs.declared.grant.Grant as seats
@@ -12,12 +12,14 @@ use Rattle.cfs_core.specs.Kernel.{Kernel, Seat, grants_in}
 use Rattle.cfs_core.specs.Seats.{drafting_at, seats_but, with_drafting}
 use Rattle.cfs_core.specs.StandsFor.{Serves}
 use Rattle.cfs_core.proofs.Ended.{IsHeld, ended_err, ended_ok, held_by}
+use Rattle.cfs_core.specs.Damage.{IsRootHere}
+use Rattle.cfs_core.proofs.Damages.{told_of_draft}
 use Rattle.cfs_core.proofs.Went.{went_so}
 
 -- a device call failed, or a block is damaged
-pub trouble_cause : {D : Type 0} (g : Ghosts D) (at : ℕ) (old new : D) (kept : Kept) (e : Trouble) → IsTrouble g at old new kept e → IsCause g old new (refused_by e)
-trouble_cause g at old new kept (troubles.Disk tried) is = is
-trouble_cause g at old new kept (troubles.Damaged damage) is = tt
+pub trouble_cause : {D : Type 0} (g : Ghosts D) (old new : Kernel D) (request : Option Request) (at : ℕ) → IsRootHere old request at → g.blocks new.disk ≡ g.blocks old.disk → (e : Trouble) → IsTrouble g at old.disk new.disk new.space e → IsCause g old new request (refused_by e)
+trouble_cause g old new request at here size (troubles.Disk tried) is = is
+trouble_cause g old new request at here size (troubles.Damaged damage) is = told_of_draft g old new request at here damage size is
 
 pub shown_by : (o : Option Grant) (x : seats.Grant) → Some x ≡ option_map shown o → (y : Grant) × (o ≡ Some y)
 shown_by None x is = cc
@@ -42,7 +44,7 @@ pub held_in : {D : Type 0} (g : Ghosts D) (k : Kernel D) (who : ℕ) (t : Tuid) 
 held_in g k who t was has some law s serves = held_by g k s serves who t was has (the_grant (tables.grant_in (grants_in k.seats) who t) _ some (ap (λ gs. tables.grant_in gs who t) serves.front.grants ∙ law s))
 
 module _ {D : Type 0} (g : Ghosts D) (left_sized : (d : D) (t : ℕ) (c : Image) → g.left_since d t c → length c ≡ g.blocks d) (sized : (d : D) → IsTrue (g.honest d) → length (g.content d) ≡ g.blocks d)
-    (k : Kernel D) (who : ℕ) (t : Tuid) (was : Drafting) (bare : was.created ≡ None) (the : (s : State) → Serves g k s → IsHeld g k s who t was)
+    (k : Kernel D) (who : ℕ) (t : Tuid) (was : Drafting) (drafting : drafting_at k.seats t.draw ≡ Some was) (bare : was.created ≡ None) (the : (s : State) → Serves g k s → IsHeld g k s who t was)
     (d : D) (space : Kept) (commit : Bool) where
   wide : MakesAtMost g 93137 46452 k.disk d → (s : State) → Serves g k s → length (g.content k.disk) ≡ g.blocks d
   wide calls s serves = sized k.disk serves.store.carries.tells.honest ∙ sym calls.same.size
@@ -50,11 +52,12 @@ module _ {D : Type 0} (g : Ghosts D) (left_sized : (d : D) (t : ℕ) (c : Image)
   pub tries_ended : EndsDraft g commit was k.disk d k.space space (Ok tt) → Tries g k (record k { disk = d; space = space; seats = seats_but (tables.is_grant who t) (with_drafting t.draw None k.seats) }) who (asks.Close t commit) (Ok replies.Done)
   tries_ended is = record {
     ends = λ s serves none. ended_ok g k s serves who t was (the s serves) d space bare left_sized (wide is.calls s serves) none commit is;
-    went = went_so g k d space (seats_but (tables.is_grant who t) (with_drafting t.draw None k.seats)) is.calls.same.size is.calls.faults is.calls.later 0 (Ok replies.Done) tt tt;
+    went = went_so g k d space (seats_but (tables.is_grant who t) (with_drafting t.draw None k.seats)) is.calls.same.size is.calls.faults is.calls.later (asks.Close t commit) (Ok replies.Done) tt tt;
   }
 
   pub tries_unended : (e : Trouble) → EndsDraft g commit was k.disk d k.space space (Err e) → Tries g k (record k { disk = d; space = space; seats = with_drafting t.draw None k.seats }) who (asks.Close t commit) (Err (refused_by e))
   tries_unended e is = record {
     ends = λ s serves none. ended_err g k s serves who t was (the s serves) d space bare left_sized (wide is.calls s serves) none commit e is;
-    went = went_so g k d space (with_drafting t.draw None k.seats) is.calls.same.size is.calls.faults is.calls.later 0 (Err (refused_by e)) tt (trouble_cause g was.at k.disk d space e is.refused);
+    went = went_so g k d space (with_drafting t.draw None k.seats) is.calls.same.size is.calls.faults is.calls.later (asks.Close t commit) (Err (refused_by e)) tt
+        (trouble_cause g k (record k { disk = d; space = space; seats = with_drafting t.draw None k.seats }) (Some (asks.Close t commit)) was.at (inr (t.draw, was, drafting, refl)) is.calls.same.size e is.refused);
   }

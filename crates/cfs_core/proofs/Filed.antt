@@ -1,6 +1,6 @@
 -- How a call ends that changes a file which has no draft: a normal one in place, a special one as one commit.
 use Rattle.std.proofs.Common.{◌≡◌, ◌⊎◌, inl, inr, ℕ, ◌+◌, ◌<◌, ◌≤◌, [], length, true, false, cond, Some, None, Result, Ok, Err, IsTrue, refl, sym, ◌∙◌, ap, subst, arith, List, ◌∷◌, nat_lt, sum}
-use Rattle.cfs_core.proofs.Words.{and_parts, blocks_of, byte_may_stand, Change, change_need, change_of, changed, changed_object, ChangesFile, closed_graph, creates, draft_of, drafts_of, draws, each_from, EndsChange, eq-eqb, File, FileKind, Fill, filter-rises, Fits, Ghosts, Graph, has_number, held_levels, here, Holds, HoldsOfEither, Image, in_filter, in_with, index_has_pair, is_among, is_object, is_running}
+use Rattle.cfs_core.proofs.Words.{and_parts, blocks_of, byte_may_stand, Change, change_need, change_of, changed, changed_object, ChangesFile, closed_graph, creates, draft_of, drafts_of, each_from, EndsChange, eq-eqb, File, FileKind, Fill, filter-rises, Fits, Ghosts, Graph, has_number, held_levels, here, Holds, HoldsOfEither, Image, in_filter, in_with, index_has_pair, is_among, is_object, is_running}
 use Rattle.cfs_core.proofs.Words.{is_there, IsInside, IsPartly, IsSpeakable, Kept, kind_of, later, Leaves, leaves_in, list_all, MayChange, MayLeave, named, nat_tests, Need, need_for, need_of, next, numbers_rise, Object, object_at, object_at-with_object, object_whole, OnlyReads, Opened, outcome_of, Overwrite, pair_from_index, Puid, Ref, referred, refusal_of, Refused, Request, resized}
 use Rattle.cfs_core.proofs.Words.{rises-with_object, same_puid, same_puid_is, SetSize, State, still_there, target, touched, wider, with_numbers, with_object, withs-rise, written}
 use Rattle.cfs_base.specs.Run.{Tells}
@@ -11,11 +11,14 @@ use Rattle.ufs_model.specs.declared.asked.Reply.TheVariants as replies
 use Rattle.ufs_model.specs.declared.asked.Request.TheVariants as asks
 use Rattle.ufs_model.specs.declared.object.Object.TheVariants as objects
 use Rattle.ufs_model.specs.Graph.{IsClosedGraph}
-use Rattle.cfs_core.specs.Calls.{Answers, ByWant, EndsSo, IsInDoubt, IsShort, Tries, Undone, done_or, is_delete}
+use Rattle.cfs_core.specs.Calls.{Answers, ByWant, EndsSo, IsInDoubt, IsShort, Tries, Undone, done_or}
+use Rattle.cfs_core.specs.Damage.{bytes_wanted, is_delete}
+use Rattle.file_ops.specs.Changes.{end_of}
 use Rattle.cfs_core.specs.Kernel.{Kernel}
 use Rattle.cfs_core.specs.Looks.{Knows, ReachesAll}
 use Rattle.cfs_core.specs.StandsFor.{Serves, drafts_of_seats}
 use Rattle.cfs_core.specs.Ways.{Reaches}
+use Rattle.cfs_core.proofs.Damages.{told_of_file}
 use Rattle.cfs_core.proofs.Went.{went_done, went_then}
 use Rattle.cfs_core.proofs.After.{ends}
 use Rattle.cfs_core.proofs.Answering.{disk_failed, knows_that, memory}
@@ -35,6 +38,7 @@ pub record IsChanging (request : Request) (change : Change) : Type 0 where
   pub change_is : change_of request ≡ Some change
   pub makes : creates request ≡ false
   pub delete : is_delete request ≡ false
+  pub wants : bytes_wanted (Some request) ≡ end_of change
   pub full : (seed : ℕ) (s : State) (who : ℕ) (n : Need) → is_running s ≡ true → refusal_of s who request ≡ None → n.need ≡ need_of s who request → n.free < n.need + 4
       → next seed s (events.Ask who request (replies.Full n)) ≡ Some s
   pub speaks : (who : ℕ) → IsSpeakable (events.Ask who request replies.Done)
@@ -46,6 +50,7 @@ write_changes to offset bytes small = record {
   change_is = refl;
   makes = refl;
   delete = refl;
+  wants = refl;
   full = λ seed s who n run goes need few. let less : nat_lt n.free (n.need + 4) ≡ true = grind (arith, nat_tests) in rw (run, goes, eq-eqb n.need _ need, less) refl;
   speaks = λ who. small;
 }
@@ -57,6 +62,7 @@ resize_changes to size = record {
   change_is = refl;
   makes = refl;
   delete = refl;
+  wants = refl;
   full = λ seed s who n run goes need few. let less : nat_lt n.free (n.need + 4) ≡ true = grind (arith, nat_tests) in rw (run, goes, eq-eqb n.need _ need, less) refl;
   speaks = λ who. refl;
 }
@@ -278,10 +284,11 @@ pub tries_changed : {D : Type 0} (g : Ghosts D) (left_sized : (d : D) (t : ℕ) 
     → Tries g k (record k { disk = d; space = space }) who request (done_or result)
 tries_changed g left_sized sized n k mid d space reads id kind change request is result changes end who reaches goes = record {
   ends = λ s serves none.
-      let r = reaches s serves in
+      let r = reaches.0 s serves in
       let may = goes s r.0 serves r.1 (knows_that g k s serves id (objects.File r.0) r.1.there r.2) in
       ends g n k mid (record k { disk = d; space = space }) reads request s who (done_or result)
       (did g left_sized sized (record k { disk = mid }) d space id kind change request is result (changes serves.store.carries.tells) s who r.0 (serves_on g n k (record k { disk = mid }) reads refl s serves) none r.1 r.2 may.0 may.1 may.2);
-  went = went_then g n k mid (record k { disk = d; space = space }) reads (draws request) (done_or result)
-      (went_done g (record k { disk = mid }) d space k.seats end.calls.same.size end.calls.faults end.calls.later (draws request) result (λ tried is. rw is at end.refused));
+  went = went_then g n k mid (record k { disk = d; space = space }) reads request (done_or result)
+      (went_done g (record k { disk = mid }) d space k.seats end.calls.same.size end.calls.faults end.calls.later request result (λ tried is. rw is at end.refused)
+      (λ damage met. told_of_file g (record k { disk = mid }) (record k { disk = d; space = space }) (Some request) id.block (inl reaches.1) damage end.calls.same.size sized end.calls.same.honesty kind change is.wants (λ r same. let one : request ≡ r = cc in ap is_delete (sym one) ∙ is.delete) (rw met at end.refused)));
 }

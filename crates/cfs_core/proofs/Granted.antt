@@ -112,7 +112,7 @@ pub tries_closed : {D : Type 0} (g : Ghosts D) → ((d : D) (t : ℕ) (c : Image
     → Tries g k (record k { seats = seats_but (tables.is_grant who t) k.seats }) who (asks.Close t commit) (Ok replies.Done)
 tries_closed g left_sized sized k who t commit bare the = record {
   ends = λ s serves none. let x = the s serves in answers_closed g k s serves who t commit x.0 x.1 bare left_sized sized none;
-  went = went_so g k k.disk k.space (seats_but (tables.is_grant who t) k.seats) refl (omega arith) (omega arith) 0 (Ok replies.Done) tt tt;
+  went = went_so g k k.disk k.space (seats_but (tables.is_grant who t) k.seats) refl (omega arith) (omega arith) (asks.Close t commit) (Ok replies.Done) tt tt;
 }
 
 -- ---- what is drawn next is of no grant yet

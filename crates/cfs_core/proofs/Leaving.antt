@@ -1,6 +1,6 @@
 -- A session's grants are dropped, one after the other, and then it has left.
 use Rattle.std.proofs.Common.{◌≡◌, inl, inr, ℕ, List, [], ◌∷◌, length, Bool, true, false, cond, not, Option, Some, None, IsTrue, refl, sym, ◌∙◌, ap, subst, arith, ◌==◌, find, map, option_map}
-use Rattle.cfs_core.proofs.Words.{after_leave, Ghosts, Grant, HasFailed, Holds, Image, Leaves, loose, nothing_left, State, stopped_at, then, without_session-none}
+use Rattle.cfs_core.proofs.Words.{after_leave, Ghosts, Grant, Holds, Image, Leaves, loose, nothing_left, State, stopped_at, then, without_session-none}
 use Rattle.open_table.specs.declared.grant.Grant as seats
 use Rattle.open_table.specs.Grants as tables
 use Rattle.ufs_model.specs.declared.asked.Event.TheVariants as events
@@ -8,7 +8,9 @@ use Rattle.cfs_core.specs.declared.kernel.Stop.{Stop}
 use Rattle.cfs_core.specs.Asked.{Happens, halted}
 use Rattle.cfs_core.specs.Calls.{AddsNoStray}
 use Rattle.cfs_core.specs.Kernel.{Kernel, grants_in}
-use Rattle.cfs_core.specs.Leaving.{ServesFewer, Sheds, halt_of, of_others}
+use Rattle.cfs_base.proofs.Calls.{failed_since}
+use Rattle.cfs_core.specs.Leaving.{ServesFewer, Sheds, StopsSo, halt_of, of_others}
+use Rattle.cfs_core.proofs.Damages.{told_as}
 use Rattle.cfs_core.specs.StandsFor.{IsFront, Serves, Stands, StandsFor, bare, front_of}
 use Rattle.cfs_core.proofs.Serving.{fewer_lost, fits, none_more, pending, running}
 
@@ -22,11 +24,11 @@ module _ {D : Type 0} (g : Ghosts D) (who : ℕ) where
     size = refl;
     faults = omega arith;
     later = omega arith;
-    idle = λ stop is. (is, refl);
+    idle = λ stop is. (is, refl, refl);
     leaves = λ s serves none. nothing_left g k.disk (λ c. Holds c s.graph);
     serves = λ s serves none runs. record { grants = s.grants; serves = serves; others = refl };
     strays = λ s serves none runs. none_more (g.content k.disk) (g.content k.disk) s.graph refl;
-    halts = λ stop none is quiet. let no : None ≡ Some stop = sym none ∙ is in cc;
+    halts = λ stop none is. let no : None ≡ Some stop = sym none ∙ is in cc;
     sound = λ s serves none stop is. let no : None ≡ Some stop = sym none ∙ is in cc;
   }
 
@@ -55,11 +57,19 @@ module _ {D : Type 0} (g : Ghosts D) (who : ℕ) where
         let first = one.strays s serves none (between b.stop refl runs) n last.1 in
         (last.0 ∙ first.0, first.1)
 
-    halts_both : (stop : Stop) → a.stop ≡ None → c.stop ≡ Some stop → stop.damage ≡ None → (o : Option Stop) → b.stop ≡ o → HasFailed g a.disk c.disk
-    halts_both stop none is quiet None mid = (let f = two.halts stop mid is quiet in record { cause = omega (arith, f.cause, one.faults); clock = omega (arith, f.clock, one.later) })
-    halts_both stop none is quiet (Some was) mid =
-        let same : was ≡ stop = (let both : Some was ≡ Some stop = sym (two.idle was mid).0 ∙ is in cc) in
-        subst (λ d. HasFailed g a.disk d) (sym (two.idle was mid).1) (one.halts stop none (mid ∙ ap (λ (x : Stop). Some x) same) quiet)
+    halts_both : (stop : Stop) → a.stop ≡ None → c.stop ≡ Some stop → (o : Option Stop) → b.stop ≡ o → StopsSo g a c stop
+    halts_both stop none is None mid = (let so = two.halts stop mid is in record {
+      failed = λ quiet. (let f = so.failed quiet in (failed_since g a.disk b.disk c.disk one.later one.faults f.0, f.1));
+      damaged = λ damage met. (let m = so.damaged damage met in (record { mid = m.0.mid; later = omega (arith, one.later, m.0.later); told = m.0.told }, m.1));
+    })
+    halts_both stop none is (Some was) mid =
+        let still = two.idle was mid in
+        let same : was ≡ stop = (let both : Some was ≡ Some stop = sym still.0 ∙ is in cc) in
+        let so = one.halts stop none (mid ∙ ap (λ (x : Stop). Some x) same) in
+        record {
+          failed = λ quiet. rw still.1 (so.failed quiet);
+          damaged = λ damage met. (let m = so.damaged damage met in (record { mid = m.0.mid; later = m.0.later; told = told_as g m.0.mid b c None damage still.1 still.2 m.0.told }, m.1 ∙ ap g.moment (sym still.1)));
+        }
 
     sound_both : (s : State) → Serves g a s → a.stop ≡ None → (stop : Stop) → c.stop ≡ Some stop → (o : Option Stop) → b.stop ≡ o → stop.damage ≡ None
     sound_both s serves none stop is None mid = let then_it = one.serves s serves none mid in two.sound (record s { grants = then_it.grants }) then_it.serves mid stop is
@@ -76,11 +86,11 @@ module _ {D : Type 0} (g : Ghosts D) (who : ℕ) where
       size = two.size ∙ one.size;
       faults = omega (arith, one.faults, two.faults);
       later = omega (arith, one.later, two.later);
-      idle = λ stop is. let first = one.idle stop is in let last = two.idle stop first.0 in (last.0, last.1 ∙ first.1);
+      idle = λ stop is. let first = one.idle stop is in let last = two.idle stop first.0 in (last.0, last.1 ∙ first.1, last.2 ∙ first.2);
       leaves = λ s serves none. leaves_both s serves none b.stop refl;
       serves = serves_both;
       strays = strays_both;
-      halts = λ stop none is quiet. halts_both stop none is quiet b.stop refl;
+      halts = λ stop none is. halts_both stop none is b.stop refl;
       sound = λ s serves none stop is. sound_both s serves none stop is b.stop refl;
     }
 

@@ -1,6 +1,6 @@
 -- How much the collections that were called for have left: a step takes from it, and a request adds one step at most.
-use Rattle.std.proofs.Common.{◌≡◌, ℕ, ◌+◌, ◌*◌, ◌/◌, ◌<◌, ◌≤◌, ◌++◌, List, [], ◌∷◌, length, Bool, true, false, cond, ◌||◌, Option, Some, None, refl, sym, ◌∙◌, ap, subst, arith, add-mul, one-mul, length-append, option_to_list, nat_lt}
-use Rattle.cfs_core.proofs.Words.{Collecting, IsPhaseOf, Pass, Phase, Rescue, colours_in, cylinders_of, events_left, left_in, most_steps, next_phase, reads_left, steps_left, volume_of, waiting_in}
+use Rattle.std.proofs.Common.{◌≡◌, ℕ, ◌+◌, ◌*◌, ◌/◌, ◌<◌, ◌≤◌, List, [], length, Bool, true, false, cond, ◌||◌, Option, Some, None, refl, sym, ◌∙◌, ap, subst, arith, add-mul, one-mul, length-append, option_to_list, nat_lt}
+use Rattle.cfs_core.proofs.Words.{Collecting, IsPhaseOf, Pass, Phase, Rescue, events_left, left_in, most_steps, next_phase, reads_left, steps_left, volume_of, waiting_in}
 use Rattle.collector_steps.specs.declared.phase.Phase.TheVariants as phases
 use Rattle.ufs_model.specs.declared.asked.Event.{Event}
 use Rattle.ufs_model.specs.declared.asked.Event.TheVariants as events
@@ -8,7 +8,7 @@ use Rattle.cfs_core.specs.declared.collecting.Collections.{Collections}
 use Rattle.cfs_core.specs.declared.collecting.Step.{Step}
 use Rattle.cfs_core.specs.declared.collecting.Step.TheVariants as steps
 use Rattle.cfs_core.specs.Kernel.{marks_in, runs, sweeps_in}
-use Rattle.cfs_core.specs.Left.{AddsOne, GoesOn, RunsBy, events_ahead, events_of, steps_ahead, steps_of, to_begin}
+use Rattle.cfs_core.specs.Left.{AddsOne, GoesOn, RunsBy, events_of, steps_of, to_begin}
 use Rattle.cfs_core.specs.Rescues.{AreRescued, HasRescued, while_marking}
 use Rattle.collector_marks.specs.Kept.{Marked, blocks_of, colours_of}
 

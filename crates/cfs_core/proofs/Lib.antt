@@ -4,6 +4,7 @@ mod Readied
 pub mod Serving
 mod Ways
 mod Refusing
+mod Damages
 mod Went
 mod Answering
 mod Calm

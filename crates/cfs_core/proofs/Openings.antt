@@ -1,5 +1,5 @@
 -- How an opening ends.
-use Rattle.std.proofs.Common.{◌≡◌, ℕ, ◌+◌, ◌<◌, ◌≤◌, List, [], ◌∷◌, ◌++◌, length, Bool, true, false, cond, get_or, Option, Some, None, Ok, Err, IsTrue, refl, sym, ◌∙◌, ap, subst, arith, IfSome, Result, is_some, map, nat_le, nat_lt, option_to_list, sum}
+use Rattle.std.proofs.Common.{◌≡◌, inl, ℕ, ◌+◌, ◌<◌, ◌≤◌, List, [], ◌∷◌, ◌++◌, length, Bool, true, false, cond, get_or, Option, Some, None, Ok, Err, IsTrue, refl, sym, ◌∙◌, ap, subst, arith, IfSome, Result, is_some, map, nat_le, nat_lt, option_to_list, sum}
 use Rattle.cfs_core.proofs.Words.{AcquireFault, begun_at, begun_fresh, block_there, changes_begin, differs, draft_blocks, Drafting, drafts_of, Draws, fault_by, FileKind, first_draft, first_here, first_others, fresh_of, Ghosts, Grant, granted, granted_keeps, Graph, had_tried, has_all_grants, Holds, Image, is_damaged, is_full, is_locked, is_normal, is_reading, is_there, is_unwanted_index, IsOpen}
 use Rattle.cfs_core.proofs.Words.{IsPlainReply, IsState, Kept, Kind, kind_in, kind_of, Leaves, length-none, list_any, Mode, MOST_GRANTS, nat_tests, need_of, next, nothing_left, Object, object_at, of_draft, one_if, OnlyReads, Opened, opened_as, or_parts, outcome_legal, outcome_of, Puid, Reading, refusal_of, Refused, Reply, Request, same_puid, start_stays, State, sum_by-cons, takes_draft, Tuid}
 use Rattle.cfs_core.proofs.Words.{wanted, wider, word, Writing}
@@ -12,7 +12,7 @@ use Rattle.ufs_model.specs.declared.asked.Event.TheVariants as events
 use Rattle.ufs_model.specs.declared.asked.Reply.TheVariants as replies
 use Rattle.ufs_model.specs.declared.asked.Request.TheVariants as asks
 use Rattle.ufs_model.specs.declared.object.Object.TheVariants as objects
-use Rattle.cfs_core.specs.Calls.{Answers, ByOutcome, ByWant, EndsSo, Owes, Tries, Undone}
+use Rattle.cfs_core.specs.Calls.{Answers, ByOutcome, ByWant, EndsSo, IsCause, Owes, Tries, Undone}
 use Rattle.cfs_core.specs.Kernel.{Kernel, Seat, grants_in, is_ready}
 use Rattle.cfs_core.specs.Opening.{Begins, BeginsSo, IsBegun, gets_draft, is_unfit, told_of}
 use Rattle.cfs_core.specs.StandsFor.{HasDraftOf, Serves, bare, drafts_at, drafts_of_seats, is_sweeping}
@@ -22,8 +22,11 @@ use Rattle.cfs_core.proofs.Ended.{of_its_draft}
 use Rattle.cfs_core.proofs.Readied.{for_ready}
 use Rattle.cfs_core.proofs.Regranted.{grants_push, push_drafts, push_have}
 use Rattle.cfs_core.proofs.Granted.{locked_by, many_by, none_by}
+use Rattle.cfs_core.specs.Damage.{IsRootHere}
+use Rattle.special_files.specs.Refusal.{IsRefusalOrMemory}
+use Rattle.cfs_core.proofs.Damages.{told_of_draft}
 use Rattle.cfs_core.proofs.Went.{went_so}
-use Rattle.cfs_core.proofs.Serving.{fits, kind_is, object_listed, running, stays}
+use Rattle.cfs_core.proofs.Serving.{fits, kind_is, named_root, object_listed, running, stays}
 use Rattle.cfs_core.proofs.Ways.{adds_none}
 use Rattle.cfs_core.proofs.Moved.{HasStepped, IsStepped, four_left, makes_stepped}
 
@@ -341,6 +344,13 @@ module _ {D : Type 0} (g : Ghosts D) (left_sized : (d : D) (t : ℕ) (c : Image)
     not_opened (refusals.Damaged damage) is = absurd is
     not_opened refusals.Memory is = memory g left_sized sized 2 k stays_as is.0 (as_it_was is.1) s who serves none request
 
+-- why it couldn't be
+begin_cause : {D : Type 0} (g : Ghosts D) (old now : Kernel D) (asked : Option Request) (at : ℕ) → IsRootHere old asked at → g.blocks now.disk ≡ g.blocks old.disk → (e : Refused) → IsRefusalOrMemory g at 4 old.disk now.disk now.space e → IsCause g old now asked e
+begin_cause g old now asked at here size (refusals.Full need) is = tt
+begin_cause g old now asked at here size (refusals.Disk tried) is = is
+begin_cause g old now asked at here size (refusals.Damaged damage) is = told_of_draft g old now asked at here damage size is
+begin_cause g old now asked at here size refusals.Memory is = tt
+
 -- ---- the whole call
 
 module _ {D : Type 0} (g : Ghosts D) (left_sized : (d : D) (t : ℕ) (c : Image) → g.left_since d t c → length c ≡ g.blocks d) (sized : (d : D) → IsTrue (g.honest d) → length (g.content d) ≡ g.blocks d)
@@ -398,5 +408,6 @@ module _ {D : Type 0} (g : Ghosts D) (left_sized : (d : D) (t : ℕ) (c : Image)
   tries_not e begins = record {
     ends = λ s serves none. let o = the_object g k s serves id kind listed in
         not_opened g left_sized sized k who id mode (gets_draft kind mode) tuid tuid_is s serves none o.0 o.1 (gets_now g k s serves id kind listed mode) (goes s serves).0 d space begins.calls.same.size e (begins_so (Err e) begins s serves);
-    went = went_so g k d space k.seats begins.calls.same.size begins.calls.faults begins.calls.later 1 (Err e) tt begins.cause;
+    went = went_so g k d space k.seats begins.calls.same.size begins.calls.faults begins.calls.later (asks.OpenFor id mode) (Err e) tt
+        (begin_cause g k (record k { disk = d; space = space }) (Some (asks.OpenFor id mode)) id.block (inl (named_root k.names.named id kind listed)) begins.calls.same.size e begins.cause);
   }

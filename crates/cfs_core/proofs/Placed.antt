@@ -1,6 +1,6 @@
 -- What the store says of an object that is made, as the core has it.
-use Rattle.std.proofs.Common.{Bool, ◌≡◌, ◌⊎◌, inl, inr, ⊎_elim, ℕ, ◌+◌, ◌<◌, ◌≤◌, List, [], ◌∷◌, length, true, false, None, Result, Ok, Err, IsTrue, refl, sym, ◌∙◌, ap, subst, arith, ◌==◌, IfErr, sum}
-use Rattle.cfs_core.proofs.Words.{blocks_of, created, draws, Ghosts, Graph, has_block, has_root_in, HasSlot, HasStopped, Holds, Image, Index, insert_entry, is_damaged, IsIndexRefusal, IsLeastFree, IsOpenMap, Kept, keys_of-kinds_in, Kind, kind_of, kinds_of, list_any, Need, Object, OnlyReads, Puid, puid_cmp, PutsObject, refusal_of, Refused, Reply, Request, State, StoreHas, sum_is, target, wider}
+use Rattle.std.proofs.Common.{Bool, ◌≡◌, ◌⊎◌, inl, inr, ⊎_elim, ℕ, ◌+◌, ◌<◌, ◌≤◌, List, [], ◌∷◌, length, true, false, None, Some, Result, Ok, Err, IsTrue, refl, sym, ◌∙◌, ap, subst, arith, ◌==◌, IfErr, sum}
+use Rattle.cfs_core.proofs.Words.{blocks_of, created, Ghosts, Graph, has_block, has_root_in, HasSlot, HasStopped, Holds, Image, Index, insert_entry, is_damaged, IsIndexRefusal, IsLeastFree, IsOpenMap, Kept, keys_of-kinds_in, Kind, kind_of, kinds_of, list_any, Need, Object, OnlyReads, Puid, puid_cmp, PutsObject, refusal_of, Refused, Reply, Request, State, StoreHas, sum_is, target, wider}
 use Rattle.cfs_core.proofs.Words.{with_made, word}
 use Rattle.cfs_base.specs.declared.refusal.Refused.TheVariants as refusals
 use Rattle.special_files.specs.Committing.{named}
@@ -9,28 +9,27 @@ use Rattle.ufs_model.specs.declared.object.Object.TheVariants as objects
 use Rattle.ufs_model.specs.declared.asked.Event.TheVariants as events
 use Rattle.cfs_core.specs.Calls.{Answers, ByWant, EndsSo, IsCause, IsInDoubt, IsShort, TriesOn}
 use Rattle.cfs_core.specs.Kernel.{Kernel}
-use Rattle.cfs_core.specs.Makes.{IsMaking, Names}
+use Rattle.cfs_core.specs.Damage.{NotOwned}
+use Rattle.cfs_core.specs.Makes.{IsAstray, IsMaking, Names}
+use Rattle.puid_space.specs.Directory.{Listing}
+use Rattle.ufs_model.specs.Outcome.{creates}
 use Rattle.cfs_core.specs.StandsFor.{Serves, drafts_of_seats}
 use Rattle.cfs_core.specs.Ways.{Reaches}
 use Rattle.cfs_core.proofs.Answering.{disk_failed, memory, reads_none}
 use Rattle.cfs_core.proofs.Committed.{LeavesThese, did, in_doubt, uncut}
 use Rattle.cfs_core.proofs.Created.{filled_is, inside, least_one, least_there, need_is, no_root, not_zero, outcome, stepped, theirs}
+use Rattle.cfs_core.proofs.Damages.{told_of_making}
 use Rattle.cfs_core.proofs.Went.{cause_of, went_so}
 use Rattle.cfs_core.proofs.Serving.{running, shut, stays}
 
 root_is : (named : List (Puid × Kind)) (g : Graph) (b : ℕ) → named ≡ kinds_of g → has_root_in named b ≡ has_block g.objects b
 root_is named g b is = ap (λ ns. has_root_in ns b) is ∙ ap (λ ids. list_any (λ (id : Puid). id.block == b) ids) (keys_of-kinds_in g.objects)
 
--- a damage is no failure of the disk
-astray_cause : {D : Type 0} (g : Ghosts D) (old new : D) (e : Refused) → is_damaged e ≡ true → IsCause g old new e
-astray_cause g old new (refusals.Full need) is = tt
-astray_cause g old new (refusals.Disk tried) is = cc
-astray_cause g old new (refusals.Damaged damage) is = tt
-astray_cause g old new refusals.Memory is = tt
-
-if_astray : {D : Type 0} (g : Ghosts D) (old new : D) (result : Result Reply Refused) → IfErr result (λ e. is_damaged e ≡ true) → IfErr result (IsCause g old new)
-if_astray g old new (Ok reply) is = tt
-if_astray g old new (Err e) is = astray_cause g old new e is
+-- an object that was made where a root is
+if_astray : {D : Type 0} (g : Ghosts D) (old new : Kernel D) (request : Request) (id : Puid) (names : Listing) (result : Result Reply Refused) → creates request ≡ true → names ≡ old.names → old.names.room ≡ g.blocks old.disk → IfErr result (IsAstray names id) → IfErr result (IsCause g old new (Some request))
+if_astray g old new request id names (Ok reply) makes same room is = tt
+if_astray g old new request id names (Err e) makes same room is =
+    subst (IsCause g old new (Some request)) (sym is.is) (NotOwned request refl makes refl (rw (sym room, ap (λ (l : Listing). l.room) (sym same), ap (λ (l : Listing). l.named) (sym same)) is.why))
 
 stopped_so : {D : Type 0} (g : Ghosts D) (at slot : ℕ) (old new : D) (before after : Kept) (e : Refused) → IsIndexRefusal g at slot old new after e ⊎ IsOpenMap g old before e → (tried : Bool) → e ≡ refusals.Disk tried → HasStopped g tried old new
 stopped_so g at slot old new before after e (inl is) tried same = subst (IsIndexRefusal g at slot old new after) same is
@@ -126,9 +125,9 @@ module _ {D : Type 0} (g : Ghosts D) (left_sized : (d : D) (t : ℕ) (c : Image)
     pub tries_made : (p : Puid) → r ≡ Ok p → (new : Kernel D) (result : Result Reply Refused) → Names mid new p (kind_of o) result → TriesOn g k new index slot request result
     tries_made p is new result names = record {
       ends = λ s who i serves none reach within goes. made request making s who i serves none reach within goes p is new result names;
-      went = record {
+      went = λ named. record {
         plain = names.plain;
-        cause = if_astray g k.disk new.disk result names.astray;
+        cause = if_astray g k new request p k.names result making.makes refl room names.astray;
         size = ap g.blocks names.disk ∙ size;
         faults = omega (arith, ap g.faults names.disk, puts.calls.faults);
         later = omega (arith, ap g.moment names.disk, puts.calls.later);
@@ -136,7 +135,7 @@ module _ {D : Type 0} (g : Ghosts D) (left_sized : (d : D) (t : ℕ) (c : Image)
         collections = names.collections;
         seed = names.seed;
         kept = names.kept;
-        drawn = omega (arith, names.drawn, making.draw);
+        drawn = rw making.draw names.drawn;
       };
     }
 
@@ -147,7 +146,8 @@ module _ {D : Type 0} (g : Ghosts D) (left_sized : (d : D) (t : ℕ) (c : Image)
           (subst (λ (x : Result Puid Refused). IfErr x (λ f. f ≡ refusals.Memory → (space ≡ k.space) × OnlyReads g 9 k.disk d)) is puts.memory)
           (subst (λ (x : Result Puid Refused). IfErr x (λ f. IsIndexRefusal g index.block slot k.disk d space f ⊎ IsOpenMap g k.disk k.space f)) is puts.refused)
           (sound_at request making s who i serves none reach within goes e is);
-      went = went_so g k d space k.seats size puts.calls.faults puts.calls.later (draws request) (Err e) tt (cause_of g k.disk d e (stopped_so g index.block slot k.disk d k.space space e (rw is at puts.refused)));
+      went = λ named. went_so g k d space k.seats size puts.calls.faults puts.calls.later request (Err e) tt (cause_of g k mid (Some request) e (stopped_so g index.block slot k.disk d k.space space e (rw is at puts.refused))
+          (λ damage same. told_of_making g k mid (Some request) index.block (inl named) damage size slot making.wants (rw same at (rw is at puts.refused))));
     }
 
 -- ---- too few blocks are Free
@@ -166,5 +166,5 @@ module _ {D : Type 0} (g : Ghosts D) (left_sized : (d : D) (t : ℕ) (c : Image)
           still = λ all. reads.content;
           owed = ByWant goes (record { delete = making.delete; few = omega (arith, few, need) }) (ap (λ (n : ℕ). replies.Full (record { free = sum k.space.free; need = n })) (sym need));
         };
-    went = went_so g k d space k.seats (ap g.blocks same_disk) reads.faults reads.images.later (draws request) (Err (refusals.Full (record { free = sum k.space.free; need = 4 }))) tt tt;
+    went = λ named. went_so g k d space k.seats (ap g.blocks same_disk) reads.faults reads.images.later request (Err (refusals.Full (record { free = sum k.space.free; need = 4 }))) tt tt;
   }

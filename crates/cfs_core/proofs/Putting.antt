@@ -1,12 +1,13 @@
 -- What the store says of a slot that is filled or emptied, as the core has it.
-use Rattle.std.proofs.Common.{◌≡◌, ℕ, ◌+◌, ◌<◌, ◌≤◌, length, true, false, Option, None, Result, Ok, Err, IsTrue, refl, sym, ap, subst, arith, sum}
-use Rattle.cfs_core.proofs.Words.{creates, draws, Ghosts, HasSlot, Image, Index, index_with, IsSpeakable, Kept, Need, OnlyReads, outcome_of, Puid, PutsSlot, Ref, refusal_of, Refused, Request, State, with_object}
+use Rattle.std.proofs.Common.{◌≡◌, inl, ℕ, ◌+◌, ◌*◌, ◌<◌, ◌≤◌, length, true, false, Option, None, Some, Result, Ok, Err, IsTrue, refl, sym, ap, subst, arith, sum}
+use Rattle.cfs_core.proofs.Words.{creates, Ghosts, HasSlot, Image, Index, index_with, IsSpeakable, Kept, Need, OnlyReads, outcome_of, Puid, PutsSlot, Ref, refusal_of, Refused, Request, State, with_object}
 use Rattle.cfs_base.specs.declared.refusal.Refused.TheVariants as refusals
 use Rattle.ufs_model.specs.declared.asked.Event.TheVariants as events
 use Rattle.ufs_model.specs.declared.asked.Reply.TheVariants as replies
 use Rattle.ufs_model.specs.declared.asked.Request.TheVariants as asks
 use Rattle.ufs_model.specs.declared.object.Object.TheVariants as objects
 use Rattle.cfs_core.specs.Calls.{ByWant, EndsSo, IsShort, TriesOn, done_or}
+use Rattle.cfs_core.specs.Damage.{bytes_wanted}
 use Rattle.cfs_core.specs.Kernel.{Kernel}
 use Rattle.cfs_core.specs.StandsFor.{Serves, drafts_of_seats}
 use Rattle.cfs_core.specs.Ways.{Reaches}
@@ -15,11 +16,12 @@ use Rattle.cfs_core.proofs.Changed.{object_did, object_in_doubt}
 use Rattle.cfs_core.proofs.Committed.{LeavesThese, uncut}
 use Rattle.cfs_core.proofs.Grown.{added_by, filled_blocks}
 use Rattle.cfs_core.proofs.Refusing.{Puts, retain_full, retain_need}
+use Rattle.cfs_core.proofs.Damages.{told_of_index}
 use Rattle.cfs_core.proofs.Went.{went_done, went_so}
 use Rattle.cfs_core.proofs.Serving.{running, shut, stays}
 
 module _ {D : Type 0} (g : Ghosts D) (left_sized : (d : D) (t : ℕ) (c : Image) → g.left_since d t c → length c ≡ g.blocks d) (sized : (d : D) → IsTrue (g.honest d) → length (g.content d) ≡ g.blocks d)
-    (k : Kernel D) (d : D) (space : Kept) (index : Puid) (slot : ℕ) (what : Option Puid) (request : Request) (makes : creates request ≡ false)
+    (k : Kernel D) (d : D) (space : Kept) (index : Puid) (slot : ℕ) (what : Option Puid) (request : Request) (makes : creates request ≡ false) (bytes : bytes_wanted (Some request) ≡ 8 * slot + 8)
     (speaks : IsSpeakable (events.Ask 0 request replies.Done)) (result : Result (Unit {0}) Refused) (puts : PutsSlot g index.block slot what k.disk d k.space space result)
     (out : (s : State) (who : ℕ) (i : Index) → Serves g k s → Reaches s who request index (objects.Index i)
     → (outcome_of k.words.seed s who request 0 ≡ (replies.Done, (outcome_of k.words.seed s who request 0).1)) × Puts s (outcome_of k.words.seed s who request 0).1 index (index_with i slot what))
@@ -60,7 +62,8 @@ module _ {D : Type 0} (g : Ghosts D) (left_sized : (d : D) (t : ℕ) (c : Image)
   pub tries_put : TriesOn g k new index slot request (done_or result)
   tries_put = record {
     ends = λ s who i serves none reach inside goes. ends s who i serves none reach inside goes result refl;
-    went = went_done g k d space k.seats puts.calls.same.size puts.calls.faults puts.calls.later (draws request) result (λ tried is. rw is at puts.refused);
+    went = λ named. went_done g k d space k.seats puts.calls.same.size puts.calls.faults puts.calls.later request result (λ tried is. rw is at puts.refused)
+        (λ damage is. told_of_index g k new (Some request) index.block (inl named) damage puts.calls.same.size slot bytes (rw is at puts.refused));
   }
 
 -- ---- too few blocks are Free
@@ -88,5 +91,5 @@ module _ {D : Type 0} (g : Ghosts D) (left_sized : (d : D) (t : ℕ) (c : Image)
       owed = ByWant goes (record { delete = refl; few = omega (arith, few, retain_need k.words.seed s who to index i slot id reach) })
           (ap (λ (n : ℕ). replies.Full (record { free = sum k.space.free; need = n })) (sym (retain_need k.words.seed s who to index i slot id reach)));
     };
-    went = went_so g k d space k.seats (ap g.blocks same_disk) reads.faults reads.images.later (draws request) (Err (refusals.Full need)) tt tt;
+    went = λ named. went_so g k d space k.seats (ap g.blocks same_disk) reads.faults reads.images.later request (Err (refusals.Full need)) tt tt;
   }

@@ -1,5 +1,5 @@
 -- Drafts as they stand between two calls.
-use Rattle.std.proofs.Common.{◌≡◌, ℕ, ◌*◌, ◌<◌, List, [], ◌∷◌, ◌++◌, Bool, true, false, cond, ◌&&◌, length, Option, Some, None, refl, sym, ◌∙◌, ap, subst, arith, filter, find, is_none, not, is_some, nat_lt, option_and_then, option_to_list}
+use Rattle.std.proofs.Common.{◌≡◌, ℕ, ◌*◌, ◌<◌, List, [], ◌∷◌, ◌++◌, Bool, true, false, cond, ◌&&◌, length, Option, Some, None, refl, sym, ◌∙◌, ap, subst, arith, filter, find, is_none, is_some, nat_lt, option_and_then, option_to_list}
 use Rattle.cfs_core.proofs.Words.{and_parts, Draft, Drafting, Grant, Kept, list_all, list_all-append, Listing, nat_tests, Opened, opened_as, sum_by, sum_by-append, sum_by-cons}
 use Rattle.open_table.specs.declared.grant.Grant as seats
 use Rattle.vol_owners.specs.Room as owners

@@ -1,9 +1,9 @@
 -- A draft that is written or resized, as the core asks for it.
-use Rattle.std.proofs.Common.{◌≡◌, ℕ, ◌+◌, ◌-◌, ◌/◌, ◌<◌, ◌≤◌, Bool, true, false, [], Some, Ok, Err, refl, sym, subst, arith, IfErr, Result, sum}
+use Rattle.std.proofs.Common.{◌≡◌, ℕ, ◌+◌, ◌-◌, ◌/◌, ◌<◌, ◌≤◌, Bool, true, false, [], None, Some, Ok, Err, refl, sym, subst, arith, IfErr, Result, sum}
 use Rattle.cfs_core.proofs.Words.{Drafting, Ends, Ghosts, HasStopped, is_damage, is_damaged, is_full, IsTrouble, Kept, OnlyReads, reads_within, Refused, refused_by, Resizes, Trouble, trouble_had_tried}
 use Rattle.cfs_base.specs.declared.refusal.Trouble.TheVariants as troubles
 use Rattle.cfs_base.specs.declared.refusal.Refused.TheVariants as refusals
-use Rattle.cfs_core.specs.Looks.{IsCalmCause}
+use Rattle.cfs_core.specs.Looks.{IsDraftCause}
 use Rattle.cfs_core.proofs.Answering.{reads_none}
 
 -- 4,096 bytes touch nine leaves at most
@@ -43,9 +43,9 @@ pub sound_trouble : (e : Trouble) → is_damage e ≡ false → is_damaged (refu
 sound_trouble (troubles.Disk tried) sound = refl
 sound_trouble (troubles.Damaged damage) sound = cc
 
-pub calm_trouble : {D : Type 0} (g : Ghosts D) (at : ℕ) (old new : D) (e : Trouble) → ((kept : Kept) → IsTrouble g at old new kept e) → trouble_had_tried e ≡ false → IsCalmCause g old new (refused_by e)
-calm_trouble g at old new (troubles.Disk tried) is untried = (untried, subst (λ (b : Bool). HasStopped g b old new) untried (is (record { free = [] })))
-calm_trouble g at old new (troubles.Damaged damage) is untried = tt
+pub calm_trouble : {D : Type 0} (g : Ghosts D) (at : ℕ) (old new : D) (e : Trouble) → ((kept : Kept) → IsTrouble g at old new kept e) → trouble_had_tried e ≡ false → IsDraftCause g at old new (refused_by e)
+calm_trouble g at old new (troubles.Disk tried) is untried = (untried, subst (λ (b : Bool). HasStopped g b old new) untried (is (record { free = []; left = None })))
+calm_trouble g at old new (troubles.Damaged damage) is untried = is
 
 pub same_draft : (a b : Drafting) → Some a ≡ Some b → a ≡ b
 same_draft a b is = cc

@@ -12,7 +12,7 @@ use Rattle.cfs_core.proofs.Ways.{shut_at}
 -- ---- the directory
 
 -- an identifier that is named has a root block
-named_root : (named : List (Puid × Kind)) (id : Puid) (kind : Kind) → kind_in named id ≡ Some kind → has_root_in named id.block ≡ true
+pub named_root : (named : List (Puid × Kind)) (id : Puid) (kind : Kind) → kind_in named id ≡ Some kind → has_root_in named id.block ≡ true
 named_root [] id kind found = cc
 named_root (e ∷ es) id kind found = elim (same_puid id e.0) as (λ b. same_puid id e.0 ≡ b → cond b (Some e.1) (kind_in es id) ≡ Some kind → has_root_in (e ∷ es) id.block ≡ true) [
   | true ↦ λ is here. rw (same_puid_is id e.0 is, eq-eqb e.0.block e.0.block refl) refl

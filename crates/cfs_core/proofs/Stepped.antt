@@ -11,6 +11,7 @@ use Rattle.cfs_core.specs.declared.collecting.CollectFault.TheVariants as faults
 use Rattle.cfs_core.specs.declared.collecting.Step.{Step}
 use Rattle.cfs_core.specs.declared.collecting.Step.TheVariants as steps
 use Rattle.cfs_core.specs.declared.kernel.Stop.{Stop}
+use Rattle.cfs_core.proofs.Damages.{told_as}
 use Rattle.cfs_core.specs.Calls.{IsCause}
 use Rattle.cfs_core.specs.Collect.{Collects, EndsUnmade, HappensOrRests, HasBegun, IsFaultCause, IsMadeOrNot, IsNoDamage, IsStep, IsTidy, IsUnchanged, LeavesAll, MovesTo, StepsSo, TriesStep, event_of, fault_of, is_want, phase_of, stop_by}
 use Rattle.cfs_core.specs.Kernel.{AreKept, IsSized, Kernel, Seat, is_ready, marks_in, runs, sweeps_in}
@@ -114,12 +115,12 @@ module _ {D : Type 0} (g : Ghosts D) (left_sized : (d : D) (t : ℕ) (c : Image)
   halted (refusals.Damaged damage) moment s tries serves is = absurd is
   halted refusals.Memory moment s tries serves is = happens g left_sized sized old mid tries.calls.same.size none (ap (λ (k : Kernel D). k.stop) tries.same ∙ none) s None serves is
 
-  told_cause : (refused : Refused) → IsCause g old.disk mid.disk refused → IsFaultCause g old.disk mid.disk (fault_of refused (g.moment mid.disk))
-  told_cause (refusals.Full need) is = tt
-  told_cause (refusals.Disk false) is = is
-  told_cause (refusals.Disk true) is = (is, refl)
-  told_cause (refusals.Damaged damage) is = refl
-  told_cause refusals.Memory is = tt
+  told_cause : (refused : Refused) → (stop : Option Stop) → IsCause g old mid None refused → IsFaultCause g old (record mid { stop = stop }) (fault_of refused (g.moment mid.disk))
+  told_cause (refusals.Full need) stop is = tt
+  told_cause (refusals.Disk false) stop is = is
+  told_cause (refusals.Disk true) stop is = (is, refl)
+  told_cause (refusals.Damaged damage) stop is = (told_as g old mid (record mid { stop = stop }) None damage refl refl is, refl)
+  told_cause refusals.Memory stop is = tt
 
   with_stop : (stop : Option Stop) → IsUnchanged g old mid → IsUnchanged g old (record mid { stop = stop })
   with_stop stop is = record { reads = is.reads; names = is.names; space = is.space; collector = is.collector; finished = is.finished }
@@ -161,7 +162,7 @@ module _ {D : Type 0} (g : Ghosts D) (left_sized : (d : D) (t : ℕ) (c : Image)
     sound = λ _ s stands. no_damage refused (g.moment mid.disk) s (tries.ends.ends s (serves_from g old s none stands) none);
     stops = ap (λ (o : Option Stop). stop_by (fault_of refused (g.moment mid.disk)) o) (ap (λ (k : Kernel D). k.stop) tries.same);
     goes_on = tt;
-    cause = told_cause refused tries.ends.cause;
+    cause = told_cause refused _ tries.ends.cause;
     wants = λ told. tries.ends.wants (want_told refused _ (same_err told));
     calls = tries.calls;
     root = ap (λ (k : Kernel D). k.root) tries.same;

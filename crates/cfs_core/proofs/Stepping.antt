@@ -13,7 +13,9 @@ use Rattle.ufs_model.specs.declared.collection.Collection.TheVariants as collect
 use Rattle.cfs_core.specs.declared.collecting.Collections.{Collections}
 use Rattle.cfs_core.specs.declared.collecting.Step.{Step}
 use Rattle.cfs_core.specs.declared.collecting.Step.TheVariants as steps
+use Rattle.cfs_core.proofs.Damages.{told_of_map, told_of_scan}
 use Rattle.cfs_core.specs.Calls.{IsCause}
+use Rattle.cfs_core.specs.Damage.{IsOfGrey}
 use Rattle.cfs_core.specs.Collect.{EndsUnmade, HasBegun, IsMade, IsMadeOrNot, IsNext, MovesTo, StepsSo, is_want, phase_of, sweeps_blocks, told_as, with_parts}
 use Rattle.cfs_core.specs.Kernel.{Kernel, Seat, marks_in, runs, sweeps_in}
 use Rattle.cfs_core.specs.Left.{GoesOn, RunsBy}
@@ -319,6 +321,7 @@ module _ {D : Type 0} (g : Ghosts D) (old : D) (space : Kept) (names : Listing) 
       room = refl;
       some = λ h. h;
       cylinders = refl;
+      commit = refl;
     }
 
     pub steps_read : l.phase ≡ k.phase → ((s : State) (ds : List Opened) → IsServed g old names.named s ds → Collects (g.content old) s k → Collects (g.content new) s l) → (step : Step)
@@ -327,13 +330,13 @@ module _ {D : Type 0} (g : Ghosts D) (old : D) (space : Kept) (names : Listing) 
         (λ core. made core (λ s serves none. read_on g core old space names k s serves l n new reads phase (keeps s _ (served g core old space names k s serves l) serves.collecting.collects)))
 
     -- one that failed, with nothing tried: of a disk that serves only for want of memory, or since a device call failed
-    pub steps_failed : IsAsBefore k l → (e : Refused) → IsCause g old new e → is_want e ≡ false → ((s : State) (ds : List Opened) → IsServed g old names.named s ds → Collects (g.content old) s k → is_calm_refusal e ≡ true)
+    pub steps_failed : IsAsBefore k l → (e : Refused) → ((core : Kernel D) → IsCause g (before core) (after_read core) None e) → is_want e ≡ false → ((s : State) (ds : List Opened) → IsServed g old names.named s ds → Collects (g.content old) s k → is_calm_refusal e ≡ true)
         → StepsSo g old new space space names names k l (Err e)
     steps_failed same e cause no_want calm = read_step same.phase (Err e) (λ core. record {
       ends = λ s serves none. subst (EndsUnmade g (before core) (after_read core) s) (sym (calm_is e no_want (calm s _ (served g core old space names k s serves l) serves.collecting.collects)))
           (stayed g core old space names k s serves l n new reads same);
       still = λ untried. record { reads = reads_within g old new n 4 few reads; names = refl; space = refl; collector = as_before k l same; finished = refl };
-      cause = cause;
+      cause = cause core;
       wants = λ some. never e no_want some;
     })
 
@@ -376,6 +379,7 @@ module _ {D : Type 0} (g : Ghosts D) (old : D) (space : Kept) (names : Listing) 
     room = room_is;
     some = λ none. ap (λ named. has_root_in named 0) kept ∙ no_root_left test names.named none;
     cylinders = refl;
+    commit = refl;
   }
     where
       blocks_less : (h : Graph) (ds : List Opened) → graph_blocks h ≤ blocks_taken h ds
@@ -419,6 +423,7 @@ module _ {D : Type 0} (g : Ghosts D) (old : D) (space : Kept) (names : Listing) 
         room = refl;
         some = λ h. h;
         cylinders = is.sweep.cylinders;
+        commit = is.sweep.left;
       }
 
       by : (r : Result (Unit {0}) Trouble) → result ≡ r → StepsSo g old new space after names names k l (told_as r)
@@ -448,7 +453,7 @@ module _ {D : Type 0} (g : Ghosts D) (old : D) (space : Kept) (names : Listing) 
           collector = as_before k l as_it_was;
           finished = refl;
         };
-        cause = caused t (rw at at is.sweep.refused);
+        cause = caused core t (rw at at is.sweep.refused);
         wants = λ some. never (refused_by t) (no_want t) some;
       })
         where
@@ -459,9 +464,9 @@ module _ {D : Type 0} (g : Ghosts D) (old : D) (space : Kept) (names : Listing) 
           untried_too (trouble.Disk tried) h = h
           untried_too (trouble.Damaged damage) h = refl
 
-          caused : (u : Trouble) → IsMapTrouble g old new (64 * cylinder_of k.phase) u → IsCause g old new (refused_by u)
-          caused (trouble.Disk tried) h = h
-          caused (trouble.Damaged damage) h = tt
+          caused : (core : Kernel D) (u : Trouble) → IsMapTrouble g old new (64 * cylinder_of k.phase) u → IsCause g (before core) (with_parts core new after names l) None (refused_by u)
+          caused core (trouble.Disk tried) h = h
+          caused core (trouble.Damaged damage) h = told_of_map g (before core) (with_parts core new after names l) damage (64 * cylinder_of k.phase) h
 
           failed : (core : Kernel D) (s : State) → Serves g (before core) s → (t : Trouble) → result ≡ Err t → EndsUnmade g (before core) (with_parts core new after names l) s (refused_by t)
           failed core s serves (trouble.Disk false) at =
@@ -480,9 +485,9 @@ marks_on blocks c k l step marks phase less by =
 
 -- ---- why a leaf wasn't read
 
-pub scan_cause : {D : Type 0} (g : Ghosts D) (old new : D) (r : ℕ) (t : Trouble) → IsScanTrouble g old new r t → IsCause g old new (refused_by t)
-scan_cause g old new r (trouble.Disk tried) is = is
-scan_cause g old new r (trouble.Damaged damage) is = tt
+pub scan_cause : {D : Type 0} (g : Ghosts D) (old new : Kernel D) (r : ℕ) (t : Trouble) → IsOfGrey old r → IsScanTrouble g old.disk new.disk r t → IsCause g old new None (refused_by t)
+scan_cause g old new r (trouble.Disk tried) here is = is
+scan_cause g old new r (trouble.Damaged damage) here is = told_of_scan g old new damage r (inr here) is
 
 pub scan_calm : {D : Type 0} (g : Ghosts D) (old new : D) (r : ℕ) (t : Trouble) → IsScanTrouble g old new r t → ¬ IsDamaged t → trouble_had_tried t ≡ false → is_calm_refusal (refused_by t) ≡ true
 scan_calm g old new r (trouble.Disk false) is sound untried = refl

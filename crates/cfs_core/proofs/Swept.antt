@@ -1,5 +1,5 @@
 -- A cylinder that was swept, in the words of the graph.
-use Rattle.std.proofs.Common.{◌≡◌, ◌≢◌, inl, inr, ℕ, ◌*◌, ◌/◌, ◌==◌, ◌&&◌, List, Bool, true, false, cond, not, Option, Some, None, refl, sym, ◌∙◌, ap, option_map}
+use Rattle.std.proofs.Common.{◌≡◌, inl, inr, ℕ, ◌/◌, ◌==◌, ◌&&◌, List, Bool, true, false, cond, not, Option, Some, None, refl, sym, ◌∙◌, ap, option_map}
 use Rattle.cfs_core.proofs.Words.{Graph, Image, IsPhaseOf, IsSweptOf, Kind, MapEntry, Pass, Phase, Puid, and_from, and_parts, cylinder_of, entry_in, eq-eqb, free_entry, goes, goes_stray, has_block, has_root_in, is_made, is_of_pass, is_placed, is_root, is_stray, is_taken, keys_of-kinds_in, kinds_of, list_any, ne_eqb, not-true, stray_goes, swept}
 use Rattle.std.specs.Cmp as cmp
 use Rattle.std.proofs.lemmas.Bool.{cases_eq}

@@ -1,9 +1,12 @@
 -- What a call did, however it ended: of one that draws no word, and of one after reads.
-use Rattle.std.proofs.Common.{◌≡◌, ℕ, ◌≤◌, Bool, Result, Ok, Err, refl, ◌∙◌, arith, IfErr, IfOk, List}
-use Rattle.cfs_core.proofs.Words.{Ghosts, HasStopped, IsPlainReply, Kept, MakesAtMost, OnlyReads, Refused, Reply, stopped_after_reads}
+use Rattle.std.proofs.Common.{◌≡◌, ℕ, ◌≤◌, Bool, Result, Ok, Err, Option, Some, refl, ◌∙◌, ap, arith, IfErr, IfOk, List}
+use Rattle.cfs_core.proofs.Words.{Ghosts, HasStopped, IsPlainReply, Kept, MakesAtMost, OnlyReads, Refused, Reply, Request, stopped_after_reads}
 use Rattle.cfs_base.specs.declared.refusal.Refused.TheVariants as refusals
+use Rattle.cfs_base.specs.declared.refusal.Damage.{Damage}
 use Rattle.cfs_core.specs.Calls.{IsCause, Went, done_or}
+use Rattle.cfs_core.specs.Damage.{IsDamageTold}
 use Rattle.cfs_core.specs.Kernel.{Kernel, Seat}
+use Rattle.cfs_core.proofs.Damages.{told_then}
 
 -- no more calls than more
 pub fewer_calls : {D : Type 0} (g : Ghosts D) (n t m u : ℕ) (old new : D) → n ≤ m → t ≤ u → MakesAtMost g n t old new → MakesAtMost g m u old new
@@ -17,15 +20,19 @@ fewer_calls g n t m u old new less fewer calls = record {
   no_fewer = calls.no_fewer;
 }
 
--- only a failure of the disk wants a cause
-pub cause_of : {D : Type 0} (g : Ghosts D) (old new : D) (e : Refused) → ((tried : Bool) → e ≡ refusals.Disk tried → HasStopped g tried old new) → IsCause g old new e
-cause_of g old new (refusals.Full need) stopped = tt
-cause_of g old new (refusals.Disk tried) stopped = stopped tried refl
-cause_of g old new (refusals.Damaged damage) stopped = tt
-cause_of g old new refusals.Memory stopped = tt
+-- only a failure of the disk and a damage want a cause
+pub cause_of : {D : Type 0} (g : Ghosts D) (old new : Kernel D) (request : Option Request) (e : Refused) → ((tried : Bool) → e ≡ refusals.Disk tried → HasStopped g tried old.disk new.disk) → ((damage : Damage) → e ≡ refusals.Damaged damage → IsDamageTold g old new request damage)
+    → IsCause g old new request e
+cause_of g old new request (refusals.Full need) stopped met = tt
+cause_of g old new request (refusals.Disk tried) stopped met = stopped tried refl
+cause_of g old new request (refusals.Damaged damage) stopped met = met damage refl
+cause_of g old new request refusals.Memory stopped met = tt
 
-module _ {D : Type 0} (g : Ghosts D) (k : Kernel D) (d : D) (space : Kept) (seats : List Seat) (size : g.blocks d ≡ g.blocks k.disk) (faults : g.faults k.disk ≤ g.faults d) (later : g.moment k.disk ≤ g.moment d) (most : ℕ) where
-  pub went_so : (result : Result Reply Refused) → IfOk result IsPlainReply → IfErr result (IsCause g k.disk d) → Went g k (record k { disk = d; space = space; seats = seats }) most result
+module _ {D : Type 0} (g : Ghosts D) (k : Kernel D) (d : D) (space : Kept) (seats : List Seat) (size : g.blocks d ≡ g.blocks k.disk) (faults : g.faults k.disk ≤ g.faults d) (later : g.moment k.disk ≤ g.moment d) (request : Request) where
+  abbrev after_it : Kernel D
+  after_it = record k { disk = d; space = space; seats = seats }
+
+  pub went_so : (result : Result Reply Refused) → IfOk result IsPlainReply → IfErr result (IsCause g k after_it (Some request)) → Went g k (record k { disk = d; space = space; seats = seats }) request result
   went_so result plain cause = record {
     plain = plain;
     cause = cause;
@@ -39,23 +46,24 @@ module _ {D : Type 0} (g : Ghosts D) (k : Kernel D) (d : D) (space : Kept) (seat
     drawn = omega arith;
   }
 
-  pub went_done : (result : Result (Unit {0}) Refused) → ((tried : Bool) → result ≡ Err (refusals.Disk tried) → HasStopped g tried k.disk d) → Went g k (record k { disk = d; space = space; seats = seats }) most (done_or result)
-  went_done (Ok u) stopped = went_so (done_or (Ok u)) tt tt
-  went_done (Err e) stopped = went_so (Err e) tt (cause_of g k.disk d e (λ tried is. stopped tried (let same : Err e ≡ Err (refusals.Disk tried) = cc in same)))
+  pub went_done : (result : Result (Unit {0}) Refused) → ((tried : Bool) → result ≡ Err (refusals.Disk tried) → HasStopped g tried k.disk d) → ((damage : Damage) → result ≡ Err (refusals.Damaged damage) → IsDamageTold g k after_it (Some request) damage)
+      → Went g k (record k { disk = d; space = space; seats = seats }) request (done_or result)
+  went_done (Ok u) stopped met = went_so (done_or (Ok u)) tt tt
+  went_done (Err e) stopped met = went_so (Err e) tt (cause_of g k after_it (Some request) e (λ tried is. stopped tried (ap (λ x. Err x) is)) (λ damage is. met damage (ap (λ x. Err x) is)))
 
 -- a call after reads
 module _ {D : Type 0} (g : Ghosts D) (n : ℕ) (old : Kernel D) (d : D) (new : Kernel D) (reads : OnlyReads g n old.disk d) where
-  cause_then : (r : Result Reply Refused) → IfErr r (IsCause g d new.disk) → IfErr r (IsCause g old.disk new.disk)
-  cause_then (Ok reply) is = tt
-  cause_then (Err (refusals.Full need)) is = tt
-  cause_then (Err (refusals.Disk tried)) is = stopped_after_reads g old.disk d new.disk n tried reads is
-  cause_then (Err (refusals.Damaged damage)) is = tt
-  cause_then (Err refusals.Memory) is = tt
+  cause_then : (request : Option Request) (r : Result Reply Refused) → IfErr r (IsCause g (record old { disk = d }) new request) → IfErr r (IsCause g old new request)
+  cause_then request (Ok reply) is = tt
+  cause_then request (Err (refusals.Full need)) is = tt
+  cause_then request (Err (refusals.Disk tried)) is = stopped_after_reads g old.disk d new.disk n tried reads is
+  cause_then request (Err (refusals.Damaged damage)) is = told_then g old new n d request damage reads is
+  cause_then request (Err refusals.Memory) is = tt
 
-  pub went_then : (most : ℕ) (result : Result Reply Refused) → Went g (record old { disk = d }) new most result → Went g old new most result
-  went_then most result is = record {
+  pub went_then : (request : Request) (result : Result Reply Refused) → Went g (record old { disk = d }) new request result → Went g old new request result
+  went_then request result is = record {
     plain = is.plain;
-    cause = cause_then result is.cause;
+    cause = cause_then (Some request) result is.cause;
     size = is.size ∙ reads.same.size;
     faults = omega (arith, reads.faults, is.faults);
     later = omega (arith, reads.images.later, is.later);

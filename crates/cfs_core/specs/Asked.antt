@@ -18,6 +18,7 @@ use Rattle.ufs_model.specs.State.{State}
 use Rattle.cfs_core.specs.declared.kernel.Halt.{Halt}
 use Rattle.cfs_core.specs.declared.kernel.Stop.{Stop}
 use Rattle.cfs_core.specs.Calls.{Owes, leaves_all}
+use Rattle.cfs_core.specs.Damage.{IsDamageTold}
 use Rattle.cfs_core.specs.Kernel.{Kernel}
 use Rattle.cfs_core.specs.Left.{AddsOne}
 use Rattle.cfs_core.specs.Rescues.{AreRescued}
@@ -60,13 +61,17 @@ pub record Happens {D : Type 0} (g : Ghosts D) (old new : Kernel D) (s : State) 
   pub lost : new.stop ≡ None → MayLose e s.graph after.graph (lost_blocks (g.content old.disk) s.graph)
       (lost_blocks (g.content new.disk) after.graph)
 
--- A device call failed in this call. With a doubt something had been tried, and the moment is the one before that which
--- the disk has now. A core that runs tells no stop.
-abbrev pub IsToldCause : {D : Type 0} → Ghosts D → D → D → Reply → Type 0
-IsToldCause g old new (replies.Disk None) = HasStopped g false old new
-IsToldCause g old new (replies.Disk (Some moment)) = HasStopped g true old new × (moment ≡ g.moment new - 1)
-IsToldCause g old new (replies.Stopped moment) = ⊥
-IsToldCause g old new reply = Unit {0}
+-- A device call failed in this call. With a doubt something had been tried, and the moment is the one before that
+-- which the disk has now. At a damage a block is outside its table, and the moment is the disk's now. A core that
+-- runs tells no stop.
+abbrev pub IsToldCause : {D : Type 0} → Ghosts D → Kernel D → Kernel D → Request → Reply → Type 0
+IsToldCause g old new request (replies.Disk None) = HasStopped g false old.disk new.disk
+IsToldCause g old new request (replies.Disk (Some moment)) =
+    HasStopped g true old.disk new.disk × (moment ≡ g.moment new.disk - 1)
+IsToldCause g old new request (replies.Damaged damage moment) =
+    IsDamageTold g old new (Some request) damage × (moment ≡ g.moment new.disk)
+IsToldCause g old new request (replies.Stopped moment) = ⊥
+IsToldCause g old new request reply = Unit {0}
 
 pub record Asks {D : Type 0} (g : Ghosts D) (old new : Kernel D) (who : ℕ) (request : Request)
     (reply : Reply) : Type 0 where
@@ -82,7 +87,7 @@ pub record Asks {D : Type 0} (g : Ghosts D) (old new : Kernel D) (who : ℕ) (re
   pub stopped : (stop : Stop) → old.stop ≡ Some stop → (new ≡ old) × (reply ≡ replies.Stopped stop.moment)
   -- it stops after a doubt and at a damage alone
   pub stops : old.stop ≡ None → new.stop ≡ stopped_by reply None
-  pub cause : old.stop ≡ None → IsToldCause g old.disk new.disk reply
+  pub cause : old.stop ≡ None → IsToldCause g old new request reply
   -- what was put into an index, or opened, is a rescue while a collection marks; no step of one is made
   pub rescued : old.stop ≡ None → (s : State) → StandsFor g old s
       → AreRescued old.collections.collector new.collections.collector (rescues_of s who request reply)

@@ -1,6 +1,6 @@
 -- What a call of a core is: one event, and how exact its reply is.
 use Rattle.std.specs.Prelude.{◌≡◌, ℕ, ◌+◌, ◌<◌, ◌≤◌, Bool, true, false, nat_le, if◌then◌else◌}
-use Rattle.std.specs.Prelude.{length, sum, Result, Ok, Err, IfErr, IfOk, Some, None}
+use Rattle.std.specs.Prelude.{length, sum, Result, Ok, Err, IfErr, IfOk, Option, Some, None}
 use Rattle.cfs_base.specs.Calls.{HasStopped}
 use Rattle.cfs_base.specs.Disk.{Image}
 use Rattle.cfs_base.specs.Run.{Leaves}
@@ -10,6 +10,7 @@ use Rattle.cfs_base.specs.declared.refusal.Refused.{Refused}
 use Rattle.cfs_base.specs.declared.refusal.Refused.TheVariants as refusals
 use Rattle.cyl_alloc.specs.Space.{IsLeastFree}
 use Rattle.cyl_map.specs.Volume.{entry_in}
+use Rattle.puid_space.specs.Directory.{has_root_in}
 use Rattle.survival.specs.Call.{CallSurvives}
 use Rattle.survival.specs.Held.{HoldsSome}
 use Rattle.ufs_model.specs.declared.asked.Event.{Event}
@@ -17,7 +18,6 @@ use Rattle.ufs_model.specs.declared.asked.Event.TheVariants as events
 use Rattle.ufs_model.specs.declared.asked.Reply.{Reply}
 use Rattle.ufs_model.specs.declared.asked.Reply.TheVariants as replies
 use Rattle.ufs_model.specs.declared.asked.Request.{Request}
-use Rattle.ufs_model.specs.declared.asked.Request.TheVariants as asks
 use Rattle.ufs_model.specs.declared.object.File.{File}
 use Rattle.ufs_model.specs.declared.object.Index.{Index}
 use Rattle.ufs_model.specs.declared.object.Object.TheVariants as objects
@@ -32,15 +32,12 @@ use Rattle.ufs_model.specs.Refusal.{refusal_of}
 use Rattle.ufs_model.specs.State.{State}
 use Rattle.vol_image.specs.Survives.{ChangesInPlace, IsBetween, MayName}
 use Rattle.vol_owners.specs.Owner.{is_stray}
+use Rattle.cfs_core.specs.Damage.{IsDamageTold, is_delete}
 use Rattle.cfs_core.specs.Kernel.{Kernel, grants_in}
 use Rattle.cfs_core.specs.StandsFor.{Serves, Stores}
 use Rattle.cfs_core.specs.Ways.{Reaches}
 
 -- ---- replies
-
-abbrev pub is_delete : Request → Bool
-is_delete (asks.Delete index slot) = true
-is_delete request = false
 
 -- the request takes blocks, isn't a delete, and more than may be taken
 pub record IsShort (s : State) (who : ℕ) (request : Request) (free : ℕ) : Type 0 where
@@ -131,18 +128,19 @@ EndsSo g old new s who request (Err (refusals.Disk true)) = IsInDoubt g old new 
 EndsSo g old new s who request (Err (refusals.Damaged damage)) = ⊥
 EndsSo g old new s who request (Err refusals.Memory) = Answers g old new s who request replies.Memory
 
--- a device call failed in this call
-abbrev pub IsCause : {D : Type 0} → Ghosts D → D → D → Refused → Type 0
-IsCause g old new (refusals.Full need) = Unit {0}
-IsCause g old new (refusals.Disk tried) = HasStopped g tried old new
-IsCause g old new (refusals.Damaged damage) = Unit {0}
-IsCause g old new refusals.Memory = Unit {0}
+-- a device call failed in this call, of a request or of none; or a block that was read is outside its table
+abbrev pub IsCause : {D : Type 0} → Ghosts D → (old new : Kernel D) → Option Request → Refused → Type 0
+IsCause g old new request (refusals.Full need) = Unit {0}
+IsCause g old new request (refusals.Disk tried) = HasStopped g tried old.disk new.disk
+IsCause g old new request (refusals.Damaged damage) = IsDamageTold g old new request damage
+IsCause g old new request refusals.Memory = Unit {0}
 
--- What a call did, however it ended, on any disk: a refusal has its cause, and at most so many words were drawn.
-pub record Went {D : Type 0} (g : Ghosts D) (old new : Kernel D) (most : ℕ)
+-- What a call did, however it ended, on any disk: a refusal has its cause, and only so many words were drawn as the
+-- request draws.
+pub record Went {D : Type 0} (g : Ghosts D) (old new : Kernel D) (request : Request)
     (result : Result Reply Refused) : Type 0 where
   pub plain : IfOk result IsPlainReply
-  pub cause : IfErr result (IsCause g old.disk new.disk)
+  pub cause : IfErr result (IsCause g old new (Some request))
   pub size : g.blocks new.disk ≡ g.blocks old.disk
   pub faults : g.faults old.disk ≤ g.faults new.disk
   pub later : g.moment old.disk ≤ g.moment new.disk
@@ -150,21 +148,21 @@ pub record Went {D : Type 0} (g : Ghosts D) (old new : Kernel D) (most : ℕ)
   pub collections : new.collections ≡ old.collections
   pub seed : new.words.seed ≡ old.words.seed
   pub kept : old.words.drawn ≤ new.words.drawn
-  pub drawn : new.words.drawn ≤ old.words.drawn + most
+  pub drawn : new.words.drawn ≤ old.words.drawn + draws request
 
 -- A call that tries to answer a session's request of a core that hasn't stopped.
 pub record Tries {D : Type 0} (g : Ghosts D) (old new : Kernel D) (who : ℕ) (request : Request)
     (result : Result Reply Refused) : Type 0 where
   pub ends : (s : State) → Serves g old s → old.stop ≡ None → EndsSo g old new s who request result
-  pub went : Went g old new (draws request) result
+  pub went : Went g old new request result
 
--- The same of a request on a slot that an index has.
+-- The same of a request on a slot that an index has, which has a name.
 pub record TriesOn {D : Type 0} (g : Ghosts D) (old new : Kernel D) (index : Puid) (slot : ℕ) (request : Request)
     (result : Result Reply Refused) : Type 0 where
   pub ends : (s : State) (who : ℕ) (i : Index) → Serves g old s → old.stop ≡ None
       → Reaches s who request index (objects.Index i)
       → slot < length i.slots → refusal_of s who request ≡ None → EndsSo g old new s who request result
-  pub went : Went g old new (draws request) result
+  pub went : has_root_in old.names.named index.block ≡ true → Went g old new request result
 
 -- ---- what a slot holds, as a reply
 

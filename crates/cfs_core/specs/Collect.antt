@@ -42,6 +42,7 @@ use Rattle.cfs_core.specs.declared.collecting.Step.TheVariants as steps
 use Rattle.cfs_core.specs.declared.kernel.Stop.{Stop}
 use Rattle.cfs_core.specs.Asked.{Happens}
 use Rattle.cfs_core.specs.Calls.{IsCause}
+use Rattle.cfs_core.specs.Damage.{IsDamageTold}
 use Rattle.cfs_core.specs.Kernel.{AreKept, Kernel, runs}
 use Rattle.cfs_core.specs.Left.{GoesOn}
 use Rattle.cfs_core.specs.Rescues.{AreRescued}
@@ -210,7 +211,7 @@ pub record IsMade {D : Type 0} (g : Ghosts D) (old new : Kernel D) (step : Step)
 pub record IsUnmade {D : Type 0} (g : Ghosts D) (old new : Kernel D) (e : Refused) : Type 0 where
   pub ends : (s : State) → Serves g old s → old.stop ≡ None → EndsUnmade g old new s e
   pub still : had_tried e ≡ false → IsUnchanged g old new
-  pub cause : IsCause g old.disk new.disk e
+  pub cause : IsCause g old new None e
   pub wants : is_want e ≡ true → IsDue old.collections steps.Began
 
 abbrev pub IsMadeOrNot : {D : Type 0} → Ghosts D → Kernel D → Kernel D → Result Step Refused → Type 0
@@ -244,6 +245,7 @@ pub record StepsSo {D : Type 0} (g : Ghosts D) (old new : D) (before after : Kep
   pub room : left.room ≡ names.room
   pub some : has_root_in names.named 0 ≡ false → has_root_in left.named 0 ≡ false
   pub cylinders : length after.free ≡ length before.free
+  pub commit : after.left ≡ before.left
 
 -- ---- what is told of it
 
@@ -281,12 +283,15 @@ IsStep g old new s (Err (faults.Disk (Some moment))) = Happens g old new s (even
 IsStep g old new s (Err (faults.Damaged damage moment)) = Happens g old new s (events.Halted moment)
 IsStep g old new s (Err (faults.Stopped moment)) = new ≡ old
 
--- a device call failed; with a doubt the moment is the one before that which the disk has now
-abbrev pub IsFaultCause : {D : Type 0} → Ghosts D → D → D → CollectFault → Type 0
+-- A device call failed; with a doubt the moment is the one before that which the disk has now. At a damage a
+-- block is outside its table, and the moment is the disk's now.
+abbrev pub IsFaultCause : {D : Type 0} → Ghosts D → Kernel D → Kernel D → CollectFault → Type 0
 IsFaultCause g old new faults.Memory = Unit {0}
-IsFaultCause g old new (faults.Disk None) = HasStopped g false old new
-IsFaultCause g old new (faults.Disk (Some moment)) = HasStopped g true old new × (moment ≡ g.moment new - 1)
-IsFaultCause g old new (faults.Damaged damage moment) = moment ≡ g.moment new
+IsFaultCause g old new (faults.Disk None) = HasStopped g false old.disk new.disk
+IsFaultCause g old new (faults.Disk (Some moment)) =
+    HasStopped g true old.disk new.disk × (moment ≡ g.moment new.disk - 1)
+IsFaultCause g old new (faults.Damaged damage moment) =
+    IsDamageTold g old new None damage × (moment ≡ g.moment new.disk)
 IsFaultCause g old new (faults.Stopped moment) = Unit {0}
 
 -- want of memory, and a device call that failed without a doubt, leave all as it was; and so does a core that had
@@ -323,7 +328,7 @@ pub record Collects {D : Type 0} (g : Ghosts D) (old new : Kernel D) (result : R
   pub sound : old.stop ≡ None → (s : State) → StandsFor g old s → IfErr result IsNoDamage
   pub stops : IfErr result (λ fault. new.stop ≡ stop_by fault old.stop)
   pub goes_on : IfOk result (λ step. new.stop ≡ old.stop)
-  pub cause : IfErr result (IsFaultCause g old.disk new.disk)
+  pub cause : IfErr result (IsFaultCause g old new)
   -- memory is wanted where a collection would begin, and nowhere else: one that began comes to its end
   pub wants : result ≡ Err faults.Memory → IsDue old.collections steps.Began
   pub calls : MakesAtMost g 4 1 old.disk new.disk

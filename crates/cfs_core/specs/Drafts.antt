@@ -74,6 +74,7 @@ pub record ChangesDraft {D : Type 0} (g : Ghosts D) (change : Change) (old new :
   pub shadow : now.shadow ≡ was.shadow
   pub created : now.created ≡ was.created
   pub cylinders : length after.free ≡ length before.free
+  pub left : after.left ≡ before.left
   pub calls : MakesAtMost g 31092 15486 old new
 
 -- ---- a draft ended
@@ -93,4 +94,5 @@ pub record EndsDraft {D : Type 0} (g : Ghosts D) (commit : Bool) (was : Drafting
   pub tried : IfErr result (λ t. t ≢ troubles.Disk false)
   pub refused : IfErr result (IsTrouble g was.at old new after)
   pub cylinders : length after.free ≡ length before.free
+  pub left : after.left ≡ before.left
   pub calls : MakesAtMost g 93137 46452 old new

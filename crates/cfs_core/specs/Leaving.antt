@@ -1,13 +1,15 @@
 -- A session leaves: its grants are dropped one after the other, and their drafts are given up.
-use Rattle.std.specs.Prelude.{◌≡◌, ℕ, ◌≤◌, not, ◌==◌, List, filter, Option, Some, None, Result, Ok, Err}
+use Rattle.std.specs.Prelude.{◌≡◌, ℕ, ◌-◌, ◌≤◌, not, ◌==◌, List, filter, Option, Some, None, Result, Ok, Err}
 use Rattle.cfs_base.specs.Calls.{HasFailed}
 use Rattle.cfs_base.specs.Run.{Leaves}
 use Rattle.cfs_base.specs.declared.disk.Disk.{Ghosts}
 use Rattle.cfs_base.specs.declared.identifier.Puid.{Puid}
+use Rattle.cfs_base.specs.declared.refusal.Damage.{Damage}
 use Rattle.intentions.specs.Store.{StoreHas}
 use Rattle.open_table.specs.Grants.{without_session}
 use Rattle.special_files.specs.Committing.{Dropped}
 use Rattle.special_files.specs.Drafting.{Drafting, IsOpen}
+use Rattle.special_files.specs.Refusal.{IsDamage}
 use Rattle.ufs_model.specs.declared.object.Draft.{Draft}
 use Rattle.ufs_model.specs.declared.object.Grant.{Grant}
 use Rattle.ufs_model.specs.declared.object.Object.{Object}
@@ -18,6 +20,7 @@ use Rattle.vol_owners.specs.Account.{Opened}
 use Rattle.cfs_core.specs.declared.kernel.Halt.{Halt}
 use Rattle.cfs_core.specs.declared.kernel.Stop.{Stop}
 use Rattle.cfs_core.specs.Calls.{AddsNoStray}
+use Rattle.cfs_core.specs.Damage.{IsDamageTold}
 use Rattle.cfs_core.specs.Kernel.{Kernel, grants_in}
 use Rattle.cfs_core.specs.StandsFor.{Serves}
 
@@ -31,6 +34,19 @@ pub record ServesFewer {D : Type 0} (g : Ghosts D) (k : Kernel D) (s : State) (w
   pub serves : Serves g k (record s { grants = grants })
   pub others : of_others who grants ≡ of_others who s.grants
 
+-- A block was damaged when a draft was given up, of the core as it was then.
+pub record MetDamage {D : Type 0} (g : Ghosts D) (old new : Kernel D) (damage : Damage) : Type 0 where
+  pub mid : Kernel D
+  pub later : g.moment old.disk ≤ g.moment mid.disk
+  pub told : IsDamageTold g mid new None damage
+
+-- It stopped in this call: at the moment before the one that the disk has now where a device call failed; or at the
+-- disk's moment now, where a block is damaged.
+pub record StopsSo {D : Type 0} (g : Ghosts D) (old new : Kernel D) (stop : Stop) : Type 0 where
+  pub failed : stop.damage ≡ None → HasFailed g old.disk new.disk × (stop.moment ≡ g.moment new.disk - 1)
+  pub damaged : (damage : Damage) → stop.damage ≡ Some damage
+      → MetDamage g old new damage × (stop.moment ≡ g.moment new.disk)
+
 -- Some grants of the session are gone, with their drafts. All else is as it was, but that a core that ran may have
 -- stopped.
 pub record Sheds {D : Type 0} (g : Ghosts D) (who : ℕ) (old new : Kernel D) : Type 0 where
@@ -42,7 +58,8 @@ pub record Sheds {D : Type 0} (g : Ghosts D) (who : ℕ) (old new : Kernel D) : 
   pub faults : g.faults old.disk ≤ g.faults new.disk
   pub later : g.moment old.disk ≤ g.moment new.disk
   -- one that had stopped makes no call of the disk
-  pub idle : (stop : Stop) → old.stop ≡ Some stop → (new.stop ≡ Some stop) × (new.disk ≡ old.disk)
+  pub idle : (stop : Stop) → old.stop ≡ Some stop
+      → (new.stop ≡ Some stop) × (new.disk ≡ old.disk) × (new.space ≡ old.space)
   -- one that ran gives up the drafts, and each image that a crash leaves has the objects
   pub leaves : (s : State) → Serves g old s → old.stop ≡ None → Leaves g old.disk new.disk (λ c. Holds c s.graph)
   pub serves : (s : State) → Serves g old s → old.stop ≡ None → new.stop ≡ None → ServesFewer g new s who
@@ -50,8 +67,7 @@ pub record Sheds {D : Type 0} (g : Ghosts D) (who : ℕ) (old new : Kernel D) : 
   pub strays : (s : State) → Serves g old s → old.stop ≡ None → new.stop ≡ None
       → AddsNoStray (g.content old.disk) (g.content new.disk) s.graph s.graph
   -- it stops where a device call failed, or at a damage
-  pub halts : (stop : Stop) → old.stop ≡ None → new.stop ≡ Some stop → stop.damage ≡ None
-      → HasFailed g old.disk new.disk
+  pub halts : (stop : Stop) → old.stop ≡ None → new.stop ≡ Some stop → StopsSo g old new stop
   -- and at no damage where it served a state
   pub sound : (s : State) → Serves g old s → old.stop ≡ None → (stop : Stop) → new.stop ≡ Some stop → stop.damage ≡ None
 
@@ -74,8 +90,10 @@ pub record GivesUp {D : Type 0} (g : Ghosts D) (was : Drafting) (old new : Kerne
   pub ends : (graph : Graph) (ds : List Opened) (id : Puid) (o : Object) (d : Draft)
       → StoreHas g graph ds old.disk old.space → object_at graph id ≡ Some o → IsOpen ds id was d
       → old.stop ≡ None → GaveUp g graph ds id was.created old new
-  pub halts : (stop : Stop) → old.stop ≡ None → new.stop ≡ Some stop → stop.damage ≡ None
-      → HasFailed g old.disk new.disk
+  pub failed : (stop : Stop) → old.stop ≡ None → new.stop ≡ Some stop → stop.damage ≡ None
+      → HasFailed g old.disk new.disk × (stop.moment ≡ g.moment new.disk - 1)
+  pub damaged : (stop : Stop) (damage : Damage) → old.stop ≡ None → new.stop ≡ Some stop → stop.damage ≡ Some damage
+      → IsDamage g was.at old.disk new.disk new.space damage × (stop.moment ≡ g.moment new.disk)
 
 -- ---- what is told
 

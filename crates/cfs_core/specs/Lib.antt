@@ -4,6 +4,7 @@ pub mod Seats
 pub mod StandsFor
 pub mod Leaving
 pub mod Room
+pub mod Damage
 pub mod Calls
 pub mod Drafts
 pub mod Opening

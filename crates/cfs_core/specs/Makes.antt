@@ -1,23 +1,20 @@
 -- A request that makes an object, and how it ends.
-use Rattle.std.specs.Prelude.{◌≡◌, ◌≢◌, ℕ, ◌+◌, ◌<◌, ◌≤◌, true, false, length, Result, Ok, IfErr, IfOk, Some, None}
+use Rattle.std.specs.Prelude.{◌≡◌, ◌≢◌, ◌⊎◌, ℕ, ◌+◌, ◌*◌, ◌<◌, ◌≤◌, true, false, Result, Ok, IfErr, IfOk, Some, None}
 use Rattle.std.specs.BTreeMap.{insert_entry}
-use Rattle.cfs_base.specs.declared.disk.Disk.{Ghosts}
 use Rattle.cfs_base.specs.declared.identifier.Puid.{Puid}
 use Rattle.cfs_base.specs.declared.kind.FileKind.{FileKind}
 use Rattle.cfs_base.specs.declared.kind.FileKind.TheVariants as file_kinds
 use Rattle.cfs_base.specs.declared.kind.Kind.{Kind}
 use Rattle.cfs_base.specs.declared.kind.Kind.TheVariants as kinds
 use Rattle.cfs_base.specs.declared.refusal.Refused.{Refused}
-use Rattle.puid_space.specs.Directory.{has_root_in}
-use Rattle.special_files.specs.Refusal.{is_damaged}
+use Rattle.cfs_base.specs.declared.refusal.Refused.TheVariants as refusals
+use Rattle.puid_space.specs.Directory.{Listing, has_root_in}
 use Rattle.ufs_model.specs.declared.asked.Event.TheVariants as events
 use Rattle.ufs_model.specs.declared.asked.Reply.{Reply}
 use Rattle.ufs_model.specs.declared.asked.Reply.TheVariants as replies
 use Rattle.ufs_model.specs.declared.asked.Request.{Request}
 use Rattle.ufs_model.specs.declared.change.Change.TheVariants.{Fill}
-use Rattle.ufs_model.specs.declared.object.Index.{Index}
 use Rattle.ufs_model.specs.declared.object.Object.{Object}
-use Rattle.ufs_model.specs.declared.object.Object.TheVariants as objects
 use Rattle.ufs_model.specs.Identifier.{puid_cmp}
 use Rattle.ufs_model.specs.Need.{change_need, need_of}
 use Rattle.ufs_model.specs.Next.{next}
@@ -26,10 +23,9 @@ use Rattle.ufs_model.specs.Plain.{IsPlainReply}
 use Rattle.ufs_model.specs.Refusal.{refusal_of, target}
 use Rattle.ufs_model.specs.State.{State, is_running}
 use Rattle.ufs_model.specs.WellFormed.{IsSpeakable}
-use Rattle.cfs_core.specs.Calls.{EndsSo, IsCause, is_delete}
+use Rattle.cfs_base.specs.Codes.{not_owned}
+use Rattle.cfs_core.specs.Damage.{bytes_wanted, is_delete}
 use Rattle.cfs_core.specs.Kernel.{Kernel}
-use Rattle.cfs_core.specs.StandsFor.{Serves}
-use Rattle.cfs_core.specs.Ways.{Reaches}
 
 -- the kind of an object that is such a file
 abbrev pub file_kind : FileKind → Kind
@@ -44,10 +40,16 @@ pub record IsMaking (request : Request) (slot : ℕ) (o : Object) : Type 0 where
   pub draw : draws request ≡ 1
   pub need : (s : State) (who : ℕ) → need_of s who request ≡ 1 + change_need s who (target request) (Fill slot None)
   pub delete : is_delete request ≡ false
+  pub wants : bytes_wanted (Some request) ≡ 8 * slot + 8
   pub full : (seed : ℕ) (s : State) (who free : ℕ) → is_running s ≡ true → refusal_of s who request ≡ None
       → need_of s who request ≡ 4 → free < 8
       → next seed s (events.Ask who request (replies.Full (record { free = free; need = 4 }))) ≡ Some s
   pub speaks : (who : ℕ) (reply : Reply) → IsSpeakable (events.Ask who request reply)
+
+-- it isn't given its name: its block is 0, none of the disk's, or the root of an object already
+pub record IsAstray (names : Listing) (id : Puid) (e : Refused) : Type 0 where
+  pub is : e ≡ refusals.Damaged (record { block = id.block; code = not_owned })
+  pub why : (id.block ≡ 0) ⊎ ((names.room ≤ id.block) ⊎ (has_root_in names.named id.block ≡ true))
 
 -- An object that was made has its name, with the word that is drawn for it; or, on a disk that lies, none.
 pub record Names {D : Type 0} (old new : Kernel D) (id : Puid) (kind : Kind)
@@ -58,7 +60,7 @@ pub record Names {D : Type 0} (old new : Kernel D) (id : Puid) (kind : Kind)
         words = record { seed = old.words.seed; drawn = old.words.drawn + 1 };
       })
   pub plain : IfOk result IsPlainReply
-  pub astray : IfErr result (λ e. is_damaged e ≡ true)
+  pub astray : IfErr result (IsAstray old.names id)
   pub disk : new.disk ≡ old.disk
   pub stop : new.stop ≡ old.stop
   pub collections : new.collections ≡ old.collections

@@ -16,6 +16,7 @@ use Rattle.intentions.specs.Store.{StoreHas}
 use Rattle.open_table.specs.declared.fault.AcquireFault.{AcquireFault}
 use Rattle.open_table.specs.declared.fault.AcquireFault.TheVariants as faults
 use Rattle.special_files.specs.Drafting.{Drafting, IsOpen, opened_as}
+use Rattle.special_files.specs.Refusal.{IsRefusalOrMemory}
 use Rattle.special_files.specs.Store.{Steps}
 use Rattle.ufs_model.specs.declared.asked.Reply.{Reply}
 use Rattle.ufs_model.specs.declared.asked.Reply.TheVariants as replies
@@ -25,7 +26,6 @@ use Rattle.ufs_model.specs.Graph.{Graph, object_at}
 use Rattle.ufs_model.specs.Limits.{reserve}
 use Rattle.vol_image.specs.Sound.{Holds}
 use Rattle.vol_owners.specs.Account.{Opened, drafts_of}
-use Rattle.cfs_core.specs.Calls.{IsCause}
 
 -- an index is to be opened for writing
 abbrev pub is_unfit : Kind → Mode → Bool
@@ -84,5 +84,5 @@ pub record Begins {D : Type 0} (g : Ghosts D) (at : ℕ) (wanted : Bool) (old ne
   pub ready : IfOk result (λ o.
       IfSome o (λ drafting. (wanted ≡ true) × (drafting.at ≡ at) × ((s : ℕ) × (drafting.shadow ≡ Some s))
       × (drafting.created ≡ None)))
-  pub cause : IfErr result (IsCause g old new)
+  pub cause : IfErr result (IsRefusalOrMemory g at reserve old new after)
   pub calls : MakesAtMost g 3 1 old new

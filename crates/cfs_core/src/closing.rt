@@ -1,12 +1,11 @@
 //! The ends of grants: a request that closes one, and a session that leaves.
 ghost use Rattle.std.specs.Prelude.{◌≡◌, ◌≤◌, ◌*◌, List, length, false, true, IfErr, OnOk, IsSome, None, Some, Ok};
-ghost use Rattle.cfs_base.specs.Calls.{HasFailed};
 ghost use Rattle.cfs_core.specs.Asked.{Happens, halted};
 ghost use Rattle.cfs_core.specs.Calls.{Tries};
 ghost use Rattle.cfs_core.specs.Drafts.{EndsDraft};
 ghost use Rattle.cfs_core.specs.Kernel.{Seat, grants_in, is_ready_for};
 ghost use Rattle.cfs_core.specs.Leaving as spec;
-ghost use Rattle.cfs_core.specs.Leaving.{GivesUp, Sheds};
+ghost use Rattle.cfs_core.specs.Leaving.{GivesUp, Sheds, StopsSo};
 ghost use Rattle.cfs_core.specs.Seats.{drafting_at, have_draft, is_at, with_drafting};
 ghost use Rattle.cfs_core.specs.StandsFor.{Serves, StandsFor};
 ghost use Rattle.cfs_core.specs.declared.kernel.Stop.{Stop};
@@ -109,9 +108,10 @@ impl<D: Disk> Core<D> {
         ensures later { D.moment self.old.disk ≤ D.moment self.new.disk }
         ensures collections { self.new.collections ≡ self.old.collections }
         ensures goes_on { OnOk result (self.new.stop ≡ self.old.stop) }
-        // The core stopped at this moment, where a device call failed, or at a damage.
+        // The core stopped at this moment: the one before the disk's now where a device call failed, and the disk's now
+        // at a damage.
         ensures halts { IfErr result (λ halt. (stop : Stop) × (self.old.stop ≡ None) × (self.new.stop ≡ Some stop)
-            × (stop.moment ≡ halt.moment) × (stop.damage ≡ None → HasFailed D.Disk self.old.disk self.new.disk)) }
+            × (stop.moment ≡ halt.moment) × StopsSo D.Disk self.old self.new stop) }
         // One that served a state stops at no damage.
         ensures sound { (s : State) → Serves D.Disk self.old s → self.old.stop ≡ None
             → (stop : Stop) → self.new.stop ≡ Some stop → stop.damage ≡ None }

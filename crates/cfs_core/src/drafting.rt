@@ -5,7 +5,7 @@ ghost use Rattle.cfs_base.specs.Calls.{OnlyReads};
 ghost use Rattle.cfs_base.specs.declared.identifier.Puid.{Puid};
 ghost use Rattle.cfs_core.specs.Calls.{Tries};
 ghost use Rattle.cfs_core.specs.Drafts.{ChangesDraft, IsDrafted};
-ghost use Rattle.cfs_core.specs.Looks.{IsCalmCause, content_of};
+ghost use Rattle.cfs_core.specs.Looks.{IsDraftCause, content_of};
 ghost use Rattle.cfs_core.specs.Seats.{drafting_at};
 ghost use Rattle.cfs_core.specs.StandsFor.{Serves};
 ghost use Rattle.cyl_alloc.specs.Space.{Kept};
@@ -60,7 +60,7 @@ fn content<D: Disk>(
     ensures sound { (graph : Graph) (ds : List Opened) (space : Kept) (id : Puid) (o : Object) (d : drafts.Draft)
         → StoreHas D.Disk graph ds disk.old space → object_at graph id ≡ Some o → IsOpen ds id draft.now d
         → IfErr result (λ e. is_damaged e ≡ false) }
-    ensures cause { IfErr result (IsCalmCause D.Disk disk.old disk.new) }
+    ensures cause { IfErr result (IsDraftCause D.Disk draft.now.at disk.old disk.new) }
     ensures reads { OnlyReads D.Disk 18 disk.old disk.new }
 {
     if !is_range(draft.size(), offset, count) {

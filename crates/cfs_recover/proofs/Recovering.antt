@@ -1,6 +1,6 @@
 -- From what a survey knows of a volume to what recovery makes of it.
 use Rattle.std.proofs.Common.{◌≤◌, ◌≡◌, ◌⊎◌, inl, inr, ℕ, ◌+◌, ◌*◌, ◌/◌, ◌%◌, ◌<◌, Bool, true, false, List, [], length, get_or, Some, refl, sym, ◌∙◌, ap, subst, arith}
-use Rattle.cfs_recover.proofs.Words.{Accounts, AreAllCopies, AreCopied, AreCopies, AreCounts, AreKeptFor, AreMapsOf, AreTidied, Copied, CopiesRoots, Ghosts, Graph, HasCopy, Holds, Image, IsClean, IsHeldIn, IsIn, IsNamedCopy, IsRecovered, IsRootBlock, IsSettled, IsSoundAs, IsSurvey, IsSwept, IsTidied, IsTidying, Kind, Leads, MapEntry, Object, Puid, Root, StandsIn, Survey, Tidies, Tree, Walk, block_at, carries_settled, entries_read, entry_in, free_count, free_in_cylinder, in_image, is_fixed, kind_in, kind_in-kinds_in, kind_of, kinds_of, lists, map_of, nat_tests, object_at, object_there, one_root_block, one_root_index, option_map, shadows, shown_tree, sight, slice_get, slice_get_within, source, tidied, tree_in}
+use Rattle.cfs_recover.proofs.Words.{Accounts, AreAllCopies, AreCopied, AreCopies, AreCounts, AreKeptFor, AreMapsOf, AreTidied, Copied, CopiesRoots, Ghosts, Graph, HasCopy, Holds, Image, IsClean, IsHeldIn, IsIn, IsNamedCopy, IsRecovered, IsRootBlock, IsSettled, IsSoundAs, IsSurvey, IsSwept, IsTidied, Kept, IsTidying, Kind, Leads, MapEntry, Object, Puid, Root, StandsIn, Survey, Tidies, Tree, Walk, block_at, carries_settled, entries_read, entry_in, free_count, free_in_cylinder, in_image, is_fixed, kind_in, kind_in-kinds_in, kind_of, kinds_of, lists, map_of, nat_tests, object_at, object_there, one_root_block, one_root_index, option_map, shadows, shown_tree, sight, slice_get, slice_get_within, source, tidied, tree_in}
 use Rattle.cfs_recover.proofs.Accounted.{tidied_accounts, tidied_is_clean, tidied_is_swept}
 use Rattle.cfs_recover.proofs.InMemory.{entry_is}
 use Rattle.cfs_recover.proofs.Keepings.{leads_as, leads_then}
@@ -143,7 +143,7 @@ module _ (a : Image) (s : Survey) (is : IsSurvey a s) where
 
     -- ---- and once these are tidied
 
-    module _ (c : Image) (tidies : Tidies b graph c) (free : List ℕ) (done : AreTidied c s.grounds.maps.items w.held.items free (length s.grounds.maps.items)) where
+    module _ (c : Image) (tidies : Tidies b graph c) (kept : Kept) (done : AreTidied c s.grounds.maps.items w.held.items kept.free (length s.grounds.maps.items)) where
       entries : (n : ℕ) (e : MapEntry) → entry_in b n ≡ Some e → entry_in c n ≡ Some (tidied (is_fixed n) (marks n) e)
       unfolding entry_in
       entries n e here =
@@ -158,7 +158,7 @@ module _ (a : Image) (s : Survey) (is : IsSurvey a s) where
       is_tidied : IsTidied b graph marks c
       is_tidied = record { entries = entries; only = λ n is_held. in_b n (is.whole.held n is_held); all = from_b }
 
-      counts : length free ≡ length s.grounds.maps.items → AreCounts c (record { free = free })
+      counts : length kept.free ≡ length s.grounds.maps.items → AreCounts c kept
       counts size = record {
         size = omega (arith, tidies.size, maps_b.size, size);
         each = λ j less.
@@ -173,8 +173,8 @@ module _ (a : Image) (s : Survey) (is : IsSurvey a s) where
       label_is : block_at c 1 ≡ block_at a 1
       label_is = tidies.content 1 (omega arith) ∙ apart a graph b holds roots 1 refl
 
-      pub recovers : {D : Type 0} (g : Ghosts D) (d : D) → IsSettled g d → g.content d ≡ c → length c ≡ g.blocks d → length free ≡ length s.grounds.maps.items
-          → IsRecovered g a d s.grounds.label w.names (record { free = free })
+      pub recovers : {D : Type 0} (g : Ghosts D) (d : D) → IsSettled g d → g.content d ≡ c → length c ≡ g.blocks d → length kept.free ≡ length s.grounds.maps.items
+          → IsRecovered g a d s.grounds.label w.names kept
       recovers g d settled same sized size =
           let sound = subst (λ (i : Image). IsSoundAs i graph) (sym same) sound_c in
           let clean = tidied_is_clean b c graph marks holds_b copied tidies is_tidied in
@@ -193,7 +193,7 @@ module _ (a : Image) (s : Survey) (is : IsSurvey a s) where
             carries = carries_settled g graph d settled sound.holds;
             account = subst (λ (i : Image). Accounts i graph []) (sym same) (tidied_accounts b c graph marks holds_b copied tidies is_tidied);
             swept = subst (λ (i : Image). IsSwept i graph) (sym same) (tidied_is_swept b c graph marks holds_b copied tidies is_tidied);
-            counts = subst (λ (i : Image). AreCounts i (record { free = free })) (sym same) (counts size);
+            counts = subst (λ (i : Image). AreCounts i kept) (sym same) (counts size);
             ordered = is.whole.ordered;
           }
 

@@ -1,6 +1,7 @@
 -- Refusals, handed on by the calls above.
 use Rattle.std.proofs.Common.{◌≡◌, ◌≢◌, ◌⊎◌, inl, inr, ℕ, ◌*◌, ◌<◌, ◌≤◌, List, length, refl, sym, ◌∙◌, ap, subst, arith, Err}
 use Rattle.cfs_recover.proofs.Words.{Damage, Ghosts, Graph, HasLabel, HasNoLabel, HasVersion, IfErr, Image, IsCaused, IsDamage, IsErrAnd, IsFault, IsLabelled, IsOpenFault, IsSoundAs, IsWalk, Label, MapEntry, MatchResult, Ok, OnlyReads, RecoverFault, Result, Stores, TellsNothing, Walk, Walks, block_at, no_fault, says, tells_on}
+use Rattle.cfs_base.proofs.Calls.{failed_after}
 use Rattle.cfs_recover.specs.declared.fault.RecoverFault.TheVariants as faults
 
 -- more is said of the damage
@@ -47,6 +48,14 @@ caused_otherwise g old new faults.Memory other = tt
 pub caused_err : {D T : Type 0} (g : Ghosts D) (old new : D) (r : Result T RecoverFault) (e : RecoverFault) → IsErrAnd r (λ f. f ≡ e) → e ≢ faults.Disk → IfErr r (IsCaused g old new)
 caused_err g old new (Ok v) e is other = tt
 caused_err g old new (Err f) e is other = subst (IsCaused g old new) (sym is) (caused_otherwise g old new e other)
+
+-- of a call after some reads
+pub caused_after : {D : Type 0} (g : Ghosts D) (old mid new : D) (n : ℕ) (e : RecoverFault) → OnlyReads g n old mid → IsCaused g mid new e → IsCaused g old new e
+caused_after g old mid new n faults.Disk reads is = failed_after g old mid new n reads is
+caused_after g old mid new n faults.NotVolume reads is = tt
+caused_after g old mid new n (faults.Version found) reads is = tt
+caused_after g old mid new n (faults.Damaged d) reads is = tt
+caused_after g old mid new n faults.Memory reads is = tt
 
 -- a label of this version stands on a volume of its size
 pub labelled : (image : Image) (label : Label) → HasLabel image label → 64 * label.cylinders ≡ length image → IsLabelled image

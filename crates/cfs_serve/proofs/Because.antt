@@ -1,8 +1,9 @@
 -- What each cause that is told shows, and what each status says by it.
 use Rattle.std.proofs.Common.{◌≡◌, ◌⊎◌, inl, inr, ℕ, Bool, true, false, List, ◌++◌, length, Option, Some, None, IsSome, IsNone, refl, sym, ap, ◌∙◌, subst, arith}
-use Rattle.cfs_serve.proofs.Cited.{AreWithin, Asked, Cause, Counts, DiskFailed, EachSink, EachSource, EndedWell, Event, ended_line, Format, Formats, Graph, Ground, HadLeft, HasNone, IsStatus, IsText, IsTextBy, LimitPassed, Made, MemoryWanting, NoCountRose, Nothing, Opening, Outside, Page, Replied, Report, RoseIn, Showed, Shows, SinkFailed, SomeRose, SourceFailed, TellsMade, VolumeRefused, WritesReport, Wrote, collections_of, ended, finishes_in, is_calm, is_service, last_cause, list_all, list_any, printed_line, printed_replies, report_text, request_lines, sink_faults, source_faults, status_line, status_of, text_by, turns_in, wants_memory}
+use Rattle.cfs_serve.proofs.Cited.{AreWithin, Asked, Audited, Audits, Cause, Counts, DiskFailed, EachSink, EachSource, EndedWell, Event, ended_line, Format, Formats, Graph, Ground, HadLeft, HasNone, IsLegal, IsStatus, IsText, IsTextBy, LimitPassed, Made, MemoryWanting, NoCountRose, Nothing, Opening, Outside, Page, Replied, Report, RoseIn, Showed, Shows, SinkFailed, SomeRose, SourceFailed, TellsMade, VolumeRefused, WritesReport, Wrote, collections_of, ended, finishes_in, is_audit, is_calm, is_refutation, is_service, last_cause, list_all, list_any, printed_line, printed_replies, report_text, request_lines, sink_faults, source_faults, status_line, status_of, text_by, turns_in, wants_memory}
 use Rattle.cfs_serve.specs.declared.report.Cause.TheVariants as causes
 use Rattle.cfs_serve.specs.Top.{IsOver}
+use Rattle.cfs_serve.specs.Words.{Serves, Spins}
 
 -- a service whose sinks took all
 pub record Served (asked : Asked) (ground : Ground) (trail : List Event) (old new : Outside) (counts : Option Counts) : Type 0 where
@@ -18,6 +19,14 @@ pub record Served (asked : Asked) (ground : Ground) (trail : List Event) (old ne
 no_service : false ≡ true → ⊥
 no_service e = cc
 
+pub not_both : (asked : Asked) → is_audit asked ≡ true → is_service asked ≡ true → ⊥
+not_both (Shows page) audits serves = no_service audits
+not_both (Formats format) audits serves = no_service audits
+not_both (Audits trail) audits serves = no_service serves
+not_both (Serves service) audits serves = no_service audits
+not_both (Spins spin) audits serves = no_service audits
+not_both Nothing audits serves = no_service audits
+
 pub none_is : {X : Type 0} (o : Option X) → IsNone o → o ≡ None
 none_is None none = refl
 none_is (Some x) none = cc none
@@ -28,7 +37,11 @@ module _ (asked : Asked) (ground : Ground) (old new : Outside) (counts : Option 
 
   -- a limit was passed
   abbrev Over : Cause → Type 0
-  Over cause = IsNone counts × IsOver cause old new × ((scripts : List (List ℕ)) → HadLeft old scripts → ¬ (AreWithin scripts))
+  Over cause = IsNone counts × IsOver asked cause old new × (is_service asked ≡ true → (scripts : List (List ℕ)) → HadLeft old scripts → ¬ (AreWithin scripts))
+
+  -- a trail was audited, and so it is told
+  abbrev Verdict : Type 0
+  Verdict = IsNone counts × (is_audit asked ≡ true)
 
   -- a volume was asked for, so no source
   abbrev Volumed : Type 0
@@ -47,6 +60,9 @@ module _ (asked : Asked) (ground : Ground) (old new : Outside) (counts : Option 
   Because causes.Memory = Unit {0}
   Because (causes.Long n) = Over (causes.Long n)
   Because causes.LongTotal = Over causes.LongTotal
+  Because (causes.Legal n) = Verdict × EachSource (λ _ source _. (left : List ℕ) → source.left ≡ Some left → IsLegal left n) old new
+  Because (causes.BadLine line) = Verdict
+  Because (causes.Illegal event) = Verdict
 
   -- ---- the report's text
 
@@ -79,6 +95,9 @@ module _ (asked : Asked) (ground : Ground) (old new : Outside) (counts : Option 
   last true (causes.Source n) = inl refl
   last true (causes.Long n) = inl refl
   last true causes.LongTotal = inl refl
+  last true (causes.Legal n) = inl refl
+  last true (causes.BadLine line) = inl refl
+  last true (causes.Illegal event) = inl refl
   last false cause = inl refl
 
   pub at_last : (short : Bool) (cause : Cause) → Because cause → Because (last_cause short cause)
@@ -124,9 +143,12 @@ module _ (asked : Asked) (ground : Ground) (old new : Outside) (counts : Option 
   status (causes.Source n) text false wrote = inl refl
   status (causes.Long n) text false wrote = inl refl
   status causes.LongTotal text false wrote = inl refl
+  status (causes.Legal n) text false wrote = inr (refl, (refl, wrote.failed))
+  status (causes.BadLine line) text false wrote = inl refl
+  status (causes.Illegal event) text false wrote = inl refl
 
   pub status_0 : (cause : Cause) (short : Bool) (text : List ℕ) (written : Bool) → Because cause → IsText asked (told cause) trail short text → Told text written → ended written (last_cause short cause) ≡ 0
-      → EndedWell asked ground (told cause) trail old new ⊎ Showed (told cause) old new ⊎ Made asked (told cause) old new
+      → EndedWell asked ground (told cause) trail old new ⊎ Showed (told cause) old new ⊎ Made asked (told cause) old new ⊎ Audited asked (told cause) old new
   status_0 causes.Nothing false text true (inl because) is_text wrote is = inl (record {
     served = because.served;
     nothing = refl;
@@ -137,12 +159,20 @@ module _ (asked : Asked) (ground : Ground) (old new : Outside) (counts : Option 
     collected = because.collected;
     reported = subst (λ t. Wrote old.report new.report t) (whole_by (printed_line asked counts) (told causes.Nothing) text is_text) wrote;
   })
-  status_0 causes.Nothing false text true (inr because) is_text wrote is = inr (inr (record {
+  status_0 causes.Nothing false text true (inr because) is_text wrote is = inr (inr (inl (record {
     format = because.1.0;
     asks = because.1.1;
     is = rw (none_is counts because.0) refl;
     written = subst (λ t. Wrote old.report new.report t) (unprinted causes.Nothing false text because.0 is_text).1 wrote;
-  }))
+  })))
+  status_0 (causes.Legal n) false text true because is_text wrote is = inr (inr (inr (record {
+    events = n;
+    asks = because.0.1;
+    is = rw (none_is counts because.0.0) refl;
+    legal = because.1;
+    written = subst (λ t. Wrote old.report new.report t) (unprinted (causes.Legal n) false text because.0.0 is_text).1 wrote;
+  })))
+  status_0 (causes.Legal n) true text written because is_text wrote is = absurd (no_service (sym (unprinted (causes.Legal n) true text because.0.0 is_text).0))
   status_0 (causes.Page page) false text true because is_text wrote is =
       let none = none_is counts because.0 in
       let lines : Wrote old.report new.report (report_text (told (causes.Page page))) = subst (λ t. Wrote old.report new.report t) (unprinted (causes.Page page) false text because.0 is_text).1 wrote in
@@ -177,6 +207,7 @@ module _ (asked : Asked) (ground : Ground) (old new : Outside) (counts : Option 
   status_5 causes.Nothing short text false because wrote is = inr (refl, wrote.failed)
   status_5 (causes.Page page) short text false because wrote is = inr (refl, wrote.failed)
   status_5 causes.Memory short text false because wrote is = inr (refl, wrote.failed)
+  status_5 (causes.Legal n) short text false because wrote is = inr (refl, wrote.failed)
   status_5 cause false text true because wrote is = absurd (omega (arith, is))
   status_5 cause false text false because wrote is = absurd (omega (arith, is))
   status_5 cause true text true because wrote is = absurd (omega (arith, is))
@@ -193,32 +224,48 @@ module _ (asked : Asked) (ground : Ground) (old new : Outside) (counts : Option 
   status_7 cause text true wrote is = absurd (omega (arith, is))
   status_7 cause text false wrote is = absurd (omega (arith, is))
 
-  pub status_9 : (cause : Cause) (written : Bool) → Because cause → ended written cause ≡ 9 → LimitPassed (told cause) old new
+  pub status_8 : (cause : Cause) (written : Bool) → ended written cause ≡ 8 → is_refutation cause ≡ true
+  status_8 (causes.BadLine line) written is = refl
+  status_8 (causes.Illegal event) written is = refl
+  status_8 cause true is = absurd (omega (arith, is))
+  status_8 cause false is = absurd (omega (arith, is))
+
+  pub is_8 : (short : Bool) (cause : Cause) (written : Bool) → is_refutation cause ≡ true → ended written (last_cause short cause) ≡ 8
+  is_8 short (causes.BadLine line) true bad = stays short (causes.BadLine line) true 8 (λ e. cc e) (λ e. cc e) refl
+  is_8 short (causes.BadLine line) false bad = stays short (causes.BadLine line) false 8 (λ e. cc e) (λ e. cc e) refl
+  is_8 short (causes.Illegal event) true bad = stays short (causes.Illegal event) true 8 (λ e. cc e) (λ e. cc e) refl
+  is_8 short (causes.Illegal event) false bad = stays short (causes.Illegal event) false 8 (λ e. cc e) (λ e. cc e) refl
+  is_8 short cause written bad = absurd (no_service bad)
+
+  pub status_9 : (cause : Cause) (written : Bool) → Because cause → ended written cause ≡ 9 → LimitPassed asked (told cause) old new
   status_9 (causes.Long n) written because is = (because.0, because.1)
   status_9 causes.LongTotal written because is = (because.0, because.1)
   status_9 cause true because is = absurd (omega (arith, is))
   status_9 cause false because is = absurd (omega (arith, is))
 
-  over : (cause : Cause) (written : Bool) → Because cause → (scripts : List (List ℕ)) → HadLeft old scripts → ¬ (AreWithin scripts)
+  over : (cause : Cause) (written : Bool) → Because cause → is_service asked ≡ true → (scripts : List (List ℕ)) → HadLeft old scripts → ¬ (AreWithin scripts)
       → (ended written cause ≡ 9) ⊎ (cause ≡ causes.Memory) ⊎ (ended written cause ≡ 6)
-  over causes.Nothing written (inl because) scripts had past = absurd (past (because.within scripts had))
-  over causes.Nothing written (inr because) scripts had past = absurd (past (because.2 scripts had))
-  over (causes.Volume fault) written because scripts had past = absurd (past (because.1 scripts had))
-  over (causes.Disk moment) written because scripts had past = absurd (past (because.1 scripts had))
-  over (causes.Page page) written because scripts had past = absurd (past (because.2 scripts had))
-  over causes.Words written because scripts had past = absurd (past (because.2 scripts had))
-  over causes.Sink written because scripts had past = absurd (past (because.1 scripts had))
-  over causes.Memory written because scripts had past = inr (inl refl)
-  over (causes.Source n) true because scripts had past = inr (inr refl)
-  over (causes.Source n) false because scripts had past = inr (inr refl)
-  over (causes.Long n) true because scripts had past = inl refl
-  over (causes.Long n) false because scripts had past = inl refl
-  over causes.LongTotal true because scripts had past = inl refl
-  over causes.LongTotal false because scripts had past = inl refl
+  over causes.Nothing written (inl because) is scripts had past = absurd (past (because.within scripts had))
+  over causes.Nothing written (inr because) is scripts had past = absurd (past (because.2 scripts had))
+  over (causes.Volume fault) written because is scripts had past = absurd (past (because.1 scripts had))
+  over (causes.Disk moment) written because is scripts had past = absurd (past (because.1 scripts had))
+  over (causes.Page page) written because is scripts had past = absurd (past (because.2 scripts had))
+  over causes.Words written because is scripts had past = absurd (past (because.2 scripts had))
+  over causes.Sink written because is scripts had past = absurd (past (because.1 scripts had))
+  over causes.Memory written because is scripts had past = inr (inl refl)
+  over (causes.Source n) true because is scripts had past = inr (inr refl)
+  over (causes.Source n) false because is scripts had past = inr (inr refl)
+  over (causes.Long n) true because is scripts had past = inl refl
+  over (causes.Long n) false because is scripts had past = inl refl
+  over causes.LongTotal true because is scripts had past = inl refl
+  over causes.LongTotal false because is scripts had past = inl refl
+  over (causes.Legal n) written because is scripts had past = absurd (not_both asked because.0.1 is)
+  over (causes.BadLine line) written because is scripts had past = absurd (not_both asked because.1 is)
+  over (causes.Illegal event) written because is scripts had past = absurd (not_both asked because.1 is)
 
-  pub over_last : (short : Bool) (cause : Cause) (written : Bool) → Because cause → (scripts : List (List ℕ)) → HadLeft old scripts → ¬ (AreWithin scripts)
+  pub over_last : (short : Bool) (cause : Cause) (written : Bool) → Because cause → is_service asked ≡ true → (scripts : List (List ℕ)) → HadLeft old scripts → ¬ (AreWithin scripts)
       → (ended written (last_cause short cause) ≡ 9) ⊎ (cause ≡ causes.Memory) ⊎ (ended written (last_cause short cause) ≡ 6)
-  over_last short cause written because scripts had past = from (over cause written because scripts had past)
+  over_last short cause written because is scripts had past = from (over cause written because is scripts had past)
     where
       from : (ended written cause ≡ 9) ⊎ (cause ≡ causes.Memory) ⊎ (ended written cause ≡ 6) → (ended written (last_cause short cause) ≡ 9) ⊎ (cause ≡ causes.Memory) ⊎ (ended written (last_cause short cause) ≡ 6)
       from (inl is) = inl (stays short cause written 9 (λ e. cc e) (λ e. cc e) is)
@@ -237,8 +284,11 @@ module _ (asked : Asked) (ground : Ground) (old new : Outside) (counts : Option 
   complete (causes.Page page) text written because wrote is scripts had within quiet graph reads = absurd (no_service (rw because.1 at is))
   complete causes.Sink text written because wrote is scripts had within quiet graph reads = absurd (quiet.sinks because.2)
   complete (causes.Source n) text written because wrote is scripts had within quiet graph reads = absurd (quiet.sources because.1)
-  complete (causes.Long n) text written because wrote is scripts had within quiet graph reads = absurd (because.2 scripts had within)
-  complete causes.LongTotal text written because wrote is scripts had within quiet graph reads = absurd (because.2 scripts had within)
+  complete (causes.Long n) text written because wrote is scripts had within quiet graph reads = absurd (because.2 is scripts had within)
+  complete causes.LongTotal text written because wrote is scripts had within quiet graph reads = absurd (because.2 is scripts had within)
+  complete (causes.Legal n) text written because wrote is scripts had within quiet graph reads = absurd (not_both asked because.0.1 is)
+  complete (causes.BadLine line) text written because wrote is scripts had within quiet graph reads = absurd (not_both asked because.1 is)
+  complete (causes.Illegal event) text written because wrote is scripts had within quiet graph reads = absurd (not_both asked because.1 is)
 
   -- of a volume that is known to be no sound one
   pub refused : (cause : Cause) (text : List ℕ) (written : Bool) → Because cause → Told text written → is_service asked ≡ true → (scripts : List (List ℕ)) → HadLeft old scripts → AreWithin scripts
@@ -254,8 +304,16 @@ module _ (asked : Asked) (ground : Ground) (old new : Outside) (counts : Option 
   refused (causes.Source n) text written because wrote is scripts had within quiet unsound = absurd (quiet.sources because.1)
   refused causes.Memory text true because wrote is scripts had within quiet unsound = inr refl
   refused causes.Memory text false because wrote is scripts had within quiet unsound = absurd (quiet.report wrote.failed)
-  refused (causes.Long n) text written because wrote is scripts had within quiet unsound = absurd (because.2 scripts had within)
-  refused causes.LongTotal text written because wrote is scripts had within quiet unsound = absurd (because.2 scripts had within)
+  refused (causes.Long n) text written because wrote is scripts had within quiet unsound = absurd (because.2 is scripts had within)
+  refused causes.LongTotal text written because wrote is scripts had within quiet unsound = absurd (because.2 is scripts had within)
+  refused (causes.Legal n) text written because wrote is scripts had within quiet unsound = absurd (not_both asked because.0.1 is)
+  refused (causes.BadLine line) text written because wrote is scripts had within quiet unsound = absurd (not_both asked because.1 is)
+  refused (causes.Illegal event) text written because wrote is scripts had within quiet unsound = absurd (not_both asked because.1 is)
+
+-- a report whose count didn't rise was written whole
+pub taken : (old new : Outside) (text : List ℕ) (written : Bool) → Replied old.report new.report text written → NoCountRose old new → written ≡ true
+taken old new text true wrote quiet = refl
+taken old new text false wrote quiet = absurd (quiet.report wrote.failed)
 
 pub shown : (page : Page) (old new : Outside) (text : List ℕ) (written : Bool) → Replied old.report new.report text written → NoCountRose old new → ended written (causes.Page page) ≡ 0
 shown page old new text true wrote quiet = refl

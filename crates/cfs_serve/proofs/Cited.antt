@@ -1,4 +1,5 @@
 -- What lemmas of this crate name of the crates below, and of its own definitions.
+pub use Rattle.cfs_audit.specs.Verdict.{IsLegal}
 pub use Rattle.cfs_base.specs.Calls.{HasFailed}
 pub use Rattle.cfs_base.specs.Disk.{Image}
 pub use Rattle.cfs_base.specs.Outside.{Intake, Rose, Supply, count_after}
@@ -11,8 +12,9 @@ pub use Rattle.cfs_base.specs.declared.refusal.Failed.{Failed}
 pub use Rattle.cfs_base.specs.declared.refusal.Need.{Need}
 pub use Rattle.cfs_core.proofs.Serving.{fits, pending}
 pub use Rattle.cfs_core.specs.Asked.{Happens, IsShortContent, stopped_by}
-pub use Rattle.cfs_core.specs.Calls.{ByOutcome, ByRefusal, ByWant, IsOwed, Owes, is_delete}
+pub use Rattle.cfs_core.specs.Calls.{ByOutcome, ByRefusal, ByWant, IsOwed, Owes}
 pub use Rattle.cfs_core.specs.Collect.{Collects, HappensOrRests, IsNextOf, IsStep, IsUnchanged, event_of}
+pub use Rattle.cfs_core.specs.Damage.{is_delete}
 pub use Rattle.cfs_core.specs.Kernel.{Kernel, marks_in, runs, sweeps_in}
 pub use Rattle.cfs_core.specs.Opened.{IsOpened}
 pub use Rattle.cfs_core.specs.Rescues.{AreRescued}
@@ -32,27 +34,30 @@ pub use Rattle.cfs_recover.specs.Refusals.{IsCaused}
 pub use Rattle.cfs_recover.specs.declared.fault.RecoverFault.{RecoverFault}
 pub use Rattle.cfs_script.specs.NameTable.{names_of}
 pub use Rattle.cfs_script.specs.Room.{FitsLine}
+pub use Rattle.cfs_serve.specs.Audit.{Finds, IsTrailOf, Judges}
 pub use Rattle.cfs_serve.specs.Calls.{AreExact, AsBefore, EndsCollecting, Fits, GoesOn, IsExact, IsExactEvent, IsTallied, Makes, MayCount, MayGoOn, MayMake, MayTally, Passes, PassesStep, Rests, Spends, SpendsOne, Tallies, Tally, Tells, TellsSo, TellsStep, begun, event_by, fails, is_calm_step, lost_by, lost_in, refusal_by, tally_of, tells_outcome, tells_stop_at}
 pub use Rattle.cfs_serve.specs.Charter.{Seat, Terms}
 pub use Rattle.cfs_serve.specs.Disks.{IsLater, LeavesSinceTry, MakesVolume, OnDisk, ServesVolume}
 pub use Rattle.cfs_serve.specs.Ending.{EndsSo, IsWanting, Stops, TellsStop, cause_of, damage_in, has_failed, has_fallen, is_failure, is_fault, is_short, is_want, listed, moment_in, not_begun, spoiled_by, stops_in, told_stop}
 pub use Rattle.cfs_serve.specs.Events.{BreaksOff, begins_in, events_of, finishes_in, is_begin, is_calm, is_finish, is_of, is_reply, is_sessions, tells_damage, tells_disk, tells_fault, tells_stop, wants_memory}
 pub use Rattle.cfs_serve.specs.Ground.{Ground, ground_of, ground_on, new_ground, opened}
-pub use Rattle.cfs_serve.specs.Hall.{AllLeft, AreFresh, AreHeard, AreNew, AreOver, Departs, HasNoCollector, HasTurns, Hearing, IsFresh, IsLeave, IsOver, IsSession, IsSessionTurn, IsTurn, Turned, charter_of, has_left_at, is_done_in, left_in, seat_of, turns_left, turns_left_at}
+pub use Rattle.cfs_serve.specs.Hall.{AllLeft, AreFresh, AreHeard, AreNew, AreOver, Departs, HasNoCollector, HasTurns, Hearing, IsFresh, IsLeave, IsOver, IsSession, IsSessionTurn, IsTurn, Turned, charter_of, has_left_at, is_done_in, left_in, seat_of, turns_left, turns_left_at, turns_now}
 pub use Rattle.cfs_serve.specs.Journal.{AreCounted, IsKept, IsRun, IsRunOn, IsTold, Kept, Lasts, Raises, Rise, Steps, Told, faults_after, first_fault, is_made, is_quiet_fault, is_recorded, recorded, stamps}
-pub use Rattle.cfs_serve.specs.Limits.{most_lines, most_script}
+pub use Rattle.cfs_serve.specs.Limits.{most_lines, most_script, most_trail}
 pub use Rattle.cfs_serve.specs.Opening.{IsRefusal, told_of}
 pub use Rattle.cfs_serve.specs.Played.{AreSeated, HasNone, IsCause, IsPlayed, IsRunFrom, IsRunOf, IsStop, counts_of, free_of, has_broken}
 pub use Rattle.cfs_serve.specs.Report.{cause_text, counts_text, ending_text, report_text, served_text, status_of}
+pub use Rattle.cfs_serve.specs.Says.{Says, SpinSaid, within_spin}
 pub use Rattle.cfs_serve.specs.Scripts.{AreShort, AreWithin, Had, HasScript, HaveFirst, HaveScripts, IsFirst, IsOneCause, IsSourceCause, faults_of, lines_in}
+pub use Rattle.cfs_serve.specs.Spun.{drain, drains, drawn_scripts, drawn_sources, service_of, source_of}
 pub use Rattle.cfs_serve.specs.SureDisk.{IsSure}
 pub use Rattle.cfs_serve.specs.Text.{IsStart, IsText, IsTextBy, IsTrail, first_line, first_lines, last_cause, printed_line, text_by, text_of}
 pub use Rattle.cfs_serve.specs.Told.{told}
-pub use Rattle.cfs_serve.specs.Top.{Did, DiskFailed, EachFrom, EachSink, EachSource, EndedWell, HadLeft, HasBroken, IsServedFrom, IsStatus, LimitPassed, Made, MemoryWanting, NoCountRose, Outside, Said, Showed, SinkFailed, SomeRose, SourceFailed, VolumeRefused, WritesReport, after, before, sink_faults, source_faults}
+pub use Rattle.cfs_serve.specs.Top.{Audited, Did, DiskFailed, EachFrom, EachSink, EachSource, EndedWell, HadLeft, HasBroken, IsJudged, IsServedFrom, IsStatus, LimitPassed, Made, MemoryWanting, NoCountRose, Outside, Said, Showed, SinkFailed, SomeRose, SourceFailed, VolumeRefused, WritesReport, after, before, is_refutation, is_verdict, sink_faults, source_faults}
 pub use Rattle.cfs_serve.specs.Traced.{IsTraced, IsWritten}
 pub use Rattle.cfs_serve.specs.Volume.{IsNewCore, IsUnserved, ServesScripts, ServesSessions, ground_at}
-pub use Rattle.cfs_serve.specs.Whole.{Asks, AsksSessions, FitsVolume, HasDisk, HasPlaces, IsWhole, NamesVolume, Places, RoseIn, TellsMade, ended}
-pub use Rattle.cfs_serve.specs.Words.{Asked, Files, Format, Formats, InFile, InMemory, Nothing, Place, Service, Shows, asked_by, collections_of, files_in, inputs_in, is_file_word, is_service, outputs_in, play_in, serve_in, streams_in}
+pub use Rattle.cfs_serve.specs.Whole.{Asks, AsksAudit, AsksSessions, AsksSpin, FitsVolume, HasDisk, HasPlaces, IsWhole, NamesVolume, Places, RoseIn, TellsMade, ended, spun}
+pub use Rattle.cfs_serve.specs.Words.{Asked, Audits, Files, Format, Formats, InFile, InMemory, Nothing, Place, Service, Shows, Spin, Spins, asked_by, collections_of, files_in, inputs_in, is_audit, is_file_word, is_service, most_bytes, outputs_in, play_in, serve_in, streams_in}
 pub use Rattle.cfs_serve.specs.declared.ending.Ending.{Ending}
 pub use Rattle.cfs_serve.specs.declared.journal.Progress.{Progress}
 pub use Rattle.cfs_serve.specs.declared.page.Page.{Page}
@@ -63,6 +68,7 @@ pub use Rattle.cfs_serve.specs.declared.report.Report.{Report}
 pub use Rattle.cfs_serve.specs.declared.rest.Rest.{Rest}
 pub use Rattle.cfs_streams.proofs.WriteLaws.{cut, nothing, then, then_some, then_whole}
 pub use Rattle.cfs_streams.specs.Writing.{WritesWhole, Wrote, WroteSome}
+pub use Rattle.cfs_workload.specs.Workload.{script}
 pub use Rattle.collector_steps.specs.Collecting.{Collecting}
 pub use Rattle.map_cache.specs.Cache.{Cache, content_of, is_honest, is_telling, is_told, left_of, moment_of, tries_of}
 pub use Rattle.marking.proofs.Asked.{allowed}

@@ -1,11 +1,10 @@
 -- A step of the collector of a core, as the hall sees it.
 use Rattle.std.proofs.Common.{◌≡◌, ◌⊎◌, inl, inr, ℕ, ◌+◌, ◌-◌, ◌<◌, ◌≤◌, Bool, true, false, List, [], ◌∷◌, ◌++◌, Option, Some, None, Result, Ok, Err, is_some, length, option_to_list, refl, sym, ap, ◌∙◌, subst, arith, ◌||◌}
-use Rattle.cfs_serve.proofs.Cited.{AsBefore, CallKeeps, CollectFault, Collecting, Collection, Collections, Collects, EndsCollecting, Event, Ghosts, Graph, Happens, HappensOrRests, HasCollection, IsNextOf, IsStep, IsUnchanged, Kernel, MayCount, MayGoOn, MayLose, MayMake, MayTally, PassesStep, Puid, Rests, Rose, RunSurvives, Serves, Spends, Stands, StandsFor, State, Step, Stop, Stops, Survived, Tallies, TellsStep, TellsStop, allowed, append-nil, damage_in, event_by, event_of, fails, is_calm_step, is_collecting, is_marking, is_sweeping, listed, lost_blocks, marks_in, next, option_and_then, pairs_of, recorded, refusal_by, replay, runs, starts_now, stops_in, sweeps_in, tally_of, tells_stop_at, without}
-use Rattle.cfs_core.specs.Left.{events_ahead, steps_ahead}
+use Rattle.cfs_serve.proofs.Cited.{AsBefore, CallKeeps, CollectFault, Collecting, Collection, Collections, Collects, EndsCollecting, Event, Ghosts, Graph, Happens, HappensOrRests, HasCollection, IsNextOf, IsStep, IsUnchanged, Kernel, MayCount, MayGoOn, MayLose, MayMake, MayTally, PassesStep, Puid, Rests, Rose, RunSurvives, Serves, Spends, Stands, StandsFor, State, Step, Stop, Stops, Survived, Tallies, TellsStep, TellsStop, append-nil, damage_in, event_by, event_of, fails, is_calm_step, is_collecting, is_marking, is_sweeping, listed, lost_blocks, marks_in, next, option_and_then, recorded, refusal_by, replay, runs, stops_in, sweeps_in, tally_of, tells_stop_at}
+use Rattle.cfs_core.specs.Left.{steps_ahead}
 use Rattle.cfs_core.specs.declared.collecting.CollectFault.TheVariants as faults
 use Rattle.cfs_core.specs.declared.collecting.Step.TheVariants as steps
 use Rattle.ufs_model.specs.declared.asked.Event.TheVariants as events
-use Rattle.ufs_model.specs.declared.collection.Collection.TheVariants as collections
 use Rattle.cfs_serve.proofs.Journals.{some_same}
 use Rattle.cfs_serve.proofs.Owed.{no_some, rescued_runs}
 

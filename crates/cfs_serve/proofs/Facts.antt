@@ -1,16 +1,16 @@
 -- What `top` says of a run, from what the run came to.
-use Rattle.std.proofs.Common.{◌≡◌, inl, inr, ℕ, ◌<◌, ◌≤◌, Bool, true, false, not, List, [], ◌∷◌, ◌++◌, length, map, slice_get, Option, Some, refl, sym, ap, ◌∙◌, subst, arith, ◌||◌}
-use Rattle.cfs_serve.proofs.Cited.{AreOver, AreSeated, AreWithin, Asked, Asks, BreaksOff, Cause, Counts, Ending, Event, Formats, Ground, HadLeft, HasBroken, HasPlaces, HasScript, HaveScripts, Intake, IsOver, IsPlayed, IsRunOf, IsServedFrom, Nothing, Outside, Page, Puid, Reading, Replied, Report, RoseIn, Seat, Service, Shows, SomeRose, Supply, Wrote, all_forms, counts_of, events_of, has_broken, has_failed, is_short, length-map, list_any, most_lines, no_names, option_map, printed_replies, request_lines, slice_get-map, slice_get_within, turns_from, turns_in, wants_memory}
+use Rattle.std.proofs.Common.{◌≡◌, inl, inr, ℕ, ◌<◌, ◌≤◌, Bool, true, false, not, List, [], ◌∷◌, ◌++◌, length, map, slice_get, Option, Some, None, refl, sym, ap, ◌∙◌, subst, arith, ◌||◌}
+use Rattle.cfs_serve.proofs.Cited.{AreOver, AreSeated, AreWithin, Asked, Asks, Audits, BreaksOff, Cause, Counts, Ending, Event, Formats, Ground, HadLeft, HasBroken, HasPlaces, HasScript, HaveScripts, Intake, IsOver, IsPlayed, IsRunOf, IsServedFrom, Nothing, Outside, Page, Puid, Reading, Replied, Report, RoseIn, Seat, Service, Shows, SomeRose, Supply, Wrote, all_forms, counts_of, events_of, has_broken, has_failed, is_short, is_verdict, length-map, list_any, most_lines, no_names, not_begun, option_map, printed_replies, request_lines, slice_get-map, slice_get_within, turns_from, turns_in, wants_memory}
 use Rattle.cfs_serve.specs.declared.report.Cause.TheVariants as causes
-use Rattle.cfs_serve.specs.Words.{Serves}
+use Rattle.cfs_serve.specs.Words.{Serves, Spins}
 use Rattle.ufs_model.specs.declared.asked.Event.TheVariants as events
 use Rattle.cfs_serve.specs.Played.{AreCounted}
-use Rattle.cfs_serve.proofs.Lists.{each_of, failed_at, item, map_at, mapped, no_items, none_failed, one_failed, one_rose, same_length}
+use Rattle.cfs_serve.proofs.Lists.{each_of, failed_at, item, map_at, mapped, no_items, none_failed, one_failed, one_item, one_rose, same_length}
 use Rattle.cfs_serve.proofs.Scripted.{one_few, within}
 use Rattle.cfs_serve.proofs.Because.{Because}
 use Rattle.cfs_serve.proofs.Endings.{Shown, shown, went_well}
 use Rattle.cfs_serve.proofs.Stopping.{undamaged}
-use Rattle.cfs_serve.proofs.NoneServed.{Facts, clash, clash-sym, of_format, of_none, of_nothing, of_page, places}
+use Rattle.cfs_serve.proofs.NoneServed.{Facts, clash, clash-sym, of_audit, of_format, of_none, of_nothing, of_page, places}
 
 -- ---- sessions were served
 
@@ -150,9 +150,9 @@ module _ (service : Service) (ground : Ground) (disk disk_after : Option ℕ) (s
         at true some = ((broke some).0, sink_there some, lost some)
         at false none = went none
 
-  sessions : (cause : Cause) (played : Played cause) → ¬ (cause ≡ causes.Words) → ((page : Page) → ¬ (cause ≡ causes.Page page))
+  sessions : (cause : Cause) (played : Played cause) → ¬ (cause ≡ causes.Words) → ((page : Page) → ¬ (cause ≡ causes.Page page)) → ¬ (is_verdict cause ≡ true)
       → Because (Serves service) ground begun ended (Some counts) trail cause → Sessions cause
-  sessions cause played other paged because = (
+  sessions cause played other paged plain because = (
     record {
       places = (sources_count ∙ given.0, sinks_count ∙ given.1);
       unserved = λ none. absurd (clash none);
@@ -190,6 +190,8 @@ module _ (service : Service) (ground : Ground) (disk disk_after : Option ℕ) (s
       page = λ page. ((λ is. absurd (paged page is)), (λ is. cc));
       cause = λ none. absurd (clash none);
       made = λ no. absurd (clash-sym no);
+      audited = λ no. absurd (clash-sym no);
+      verdict = λ is. absurd (plain is);
       ends = λ served. played.ends;
       spoiled = λ served. played.spoiled;
       counts = subst (λ n. AreCounted n trail counts) seats_count played.counted;
@@ -207,7 +209,7 @@ module _ (service : Service) (ground : Ground) (disk disk_after : Option ℕ) (s
   by_cause : (cause : Cause) → Played cause → ShownBy cause → Sessions cause
   by_cause causes.Nothing played is =
       let well = went_well ending trail (has_broken ports) played.ends.refusal (sym played.spoiled) in
-      sessions causes.Nothing played (λ e. cc) (λ page e. cc) (inl (record {
+      sessions causes.Nothing played (λ e. cc) (λ page e. cc) clash-sym (inl (record {
         served = refl;
         sound = sound;
         within = few;
@@ -219,20 +221,32 @@ module _ (service : Service) (ground : Ground) (disk disk_after : Option ℕ) (s
         calm = played.ends.calm well.runs well.disk;
         collected = played.collected well.refused;
       }))
-  by_cause (causes.Disk moment) played is = sessions (causes.Disk moment) played (λ e. cc) (λ page e. cc) (played.ends.failed is, few)
-  by_cause (causes.Volume fault) played is = sessions (causes.Volume fault) played (λ e. cc) (λ page e. cc) ((λ graph reads. (played.run graph reads).stop), few, (λ none. absurd (clash none)))
-  by_cause causes.Sink played is = sessions causes.Sink played (λ e. cc) (λ page e. cc) (refl, few, sinks_rose played.root played.over is)
-  by_cause causes.Memory played is = sessions causes.Memory played (λ e. cc) (λ page e. cc) tt
+  by_cause (causes.Disk moment) played is = sessions (causes.Disk moment) played (λ e. cc) (λ page e. cc) clash-sym (played.ends.failed is, few)
+  by_cause (causes.Volume fault) played is = sessions (causes.Volume fault) played (λ e. cc) (λ page e. cc) clash-sym ((λ graph reads. (played.run graph reads).stop), few, (λ none. absurd (clash none)))
+  by_cause causes.Sink played is = sessions causes.Sink played (λ e. cc) (λ page e. cc) clash-sym (refl, few, sinks_rose played.root played.over is)
+  by_cause causes.Memory played is = sessions causes.Memory played (λ e. cc) (λ page e. cc) clash-sym tt
   by_cause (causes.Page page) played is = absurd is
   by_cause causes.Words played is = absurd is
   by_cause (causes.Source i) played is = absurd is
   by_cause (causes.Long i) played is = absurd is
   by_cause causes.LongTotal played is = absurd is
+  by_cause (causes.Legal n) played is = absurd is
+  by_cause (causes.BadLine line) played is = absurd is
+  by_cause (causes.Illegal event) played is = absurd is
 
   pub of_sessions : (cause : Cause) → Played cause → Sessions cause
   of_sessions cause played = by_cause cause played (subst ShownBy (sym played.spoiled) (shown ending trail (has_broken ports)))
 
 -- ---- every run
+
+-- no spin is asked for, of which all this is said of its service
+abbrev pub NoSpin : Asked → Type 0
+NoSpin (Spins spin) = ⊥
+NoSpin (Shows page) = Unit {0}
+NoSpin (Formats format) = Unit {0}
+NoSpin (Audits trail) = Unit {0}
+NoSpin (Serves service) = Unit {0}
+NoSpin Nothing = Unit {0}
 
 of_run : (service : Service) (ground : Ground) (disk disk_after : Option ℕ) (sources sources_after : List Supply) (sinks sinks_after : List Intake) (report report_after : Intake) (told : Report) (ending : Ending) (trail : List Event)
     → HasPlaces (Serves service) (length sources) (length sinks) → length sources_after ≡ length sources → length sinks_after ≡ length sinks
@@ -245,19 +259,27 @@ of_run service ground disk disk_after sources sources_after sinks sinks_after re
 
 module _ (disk disk_after : Option ℕ) (sources sources_after : List Supply) (sinks sinks_after : List Intake) (report report_after : Intake) (told : Report) (ending : Ending) (trail : List Event) where
   abbrev From : Asked → Ground → Type 0
-  From asked ground = HasPlaces asked (length sources) (length sinks)
+  From asked ground = NoSpin asked → HasPlaces asked (length sources) (length sinks)
       → Asks asked ground (record { disk = disk; sources = sources; sinks = sinks }) (record { disk = disk_after; sources = sources_after; sinks = sinks_after }) told ending trail
       → Facts asked ground (places disk sources sinks report) (places disk_after sources_after sinks_after report_after) told ending trail
 
   pub facts : (asked : Asked) (ground : Ground) → From asked ground
-  facts Nothing ground none asks =
+  facts (Spins spin) ground never given asks = absurd never
+  facts Nothing ground plain none asks =
       rw (asks.told, asks.no_event, asks.no_end, asks.sources, asks.sinks, no_items sources none.0, no_items sinks none.1)
       (of_nothing ground disk disk_after report report_after)
-  facts (Formats format) ground none asks =
+  facts (Formats format) ground plain none asks =
       rw (asks.0.told, asks.0.no_event, asks.0.no_end, asks.0.sources, asks.0.sinks, no_items sources none.0, no_items sinks none.1)
       (of_format ground format disk disk_after report report_after told.cause asks.1)
-  facts (Shows page) ground none asks =
+  facts (Audits text) ground plain given asks =
+      let one = one_item sources given.0 in
+      let left = one_item sources_after (asks.sources ∙ given.0) in
+      rw (asks.told, asks.no_event, asks.no_end, asks.sinks, no_items sinks given.1)
+      (subst (λ l. Facts (Audits text) ground (places disk l [] report) (places disk_after sources_after [] report_after) (record { counts = None; cause = told.cause }) not_begun []) (sym one.1)
+      (subst (λ l. Facts (Audits text) ground (places disk (one.0 ∷ []) [] report) (places disk_after l [] report_after) (record { counts = None; cause = told.cause }) not_begun []) (sym left.1)
+      (of_audit ground text disk disk_after one.0 left.0 report report_after told.cause (asks.found one.0 left.0 (ap (λ l. slice_get l 0) one.1) (ap (λ l. slice_get l 0) left.1)))))
+  facts (Shows page) ground plain none asks =
       rw (asks.told, asks.no_event, asks.no_end, asks.sources, asks.sinks, no_items sources none.0, no_items sinks none.1)
       (of_page ground page disk disk_after report report_after)
-  facts (Serves service) ground given asks =
+  facts (Serves service) ground plain given asks =
       of_run service ground disk disk_after sources sources_after sinks sinks_after report report_after told ending trail given asks.sources asks.sinks asks.run

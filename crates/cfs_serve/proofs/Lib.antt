@@ -14,8 +14,10 @@ mod Texts
 mod Tracing
 mod Because
 mod NoneServed
+mod Judging
 mod Facts
 mod Saying
+mod Spinning
 mod Owed
 mod Collecting
 mod Wording

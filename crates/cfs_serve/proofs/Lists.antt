@@ -19,6 +19,11 @@ pub no_items : {A : Type 0} (xs : List A) → length xs ≡ 0 → xs ≡ []
 no_items [] none = refl
 no_items (x ∷ xs) none = absurd (omega (arith, none))
 
+pub one_item : {A : Type 0} (xs : List A) → length xs ≡ 1 → (x : A) × (xs ≡ x ∷ [])
+one_item [] one = absurd (omega (arith, one))
+one_item (x ∷ []) one = (x, refl)
+one_item (x ∷ y ∷ xs) one = absurd (omega (arith, one))
+
 -- there is an item at each place
 pub item : {A : Type 0} (xs : List A) (k : ℕ) → k < length xs → (x : A) × (slice_get xs k ≡ Some x)
 item [] k below = absurd (omega (arith, below))

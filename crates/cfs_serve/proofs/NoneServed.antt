@@ -1,14 +1,13 @@
 -- What `top` says of a run that served nothing.
-use Rattle.std.proofs.Common.{◌≡◌, inl, inr, ℕ, ◌<◌, ◌≤◌, true, false, List, [], ◌∷◌, length, Option, None, refl, sym, ◌∙◌, subst, arith, get_or}
-use Rattle.cfs_serve.proofs.Cited.{AreWithin, Asked, Cause, Did, Ending, Event, Format, Formats, Ground, Had, HasPlaces, Intake, IsCause, Nothing, Outside, Page, Replied, Report, Rose, RoseIn, Service, Shows, SomeRose, Supply, TellsMade, begins_in, faults_of, length-map, most_script, not_begun, nothing, opening, printed_replies, slice_get-get_or, slice_index_or}
+use Rattle.std.proofs.Common.{◌≡◌, ◌↔◌, inl, inr, ℕ, zero, suc, ◌<◌, ◌≤◌, true, false, List, [], ◌∷◌, length, slice_get, Option, Some, None, refl, sym, ◌∙◌, subst, arith, get_or}
+use Rattle.cfs_serve.proofs.Cited.{AreWithin, Asked, Audits, Cause, Did, EachFrom, Ending, Event, Finds, Format, Formats, Ground, Had, HasPlaces, Intake, IsCause, IsFirst, IsLegal, Nothing, Outside, Page, Replied, Report, Rose, RoseIn, Service, Shows, SomeRose, Supply, TellsMade, begins_in, collections_of, faults_of, is_audit, is_service, is_verdict, length-map, most_script, most_trail, not_begun, nothing, opening, printed_replies, slice_get-get_or, slice_index_or}
 use Rattle.cfs_serve.specs.declared.report.Cause.TheVariants as causes
-use Rattle.cfs_serve.specs.Words.{Serves}
-use Rattle.cfs_serve.proofs.Lists.{each_of, one_rose}
+use Rattle.cfs_serve.specs.Words.{IfServes, Serves, Spins, is_format}
+use Rattle.cfs_serve.proofs.Lists.{each_of, heads, never_none, one_rose}
 use Rattle.cfs_serve.proofs.Journals.{some_same}
 use Rattle.cfs_serve.proofs.Scripted.{had_count, within}
 use Rattle.cfs_serve.proofs.Because.{Because}
 use Rattle.cfs_serve.proofs.Endings.{shown}
-use Rattle.cfs_serve.proofs.Stopping.{undamaged}
 
 -- what a run did and told, and what its cause shows
 abbrev pub Facts : Asked → Ground → (old new : Outside) → Report → Ending → List Event → Type 0
@@ -27,77 +26,68 @@ clash-sym e = cc
 none_begins : (n : ℕ) → begins_in [] ≤ n
 none_begins n = let none : begins_in [] ≡ 0 = refl in omega (arith, none)
 
+never_nil : {A : Type 0} {x : A} {xs : List A} → x ∷ xs ≡ [] → ⊥
+never_nil e = cc
+
 no_scripts : (scripts : List (List ℕ)) → Had [] scripts → AreWithin scripts
 no_scripts [] had = ((λ k d below. absurd (omega (arith, below))), omega arith)
-no_scripts (left ∷ rest) had = absurd (some had)
-  where
-    some : {x : Option (List ℕ)} {xs : List (Option (List ℕ))} → [] ≡ x ∷ xs → ⊥
-    some e = cc
+no_scripts (left ∷ rest) had = absurd (never_nil (sym had))
 
 -- ---- no service was asked for
 
-pub of_nothing : (ground : Ground) (disk disk_after : Option ℕ) (report report_after : Intake) → Facts Nothing ground (places disk [] [] report) (places disk_after [] [] report_after) (record { counts = None; cause = causes.Words }) not_begun []
-of_nothing ground disk disk_after report report_after = (
-  record {
-    places = (refl, refl);
+no_serves : (asked : Asked) (holds : Service → Type 0) → is_service asked ≡ false → IfServes asked holds
+no_serves (Shows page) holds none = tt
+no_serves (Formats format) holds none = tt
+no_serves (Audits trail) holds none = tt
+no_serves (Spins spin) holds none = tt
+no_serves (Serves service) holds none = absurd (clash none)
+no_serves Nothing holds none = tt
+
+module _ (asked : Asked) (ground : Ground) (disk disk_after : Option ℕ) (sources sources_after : List Supply) (report report_after : Intake) (cause : Cause) where
+  unasked : is_service asked ≡ false → HasPlaces asked (length sources_after) 0 → ((cause ≡ causes.Words) ↔ (asked ≡ Nothing)) → ((page : Page) → (cause ≡ causes.Page page) ↔ (asked ≡ Shows page))
+      → (is_format asked ≡ false → ¬ (cause ≡ causes.Nothing)) → (is_format asked ≡ true → TellsMade cause disk disk_after)
+      → (is_audit asked ≡ true → EachFrom (λ _ source after. Finds cause source after) 0 sources sources_after) → (is_verdict cause ≡ true → is_audit asked ≡ true)
+      → Did asked ground (places disk sources [] report) (places disk_after sources_after [] report_after) (record { counts = None; cause = cause }) not_begun []
+  unasked none places_are words page told made audited verdict = record {
+    places = places_are;
     unserved = λ none. (refl, refl, refl);
     unasked = λ none. refl;
     leaves = λ served. absurd (clash-sym served);
     sessions = λ none. refl;
     others = λ k past. refl;
-    on = tt;
+    on = no_serves asked _ none;
     sound = λ served. absurd (clash-sym served);
     took = λ k. true;
     fell = false;
     falls = λ k. refl;
     stands = λ none. refl;
-    turns = tt;
+    turns = no_serves asked _ none;
     replied = tt;
     broken = λ served. absurd (clash-sym served);
-    words = ((λ is. refl), (λ is. refl));
-    page = λ page. ((λ is. cc), (λ is. cc));
-    cause = λ none no e. cc;
-    made = λ no. absurd (clash-sym no);
+    words = words;
+    page = page;
+    cause = λ none. told;
+    made = made;
+    audited = audited;
+    verdict = verdict;
     ends = λ served. absurd (clash-sym served);
     spoiled = λ served. absurd (clash-sym served);
     counts = tt;
-    few = none_begins 0;
+    few = none_begins (collections_of asked);
     collected = λ served. absurd (clash-sym served);
     wanting = λ wants. absurd (cc wants);
-  },
+  }
+
+pub of_nothing : (ground : Ground) (disk disk_after : Option ℕ) (report report_after : Intake) → Facts Nothing ground (places disk [] [] report) (places disk_after [] [] report_after) (record { counts = None; cause = causes.Words }) not_begun []
+of_nothing ground disk disk_after report report_after = (
+  unasked Nothing ground disk disk_after [] [] report report_after causes.Words refl (refl, refl) ((λ is. refl), (λ is. refl)) (λ page. ((λ is. cc), (λ is. cc))) (λ no e. cc) (λ no. absurd (clash-sym no)) (λ no. absurd (clash-sym no)) (λ no. absurd (clash-sym no)),
   (refl, refl, no_scripts),
 )
 
 pub of_page : (ground : Ground) (shown : Page) (disk disk_after : Option ℕ) (report report_after : Intake)
     → Facts (Shows shown) ground (places disk [] [] report) (places disk_after [] [] report_after) (record { counts = None; cause = causes.Page shown }) not_begun []
 of_page ground shown disk disk_after report report_after = (
-  record {
-    places = (refl, refl);
-    unserved = λ none. (refl, refl, refl);
-    unasked = λ none. refl;
-    leaves = λ served. absurd (clash-sym served);
-    sessions = λ none. refl;
-    others = λ k past. refl;
-    on = tt;
-    sound = λ served. absurd (clash-sym served);
-    took = λ k. true;
-    fell = false;
-    falls = λ k. refl;
-    stands = λ none. refl;
-    turns = tt;
-    replied = tt;
-    broken = λ served. absurd (clash-sym served);
-    words = ((λ is. cc), (λ is. cc));
-    page = λ page. ((λ is. cc), (λ is. cc));
-    cause = λ none no e. cc;
-    made = λ no. absurd (clash-sym no);
-    ends = λ served. absurd (clash-sym served);
-    spoiled = λ served. absurd (clash-sym served);
-    counts = tt;
-    few = none_begins 0;
-    collected = λ served. absurd (clash-sym served);
-    wanting = λ wants. absurd (cc wants);
-  },
+  unasked (Shows shown) ground disk disk_after [] [] report report_after (causes.Page shown) refl (refl, refl) ((λ is. cc), (λ is. cc)) (λ page. ((λ is. cc), (λ is. cc))) (λ no e. cc) (λ no. absurd (clash-sym no)) (λ no. absurd (clash-sym no)) (λ no. absurd (clash-sym no)),
   (refl, refl, no_scripts),
 )
 
@@ -107,42 +97,65 @@ module _ (ground : Ground) (format : Format) (disk disk_after : Option ℕ) (rep
   abbrev Volumed : Cause → Type 0
   Volumed cause = Facts (Formats format) ground (places disk [] [] report) (places disk_after [] [] report_after) (record { counts = None; cause = cause }) not_begun []
 
-  volumed : (cause : Cause) → ¬ (cause ≡ causes.Words) → ((page : Page) → ¬ (cause ≡ causes.Page page)) → TellsMade cause disk disk_after
+  volumed : (cause : Cause) → ¬ (cause ≡ causes.Words) → ((page : Page) → ¬ (cause ≡ causes.Page page)) → TellsMade cause disk disk_after → ¬ (is_verdict cause ≡ true)
       → Because (Formats format) ground (places disk [] [] report) (places disk_after [] [] report_after) None [] cause → Volumed cause
-  volumed cause other paged told because = (
-    record {
-      places = (refl, refl);
-      unserved = λ none. (refl, refl, refl);
-      unasked = λ none. refl;
-      leaves = λ served. absurd (clash-sym served);
-      sessions = λ none. refl;
-      others = λ k past. refl;
-      on = tt;
-      sound = λ served. absurd (clash-sym served);
-      took = λ k. true;
-      fell = false;
-      falls = λ k. refl;
-      stands = λ none. refl;
-      turns = tt;
-      replied = tt;
-      broken = λ served. absurd (clash-sym served);
-      words = ((λ is. absurd (other is)), (λ is. cc));
-      page = λ page. ((λ is. absurd (paged page is)), (λ is. cc));
-      cause = λ none no. absurd (clash no);
-      made = λ makes. told;
-      ends = λ served. absurd (clash-sym served);
-      spoiled = λ served. absurd (clash-sym served);
-      counts = tt;
-      few = none_begins 0;
-      collected = λ served. absurd (clash-sym served);
-      wanting = λ wants. absurd (cc wants);
-    },
+  volumed cause other paged told plain because = (
+    unasked (Formats format) ground disk disk_after [] [] report report_after cause refl (refl, refl) ((λ is. absurd (other is)), (λ is. cc)) (λ page. ((λ is. absurd (paged page is)), (λ is. cc))) (λ no. absurd (clash no)) (λ makes. told) (λ no. absurd (clash-sym no)) (λ is. absurd (plain is)),
     because,
   )
 
   pub of_format : (cause : Cause) → TellsMade cause disk disk_after → Volumed cause
-  of_format cause (inl is) = rw is (volumed causes.Nothing (λ e. cc) (λ page e. cc) (inl refl) (inr (refl, (format, refl), no_scripts)))
-  of_format cause (inr failed) = rw failed.0 (volumed (causes.Disk None) (λ e. cc) (λ page e. cc) (inr (refl, failed.1)) (failed.1, no_scripts))
+  of_format cause (inl is) = rw is (volumed causes.Nothing (λ e. cc) (λ page e. cc) (inl refl) clash-sym (inr (refl, (format, refl), no_scripts)))
+  of_format cause (inr failed) = rw failed.0 (volumed (causes.Disk None) (λ e. cc) (λ page e. cc) (inr (refl, failed.1)) clash-sym (failed.1, no_scripts))
+
+-- ---- an audit was asked for
+
+module _ (ground : Ground) (trail : List ℕ) (disk disk_after : Option ℕ) (source after : Supply) (report report_after : Intake) where
+  abbrev old_one : Outside
+  old_one = places disk (source ∷ []) [] report
+
+  abbrev new_one : Outside
+  new_one = places disk_after (after ∷ []) [] report_after
+
+  abbrev AuditedSo : Cause → Type 0
+  AuditedSo cause = Facts (Audits trail) ground old_one new_one (record { counts = None; cause = cause }) not_begun []
+
+  abbrev Why : Cause → Type 0
+  Why cause = Because (Audits trail) ground old_one new_one None [] cause
+
+  audited : (cause : Cause) → ¬ (cause ≡ causes.Words) → ((page : Page) → ¬ (cause ≡ causes.Page page)) → ¬ (cause ≡ causes.Nothing) → Finds cause source after → Why cause → AuditedSo cause
+  audited cause other paged told found because = (
+    unasked (Audits trail) ground disk disk_after (source ∷ []) (after ∷ []) report report_after cause refl (refl, refl) ((λ is. absurd (other is)), (λ is. cc)) (λ page. ((λ is. absurd (paged page is)), (λ is. cc))) (λ no. told) (λ no. absurd (clash-sym no)) (λ audits. (found, tt)) (λ is. refl),
+    because,
+  )
+
+  -- there is no source before it, and none behind
+  only : IsFirst (source ∷ []) (after ∷ []) 0
+  only = record {
+    scripts = [];
+    before = record { count = omega arith; each = λ k s script there here. absurd (never_none here) };
+    count = refl;
+    behind = past;
+  }
+    where
+      past : (k : ℕ) → 0 < k → slice_get (after ∷ []) k ≡ slice_get (source ∷ []) k
+      past zero below = absurd (omega (arith, below))
+      past (suc k) below = refl
+
+  long : ((left : List ℕ) → source.left ≡ Some left → most_trail < length left) → (scripts : List (List ℕ)) → Had (source ∷ []) scripts → most_trail < length (slice_index_or scripts 0 [])
+  long far [] had = absurd (never_nil had)
+  long far (script ∷ scripts) had = far script (heads had)
+
+  pub of_audit : (cause : Cause) → Finds cause source after → AuditedSo cause
+  of_audit (causes.Source i) found = subst (λ j. AuditedSo (causes.Source j)) (sym found.0)
+      (audited (causes.Source 0) (λ e. cc) (λ page e. cc) (λ e. cc) (refl, found.1) ((0, refl, omega arith, found.1, only), inl found.1))
+  of_audit (causes.Long i) found = subst (λ j. AuditedSo (causes.Long j)) (sym found.0)
+      (audited (causes.Long 0) (λ e. cc) (λ page e. cc) (λ e. cc) (refl, found.1) (refl, (omega arith, long found.1, only), (λ no. absurd (clash-sym no))))
+  of_audit causes.Memory found = audited causes.Memory (λ e. cc) (λ page e. cc) (λ e. cc) tt tt
+  of_audit (causes.Legal n) found = audited (causes.Legal n) (λ e. cc) (λ page e. cc) (λ e. cc) found ((refl, refl), ((λ left is. subst (λ text. IsLegal text n) (found.1.whole left is) found.2), tt))
+  of_audit (causes.BadLine line) found = audited (causes.BadLine line) (λ e. cc) (λ page e. cc) (λ e. cc) found (refl, refl)
+  of_audit (causes.Illegal event) found = audited (causes.Illegal event) (λ e. cc) (λ page e. cc) (λ e. cc) found (refl, refl)
+  of_audit cause found = absurd found.2
 
 -- ---- nothing was served
 
@@ -157,9 +170,9 @@ module _ (service : Service) (ground : Ground) (disk disk_after : Option ℕ) (s
   abbrev Unserved : Cause → Type 0
   Unserved cause = Facts (Serves service) ground old new (record { counts = None; cause = cause }) not_begun []
 
-  unserved : (cause : Cause) → ¬ (cause ≡ causes.Words) → ((page : Page) → ¬ (cause ≡ causes.Page page)) → ¬ (cause ≡ causes.Nothing)
+  unserved : (cause : Cause) → ¬ (cause ≡ causes.Words) → ((page : Page) → ¬ (cause ≡ causes.Page page)) → ¬ (cause ≡ causes.Nothing) → ¬ (is_verdict cause ≡ true)
       → Because (Serves service) ground old new None [] cause → Unserved cause
-  unserved cause other paged told because = (
+  unserved cause other paged told plain because = (
     record {
       places = (count ∙ given.0, given.1);
       unserved = λ none. (refl, refl, refl);
@@ -190,6 +203,8 @@ module _ (service : Service) (ground : Ground) (disk disk_after : Option ℕ) (s
       page = λ page. ((λ is. absurd (paged page is)), (λ is. cc));
       cause = λ none no. told;
       made = λ no. absurd (clash-sym no);
+      audited = λ no. absurd (clash-sym no);
+      verdict = λ is. absurd (plain is);
       ends = λ served. absurd (clash-sym served);
       spoiled = λ served. absurd (clash-sym served);
       counts = tt;
@@ -207,24 +222,27 @@ module _ (service : Service) (ground : Ground) (disk disk_after : Option ℕ) (s
       (slice_get-get_or (faults_of sources_after) n 0 (omega (arith, below, count, length-map sources_after (λ (s : Supply). s.faults)))) rose
 
   pub of_none : (cause : Cause) → IsCause ground (RoseIn disk disk_after) sources sources_after cause → Unserved cause
-  of_none (causes.Source n) is = unserved (causes.Source n) (λ e. cc) (λ page e. cc) (λ e. cc) ((n, refl, is.0, is.1, is.2), source_rose n is.0 is.1)
-  of_none (causes.Long n) is = unserved (causes.Long n) (λ e. cc) (λ page e. cc) (λ e. cc) (
+  of_none (causes.Source n) is = unserved (causes.Source n) (λ e. cc) (λ page e. cc) (λ e. cc) clash-sym ((n, refl, is.0, is.1, is.2), source_rose n is.0 is.1)
+  of_none (causes.Long n) is = unserved (causes.Long n) (λ e. cc) (λ page e. cc) (λ e. cc) clash-sym (
     refl,
     is,
-    (λ scripts had few.
+    (λ serves scripts had few.
         let long : most_script < length (slice_index_or scripts n []) = is.1 scripts had in
         let least : length (slice_index_or scripts n []) ≤ most_script = few.0 n [] (omega (arith, is.0, had_count sources scripts had)) in
         omega (arith, long, least)),
   )
-  of_none causes.LongTotal is = unserved causes.LongTotal (λ e. cc) (λ page e. cc) (λ e. cc) (
+  of_none causes.LongTotal is = unserved causes.LongTotal (λ e. cc) (λ page e. cc) (λ e. cc) clash-sym (
     refl,
     is,
-    (λ scripts had few. let over = is scripts had in omega (arith, over.1, few.1)),
+    (λ serves scripts had few. let over = is scripts had in omega (arith, over.1, few.1)),
   )
-  of_none causes.Memory is = unserved causes.Memory (λ e. cc) (λ page e. cc) (λ e. cc) tt
-  of_none (causes.Volume fault) is = unserved (causes.Volume fault) (λ e. cc) (λ page e. cc) (λ e. cc) (is.0, within sources is.1.0 is.1.1, (λ none. is.2))
-  of_none (causes.Disk moment) is = unserved (causes.Disk moment) (λ e. cc) (λ page e. cc) (λ e. cc) (is.1, within sources is.2.0 is.2.1)
+  of_none causes.Memory is = unserved causes.Memory (λ e. cc) (λ page e. cc) (λ e. cc) clash-sym tt
+  of_none (causes.Volume fault) is = unserved (causes.Volume fault) (λ e. cc) (λ page e. cc) (λ e. cc) clash-sym (is.0, within sources is.1.0 is.1.1, (λ none. is.2))
+  of_none (causes.Disk moment) is = unserved (causes.Disk moment) (λ e. cc) (λ page e. cc) (λ e. cc) clash-sym (is.1, within sources is.2.0 is.2.1)
   of_none causes.Nothing is = absurd is
   of_none (causes.Page page) is = absurd is
   of_none causes.Words is = absurd is
   of_none causes.Sink is = absurd is
+  of_none (causes.Legal n) is = absurd is
+  of_none (causes.BadLine line) is = absurd is
+  of_none (causes.Illegal event) is = absurd is

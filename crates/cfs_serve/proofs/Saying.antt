@@ -1,22 +1,25 @@
 -- What `top` says follows from the steps of the run.
 use Rattle.std.proofs.Common.{◌≡◌, ℕ, true, false, List, length, refl, sym, ap, ◌∙◌}
-use Rattle.cfs_serve.proofs.Cited.{Asked, Ending, Event, Formats, Ground, HasPlaces, IsWhole, Nothing, Outside, Report, Said, Shows, ended, is_service, last_cause}
-use Rattle.cfs_serve.specs.Words.{Serves, is_format}
+use Rattle.cfs_serve.proofs.Cited.{Asked, Audits, Ending, Event, Formats, Ground, HasPlaces, IsWhole, Nothing, Outside, Report, Said, Shows, ended, is_service, last_cause}
+use Rattle.cfs_serve.specs.Words.{Serves, Spins, is_format}
 use Rattle.cfs_serve.proofs.Because as why
-use Rattle.cfs_serve.proofs.Facts.{facts}
+use Rattle.cfs_serve.proofs.Facts.{NoSpin, facts}
+use Rattle.cfs_serve.proofs.Judging.{found, judged, overlong, serves_none}
 
 no_service : (asked : Asked) → is_format asked ≡ true → is_service asked ≡ false
 no_service (Formats format) makes = refl
+no_service (Audits trail) makes = absurd (cc makes)
+no_service (Spins spin) makes = absurd (cc makes)
 no_service (Shows page) makes = refl
 no_service (Serves service) makes = absurd (cc makes)
 no_service Nothing makes = refl
 
 pub said : (asked : Asked) (ground : Ground) (old new : Outside) (told : Report) (status : ℕ) (ending : Ending) (trail : List Event)
-    → HasPlaces asked (length old.sources) (length old.sinks)
+    → NoSpin asked → HasPlaces asked (length old.sources) (length old.sinks)
     → IsWhole asked ground (record { disk = old.disk; sources = old.sources; sinks = old.sinks }) (record { disk = new.disk; sources = new.sources; sinks = new.sinks }) old.report new.report told status ending trail
     → Said asked ground old new told status ending trail
-said asked ground old new told status ending trail given whole =
-    let f = facts old.disk new.disk old.sources new.sources old.sinks new.sinks old.report new.report told ending trail asked ground given whole.run in
+said asked ground old new told status ending trail plain given whole =
+    let f = facts old.disk new.disk old.sources new.sources old.sinks new.sinks old.report new.report told ending trail asked ground plain given whole.run in
     let counts = told.counts in
     let cause = told.cause in
     let last = last_cause whole.short cause in
@@ -42,8 +45,19 @@ said asked ground old new told status ending trail given whole =
       status_5 = λ so. why.status_5 asked ground old new counts trail cause whole.short whole.text whole.written f.1 wrote (is 5 so);
       status_6 = λ so. why.status_6 asked ground old new counts trail cause whole.written f.1 (worse 6 (λ e. cc e) (λ e. cc e) so);
       status_7 = λ so. why.status_7 asked ground old new counts trail last whole.text whole.written wrote (is 7 so);
+      status_8 = (
+        (λ so. why.status_8 asked ground old new counts trail cause whole.written (worse 8 (λ e. cc e) (λ e. cc e) so)),
+        (λ bad. whole.said ∙ why.is_8 asked ground old new counts trail whole.short cause whole.written bad),
+      );
       status_9 = λ so. why.status_9 asked ground old new counts trail cause whole.written f.1 (worse 9 (λ e. cc e) (λ e. cc e) so);
       over = rw whole.said (why.over_last asked ground old new counts trail whole.short cause whole.written f.1);
+      overlong = λ audits text had far.
+          let here = found cause old.sources new.sources text had (f.0.audited audits) in
+          rw (whole.said, whole_by (serves_none asked audits)) (overlong here.source here.left text here.had cause whole.written here.is far);
+      judged = λ audits text had quiet.
+          let here = found cause old.sources new.sources text had (f.0.audited audits) in
+          rw (whole.said, whole_by (serves_none asked audits), why.taken old new whole.text whole.written wrote quiet)
+          (judged here.source here.left text here.had cause here.is (λ rose. quiet.sources (here.rose rose)));
       complete = rw whole.said (why.complete asked ground old new counts trail last whole.text whole.written last_because wrote);
       refused = rw whole.said (why.refused asked ground old new counts trail last whole.text whole.written last_because wrote);
       formatted = λ makes quiet. whole.said ∙ ap (ended whole.written) (whole_by (no_service asked makes)) ∙ why.formatted cause old new _ whole.written (f.0.made makes) wrote quiet;

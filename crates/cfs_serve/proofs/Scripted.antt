@@ -106,6 +106,9 @@ one_cause sources after n source source_after at there first (causes.Volume faul
 one_cause sources after n source source_after at there first (causes.Disk moment) is = absurd is
 one_cause sources after n source source_after at there first causes.Sink is = absurd is
 one_cause sources after n source source_after at there first causes.LongTotal is = absurd is
+one_cause sources after n source source_after at there first (causes.Legal count) is = absurd is
+one_cause sources after n source source_after at there first (causes.BadLine line) is = absurd is
+one_cause sources after n source source_after at there first (causes.Illegal event) is = absurd is
 
 -- all were read, and have too many lines together
 pub total_cause : (sources after : List Supply) (scripts : List (List ℕ)) → HaveFirst sources scripts → length scripts ≡ length sources → most_lines < lines_in scripts

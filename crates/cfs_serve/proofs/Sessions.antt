@@ -1,6 +1,6 @@
 -- An event keeps what the hall keeps of its sessions.
 use Rattle.std.proofs.Common.{◌≡◌, ◌≢◌, ◌⊎◌, inl, inr, ℕ, ◌+◌, ◌<◌, ◌≤◌, ◌==◌, Bool, true, false, not, cond, List, [], ◌∷◌, ◌++◌, length, filter, set, get_or, Option, Some, None, slice_get, refl, sym, ap, ◌∙◌, subst, arith, append_assoc, length-append, length-set}
-use Rattle.cfs_serve.proofs.Cited.{AreHeard, Departs, Event, Hearing, Hears, IsLeave, IsSession, IsSessionTurn, IsWanting, Names, Puid, Replied, Request, Seat, State, TakesLine, Terms, Turned, Unread, Wrote, all_forms, append-nil, finishes_in, get_or_from_slice_get, has_left_at, is_begin, is_finish, is_of, is_sessions, is_turn_of, name_spoken, names_after, names_after_reply, names_of, nat_tests, no_names, printed, printed_replies, reading_of, slice_get-get_or, slice_get_within, sum_by, sum_by-set, then, then_some, turn_of, turns_from, turns_in, turns_left, turns_left_at, words_of}
+use Rattle.cfs_serve.proofs.Cited.{AreHeard, Departs, Event, Hearing, Hears, IsLeave, IsSession, IsSessionTurn, IsWanting, Names, Puid, Replied, Request, Seat, TakesLine, Terms, Turned, Unread, Wrote, all_forms, append-nil, finishes_in, get_or_from_slice_get, has_left_at, is_begin, is_finish, is_of, is_sessions, is_turn_of, name_spoken, names_after, names_after_reply, names_of, nat_tests, no_names, printed, printed_replies, reading_of, slice_get-get_or, slice_get_within, sum_by, sum_by-set, then, then_some, turn_of, turns_from, turns_in, turns_left, turns_left_at, words_of}
 use Rattle.ufs_model.specs.declared.asked.Event.TheVariants as events
 use Rattle.ufs_model.specs.declared.asked.Reply.TheVariants as replies
 use Rattle.ufs_model.specs.declared.asked.Unread.TheVariants as unread

@@ -1,5 +1,5 @@
 -- A step of the collector keeps what the journal keeps.
-use Rattle.std.proofs.Common.{◌≡◌, ℕ, ◌+◌, ◌<◌, ◌==◌, Bool, true, false, cond, arith, List, [], ◌++◌, Option, Some, None, Result, Ok, Err, refl, sym, ap, ◌∙◌, subst, ◌||◌}
+use Rattle.std.proofs.Common.{◌≡◌, ℕ, ◌==◌, Bool, true, false, List, [], ◌++◌, Option, Some, None, Result, Ok, Err, refl, sym, ap, ◌∙◌, subst, ◌||◌}
 use Rattle.cfs_serve.proofs.Cited.{CollectFault, Event, Graph, IsExactEvent, IsRun, Lasts, MayGoOn, MayMake, MayTally, State, Step, Tally, Terms, append-nil, event_by, is_of, is_quiet_fault, list_any, recorded, refusal_by, stamps, tells_disk, wants_memory}
 use Rattle.cfs_core.specs.declared.collecting.CollectFault.TheVariants as faults
 use Rattle.cfs_core.specs.declared.collecting.Step.TheVariants as steps

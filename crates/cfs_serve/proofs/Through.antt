@@ -29,7 +29,7 @@ module _ {D : Type 0} (g : Ghosts D) where
   settled d is = record { tells = record { honest = is.tells.honest; told = is.tells.told }; only = is.only }
 
   since_try : (old new : Cache D) (P : Image → Type 0) → LeavesSinceTry (cached g) old new P → LeavesSinceTry g old.lower new.lower P
-  since_try old new P (inl f) = inl (record { cause = f.0.cause; clock = f.0.clock }, untouched old new f.1, f.2)
+  since_try old new P (inl f) = inl (f.0, f.1, untouched old new f.2, f.3)
   since_try old new P (inr m) = inr (m.0.lower, settled m.0 m.1, untouched old m.0 m.2, m.3, leaves m.0 new P m.4)
 
   pub through : (seed : ℕ) (told : Report) (ending : Ending) (trail : List Event) (moments : List ℕ) (old new : Cache D)

@@ -1,5 +1,5 @@
 -- The lines of a trail, one event further.
-use Rattle.std.proofs.Common.{◌≡◌, ℕ, zero, suc, ◌+◌, List, [], ◌∷◌, ◌++◌, take, drop, Some, slice_get, refl, sym, ap, ◌∙◌, subst, append_assoc, Result, Ok, Err, arith}
+use Rattle.std.proofs.Common.{◌≡◌, ℕ, zero, suc, ◌+◌, List, [], ◌∷◌, ◌++◌, take, drop, Some, slice_get, sym, ap, ◌∙◌, subst, append_assoc, Result, Ok, Err, arith}
 use Rattle.cfs_serve.proofs.Cited.{Event, Failed, Intake, Opening, Replied, WritesWhole, Wrote, WroteSome, append-nil, begun_lines, cut, ended_line, event_line, flat_map, flat_map-append, is_ok, opening_line, take-append-drop, then, then_some}
 use Rattle.cfs_serve.proofs.Journals.{some_same}
 

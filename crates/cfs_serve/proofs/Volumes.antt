@@ -119,6 +119,9 @@ source_cause ground wide source after causes.Words is = is
 source_cause ground wide source after (causes.Source i) is = is
 source_cause ground wide source after (causes.Long i) is = is
 source_cause ground wide source after causes.LongTotal is = is
+source_cause ground wide source after (causes.Legal n) is = absurd is
+source_cause ground wide source after (causes.BadLine line) is = absurd is
+source_cause ground wide source after (causes.Illegal event) is = absurd is
 
 pub source_ill : (source after : List Supply) (cause : Cause) → IsSourceCause source after cause → ¬ (cause ≡ causes.Nothing)
 source_ill source after cause is well = absurd (rw well at is)
@@ -127,7 +130,7 @@ source_ill source after cause is well = absurd (rw well at is)
 
 -- the first call is the first that was tried
 pub since_try : {D : Type 0} (g : Ghosts D) (old new : D) (P : Image → Type 0) → LeavesSinceBarrier g old new P → LeavesSinceTry g old new P
-since_try g old new P (inl failed) = inl (failed.failed, failed.untouched, failed.tries)
+since_try g old new P (inl failed) = inl (failed.failed.cause, failed.failed.clock, failed.untouched, failed.tries)
 since_try g old new P (inr since) = inr (since.0, since.1.settled, since.1.untouched, since.1.tries, since.2)
 
 module _ {D : Type 0} (g : Ghosts D) (old : D) (seed : ℕ) where
@@ -145,6 +148,9 @@ module _ {D : Type 0} (g : Ghosts D) (old : D) (seed : ℕ) where
   refusal_cause new source after script has (causes.Source i) is = absurd is
   refusal_cause new source after script has (causes.Long i) is = absurd is
   refusal_cause new source after script has causes.LongTotal is = absurd is
+  refusal_cause new source after script has (causes.Legal n) is = absurd is
+  refusal_cause new source after script has (causes.BadLine line) is = absurd is
+  refusal_cause new source after script has (causes.Illegal event) is = absurd is
 
   -- nothing was served on it
   pub unserved : (new : D) (report : Report) (ending : Ending) (trail : List Event) (moments : List ℕ) (cause : Cause) → IsLater g old new → report ≡ record { counts = None; cause = cause } → ¬ (cause ≡ causes.Nothing)

@@ -1,6 +1,6 @@
 -- A turn of a worker, of a session or of the collector.
 use Rattle.std.proofs.Common.{◌≡◌, ◌≢◌, inl, inr, ℕ, zero, suc, ◌+◌, ◌<◌, ◌≤◌, ◌==◌, Bool, true, false, cond, List, [], ◌∷◌, ◌++◌, Option, Some, None, length, slice_get, refl, sym, ap, ◌∙◌, subst, arith, length-append}
-use Rattle.cfs_serve.proofs.Cited.{AreHeard, CollectFault, Event, HasNoCollector, Hearing, IsSessionTurn, IsTurn, Kept, Progress, Reading, Steps, Terms, append-nil, has_left_at, is_done_in, is_of, left_in, nat_tests, recorded, slice_get_within, sum_by, turns_left, turns_left_at}
+use Rattle.cfs_serve.proofs.Cited.{AreHeard, CollectFault, Event, HasNoCollector, Hearing, IsSessionTurn, IsTurn, Kept, Progress, Reading, Steps, Terms, append-nil, has_left_at, is_done_in, is_of, left_in, nat_tests, recorded, slice_get_within, sum_by, turns_left, turns_left_at, turns_now}
 use Rattle.cfs_serve.proofs.Sessions as sessions
 use Rattle.cfs_serve.proofs.Sessions.{heard_beside}
 
@@ -78,12 +78,17 @@ all_done [] turns done k = refl
 all_done (p ∷ ports) turns done zero = done 0
 all_done (p ∷ ports) turns done (suc k) = all_done ports turns (λ w. done (suc w)) k
 
-pub none_left : (ports : List Reading) (turns : ℕ) → ((w : ℕ) → is_done_in ports turns w ≡ true) → turns ≡ 0
-none_left ports turns done =
-    let none : (turns == 0) ≡ true = sym (collector_done ports turns) ∙ done (length ports) in
-    grind (arith, nat_tests)
-
 -- ---- a step of the collector
+
+-- one that has turns to make doesn't rest
+pub acts : (resting : Bool) (left : ℕ) → 0 < turns_now resting left → (resting ≡ false) × (0 < left)
+acts true left some = absurd (omega (arith, some))
+acts false left some = (refl, some)
+
+pub fewer_now : (resting after : Bool) (left less : ℕ) → 0 < turns_now resting left → less < left → turns_now after less < turns_now resting left
+fewer_now true after left less some fewer = absurd (omega (arith, some))
+fewer_now false true left less some fewer = some
+fewer_now false false left less some fewer = fewer
 
 one_at_most : (o : Option Event) → length (recorded o) ≤ 1
 one_at_most None = omega arith

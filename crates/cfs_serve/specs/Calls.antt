@@ -5,7 +5,7 @@ use Rattle.std.specs.Option.{option_map_or}
 use Rattle.cfs_base.specs.Outside.{Rose}
 use Rattle.cfs_base.specs.declared.disk.Disk.{Ghosts}
 use Rattle.cfs_base.specs.declared.refusal.Need.{Need}
-use Rattle.cfs_core.specs.Calls.{is_delete}
+use Rattle.cfs_core.specs.Damage.{is_delete}
 use Rattle.cfs_core.specs.Collect.{event_of}
 use Rattle.cfs_core.specs.Kernel.{Kernel, runs}
 use Rattle.cfs_core.specs.Left.{events_ahead, steps_ahead}
@@ -27,7 +27,7 @@ use Rattle.ufs_model.specs.Next.{next}
 use Rattle.ufs_model.specs.Run.{replay}
 use Rattle.ufs_model.specs.State.{State}
 use Rattle.vol_image.specs.Sound.{graph_blocks}
-use Rattle.cfs_serve.specs.Events.{begins_in, finishes_in, is_begin, is_calm, tells_disk, tells_stop}
+use Rattle.cfs_serve.specs.Events.{begins_in, finishes_in, is_calm, tells_disk, tells_stop}
 
 -- ---- an answer
 

@@ -1,8 +1,8 @@
 -- What a run does to the disk of its volume.
 use Rattle.std.specs.Prelude.{◌≡◌, ◌⊎◌, ℕ, ◌+◌, ◌≤◌, IsTrue, List, ◌∷◌, Option, Some, None, IsSome}
-use Rattle.cfs_base.specs.Calls.{HasFailed, MakesAtMost}
+use Rattle.cfs_base.specs.Calls.{MakesAtMost}
 use Rattle.cfs_base.specs.Disk.{Image}
-use Rattle.cfs_base.specs.Outside.{count_after}
+use Rattle.cfs_base.specs.Outside.{Rose, count_after}
 use Rattle.cfs_base.specs.Run.{IsSettled, Leaves}
 use Rattle.cfs_base.specs.declared.disk.Disk.{Ghosts}
 use Rattle.cfs_recover.specs.Recovered.{IsUntouched}
@@ -20,7 +20,8 @@ use Rattle.cfs_serve.specs.declared.ending.Ending.{Ending}
 use Rattle.cfs_serve.specs.declared.report.Report.{Report}
 use Rattle.cfs_serve.specs.Events.{tells_disk, tells_fault}
 use Rattle.cfs_serve.specs.Journal.{Rise, faults_after, first_fault}
-use Rattle.cfs_serve.specs.Words.{Asked, Format, Formats, InFile, InMemory, Nothing, Place, Serves, Shows}
+use Rattle.cfs_serve.specs.Words.{Asked, Audits, Format, Formats, InFile, InMemory, Nothing, Place, Serves, Shows}
+use Rattle.cfs_serve.specs.Words.{Spins}
 
 -- A volume was made on a disk, or the disk failed.
 pub record MakesVolume {D : Type 0} (g : Ghosts D) (format : Format) (cause : Cause) (old new : D) : Type 0 where
@@ -35,8 +36,8 @@ pub record MakesVolume {D : Type 0} (g : Ghosts D) (format : Format) (cause : Ca
 -- The first write or barrier that was tried is a barrier. Where it was done, whatever a crash left since, or leaves
 -- now, has P.
 abbrev pub LeavesSinceTry : {D : Type 0} → Ghosts D → D → D → (Image → Type 0) → Type 0
-LeavesSinceTry {D} g old new P = (HasFailed g old new × IsUntouched g old new
-    × (g.tries new ≡ count_after (g.tries old)))
+LeavesSinceTry {D} g old new P = (Rose (g.faults old) (g.faults new) × Rose (g.moment old) (g.moment new)
+    × IsUntouched g old new × (g.tries new ≡ count_after (g.tries old)))
     ⊎ ((mid : D) × IsSettled g mid × IsUntouched g old mid × (g.tries mid ≡ count_after (g.tries old))
     × Leaves g mid new P)
 
@@ -92,5 +93,7 @@ abbrev pub OnDisk : {D : Type 0} → Ghosts D → Asked → Report → Ending �
 OnDisk g (Formats format) told ending trail moments old new = MakesOn g format told.cause old new
 OnDisk g (Serves service) told ending trail moments old new =
     ServesOn g service.volume service.seed told ending trail moments old new
+OnDisk g (Audits text) told ending trail moments old new = new ≡ old
+OnDisk g (Spins spin) told ending trail moments old new = new ≡ old
 OnDisk g (Shows page) told ending trail moments old new = new ≡ old
 OnDisk g Nothing told ending trail moments old new = new ≡ old

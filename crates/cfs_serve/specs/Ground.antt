@@ -8,7 +8,8 @@ use Rattle.cfs_recover.specs.declared.fault.RecoverFault.{RecoverFault}
 use Rattle.cfs_recover.specs.declared.fault.RecoverFault.TheVariants as whys
 use Rattle.cfs_serve.specs.declared.report.VolumeFault.{VolumeFault}
 use Rattle.cfs_serve.specs.declared.report.VolumeFault.TheVariants as faults
-use Rattle.cfs_serve.specs.Words.{Asked, Formats, InFile, InMemory, Nothing, Place, Serves, Shows, root_of}
+use Rattle.cfs_serve.specs.Words.{Asked, Audits, Formats, InFile, InMemory, Nothing, Place, Serves, Shows, Spins}
+use Rattle.cfs_serve.specs.Words.{root_of}
 
 -- the cylinders of the volume, the graphs that it may read as, and that it is known to be no sound one
 pub record Ground : Type 1 where
@@ -53,5 +54,7 @@ ground_at g (InFile path pair) seed None = no_ground
 abbrev pub ground_of : {D : Type 0} → Ghosts D → Asked → Option D → Ground
 ground_of g (Serves service) disk = ground_at g service.volume service.seed disk
 ground_of g (Formats format) disk = no_ground
+ground_of g (Audits trail) disk = no_ground
+ground_of g (Spins spin) disk = new_ground spin.cylinders spin.seed
 ground_of g (Shows page) disk = no_ground
 ground_of g Nothing disk = no_ground

@@ -26,11 +26,18 @@ use Rattle.cfs_serve.specs.declared.journal.Progress.{Progress}
 pub record Hearing (A : Type 0) : Type 0 where
   pub journal : Kept A
   pub ports : List Reading
-  -- the turns that the collector has left, and how many events of it there is room for
+  -- the turns that the collector may make now, none where it rests; all that it has left, and how many events of it
+  -- there is room for
   pub turns : ℕ
+  pub left : ℕ
   pub events : ℕ
   -- the refusal at which it was done
   pub refused : Option CollectFault
+
+-- the turns that it may make now
+abbrev pub turns_now : (resting : Bool) → (left : ℕ) → ℕ
+turns_now true left = 0
+turns_now false left = left
 
 -- ---- what is kept of a session
 
@@ -135,6 +142,7 @@ pub record IsStep {A : Type 0} (clock : A → ℕ) (old new : Hearing A) : Type 
   pub steps : Steps clock old.journal new.journal progress
   pub ports : new.ports ≡ old.ports
   pub turns : new.turns < old.turns
+  pub left : new.left < old.left
 
 -- A turn of a worker: past the sessions it is the collector.
 abbrev pub IsTurn : {A : Type 0} → (A → ℕ) → (worker : ℕ) → Hearing A → Hearing A → Type 0

@@ -161,6 +161,7 @@ abbrev pub is_recorded : Progress → Bool
 is_recorded progresses.Idle = false
 is_recorded progresses.Quiet = false
 is_recorded progresses.Recorded = true
+is_recorded progresses.Finished = true
 is_recorded (progresses.Refused fault) = true
 
 -- a step was made, an event or not
@@ -168,6 +169,7 @@ abbrev pub is_made : Progress → Bool
 is_made progresses.Idle = false
 is_made progresses.Quiet = true
 is_made progresses.Recorded = true
+is_made progresses.Finished = true
 is_made (progresses.Refused fault) = false
 
 -- the refusal of the step, if it is one

@@ -16,7 +16,10 @@ pub mod Ground
 pub mod Scripts
 pub mod Played
 pub mod Opening
+pub mod Audit
+pub mod Spun
 pub mod Volume
 pub mod Whole
 pub mod Disks
 pub mod Top
+pub mod Says

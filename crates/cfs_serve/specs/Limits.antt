@@ -21,6 +21,10 @@ held_maps = 64
 abbrev pub most_script : ℕ
 most_script = 16777216
 
+-- the bytes of the longest trail that is audited
+abbrev pub most_trail : ℕ
+most_trail = 268435456
+
 -- the request lines of all files together
 abbrev pub most_lines : ℕ
 most_lines = 500000

@@ -22,6 +22,9 @@ status_of (causes.Source i) = 6
 status_of causes.Memory = 7
 status_of (causes.Long i) = 9
 status_of causes.LongTotal = 9
+status_of (causes.Legal n) = 0
+status_of (causes.BadLine line) = 8
+status_of (causes.Illegal event) = 8
 
 abbrev pub served_text : Counts → List ℕ
 served_text c =
@@ -53,6 +56,9 @@ cause_text (causes.Source i) = told (codes "source") i
 cause_text causes.Memory = codes "memory\n"
 cause_text (causes.Long i) = told (codes "long") i
 cause_text causes.LongTotal = codes "long total\n"
+cause_text (causes.Legal n) = told (codes "legal") n
+cause_text (causes.BadLine line) = told (codes "bad line") line
+cause_text (causes.Illegal event) = told (codes "illegal") event
 
 -- the line of the cause, and the status; or the page
 abbrev pub ending_text : Cause → List ℕ

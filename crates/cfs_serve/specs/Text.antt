@@ -9,7 +9,7 @@ use Rattle.cfs_serve.specs.declared.report.Cause.TheVariants as causes
 use Rattle.cfs_serve.specs.declared.report.Counts.{Counts}
 use Rattle.cfs_serve.specs.declared.report.Report.{Report}
 use Rattle.cfs_serve.specs.Report.{report_text, status_of}
-use Rattle.cfs_serve.specs.Words.{Asked, Formats, InFile, InMemory, Nothing, Place, Service, Serves, Shows}
+use Rattle.cfs_serve.specs.Words.{Asked, Audits, Formats, InFile, InMemory, Nothing, Place, Serves, Shows, Spins}
 
 -- what the first line of a volume's trail tells; the trail of a volume in a file is not printed
 abbrev line_of : Place → (seed : ℕ) → Option Opening
@@ -25,6 +25,8 @@ abbrev pub first_line : Asked → Option Opening
 first_line (Serves service) = line_if service.traced service.volume service.seed
 first_line (Shows page) = None
 first_line (Formats format) = None
+first_line (Audits trail) = None
+first_line (Spins spin) = None
 first_line Nothing = None
 
 -- it is printed where sessions were served

@@ -16,7 +16,7 @@ use Rattle.ufs_model.specs.Script.{request_lines}
 use Rattle.ufs_model.specs.Spoken.{all_forms}
 use Rattle.ufs_model.specs.Turns.{AreTurns, turns_in}
 use Rattle.ufs_model.specs.Printed.{printed_replies}
-use Rattle.cfs_serve.specs.Limits.{most_script, most_lines}
+use Rattle.cfs_serve.specs.Limits.{most_script, most_lines, most_trail}
 use Rattle.cfs_serve.specs.declared.run.Bay.{Bay}
 use Rattle.cfs_serve.specs.declared.ending.Ending.{Ending}
 use Rattle.cfs_serve.specs.declared.run.Ended.{Ended}
@@ -28,6 +28,8 @@ use Rattle.cfs_base.specs.declared.identifier.Puid.{Puid}
 use Rattle.cfs_serve.specs.declared.page.Page.{Page}
 use Rattle.cfs_serve.specs.Pages.{page_text}
 use Rattle.cfs_serve.specs.Report.{report_text, status_of}
+use Rattle.cfs_audit.specs.Verdict.{IsLegal}
+use Rattle.cfs_serve.specs.Audit.{Finds, Judges}
 use Rattle.cfs_serve.specs.Calls.{AreExact}
 use Rattle.cfs_serve.specs.Ending.{EndsSo, IsWanting, cause_of, damage_in, not_begun}
 use Rattle.cfs_serve.specs.Events.{BreaksOff, begins_in, events_of, finishes_in, is_calm, is_sessions, tells_damage}
@@ -38,7 +40,7 @@ use Rattle.cfs_serve.specs.Text.{IsText, last_cause, text_of}
 use Rattle.cfs_serve.specs.Scripts.{AreShort, AreWithin, Had, IsFirst, faults_of, lines_in}
 use Rattle.cfs_serve.specs.Whole.{HasPlaces, RoseIn, TellsMade}
 use Rattle.cfs_serve.specs.Words.{Asked, Format, Service, Formats, Shows, Nothing, IfServes, collections_of, is_format}
-use Rattle.cfs_serve.specs.Words.{is_service}
+use Rattle.cfs_serve.specs.Words.{is_audit, is_service, most_bytes}
 
 -- ---- what is outside
 
@@ -140,6 +142,21 @@ is_mild (causes.Source n) = false
 is_mild causes.Memory = true
 is_mild (causes.Long n) = false
 is_mild causes.LongTotal = false
+is_mild (causes.Legal n) = true
+is_mild (causes.BadLine line) = false
+is_mild (causes.Illegal event) = false
+
+-- the verdict on a trail is told; and it isn't that the trail is legal
+abbrev pub is_verdict : Cause → Bool
+is_verdict (causes.Legal n) = true
+is_verdict (causes.BadLine line) = true
+is_verdict (causes.Illegal event) = true
+is_verdict cause = false
+
+abbrev pub is_refutation : Cause → Bool
+is_refutation (causes.BadLine line) = true
+is_refutation (causes.Illegal event) = true
+is_refutation cause = false
 
 -- the report's text was written whole, or its sink failed and has some of its beginning
 abbrev pub WritesReport : (text : List ℕ) → Outside → Outside → Type 0
@@ -186,6 +203,14 @@ pub record Made (asked : Asked) (told : Report) (old new : Outside) : Type 0 whe
   pub is : told ≡ record { counts = None; cause = causes.Nothing }
   pub written : Wrote old.report new.report (report_text told)
 
+-- or a trail was audited: all that its source had left is a legal one, of so many events
+pub record Audited (asked : Asked) (told : Report) (old new : Outside) : Type 0 where
+  pub events : ℕ
+  pub asks : is_audit asked ≡ true
+  pub is : told ≡ record { counts = None; cause = causes.Legal events }
+  pub legal : EachSource (λ _ source _. (left : List ℕ) → source.left ≡ Some left → IsLegal left events) old new
+  pub written : Wrote old.report new.report (report_text told)
+
 -- 3: the volume was refused as it was opened, and this is wrong with it; or the core stopped at a block that is
 -- damaged. It isn't known to be sound.
 abbrev pub VolumeRefused : Ground → Report → Type 0
@@ -214,25 +239,25 @@ MemoryWanting short cause text old new = (last_cause short cause ≡ causes.Memo
 
 -- the source of that number is the first that failed or had more than its limit; or all of them together had more, and
 -- none alone
-abbrev pub IsOver : Cause → (old new : Outside) → Type 0
-IsOver (causes.Long n) old new =
+abbrev pub IsOver : Asked → Cause → (old new : Outside) → Type 0
+IsOver asked (causes.Long n) old new =
     (n < length old.sources)
-    × ((scripts : List (List ℕ)) → HadLeft old scripts → most_script < length (slice_index_or scripts n []))
+    × ((scripts : List (List ℕ)) → HadLeft old scripts → most_bytes asked < length (slice_index_or scripts n []))
     × IsFirst old.sources new.sources n
-IsOver causes.LongTotal old new =
+IsOver asked causes.LongTotal old new =
     (scripts : List (List ℕ)) → HadLeft old scripts → AreShort scripts × (most_lines < lines_in scripts)
-IsOver causes.Nothing old new = ⊥
-IsOver (causes.Page page) old new = ⊥
-IsOver causes.Words old new = ⊥
-IsOver (causes.Volume fault) old new = ⊥
-IsOver (causes.Disk moment) old new = ⊥
-IsOver causes.Sink old new = ⊥
-IsOver (causes.Source n) old new = ⊥
-IsOver causes.Memory old new = ⊥
+IsOver asked cause old new = ⊥
 
 -- 9: nothing was served, and it is told which limit was passed
-abbrev pub LimitPassed : Report → Outside → Outside → Type 0
-LimitPassed told old new = IsNone told.counts × IsOver told.cause old new
+abbrev pub LimitPassed : Asked → Report → Outside → Outside → Type 0
+LimitPassed asked told old new = IsNone told.counts × IsOver asked told.cause old new
+
+-- What an audit comes to where no count rose: the verdict on a text within the limit, by which the status is 0 or 8; of
+-- a longer one 9; or want of memory.
+abbrev pub IsJudged : (status : ℕ) → Cause → (text : List ℕ) → Type 0
+IsJudged status cause text =
+    ((length text ≤ most_trail) × (is_verdict cause ≡ true) × Judges cause text × (status ≡ status_of cause))
+    ⊎ ((most_trail < length text) × (status ≡ 9)) ⊎ (status ≡ 7)
 
 -- ---- all that is said
 
@@ -299,6 +324,9 @@ pub record Did (asked : Asked) (ground : Ground) (old new : Outside) (told : Rep
   -- where nothing was served it is told why, unless a volume was to be made: of that only a failed disk is told
   pub cause : IsNone told.counts → is_format asked ≡ false → ¬ (told.cause ≡ causes.Nothing)
   pub made : is_format asked ≡ true → TellsMade told.cause old.disk new.disk
+  -- of an audit it is told what was found of its source, and a verdict of nothing else
+  pub audited : is_audit asked ≡ true → EachSource (λ _ source after. Finds told.cause source after) old new
+  pub verdict : is_verdict told.cause ≡ true → is_audit asked ≡ true
   -- after serving the first is told that has come: a failed call, a damage, a sink that broke, want of memory
   pub ends : WasServed told → EndsSo (RoseIn old.disk new.disk) (collections_of asked) ending trail
   pub spoiled : WasServed told → told.cause ≡ cause_of ending trail fell
@@ -311,7 +339,7 @@ pub record Did (asked : Asked) (ground : Ground) (old new : Outside) (told : Rep
   -- memory was wanting for it only where one would begin
   pub wanting : ending.refused ≡ Some faults.Memory → IsWanting (collections_of asked) trail
 
--- What `top` says: all this, and what the status says.
+-- Of all but a spin: all this, and what the status says.
 pub record Said (asked : Asked) (ground : Ground) (old new : Outside) (told : Report) (status : ℕ) (ending : Ending)
     (trail : List Event) : Type 0 where
   pub did : Did asked ground old new told ending trail
@@ -324,15 +352,19 @@ pub record Said (asked : Asked) (ground : Ground) (old new : Outside) (told : Re
   -- the status is that of the cause, or 5 for a report that failed; and what each status says
   pub is_status : IsStatus status (last_cause short told.cause) old new
   pub status_0 : status ≡ 0 → EndedWell asked ground told trail old new ⊎ Showed told old new ⊎ Made asked told old new
+      ⊎ Audited asked told old new
   pub status_2 : (status ≡ 2) ↔ (asked ≡ Nothing)
   pub status_3 : status ≡ 3 → VolumeRefused ground told
   pub status_4 : status ≡ 4 → DiskFailed told old new
   pub status_5 : status ≡ 5 → SinkFailed told old new
   pub status_6 : status ≡ 6 → SourceFailed told old new
   pub status_7 : status ≡ 7 → MemoryWanting short told.cause text old new
-  pub status_9 : status ≡ 9 → LimitPassed told old new
+  pub status_8 : (status ≡ 8) ↔ (is_refutation told.cause ≡ true)
+  pub status_9 : status ≡ 9 → LimitPassed asked told old new
   -- a limit that was passed gives 9, unless a source failed or memory was wanting
-  pub over : (scripts : List (List ℕ)) → HadLeft old scripts → ¬ (AreWithin scripts)
+  pub over : is_service asked ≡ true → (scripts : List (List ℕ)) → HadLeft old scripts → ¬ (AreWithin scripts)
+      → (status ≡ 9) ⊎ (told.cause ≡ causes.Memory) ⊎ (status ≡ 6)
+  pub overlong : is_audit asked ≡ true → (text : List ℕ) → HadLeft old (text ∷ []) → most_trail < length text
       → (status ≡ 9) ⊎ (told.cause ≡ causes.Memory) ⊎ (status ≡ 6)
   -- Where no limit was passed and no count rose: a service on a sound volume gives 0 or 7, and on one that is known to
   -- be no sound one 3 or 7; and a page, or a volume to be made, gives 0.
@@ -340,5 +372,7 @@ pub record Said (asked : Asked) (ground : Ground) (old new : Outside) (told : Re
       → NoCountRose old new → (graph : Graph) → ground.reads graph → (status ≡ 0) ⊎ (status ≡ 7)
   pub refused : is_service asked ≡ true → (scripts : List (List ℕ)) → HadLeft old scripts → AreWithin scripts
       → NoCountRose old new → ground.unsound → (status ≡ 3) ⊎ (status ≡ 7)
+  pub judged : is_audit asked ≡ true → (text : List ℕ) → HadLeft old (text ∷ []) → NoCountRose old new
+      → IsJudged status told.cause text
   pub shown : (page : Page) → asked ≡ Shows page → NoCountRose old new → status ≡ 0
   pub formatted : is_format asked ≡ true → NoCountRose old new → status ≡ 0

@@ -1,6 +1,7 @@
 -- A whole run, step by step: the words, the sources and the sinks, the report and the status. What `top` says follows
 -- from it.
-use Rattle.std.specs.Prelude.{◌≡◌, ℕ, ◌*◌, ◌≤◌, ◌⊎◌, Bool, true, false, List, [], length, Option, Some, None, IsSome}
+use Rattle.std.specs.Prelude.{◌≡◌, ℕ, ◌+◌, ◌*◌, ◌≤◌, ◌⊎◌, Bool, true, false, List, [], length, slice_get, Option}
+use Rattle.std.specs.Prelude.{Some, None, IsSome}
 use Rattle.cfs_base.specs.Outside.{Intake, Supply, Rose}
 use Rattle.cfs_ports.specs.Port.{Replied}
 use Rattle.ufs_model.specs.declared.asked.Event.{Event}
@@ -10,7 +11,11 @@ use Rattle.cfs_serve.specs.declared.ending.Ending.{Ending}
 use Rattle.cfs_serve.specs.declared.report.Report.{Report}
 use Rattle.cfs_serve.specs.declared.paths.Volume.{Volume}
 use Rattle.cfs_serve.specs.declared.paths.Volume.TheVariants as volumes
-use Rattle.cfs_serve.specs.Words.{Asked, Place, InFile, InMemory, Shows, Formats, Serves, Nothing, most_made}
+use Rattle.cfs_serve.specs.Words.{Asked, Place, InFile, InMemory, Shows, Audits, Formats, Serves, Spin, Spins, Nothing}
+use Rattle.cfs_serve.specs.Words.{most_made}
+use Rattle.cfs_serve.specs.Limits.{most_cylinders}
+use Rattle.cfs_serve.specs.Spun.{drains, drawn_sources}
+use Rattle.cfs_serve.specs.Audit.{Finds}
 use Rattle.cfs_serve.specs.Ending.{not_begun}
 use Rattle.cfs_serve.specs.Ground.{Ground}
 use Rattle.cfs_serve.specs.Report.{status_of}
@@ -33,6 +38,8 @@ NamesPlace (InFile path pair) volume = volume ≡ Some (volumes.Existing path)
 abbrev pub NamesVolume : Asked → Option Volume → Type 0
 NamesVolume (Formats format) volume = volume ≡ Some (volumes.Fresh format.volume format.cylinders)
 NamesVolume (Serves service) volume = NamesPlace service.volume volume
+NamesVolume (Audits trail) volume = volume ≡ None
+NamesVolume (Spins spin) volume = volume ≡ None
 NamesVolume (Shows page) volume = volume ≡ None
 NamesVolume Nothing volume = volume ≡ None
 
@@ -55,12 +62,16 @@ HasPlaceDisk (InFile path pair) blocks = IsSome blocks
 abbrev pub HasDisk : Asked → (blocks : Option ℕ) → Type 0
 HasDisk (Formats format) blocks = blocks ≡ Some (64 * format.cylinders)
 HasDisk (Serves service) blocks = HasPlaceDisk service.volume blocks
+HasDisk (Audits trail) blocks = blocks ≡ None
+HasDisk (Spins spin) blocks = blocks ≡ None
 HasDisk (Shows page) blocks = blocks ≡ None
 HasDisk Nothing blocks = blocks ≡ None
 
--- a source and a sink for each session, or none
+-- a source and a sink for each session; the source of a trail; or none
 abbrev pub HasPlaces : Asked → (sources sinks : ℕ) → Type 0
 HasPlaces (Serves service) sources sinks = (sources ≡ length service.sessions) × (sinks ≡ length service.sessions)
+HasPlaces (Audits trail) sources sinks = (sources ≡ 1) × (sinks ≡ 0)
+HasPlaces (Spins spin) sources sinks = (sources ≡ 0) × (sinks ≡ 0)
 HasPlaces (Formats format) sources sinks = (sources ≡ 0) × (sinks ≡ 0)
 HasPlaces (Shows page) sources sinks = (sources ≡ 0) × (sinks ≡ 0)
 HasPlaces Nothing sources sinks = (sources ≡ 0) × (sinks ≡ 0)
@@ -73,6 +84,16 @@ pub record AsksNone (cause : Cause) (old new : Places) (report : Report) (ending
   pub sources : new.sources ≡ old.sources
   pub sinks : new.sinks ≡ old.sinks
   pub told : report ≡ record { counts = None; cause = cause }
+
+-- An audit was asked for: nothing was served, and this is told of its one source.
+pub record AsksAudit (old new : Places) (report : Report) (ending : Ending) (trail : List Event) : Type 0 where
+  pub no_event : trail ≡ []
+  pub no_end : ending ≡ not_begun
+  pub sinks : new.sinks ≡ old.sinks
+  pub told : report ≡ record { counts = None; cause = report.cause }
+  pub sources : length new.sources ≡ length old.sources
+  pub found : (source after : Supply) → slice_get old.sources 0 ≡ Some source → slice_get new.sources 0 ≡ Some after
+      → Finds report.cause source after
 
 -- its count of faults rose
 abbrev pub RoseIn : Option ℕ → Option ℕ → Type 0
@@ -93,11 +114,26 @@ pub record AsksSessions (ground : Ground) (seed collections : ℕ) (old new : Pl
       new.sinks report
       ending trail
 
+-- the sources and the sinks of a spin, with the volume's disk
+abbrev pub spun : Spin → Places → Places
+spun spin p = record { disk = p.disk; sources = drawn_sources spin.seed spin.count; sinks = drains }
+
+-- A spin was asked for, which has room: its own sessions were, and of what is outside nothing was touched.
+pub record AsksSpin (spin : Spin) (ground : Ground) (old new : Places) (report : Report) (ending : Ending)
+    (trail : List Event) : Type 0 where
+  pub sources : new.sources ≡ old.sources
+  pub sinks : new.sinks ≡ old.sinks
+  pub size : spin.cylinders ≤ most_cylinders
+  pub fits : 12 * spin.count + 64 ≤ 63 * spin.cylinders
+  pub asks : AsksSessions ground spin.seed 2 (spun spin old) (spun spin new) report ending trail
+
 abbrev pub Asks : Asked → Ground → (old new : Places) → Report → Ending → List Event → Type 0
 Asks (Serves service) ground old new report ending trail =
     AsksSessions ground service.seed service.collections old new report ending trail
 Asks (Formats format) ground old new report ending trail =
     AsksNone report.cause old new report ending trail × TellsMade report.cause old.disk new.disk
+Asks (Audits text) ground old new report ending trail = AsksAudit old new report ending trail
+Asks (Spins spin) ground old new report ending trail = AsksSpin spin ground old new report ending trail
 Asks (Shows page) ground old new report ending trail = AsksNone (causes.Page page) old new report ending trail
 Asks Nothing ground old new report ending trail = AsksNone causes.Words old new report ending trail
 
@@ -114,6 +150,9 @@ ended false causes.Sink = 5
 ended false (causes.Source i) = 6
 ended false (causes.Long i) = 9
 ended false causes.LongTotal = 9
+ended false (causes.Legal n) = 5
+ended false (causes.BadLine line) = 8
+ended false (causes.Illegal event) = 8
 
 -- the report of the run is this one, and so it was written
 pub record IsWhole (asked : Asked) (ground : Ground) (old new : Places) (report report_after : Intake) (told : Report)

@@ -1,6 +1,6 @@
 -- What the words of a command ask for.
-use Rattle.std.specs.Prelude.{ℕ, ◌*◌, ◌%◌, Bool, true, false, ◌&&◌, ◌==◌, not, nat_lt, nat_le, if◌then◌else◌, List, []}
-use Rattle.std.specs.Prelude.{◌∷◌, length, filter, map, String, string_bytes, Option, Some, None, codes}
+use Rattle.std.specs.Prelude.{ℕ, ◌+◌, ◌*◌, ◌%◌, Bool, true, false, ◌&&◌, ◌==◌, not, nat_lt, nat_le, if◌then◌else◌, List}
+use Rattle.std.specs.Prelude.{[], ◌∷◌, length, filter, map, String, string_bytes, Option, Some, None, codes}
 use Rattle.std.specs.List.{list_all}
 use Rattle.std.specs.Str.{bytes_eq}
 use Rattle.cfs_base.specs.declared.identifier.Puid.{Puid}
@@ -9,7 +9,7 @@ use Rattle.ufs_model.specs.Word.{word}
 use Rattle.cfs_serve.specs.declared.page.Page.{Page}
 use Rattle.cfs_serve.specs.declared.page.Page.TheVariants as pages
 use Rattle.cfs_serve.specs.Limits.{most_collections, most_cylinders, most_file_cylinders, most_pair_cylinders}
-use Rattle.cfs_serve.specs.Limits.{most_sessions}
+use Rattle.cfs_serve.specs.Limits.{most_script, most_sessions, most_trail}
 
 -- where the volume of a service is: a new one in memory, of so many cylinders, or one in a file, which may be of pairs
 -- of blocks
@@ -91,7 +91,7 @@ numbered traced (Some cylinders) (Some seed) None files = None
 numbered traced (Some cylinders) None collections files = None
 numbered traced None seed collections files = None
 
--- a standard stream is no volume
+-- a standard stream is no volume, and no trail
 abbrev is_volume_word : List ℕ → Bool
 is_volume_word w = is_file_word w && not (is_stream w)
 
@@ -162,22 +162,59 @@ page_in (word ∷ []) = if bytes_eq word (codes "--help") then Some pages.Help e
     then Some pages.Version else None
 page_in words = None
 
--- what the words of a command ask for: a page, a volume, a service, or nothing
+-- a spin: the volume in memory and its seed, and how many lines are drawn for each of its sessions
+pub record Spin : Type 0 where
+  pub cylinders : ℕ
+  pub seed : ℕ
+  pub count : ℕ
+
+-- there is room for what the lines may make
+abbrev spin_of : (cylinders seed count : ℕ) → Option Spin
+spin_of cylinders seed count =
+    if nat_lt 0 cylinders && nat_le cylinders most_cylinders && nat_le (12 * count + 64) (63 * cylinders)
+    then Some (record { cylinders = cylinders; seed = seed; count = count }) else None
+
+abbrev drawn : Option ℕ → Option ℕ → Option ℕ → Option Spin
+drawn (Some cylinders) (Some seed) (Some count) = spin_of cylinders seed count
+drawn (Some cylinders) (Some seed) None = None
+drawn (Some cylinders) None count = None
+drawn None seed count = None
+
+-- `spin CYLINDERS SEED N`
+abbrev pub spin_in : List (List ℕ) → Option Spin
+spin_in (verb ∷ cylinders ∷ seed ∷ count ∷ []) =
+    if bytes_eq verb (codes "spin") then drawn (read_or_none (number_in cylinders)) (read_or_none (number_in seed))
+    (read_or_none (number_in count))
+    else None
+spin_in words = None
+
+-- `audit TRAIL`: the file of a trail
+abbrev pub audit_in : List (List ℕ) → Option (List ℕ)
+audit_in (verb ∷ trail ∷ []) = if bytes_eq verb (codes "audit") && is_volume_word trail then Some trail else None
+audit_in words = None
+
+-- what the words of a command ask for: a page, a volume, an audit of a trail, a spin, a service, or nothing
 pub data Asked : Type 0 where
   Shows : Page → Asked
   Formats : Format → Asked
+  Audits : (trail : List ℕ) → Asked
+  Spins : Spin → Asked
   Serves : Service → Asked
   Nothing : Asked
 
-abbrev either : Option Page → Option Format → (play serve : Option Service) → Asked
-either (Some page) format play serve = Shows page
-either None (Some format) play serve = Formats format
-either None None (Some play) serve = Serves play
-either None None None (Some serve) = Serves serve
-either None None None None = Nothing
+abbrev either : Option Page → Option Format → (trail : Option (List ℕ)) → (play : Option Service) → Option Spin
+    → (serve : Option Service) → Asked
+either (Some page) format trail play spin serve = Shows page
+either None (Some format) trail play spin serve = Formats format
+either None None (Some trail) play spin serve = Audits trail
+either None None None (Some play) spin serve = Serves play
+either None None None None (Some spin) serve = Spins spin
+either None None None None None (Some serve) = Serves serve
+either None None None None None None = Nothing
 
 abbrev pub asked_in : List (List ℕ) → Asked
-asked_in words = either (page_in words) (format_in words) (play_in words) (serve_in words)
+asked_in words =
+    either (page_in words) (format_in words) (audit_in words) (play_in words) (spin_in words) (serve_in words)
 
 abbrev pub asked_by : {Z : Type 0} → List (String Z) → Asked
 asked_by words = asked_in (map string_bytes words)
@@ -186,12 +223,16 @@ asked_by words = asked_in (map string_bytes words)
 abbrev pub IfServes : Asked → (Service → Type 0) → Type 0
 IfServes (Shows page) holds = Unit {0}
 IfServes (Formats format) holds = Unit {0}
+IfServes (Audits trail) holds = Unit {0}
+IfServes (Spins spin) holds = Unit {0}
 IfServes (Serves service) holds = holds service
 IfServes Nothing holds = Unit {0}
 
 abbrev pub is_service : Asked → Bool
 is_service (Shows page) = false
 is_service (Formats format) = false
+is_service (Audits trail) = false
+is_service (Spins spin) = false
 is_service (Serves service) = true
 is_service Nothing = false
 
@@ -199,6 +240,8 @@ is_service Nothing = false
 abbrev pub collections_of : Asked → ℕ
 collections_of (Shows page) = 0
 collections_of (Formats format) = 0
+collections_of (Audits trail) = 0
+collections_of (Spins spin) = 2
 collections_of (Serves service) = service.collections
 collections_of Nothing = 0
 
@@ -210,14 +253,35 @@ is_pair_place (InFile path pair) = pair
 abbrev pub is_pair : Asked → Bool
 is_pair (Shows page) = false
 is_pair (Formats format) = format.pair
+is_pair (Audits trail) = false
+is_pair (Spins spin) = false
 is_pair (Serves service) = is_pair_place service.volume
 is_pair Nothing = false
 
 abbrev pub is_format : Asked → Bool
 is_format (Shows page) = false
 is_format (Formats format) = true
+is_format (Audits trail) = false
+is_format (Spins spin) = false
 is_format (Serves service) = false
 is_format Nothing = false
+
+abbrev pub is_audit : Asked → Bool
+is_audit (Shows page) = false
+is_audit (Formats format) = false
+is_audit (Audits trail) = true
+is_audit (Spins spin) = false
+is_audit (Serves service) = false
+is_audit Nothing = false
+
+-- the bytes of the longest source
+abbrev pub most_bytes : Asked → ℕ
+most_bytes (Shows page) = most_script
+most_bytes (Formats format) = most_script
+most_bytes (Audits trail) = most_trail
+most_bytes (Spins spin) = most_script
+most_bytes (Serves service) = most_script
+most_bytes Nothing = most_script
 
 -- the identifier of the root index of a new volume
 abbrev pub root_of : ℕ → Puid

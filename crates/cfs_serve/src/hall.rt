@@ -1,5 +1,5 @@
 //! The hall of one service.
-ghost use Rattle.std.specs.Prelude.{◌≡◌, ◌<◌, ◌≤◌, ◌+◌, ◌*◌, [], false, None, Some, length, slice_get};
+ghost use Rattle.std.specs.Prelude.{◌≡◌, ◌<◌, ◌≤◌, ◌+◌, ◌*◌, [], false, true, None, Some, length, slice_get};
 ghost use Rattle.std.specs.List.{list_any, sum_by};
 ghost use Rattle.cfs_serve.specs.Events.{finishes_in, tells_disk, wants_memory};
 ghost use Rattle.cfs_core.specs.declared.collecting.CollectFault.TheVariants as faults;
@@ -11,7 +11,7 @@ ghost use Rattle.cfs_serve.specs.Hall.{AreFresh, AreHeard, IsSessionTurn, IsStep
 ghost use Rattle.cfs_serve.specs.Hall.{Moves, has_left_at, is_done_in, left_in, turns_left, turns_left_at};
 
 use crate::ending::Ending;
-use crate::journal::{Charter, Journal};
+use crate::journal::{Charter, Journal, Progress};
 use crate::rest::Rest;
 use crate::server::Server;
 use cfs_base::{Logged, Machine, Session, Sink};
@@ -27,6 +27,9 @@ pub struct Hall<A: Server, J: Charter<A>, K: Sink> {
     journal: Journal<A, J>,
     ports: Vec<Port<K>>,
     rest: Rest,
+    /// The collector rests once a collection is finished, until the sessions have left.
+    rests: bool,
+    resting: bool,
     /// Where the answers' memory comes from.
     alloc: Global,
 }
@@ -36,7 +39,7 @@ impl<A: Server, J: Charter<A>, K: Sink> Model for Hall<A, J, K> {
     ghost use Rattle.cfs_core.specs.declared.collecting.CollectFault.TheVariants as faults;
     ghost use Rattle.std.specs.List.{sum_by};
     ghost use Rattle.cfs_serve.specs.Events.{finishes_in};
-    ghost use Rattle.cfs_serve.specs.Hall.{Hearing, AreHeard, HasNoCollector, HasTurns, turns_left};
+    ghost use Rattle.cfs_serve.specs.Hall.{Hearing, AreHeard, HasNoCollector, HasTurns, turns_left, turns_now};
     ghost use Rattle.cfs_serve.specs.Ending.{IsWanting, TellsStop};
     ghost use Rattle.cfs_serve.specs.Journal.{AreCounted, first_fault};
 
@@ -45,7 +48,8 @@ impl<A: Server, J: Charter<A>, K: Sink> Model for Hall<A, J, K> {
     ghost view = { λ h. record {
       journal = h.journal;
       ports = h.ports.items;
-      turns = h.rest.turns;
+      turns = turns_now h.resting h.rest.turns;
+      left = h.rest.turns;
       events = h.rest.events;
       refused = h.rest.refused;
     } };
@@ -98,8 +102,16 @@ fn port_turn<A: Server, J: Charter<A>, K: Sink>(
     }
 }
 
+/// Whether a collector that rests does so after this step.
+fn rests_after(rests: bool, progress: Progress) -> bool
+    ensures { result ≡ true → progress ≡ Progress.Finished }
+{
+    rests && matches!(progress, Progress::Finished)
+}
+
 impl<A: Server, J: Charter<A>, K: Sink> Hall<A, J, K> {
-    /// A hall in which nothing happened, and whose collector makes so many turns at most.
+    /// A hall in which nothing happened, and whose collector makes so many turns at most. Where it rests, it does so
+    /// once it has finished a collection.
     pub fn new(
         alloc: Global,
         server: A,
@@ -107,6 +119,7 @@ impl<A: Server, J: Charter<A>, K: Sink> Hall<A, J, K> {
         ports: Vec<Port<K>>,
         collections: u32,
         turns: u64,
+        rests: bool,
     ) -> Hall<A, J, K>
         requires no_event { trail.events ≡ [] }
         requires opens { IsRun A.stands A.has_stopped A.is_damaged A.tally J.charter server [] }
@@ -133,6 +146,8 @@ impl<A: Server, J: Charter<A>, K: Sink> Hall<A, J, K> {
             journal: Journal::new(server, trail),
             ports,
             rest: Rest::new(collections, turns),
+            rests,
+            resting: false,
             alloc,
         }
     }
@@ -156,6 +171,25 @@ impl<A: Server, J: Charter<A>, K: Sink> Hall<A, J, K> {
     {
         let progress = self.journal.collect(self.alloc);
         self.rest = self.rest.after(progress);
+        self.resting = rests_after(self.rests, progress);
+    }
+
+    /// The turns that the collector may make now.
+    fn turns_now(&self) -> u64
+        ensures { result ≡ self.now.turns }
+    {
+        if self.resting { 0 } else { self.rest.turns }
+    }
+
+    /// Makes the collector's steps that are left once the sessions have.
+    pub fn collect_rest(&mut self)
+        ensures left { self.new.left ≡ 0 }
+        ensures ports { self.new.ports ≡ self.old.ports }
+    {
+        'steps: while self.rest.turns > 0 {
+            self.resting = false;
+            self.collector_turn();
+        }
     }
 
     /// Whether a session has left. One that isn't there has.
@@ -185,7 +219,7 @@ impl<A: Server, J: Charter<A>, K: Sink> Hall<A, J, K> {
         ensures { result ≡ is_done_in self.now.ports self.now.turns worker }
     {
         if worker as usize == self.ports.len() {
-            self.rest.turns == 0
+            self.turns_now() == 0
         } else {
             self.has_left(worker)
         }
@@ -197,7 +231,7 @@ impl<A: Server, J: Charter<A>, K: Sink> Hall<A, J, K> {
         ensures { result ≡ left_in self.now.ports self.now.turns worker }
     {
         if worker as usize == self.ports.len() {
-            self.rest.turns
+            self.turns_now()
         } else {
             self.left_of(worker)
         }
@@ -231,7 +265,7 @@ impl<A: Server, J: Charter<A>, K: Sink> Hall<A, J, K> {
         ensures failed { result.failed ≡ list_any tells_disk result.trail.events }
         ensures kept { IsKept A.clock A.has_stopped A.tally J.charter result.server result.trail.events
             result.trail.moments }
-        ensures collected { self.turns ≡ 0 → result.ending.refused ≡ None
+        ensures collected { self.left ≡ 0 → result.ending.refused ≡ None
             → finishes_in result.trail.events ≡ J.charter.collections }
         ensures wanting { result.ending.refused ≡ Some faults.Memory
             → IsWanting J.charter.collections result.trail.events }
@@ -242,6 +276,8 @@ impl<A: Server, J: Charter<A>, K: Sink> Hall<A, J, K> {
             journal,
             ports,
             rest,
+            rests: _,
+            resting: _,
             alloc: _,
         } = self;
         let (server, trail, starved, failed) = journal.into_parts();
@@ -270,6 +306,8 @@ impl<A: Server, J: Charter<A>, K: Sink> Hall<A, J, K> {
             journal,
             ports,
             rest: _,
+            rests: _,
+            resting: _,
             alloc: _,
         } = self;
         let (server, _trail, _starved, _failed) = journal.into_parts();

@@ -61,6 +61,8 @@ pub enum Progress {
     Quiet,
     /// It was recorded.
     Recorded,
+    /// It was recorded, and a collection is finished by it.
+    Finished,
     /// It was refused.
     Refused(CollectFault),
 }
@@ -285,7 +287,7 @@ fn told_of(made: Result<Step, CollectFault>) -> (Option<Event>, Progress)
         Ok(Step::Took | Step::Scanned | Step::Swept) => (None, Progress::Quiet),
         Ok(Step::Began) => (Some(Event::Began), Progress::Recorded),
         Ok(Step::Condemned { ids }) => (Some(Event::Vanish { ids }), Progress::Recorded),
-        Ok(Step::Finished) => (Some(Event::Finished), Progress::Recorded),
+        Ok(Step::Finished) => (Some(Event::Finished), Progress::Finished),
         Err(fault) => (halt_of(fault), Progress::Refused(fault)),
     }
 }

@@ -3,6 +3,7 @@
 //! it, `serve` serves any number of sessions, and a collector, on whatever server.
 #![tactic(auto)]
 
+mod audit;
 mod cached;
 mod ending;
 mod hall;
@@ -20,6 +21,7 @@ mod scripts;
 mod seats;
 mod server;
 mod serving;
+mod spin;
 mod sure_disk;
 mod traced;
 mod volume;
@@ -29,7 +31,7 @@ pub use ending::Ending;
 pub use hall::{Parts, Unserved};
 pub use limits::{
     HELD_MAPS, MOST_COLLECTIONS, MOST_CYLINDERS, MOST_FILE_CYLINDERS, MOST_LINES, MOST_SCRIPT,
-    MOST_SESSIONS,
+    MOST_SESSIONS, MOST_TRAIL,
 };
 pub use naming::names;
 pub use page::Page;

@@ -15,6 +15,9 @@ pub const HELD_MAPS: u32 = 64;
 /// The bytes of the longest request file.
 pub const MOST_SCRIPT: usize = 16_777_216;
 
+/// The bytes of the longest trail that is audited.
+pub const MOST_TRAIL: usize = 268_435_456;
+
 /// The request lines of all files together.
 pub const MOST_LINES: u64 = 500_000;
 

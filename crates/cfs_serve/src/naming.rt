@@ -1,12 +1,28 @@
 //! What the words of a command name.
-ghost use Rattle.std.specs.Prelude.{◌≡◌, ◌↔◌, ◌≤◌, [], length, map, Some, IfSome, IfErr, IfOk, Err, string_bytes};
+ghost use Rattle.std.specs.Prelude.{◌≡◌, ◌↔◌, ◌≤◌, ℕ, List, [], ◌∷◌, length, map, None, Some, IfSome, IfErr, IfOk};
+ghost use Rattle.std.specs.Prelude.{Err, false, string_bytes};
 ghost use Rattle.cfs_serve.specs.Whole.{HasCylinders, HasPlaces, NamesVolume};
 ghost use Rattle.cfs_serve.specs.Words as spec;
-ghost use Rattle.cfs_serve.specs.Words.{Nothing, Serves, Service, asked_in, inputs_in, most_made, outputs_in};
+ghost use Rattle.cfs_serve.specs.Words.{Audits, Nothing, Serves, Service, asked_in, inputs_in, most_made};
+ghost use Rattle.cfs_serve.specs.Words.{outputs_in};
 
-use crate::paths::{Names, Volume, WordsFault, no_paths, path_of, session_paths};
-use crate::words::{format_asked, page_asked, play_asked, serve_asked};
+use crate::paths::{Names, Volume, WordsFault, no_paths, one_path, path_of, session_paths};
+use crate::words::{audit_asked, format_asked, page_asked, play_asked, serve_asked, spin_asked};
 use std::alloc::Global;
+
+/// No files.
+fn no_files(alloc: Global) -> Names
+    ensures volume { result.volume ≡ None }
+    ensures places { (result.sources ≡ []) × (result.sinks ≡ []) }
+    ensures pair { result.pair ≡ false }
+{
+    Names {
+        volume: None,
+        sources: no_paths(alloc),
+        sinks: no_paths(alloc),
+        pair: false,
+    }
+}
 
 /// The volume that is to be made, and no other file.
 fn volume_names(
@@ -32,6 +48,24 @@ fn volume_names(
         sources: no_paths(alloc),
         sinks: no_paths(alloc),
         pair,
+    })
+}
+
+/// The file of a trail, and no other.
+fn trail_names(alloc: Global, trail: &str) -> Result<Names, WordsFault>
+    ensures fault { IfErr result (λ e. e ≡ WordsFault.Memory) }
+    ensures volume { IfOk result (λ n. n.volume ≡ None) }
+    ensures places { IfOk result (λ n. (n.sources ≡ trail.now ∷ []) × (n.sinks ≡ [])) }
+    ensures pair { IfOk result (λ n. n.pair ≡ false) }
+{
+    let Ok(sources) = one_path(alloc, trail) else {
+        return Err(WordsFault::Memory);
+    };
+    Ok(Names {
+        volume: None,
+        sources,
+        sinks: no_paths(alloc),
+        pair: false,
     })
 }
 
@@ -78,7 +112,7 @@ fn served_names(
     session_names(alloc, Some(Volume::Existing { path }), files, pair)
 }
 
-/// What the words of a command name: nothing for a page. `Words` comes exactly where they are of no form.
+/// What the words of a command name: nothing for a page or a spin. `Words` comes exactly where they are of no form.
 pub fn names(alloc: Global, words: &[String]) -> Result<Names, WordsFault>
     ensures words { result ≡ Err WordsFault.Words ↔ (asked_in (map string_bytes words.now) ≡ Nothing) }
     ensures volume { IfOk result (λ n. NamesVolume (asked_in (map string_bytes words.now)) n.volume) }
@@ -88,22 +122,25 @@ pub fn names(alloc: Global, words: &[String]) -> Result<Names, WordsFault>
         (length n.sinks)) }
     ensures sources { IfOk result (λ n. (s : Service) → asked_in (map string_bytes words.now) ≡ Serves s
         → n.sources ≡ map (λ f. f.input) s.sessions) }
+    ensures trail { IfOk result (λ n. (t : List ℕ) → asked_in (map string_bytes words.now) ≡ Audits t
+        → n.sources ≡ t ∷ []) }
     ensures sinks { IfOk result (λ n. (s : Service) → asked_in (map string_bytes words.now) ≡ Serves s
         → n.sinks ≡ map (λ f. f.output) s.sessions) }
 {
     if page_asked(words).is_some() {
-        return Ok(Names {
-            volume: None,
-            sources: no_paths(alloc),
-            sinks: no_paths(alloc),
-            pair: false,
-        });
+        return Ok(no_files(alloc));
     }
     if let Some(format) = format_asked(words) {
         return volume_names(alloc, format.volume, format.cylinders, format.pair);
     }
+    if let Some(trail) = audit_asked(words) {
+        return trail_names(alloc, trail);
+    }
     if let Some(play) = play_asked(words) {
         return session_names(alloc, None, play.files, false);
+    }
+    if spin_asked(words).is_some() {
+        return Ok(no_files(alloc));
     }
     match serve_asked(words) {
         Some(served) => served_names(alloc, served.volume, served.files, served.pair),

@@ -23,6 +23,12 @@ impl Page {
     one IN and one OUT may be -, for a standard stream
 cfs trace CYLINDERS SEED COLLECTIONS IN OUT ..
     the same; the report is the trail, a line for each event
+cfs audit TRAIL
+    judge the trail in the file TRAIL: legal, or the first of its events or
+    lines that is not
+cfs spin CYLINDERS SEED N
+    serve four sessions of N drawn lines each on a new volume in memory, beside
+    a collection, and then make another
 cfs format VOLUME CYLINDERS SEED
     make a volume in the file VOLUME, which must not be there yet
 cfs serve VOLUME SEED COLLECTIONS IN OUT ..
@@ -36,11 +42,11 @@ cfs --help
 cfs --version
     print the version
 
-status  0  all is well                    5  a sink failed
-        2  the words are of no form       6  a source failed
-        3  the volume is none or damaged  7  memory was wanting
+status  0  all is well                    6  a source failed
+        2  the words are of no form       7  memory was wanting
+        3  the volume is none or damaged  8  the trail is not legal
         4  a disk failed                  9  a limit was passed
-                                         10  a file cannot be opened or made
+        5  a sink failed                 10  a file cannot be opened or made
 
 manual: docs/cfs.1, docs/PROGRAM.md
 "

@@ -1,5 +1,5 @@
 //! The files that a command names.
-ghost use Rattle.std.specs.Prelude.{◌≡◌, [], IfOk, map, string_bytes};
+ghost use Rattle.std.specs.Prelude.{◌≡◌, [], ◌∷◌, IfOk, map, string_bytes};
 ghost use Rattle.cfs_serve.specs.Words.{inputs_in, outputs_in};
 
 use std::alloc::{AllocError, Global};
@@ -100,6 +100,15 @@ pub(crate) fn session_paths(alloc: Global, words: &[String]) -> Result<(Paths, P
         rest = others;
     }
     Ok((Paths { paths: inputs }, Paths { paths: outputs }))
+}
+
+/// One name.
+pub(crate) fn one_path(alloc: Global, text: &str) -> Result<Paths, AllocError>
+    ensures { IfOk result (λ p. p ≡ text.now ∷ []) }
+{
+    let mut paths = Vec::new(alloc);
+    paths.push(path_of(alloc, text)?)?;
+    Ok(Paths { paths })
 }
 
 /// No names. Takes no memory.

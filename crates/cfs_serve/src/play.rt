@@ -162,6 +162,7 @@ fn serve_ports<D: Disk + Send, K: Sink + Send, G: Gate + Sync, R: Threads + Wait
     ports: Vec<Port<K>>,
     collections: u32,
     turns: u64,
+    rests: bool,
 ) -> (Played, Vec<Port<K>>, D)
     requires no_event { trail.events ≡ [] }
     requires turns { sum_by turns_left ports.items ≤ turns }
@@ -193,6 +194,7 @@ fn serve_ports<D: Disk + Send, K: Sink + Send, G: Gate + Sync, R: Threads + Wait
         ports,
         collections,
         steps,
+        rests,
     ) {
         Ok(parts) => parts,
         Err(Unserved { server, ports }) => {
@@ -219,7 +221,12 @@ fn serve_ports<D: Disk + Send, K: Sink + Send, G: Gate + Sync, R: Threads + Wait
 }
 
 /// Serves these scripts, with a sink for each, and calls for so many collections. The disk comes back.
-fn serve_scripts<D: Disk + Send, K: Sink + Send, G: Gate + Sync, R: Threads + Wait + Sync>(
+pub(crate) fn serve_scripts<
+    D: Disk + Send,
+    K: Sink + Send,
+    G: Gate + Sync,
+    R: Threads + Wait + Sync,
+>(
     rt: &R,
     alloc: Global,
     gate: &G,
@@ -227,6 +234,7 @@ fn serve_scripts<D: Disk + Send, K: Sink + Send, G: Gate + Sync, R: Threads + Wa
     scripts: Scripts,
     sinks: &mut Vec<K>,
     collections: u32,
+    rests: bool,
 ) -> (Played, D)
     requires count { length scripts.scripts.items ≡ length sinks.old.items }
     requires sessions { length sinks.old.items ≤ 64 }
@@ -259,6 +267,7 @@ fn serve_scripts<D: Disk + Send, K: Sink + Send, G: Gate + Sync, R: Threads + Wa
         ports,
         collections,
         turns,
+        rests,
     );
     take_sinks(ports, sinks);
     (played, disk)
@@ -292,7 +301,7 @@ pub(crate) fn play<S: Source, K: Sink + Send, G: Gate + Sync, R: Threads + Wait 
     let Some(core) = new_volume(alloc, cylinders, seed) else {
         return nothing(alloc, Cause::Memory);
     };
-    let (played, _) = serve_scripts(rt, alloc, gate, core, scripts, sinks, collections);
+    let (played, _) = serve_scripts(rt, alloc, gate, core, scripts, sinks, collections, false);
     played
 }
 
@@ -338,7 +347,7 @@ pub(crate) fn serve_volume<
         Err(cause) => return (nothing(alloc, cause), disk),
     };
     match open_volume(alloc, disk, seed) {
-        Ok(core) => serve_scripts(rt, alloc, gate, core, scripts, sinks, collections),
+        Ok(core) => serve_scripts(rt, alloc, gate, core, scripts, sinks, collections, false),
         Err(Refused { cause, disk }) => (nothing(alloc, cause), disk),
     }
 }

@@ -35,7 +35,7 @@ pub enum VolumeFault {
     Damaged(Damage),
 }
 
-/// What ended a run before its end, or spoiled it; or that a page was asked for.
+/// What ended a run before its end, or spoiled it; or that a page was asked for, or the verdict on a trail.
 #[derive(Clone, Copy, Debug, PartialEq, Eq)]
 pub enum Cause {
     Nothing,
@@ -57,6 +57,12 @@ pub enum Cause {
     Long(u64),
     /// The files have more request lines than a run may have.
     LongTotal,
+    /// The trail is legal, and has so many events.
+    Legal { events: u64 },
+    /// This line of the trail, counted from 1, is none that a trail has there.
+    BadLine { line: u64 },
+    /// This event of the trail, counted from 1, may not happen.
+    Illegal { event: u64 },
 }
 
 impl Cause {
@@ -67,13 +73,14 @@ impl Cause {
         ensures { result ≡ status_of self }
     {
         match self {
-            Cause::Nothing | Cause::Page(_) => 0,
+            Cause::Nothing | Cause::Page(_) | Cause::Legal { .. } => 0,
             Cause::Words => 2,
             Cause::Volume(_) => 3,
             Cause::Disk(_) => 4,
             Cause::Sink => 5,
             Cause::Source(_) => 6,
             Cause::Memory => 7,
+            Cause::BadLine { .. } | Cause::Illegal { .. } => 8,
             Cause::Long(_) | Cause::LongTotal => 9,
         }
     }
@@ -107,6 +114,9 @@ impl Cause {
             Cause::Memory => write_whole(sink, b"memory\n"),
             Cause::Long(source) => write_number(sink, b"long", source),
             Cause::LongTotal => write_whole(sink, b"long total\n"),
+            Cause::Legal { events } => write_number(sink, b"legal", events),
+            Cause::BadLine { line } => write_number(sink, b"bad line", line),
+            Cause::Illegal { event } => write_number(sink, b"illegal", event),
         }
     }
 

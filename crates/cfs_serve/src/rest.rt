@@ -70,7 +70,7 @@ impl Rest {
     {
         match progress {
             Progress::Quiet => Rest::on(self.turns - 1, self.events),
-            Progress::Recorded => Rest::on(self.turns - 1, self.events - 1),
+            Progress::Recorded | Progress::Finished => Rest::on(self.turns - 1, self.events - 1),
             Progress::Refused(fault) => Rest::done(Some(fault)),
             Progress::Idle => Rest::done(None),
         }

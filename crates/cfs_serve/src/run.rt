@@ -7,17 +7,21 @@ ghost use Rattle.cfs_serve.specs.Disks.{MakesVolume, OnDisk};
 ghost use Rattle.cfs_serve.specs.Ground.{ground_of};
 ghost use Rattle.cfs_serve.specs.Text.{first_line, line_if, printed_line};
 ghost use Rattle.cfs_serve.specs.Traced.{IsWritten};
-ghost use Rattle.cfs_serve.specs.Top.{Said, before, after};
+ghost use Rattle.cfs_serve.specs.Says.{Says};
+ghost use Rattle.cfs_serve.specs.Top.{before, after};
 
+use crate::audit::audit_only;
 use crate::cached::serve_cached;
 use crate::ending::Ending;
 use crate::play::{Played, nothing, play};
 use crate::report::{Cause, Report};
+use crate::spin::spin;
 use crate::traced::{Written, write_trail};
-use crate::words::{format_asked, page_asked, play_asked, serve_asked};
+use crate::words::{audit_asked, format_asked, page_asked, play_asked, serve_asked, spin_asked};
 use cfs_base::{Disk, Failed, Gate, Sink, Source};
 use cfs_core::Core;
 use cfs_trail::Trail;
+use cfs_workload::scripts_have_so_many_lines;
 use std::alloc::Global;
 use std::sync::Wait;
 use std::thread::Threads;
@@ -55,7 +59,7 @@ fn status_of(written: bool, cause: Cause) -> u8
     ensures { result ≡ ended written cause }
 {
     match cause {
-        Cause::Nothing | Cause::Memory | Cause::Page(_) if !written => 5,
+        Cause::Nothing | Cause::Memory | Cause::Page(_) | Cause::Legal { .. } if !written => 5,
         cause => cause.status(),
     }
 }
@@ -95,15 +99,9 @@ fn line_of(traced: bool, cylinders: u32, seed: u64) -> Option<Opening>
     }
 }
 
-/// Serves the sessions that are asked for on the volume of the disk, where there is one; nothing where the words are of
-/// no form.
-fn serve_asked_on<
-    D: Disk + Send,
-    S: Source,
-    K: Sink + Send,
-    G: Gate + Sync,
-    R: Threads + Wait + Sync,
->(
+/// Audits the trail that is asked for; or serves the sessions that are, on the volume of the disk, where there is one.
+/// Nothing where the words are of no form.
+fn read_asked<D: Disk + Send, S: Source, K: Sink + Send, G: Gate + Sync, R: Threads + Wait + Sync>(
     rt: &R,
     alloc: Global,
     gate: &G,
@@ -133,6 +131,13 @@ fn serve_asked_on<
         result.played.report result.played.ending result.played.trail.events }
     ensures trace { result.trace ≡ first_line (asked_by words.now) }
 {
+    if audit_asked(words).is_some() {
+        return Done {
+            played: nothing(alloc, audit_only(alloc, sources)),
+            trace: None,
+            disk,
+        };
+    }
     if let Some(asked) = play_asked(words) {
         let played = play(
             rt,
@@ -147,6 +152,20 @@ fn serve_asked_on<
         return Done {
             played,
             trace: line_of(asked.traced, asked.cylinders as u32, asked.seed),
+            disk,
+        };
+    }
+    if let Some(spun) = spin_asked(words) {
+        return Done {
+            played: spin(
+                rt,
+                alloc,
+                gate,
+                spun.cylinders as u32,
+                spun.seed,
+                spun.count,
+            ),
+            trace: None,
             disk,
         };
     }
@@ -176,7 +195,7 @@ fn serve_asked_on<
     }
 }
 
-/// Shows the page, makes the volume or serves the sessions, as is asked for.
+/// Shows the page, makes the volume, audits the trail or serves the sessions, as is asked for.
 fn do_asked<D: Disk + Send, S: Source, K: Sink + Send, G: Gate + Sync, R: Threads + Wait + Sync>(
     rt: &R,
     alloc: Global,
@@ -213,7 +232,7 @@ fn do_asked<D: Disk + Send, S: Source, K: Sink + Send, G: Gate + Sync, R: Thread
         };
     }
     let Some(format) = format_asked(words) else {
-        return serve_asked_on(rt, alloc, gate, words, disk, sources, sinks);
+        return read_asked(rt, alloc, gate, words, disk, sources, sinks);
     };
     match disk {
         Some(mut disk) => Done {
@@ -255,7 +274,8 @@ fn write_report<K: Sink>(
     }
 }
 
-/// Does what the words ask: shows a page, makes a volume, or serves the sessions; and writes the report.
+/// Does what the words ask: shows a page, makes a volume, audits a trail, or serves sessions, the words' own or those of
+/// a spin; and writes the report.
 pub fn top<D: Disk + Send, S: Source, K: Sink + Send, G: Gate + Sync, R: Threads + Wait + Sync>(
     rt: &R,
     alloc: Global,
@@ -267,10 +287,11 @@ pub fn top<D: Disk + Send, S: Source, K: Sink + Send, G: Gate + Sync, R: Threads
     requires places { HasPlaces (asked_by words.now) (length bay.sources.items) (length bay.sinks.items) }
     ensures disk { OnDisk D.Disk (asked_by words.now) result.told result.ending result.trail.events result.trail.moments
         bay.disk result.disk }
-    ensures said { Said (asked_by words.now) (ground_of D.Disk (asked_by words.now) bay.disk)
+    ensures said { Says (asked_by words.now) (ground_of D.Disk (asked_by words.now) bay.disk)
         (before D.faults S.supply K.intake bay) (after D.faults S.supply K.intake result) result.told result.status
         result.ending result.trail.events }
 {
+    scripts_have_so_many_lines();
     let Bay {
         disk,
         mut sources,

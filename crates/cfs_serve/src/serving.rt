@@ -41,6 +41,7 @@ fn serve_so<
     ports: Vec<Port<K>>,
     collections: u32,
     turns: u64,
+    rests: bool,
 ) -> Result<Parts<A, K>, Unserved<A, K>>
     requires no_event { trail.events ≡ [] }
     requires opens { IsRun A.stands A.has_stopped A.is_damaged A.tally J.charter server [] }
@@ -80,16 +81,20 @@ fn serve_so<
         p.trail.events) }
     ensures unserved { IfErr result (λ u. (u.server ≡ server) × (u.ports.items ≡ ports.items)) }
 {
-    let hall: Hall<A, J, K> = Hall::new(alloc, server, trail, ports, collections, turns);
+    let hall: Hall<A, J, K> = Hall::new(alloc, server, trail, ports, collections, turns, rests);
     match make_all_turns(rt, alloc, gate, hall) {
-        Ok(hall) => Ok(hall.into_parts()),
+        Ok(mut hall) => {
+            hall.collect_rest();
+            Ok(hall.into_parts())
+        }
         Err(FrontFault { machine }) => Err(machine.into_unserved()),
     }
 }
 
 /// Serves the sessions of these ports, each in a thread, until each has left: at its script's end, or once its sink
 /// failed. Beside them, in a thread of its own, the collector makes its steps, of which there are fewer than the turns
-/// that it is given, until as many collections are finished as were called for or a step is refused. Before each of its
+/// that it is given, until as many collections are finished as were called for or a step is refused. Where it rests, it
+/// does so once it has finished a collection, and makes the others when the sessions have left. Before each of its
 /// turns a session or the collector passes the gate, and is told how many events the trail has. Turns are made by
 /// tickets. Takes no memory but for the front, the threads, the answers and the collector. Where memory is wanting for
 /// the front nothing is served.
@@ -103,6 +108,7 @@ pub fn serve<A: Server + Send, K: Sink + Send, G: Gate + Sync, R: Threads + Wait
     ports: Vec<Port<K>>,
     collections: u32,
     turns: u64,
+    rests: bool,
 ) -> Result<Parts<A, K>, Unserved<A, K>>
     requires no_event { trail.events ≡ [] }
     requires runs { A.has_stopped server ≡ false }
@@ -162,6 +168,7 @@ pub fn serve<A: Server + Send, K: Sink + Send, G: Gate + Sync, R: Threads + Wait
         ports,
         collections,
         turns,
+        rests,
     ) {
         Ok(parts) => Ok(parts),
         Err(unserved) => Err(unserved),

@@ -1,11 +1,13 @@
 //! The words of a command.
-ghost use Rattle.std.specs.Prelude.{◌≡◌, ◌↔◌, ◌≤◌, [], ◌∷◌, length, map, Some, None, IsNone, IfSome};
+ghost use Rattle.std.specs.Prelude.{◌≡◌, ◌↔◌, ◌≤◌, ◌+◌, ◌*◌, [], ◌∷◌, length, map, Some, None, IsNone, IfSome};
 ghost use Rattle.std.specs.Prelude.{string_bytes, false, true};
 ghost use Rattle.std.specs.List.{list_all};
 ghost use Rattle.ufs_model.specs.Spoken.{number_in};
 ghost use Rattle.cfs_serve.specs.Words as spec;
-ghost use Rattle.cfs_serve.specs.Words.{read_or_none, InFile, InMemory, files_in, format_in, inputs_in, is_file_word};
-ghost use Rattle.cfs_serve.specs.Words.{most_made, outputs_in, page_in, play_in, serve_in, streams_in};
+ghost use Rattle.cfs_serve.specs.Words.{read_or_none, InFile, InMemory, audit_in, files_in, format_in, inputs_in};
+ghost use Rattle.cfs_serve.specs.Words.{is_file_word};
+ghost use Rattle.cfs_serve.specs.Words.{most_made, outputs_in, page_in, play_in, serve_in, spin_in};
+ghost use Rattle.cfs_serve.specs.Words.{streams_in};
 
 use crate::limits::{
     MOST_COLLECTIONS, MOST_CYLINDERS, MOST_FILE_CYLINDERS, MOST_PAIR_CYLINDERS, MOST_SESSIONS,
@@ -33,6 +35,15 @@ pub(crate) struct Served<'a> {
     pub files: &'a [String],
     /// Its file is one of pairs of blocks.
     pub pair: bool,
+}
+
+/// A spin on a new volume in memory.
+#[derive(Clone, Copy, Debug)]
+pub(crate) struct Spun {
+    pub cylinders: u64,
+    pub seed: u64,
+    /// How many lines are drawn for each session.
+    pub count: u64,
 }
 
 /// A volume that is to be made.
@@ -288,6 +299,51 @@ pub(crate) fn format_asked(words: &[String]) -> Option<Formatted<'_>>
         cylinders.as_str(),
         seed.as_str(),
     )
+}
+
+/// The spin that the words ask for; nothing where they are not of that form.
+pub(crate) fn spin_asked(words: &[String]) -> Option<Spun>
+    ensures none { IsNone result ↔ (spin_in (map string_bytes words.now) ≡ None) }
+    ensures some { IfSome result (λ a. spin_in (map string_bytes words.now)
+        ≡ Some (record { cylinders = a.cylinders; seed = a.seed; count = a.count })) }
+    ensures sized { IfSome result (λ a. (1 ≤ a.cylinders) × (a.cylinders ≤ 1024)) }
+    ensures fits { IfSome result (λ a. 12 * a.count + 64 ≤ 63 * a.cylinders) }
+{
+    let [verb, cylinders, seed, count] = words else {
+        return None;
+    };
+    if verb.as_str() != "spin" {
+        return None;
+    }
+    let cylinders = number(cylinders.as_str())?;
+    let seed = number(seed.as_str())?;
+    let count = number(count.as_str())?;
+    if cylinders == 0 || cylinders > MOST_CYLINDERS {
+        return None;
+    }
+    if count > 63 * cylinders || 12 * count + 64 > 63 * cylinders {
+        return None;
+    }
+    Some(Spun {
+        cylinders,
+        seed,
+        count,
+    })
+}
+
+/// The trail of which the words ask an audit; nothing where they are not of that form.
+pub(crate) fn audit_asked(words: &[String]) -> Option<&str>
+    ensures none { IsNone result ↔ (audit_in (map string_bytes words.now) ≡ None) }
+    ensures some { IfSome result (λ trail. audit_in (map string_bytes words.now) ≡ Some trail.now) }
+{
+    let [verb, trail] = words else {
+        return None;
+    };
+    let trail = trail.as_str();
+    if verb.as_str() != "audit" || trail.is_empty() || is_stream(trail) {
+        return None;
+    }
+    Some(trail)
 }
 
 /// The page that the words ask for: one word alone.

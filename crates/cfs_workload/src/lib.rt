@@ -1,9 +1,11 @@
 //! The workload of a spin: the script of each of its sessions, drawn from a seed.
-//! The layers above use that a script is exactly the lines of the definitions.
+//! The layers above use that a script is exactly the lines of the definitions, and how many they are.
 #![tactic(auto)]
 
 mod act;
+mod laws;
 mod session;
 
 pub use act::{Act, Left};
+pub use laws::scripts_have_so_many_lines;
 pub use session::script;

@@ -36,6 +36,7 @@ module _ {D : Type 0} (g : Ghosts D) (names : List (Puid × Kind)) (pass : Pass)
       leaves = λ s ds serves. leaves_read (λ c. Holds c s.graph);
       counts = λ tells are. subst (λ (image : Image). AreCounts image before) (sym reads.content) are;
       cylinders = refl;
+      left = refl;
       kept = tt;
       refused = tt;
       sound = λ s ds serves. tt;
@@ -51,6 +52,7 @@ module _ {D : Type 0} (g : Ghosts D) (names : List (Puid × Kind)) (pass : Pass)
       leaves = λ s ds serves. leaves_read (λ c. Holds c s.graph);
       counts = λ tells are. tt;
       cylinders = refl;
+      left = refl;
       kept = refl;
       refused = refused;
       sound = λ s ds serves. no_damage s ds serves t refused;
@@ -100,6 +102,7 @@ module _ {D : Type 0} (g : Ghosts D) (names : List (Puid × Kind)) (pass : Pass)
           leaves = leaves_both;
           counts = λ tells are. tt;
           cylinders = refl;
+          left = refl;
           kept = refl;
           refused = stopped_after_reads g old mid new 1 true reads stopped;
           sound = λ s ds serves h. h;
@@ -109,11 +112,11 @@ module _ {D : Type 0} (g : Ghosts D) (names : List (Puid × Kind)) (pass : Pass)
 
         pub done : (after : Kept) → g.content new ≡ set (g.content mid) (64 * cylinder) block
             → ((h : Graph) → Carries g h mid → Frames (g.content mid) h (set (g.content mid) (64 * cylinder) block) → Carries g h new)
-            → length after.free ≡ length before.free
+            → length after.free ≡ length before.free → after.left ≡ before.left
             → ((image other : Image) → AreCounts image before → IsFreeElsewhere image (64 * cylinder) other
             → free_in_cylinder other (64 * cylinder / 64) ≡ free_in_cylinder image (64 * cylinder / 64) + count_by (goes names pass) es → AreCounts other after)
             → IsSweep g names pass cylinder old new before after (Ok tt)
-        done after content carries cylinders counts = record {
+        done after content carries cylinders left counts = record {
           swept = now;
           serves = λ s ds serves begun. record {
             state = serves.state;
@@ -126,6 +129,7 @@ module _ {D : Type 0} (g : Ghosts D) (names : List (Puid × Kind)) (pass : Pass)
           counts = λ tells are. subst (λ (image : Image). AreCounts image after) (sym written)
               (counts (g.content old) (after_of names pass (g.content old) cylinder es) are (elsewhere names pass (g.content old) cylinder es (is tells) (inside tells)) (counted names pass (g.content old) cylinder es (is tells) (inside tells)));
           cylinders = cylinders;
+          left = left;
           kept = tt;
           refused = tt;
           sound = λ s ds serves. tt;

@@ -40,6 +40,7 @@ pub record IsSweep {D : Type 0} (g : Ghosts D) (names : List (Puid × Kind)) (pa
   -- the counts are again those of the disk
   pub counts : Tells g old → AreCounts (g.content old) before → OnOk result (AreCounts (g.content new) after)
   pub cylinders : length after.free ≡ length before.free
+  pub left : after.left ≡ before.left
   pub kept : OnErr result (after ≡ before)
   -- a device call failed, or the cylinder's map block is no map, which is not so on a disk that is served
   pub refused : IfErr result (IsMapTrouble g old new (64 * cylinder))

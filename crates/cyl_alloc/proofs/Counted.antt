@@ -1,6 +1,11 @@
 -- Counts, and the Free blocks of the image that they count.
 use Rattle.std.proofs.Common.{◌≡◌, ◌≢◌, inl, inr, ℕ, ◌+◌, ◌-◌, ◌*◌, min, true, ◌/◌, ◌%◌, ◌<◌, ◌≤◌, false, List, length, get_or, set, Some, position, refl, sym, ◌∙◌, ap, subst, arith, length-set}
 use Rattle.cyl_alloc.proofs.Words.{AreCounts, Image, IsEntry, IsFirstAbove, IsFreeElsewhere, IsLeastFree, IsMapOf, Kept, MapEntry, after_giving, after_taking, cases_eq, cases_lt, count_at, count_by-le-length, entry_in, free_entries, free_entry, free_from, free_in_cylinder, get_or-set_other, get_or-set_same, get_or_default, is_free, is_free_entry, is_free_in, length-range_with_len, length-with_entry, map_in_image, position-Some, range_with_len, same_lists, sum, sum_by-set, take-length, with_count, with_entry}
+use Rattle.std.proofs.Common.{Bool}
+use Rattle.std.proofs.Math.Path.{fun_ext}
+use Rattle.std.specs.Prelude.{Option, count_by}
+use Rattle.cyl_map.proofs.Volumes.{entry_in-set}
+use Rattle.cyl_alloc.specs.Left.{Left}
 use Rattle.cyl_alloc.proofs.Ranges.{sum_of, none_in, same_count}
 use Rattle.cyl_alloc.proofs.Entries.{free_is, free_count, elsewhere, alike, one_free_less, one_free_more}
 
@@ -45,9 +50,10 @@ counts-set image other kept n count counts elsewhere lt is = record {
 
 -- the same of the lists that are kept
 pub counts_put : (image other : Image) (kept : Kept) (free new : List ℕ) (n count : ℕ) → AreCounts image kept → IsFreeElsewhere image n other → n < 64 * length kept.free → count ≡ free_in_cylinder other (n / 64)
-    → free ≡ kept.free → new ≡ set free (n / 64) count → AreCounts other (record { free = new })
-counts_put image other kept free new n count counts elsewhere lt is same put =
-    subst (λ (l : List ℕ). AreCounts other (record { free = l })) (sym (put ∙ ap (λ (l : List ℕ). set l (n / 64) count) same)) (counts-set image other kept n count counts elsewhere lt is)
+    → free ≡ kept.free → new ≡ set free (n / 64) count → (left : Option Left) → AreCounts other (record { free = new; left = left })
+counts_put image other kept free new n count counts elsewhere lt is same put left =
+    let is = counts-set image other kept n count counts elsewhere lt is in
+    subst (λ (l : List ℕ). AreCounts other (record { free = l; left = left })) (sym (put ∙ ap (λ (l : List ℕ). set l (n / 64) count) same)) (record { size = is.size; each = is.each })
 
 -- ---- one entry changed
 
@@ -84,15 +90,21 @@ module _ (image : Image) (kept : Kept) (n : ℕ) (old e : MapEntry) (counts : Ar
     each = λ j less. counts.each j less ∙ sym (same_count (is_free_in (with_entry image n e)) (is_free_in image) (64 * j) 64 (λ m _ _. alike image n old e was is same m));
   }
 
+-- a block that is no map was written
+pub counts_content : (image : Image) (kept : Kept) (n : ℕ) (block : List ℕ) → n % 64 ≢ 0 → AreCounts image kept → AreCounts (set image n block) kept
+unfolding free_in_cylinder
+counts_content image kept n block no_map counts =
+    let same : is_free_in (set image n block) ≡ is_free_in image = fun_ext (λ m. ap is_free_entry (entry_in-set image n block m no_map)) in
+    record { size = length-set image n block ∙ counts.size; each = λ j below. counts.each j below ∙ ap (λ (P : ℕ → Bool). count_by P (range_with_len (64 * j) 64)) (sym same) }
+
 -- the same of what is equal to both
 pub counts_along : (image other : Image) (kept new : Kept) → AreCounts image kept → other ≡ image → new ≡ kept → AreCounts other new
 counts_along image other kept new counts is same = subst (AreCounts other) (sym same) (subst (λ (i : Image). AreCounts i kept) (sym is) counts)
 
-pub counts_one : (image : Image) (kept other : Kept) → AreCounts image kept → AreCounts image other → kept ≡ other
+pub counts_one : (image : Image) (kept other : Kept) → AreCounts image kept → AreCounts image other → kept.free ≡ other.free
 counts_one image kept other one two =
     let long : length kept.free ≡ length other.free = omega (arith, one.size, two.size) in
-    ap (λ (l : List ℕ). let k : Kept = record { free = l } in k)
-    (same_lists kept.free other.free long (λ j d less. get_or_default kept.free j d 0 less ∙ one.each j less ∙ sym (two.each j (omega (arith, long))) ∙ get_or_default other.free j 0 d (omega (arith, long))))
+    same_lists kept.free other.free long (λ j d less. get_or_default kept.free j d 0 less ∙ one.each j less ∙ sym (two.each j (omega (arith, long))) ∙ get_or_default other.free j 0 d (omega (arith, long)))
 
 -- ---- the least-numbered Free block
 

@@ -3,4 +3,5 @@ pub mod Ranges
 pub mod Entries
 pub mod Counted
 pub mod Finds
+pub mod Lefts
 mod Words

@@ -33,6 +33,7 @@ pub record Enters {D : Type 0} (g : Ghosts D) (entry : MapEntry) (old new : D) (
   pub taken : IfOk result (λ block. after ≡ after_taking before block.0)
   pub kept : IsErr result → after ≡ before
   pub cylinders : length after.free ≡ length before.free
+  pub left : after.left ≡ before.left
   -- Full exactly where no block is Free
   pub full : (result ≡ Err (Full (record { free = 0; need = 1 }))) ↔ (sum before.free ≡ 0)
   pub refused : IfErr result (IsFindRefusal g old new before)

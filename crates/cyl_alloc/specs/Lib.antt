@@ -1,3 +1,4 @@
+pub mod Left
 pub mod Space
 pub mod Counts
 pub mod Maps

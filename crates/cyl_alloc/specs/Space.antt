@@ -1,16 +1,18 @@
 -- How many blocks of each cylinder are Free, and what the maps of a volume say of it.
 use Rattle.std.specs.Prelude.{◌≡◌, ◌≢◌, ℕ, ◌+◌, ◌-◌, ◌*◌, ◌/◌, ◌<◌, min, true, false, List, length, get_or, set, Some}
-use Rattle.std.specs.Prelude.{None, IsSome}
+use Rattle.std.specs.Prelude.{None, Option, IsSome}
 use Rattle.cfs_base.specs.Disk.{Image}
 use Rattle.cfs_base.specs.declared.kind.Place.{Place}
 use Rattle.cyl_map.specs.declared.state.BlockState.{BlockState}
 use Rattle.cyl_map.specs.declared.state.BlockState.TheVariants.{Free, Allocated, IntendAllocate}
 use Rattle.cyl_map.specs.declared.entry.MapEntry.{MapEntry}
 use Rattle.cyl_map.specs.Volume.{entry_in, is_free_in, free_from, map_of}
+use Rattle.cyl_alloc.specs.Left.{Left}
 
--- what a space keeps: how many blocks of each cylinder are Free
+-- what a space keeps: how many blocks of each cylinder are Free, and a commit that isn't carried out
 pub record Kept : Type 0 where
   pub free : List ℕ
+  pub left : Option Left
 
 -- ---- one count changed
 
@@ -20,7 +22,7 @@ count_at kept n = get_or kept.free (n / 64) 0
 
 -- another count for a block's cylinder
 abbrev pub with_count : Kept → ℕ → ℕ → Kept
-with_count kept n count = record { free = set kept.free (n / 64) count }
+with_count kept n count = record kept { free = set kept.free (n / 64) count }
 
 -- one block less
 abbrev pub after_taking : Kept → ℕ → Kept

@@ -25,7 +25,8 @@ pub fn counts_follow()
     ensures same { (image : Image) (kept : Kept) (n : ℕ) (old e : MapEntry) → AreCounts image kept
         → entry_in image n ≡ Some old
         → IsEntry e → is_free e ≡ is_free old → AreCounts (with_entry image n e) kept }
-    ensures one { (image : Image) (kept other : Kept) → AreCounts image kept → AreCounts image other → kept ≡ other }
+    ensures one { (image : Image) (kept other : Kept) → AreCounts image kept → AreCounts image other
+        → kept.free ≡ other.free }
     ensures sum { (image : Image) (kept : Kept) → AreCounts image kept
         → sum kept.free ≡ free_from image 0 (length image) }
 {}

@@ -20,6 +20,7 @@ ghost use Rattle.cyl_alloc.specs.Space as spec;
 use crate::counts::Counts;
 use crate::known::KnownMaps;
 use crate::maps::{first_free, read_map};
+use crate::unfinished::Unfinished;
 use cfs_base::{Block, BlockNo, Damage, Disk, Need, NoMemory, Place, Refused, Trouble, code};
 use cyl_map::{BlockState, MapEntry};
 use std::alloc::Global;
@@ -31,17 +32,21 @@ use std::marker::Model;
 pub struct Space {
     counts: Counts,
     known: KnownMaps,
+    /// A commit that is past its bit and isn't carried out.
+    pub(crate) unfinished: Option<Unfinished>,
 }
 
 impl Model for Space {
+    ghost use Rattle.std.specs.Prelude.{◌*◌, length};
     ghost use Rattle.cyl_alloc.specs.Counts.{IsKept};
+    ghost use Rattle.cyl_alloc.specs.Left.{IsNear};
     ghost use Rattle.cyl_alloc.specs.Space.{Kept};
 
     ghost Value = { Kept };
 
-    ghost view = { λ a. record { free = a.counts } };
+    ghost view = { λ a. record { free = a.counts; left = a.unfinished } };
 
-    ghost invariant = { λ a. IsKept a.counts };
+    ghost invariant = { λ a. IsKept a.counts × IsNear (64 * length a.counts) a.unfinished };
 }
 
 impl Space {
@@ -53,6 +58,7 @@ impl Space {
         requires size { D.blocks disk.old ≡ 64 * cylinders }
         ensures counts { Tells D.Disk disk.old → IfOk result (spec.AreCounts (D.content disk.old)) }
         ensures size { IfOk result (λ space. length space.free ≡ cylinders) }
+        ensures left { IfOk result (λ space. space.left ≡ None) }
         ensures whole { Tells D.Disk disk.old → OnOk result ((j : ℕ) → j < cylinders →
             spec.IsGoodMap (D.content disk.old) (64 * j)) }
         ensures refused { IfErr result (refusals.IsCountRefusal D.Disk disk.old disk.new) }
@@ -71,6 +77,7 @@ impl Space {
         Ok(Space {
             counts,
             known: KnownMaps::new(),
+            unfinished: None,
         })
     }
 
@@ -79,11 +86,13 @@ impl Space {
         requires some { 1 ≤ cylinders }
         requires most { cylinders ≤ 65536 }
         ensures none { IfOk result (λ space. space.free ≡ replicate cylinders 0) }
+        ensures left { IfOk result (λ space. space.left ≡ None) }
     {
         let counts = Counts::zeros(alloc, cylinders)?;
         Ok(Space {
             counts,
             known: KnownMaps::new(),
+            unfinished: None,
         })
     }
 
@@ -230,6 +239,7 @@ impl Space {
         ensures given { OnOk result (self.new ≡ spec.after_giving self.old block.0 1) }
         ensures kept { IsErr result → self.new ≡ self.old }
         ensures cylinders { length self.new.free ≡ length self.old.free }
+        ensures left { self.new.left ≡ self.old.left }
         ensures refused { IfErr result (refusals.IsMapTrouble D.Disk disk.old disk.new block.0) }
         ensures unless_tried { IfErr result (λ trouble.
             trouble_had_tried trouble ≡ false → OnlyReads D.Disk 1 disk.old disk.new) }

@@ -1,11 +1,17 @@
 -- A normal file changed in place, and refusals of its calls.
-use Rattle.file_ops.proofs.Words.{◌≡◌, ℕ, ◌+◌, ◌<◌, true, false, refl, ◌∙◌, ap, arith, sum, refused_by, Ghosts, Damage, Refused, Trouble, Kept, TellsNeed, is_damaged, is_full, Change}
-use Rattle.file_ops.specs.Changes.{IsFileRefusal, IsPlaceDamage}
-use Rattle.normal_files.specs.Refusal.{IsRefusal, is_damage}
+use Rattle.file_ops.proofs.Words.{◌≡◌, ℕ, ◌+◌, ◌<◌, true, false, refl, ◌∙◌, ap, arith, sum, refused_by, Ghosts, Damage, Refused, Trouble, Kept, TellsNeed, is_damaged, is_full, Change, Graph, List, Opened, Puid, File, FileKind}
+use Rattle.file_ops.specs.Changes.{IsFileRefusal, IsPlaceDamage, MayChange}
+use Rattle.block_tree.specs.Reads.{is_damage}
+use Rattle.normal_files.specs.Calls.{Handed}
+use Rattle.normal_files.specs.Refusal.{IsRefusal}
 use Rattle.cfs_base.specs.declared.kind.FileKind.TheVariants as kinds
 use Rattle.cfs_base.specs.declared.refusal.Refused.TheVariants as refused
 use Rattle.cfs_base.specs.declared.refusal.Trouble.TheVariants as trouble
 use Rattle.normal_files.specs.Ends as ends
+
+-- the file as it is handed on
+abbrev pub handed : {D : Type 0} {g : Ghosts D} {at : ℕ} {kind : FileKind} {change : Change} {graph : Graph} {ds : List Opened} {id : Puid} {f : File} {d : D} {space : Kept} → MayChange g at kind change graph ds id f d space → Handed g at d space
+handed {graph = graph} {ds = ds} {id = id} {f = f} may = record { graph = graph; drafts = ds; id = id; file = f; store = may.has.store; there = may.has.there; no_draft = may.has.shut; here = may.has.root }
 
 pub sound_by : (t : Trouble) → is_damage t ≡ false → is_damaged (refused_by t) ≡ false
 sound_by (trouble.Disk tried) is = refl

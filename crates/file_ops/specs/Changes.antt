@@ -165,6 +165,7 @@ pub record EndsChange {D : Type 0} (g : Ghosts D) (at : ℕ) (kind : FileKind) (
   -- where nothing was tried all is as it was, after Full and want of memory too
   pub untried : IfErr result (λ e. is_untried e ≡ true → (after ≡ before) × OnlyReads g 31093 old new)
   pub cylinders : length after.free ≡ length before.free
+  pub left : after.left ≡ before.left
   pub calls : MakesAtMost g 124230 61938 old new
 
 -- The file of this kind with its root at a block is changed.

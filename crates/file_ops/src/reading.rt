@@ -1,12 +1,13 @@
 //! A file, read.
 ghost use Rattle.std.specs.Prelude.{◌≡◌, ◌+◌, ◌<◌, ◌≤◌, ℕ, false, List, length, slice_range, IfErr, IfOk};
+ghost use Rattle.block_tree.specs.Reads.{is_damage};
 ghost use Rattle.cfs_base.specs.Calls.{OnlyReads};
 ghost use Rattle.cfs_base.specs.Refusals.{had_tried, trouble_had_tried};
 ghost use Rattle.cfs_base.specs.Run.{Tells};
 ghost use Rattle.cfs_base.specs.declared.identifier.Puid.{Puid};
 ghost use Rattle.cyl_alloc.specs.Space.{Kept};
 ghost use Rattle.file_ops.specs.Files as spec;
-ghost use Rattle.normal_files.specs.Refusal.{IsTrouble, is_damage};
+ghost use Rattle.normal_files.specs.Refusal.{IsTrouble};
 ghost use Rattle.normal_files.specs.Standing.{IsRootAt};
 ghost use Rattle.normal_files.specs.Touched.{leaves_touched, nodes_touched};
 ghost use Rattle.special_files.specs.Refusal.{is_damaged};
@@ -74,7 +75,7 @@ pub fn read_root<D: Disk>(disk: &mut D, at: BlockNo) -> Result<Root, Trouble>
     ensures untried { IfErr result (λ trouble. trouble_had_tried trouble ≡ false) }
     ensures reads { OnlyReads D.Disk 1 disk.old disk.new }
 {
-    match normal_files::read_root(disk, at) {
+    match block_tree::read_root(disk, at) {
         Ok(root) => Ok(root),
         Err(trouble) => Err(trouble),
     }

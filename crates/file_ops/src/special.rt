@@ -55,6 +55,7 @@ fn commit<D: Disk>(
     ensures untried { IfErr result (λ e. e ≡ refused.Disk false
         → (space.new ≡ space.old) × OnlyReads D.Disk 241 disk.old disk.new) }
     ensures cylinders { length space.new.free ≡ length space.old.free }
+    ensures left { space.new.left ≡ space.old.left }
     ensures calls { MakesAtMost D.Disk 93137 46452 disk.old disk.new }
 {
     if space.free() == 0 {

@@ -127,8 +127,13 @@ fn the_stored_run_is_served(rt: HostRuntime) -> Result<(), Fail> {
 
 #[test]
 fn a_sink_that_fails_ends_its_session(rt: HostRuntime) -> Result<(), Fail> {
-    let part = ended(5, CUT_REPORT, &["o"], 2);
-    expect(&rt, rt.alloc(), &[lines_to(STORED, slow(1))], ALL, &part)
+    // it takes a byte of the first reply, and fails at the second
+    let seats = [lines_to(STORED, slow(1))];
+    let asked = ask_for(&["play", "1", "0", "0"], &seats);
+    let came = play(&rt, rt.alloc(), &mut None::<MemoryDisk>, &asked)?;
+    expect_came(&rt, &came, &ended(5, CUT_REPORT, &["o"], 2));
+    assert!(rt; came.events.as_slice() == b"al".as_slice());
+    Ok(())
 }
 
 /// How many lines end in these bytes.

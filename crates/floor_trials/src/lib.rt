@@ -22,5 +22,7 @@ mod stated;
 mod tests;
 #[cfg(test)]
 mod torn;
+#[cfg(test)]
+mod worked;
 
 pub use rounds::Rounds;

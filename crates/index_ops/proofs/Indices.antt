@@ -4,7 +4,7 @@ use Rattle.std.specs.Prelude.{Err, IfErr, Ok, Result}
 use Rattle.cfs_base.specs.Refusals.{trouble_had_tried}
 use Rattle.block_tree.specs.Reads.{HasStoppedBy, IsRootTrouble}
 use Rattle.block_tree.specs.declared.root.Root.{Root}
-use Rattle.index_ops.specs.Causes.{Far, FarLeaf, FarNode, IsBadSlot, IsFarLeaf, IsFollowTrouble, IsLeafTrouble, IsSlotTrouble, NoRoot, far_from}
+use Rattle.index_ops.specs.Causes.{Far, FarLeaf, FarNode, IsFarLeaf, IsFollowTrouble, IsLeafTrouble, IsSlotDamage, IsSlotTrouble, NoRoot, far_from}
 use Rattle.cfs_base.specs.declared.refusal.Trouble.TheVariants as trouble
 use Rattle.block_tree.specs.declared.fault.TreeFault.TheVariants as faults
 use Rattle.ufs_model.specs.declared.object.Object.TheVariants as objects
@@ -58,17 +58,17 @@ module _ {D : Type 0} (g : Ghosts D) (graph : Graph) (ds : List Opened) (d : D) 
 
   pub slot_sound : g.blocks d ≡ length image → (slot : ℕ) (new : D) (t : Trouble) → IsSlotTrouble g id.block slot d new t → is_damage t ≡ false
   slot_sound size slot new (trouble.Disk tried) is = refl
-  slot_sound size slot new (trouble.Damaged damage) is = absurd (by (is store.carries.tells))
+  slot_sound size slot new (trouble.Damaged damage) is = absurd (by is)
     where
-      by : ¬ IsBadSlot image (g.blocks d) id.block slot damage
-      by (NoRoot bad none) = let own = own_root image graph store.account.holds id (objects.Index i) at in none own.0 own.1
-      by (Far root there far) = far_not root there (slot / 64) damage (subst (λ (n : ℕ). IsFarLeaf image n id.block root (slot / 64) damage) size far)
+      by : ¬ IsSlotDamage g id.block slot d damage
+      by (NoRoot bad none) = let own = own_root image graph store.account.holds id (objects.Index i) at in none store.carries.tells own.0 own.1
+      by (Far code far) = let f = far store.carries.tells in far_not f.0 f.1 (slot / 64) damage (subst (λ (n : ℕ). IsFarLeaf image n id.block f.0 (slot / 64) damage) size f.2)
 
 -- ---- a trouble of one call is one of the whole
 
 pub root_slot : {D : Type 0} (g : Ghosts D) (at slot : ℕ) (old new : D) (t : Trouble) → IsRootTrouble g at old new t → IsSlotTrouble g at slot old new t
 root_slot g at slot old new (trouble.Disk tried) is = (is.0, is.1.failed)
-root_slot g at slot old new (trouble.Damaged damage) is = λ tells. NoRoot is.0 (is.1 tells)
+root_slot g at slot old new (trouble.Damaged damage) is = NoRoot is.0 is.1
 
 -- a leaf on the disk
 pub follow_trouble : {A D : Type 0} (g : Ghosts D) (holder block : ℕ) (old new : D) (r : Result A Trouble) → IfErr r (λ t. trouble_had_tried t ≡ false) → IfErr r (HasStoppedBy g old new) → IfErr r (IsFollowTrouble g holder block old new)
@@ -80,10 +80,13 @@ module _ {D : Type 0} (g : Ghosts D) (n at : ℕ) (old mid new : D) (reads : Onl
   -- a slot of an index whose root was read
   pub slot_after_root : (slot : ℕ) (root : Root) (t : Trouble) → (Tells g old → IsRootBlock (block_at (g.content old) at) root) → IsLeafTrouble g at root (slot / 64) mid new t → IsSlotTrouble g at slot old new t
   slot_after_root slot root (trouble.Disk tried) is bad = (bad.0, failed_after g old mid new n reads bad.1)
-  slot_after_root slot root (trouble.Damaged damage) is bad = λ tells. Far root (is tells)
-      (subst (λ (c : Image). IsFarLeaf c (g.blocks old) at root (slot / 64) damage) reads.content (subst (λ (size : ℕ). IsFarLeaf (g.content mid) size at root (slot / 64) damage) reads.same.size (bad (tells_on g old mid new n reads tells))))
+  slot_after_root slot root (trouble.Damaged damage) is bad = Far bad.0 (λ tells. (
+    root,
+    is tells,
+    subst (λ (c : Image). IsFarLeaf c (g.blocks old) at root (slot / 64) damage) reads.content (subst (λ (size : ℕ). IsFarLeaf (g.content mid) size at root (slot / 64) damage) reads.same.size (bad.1 (tells_on g old mid new n reads tells))),
+  ))
 
 -- the root's pointer to a leaf's node leads past the disk
 pub far_node : {D : Type 0} (g : Ghosts D) (at : ℕ) (old new : D) (root : Root) (leaf : ℕ) (fault : TreeFault) (block : ℕ) → fault ≡ faults.BadPointer block → IsFault g old new (PastAbove (g.content old) (g.blocks old) (root_spelling root) leaf) fault
     → IsLeafTrouble g at root leaf old new (far_from at)
-far_node g at old new root leaf fault block is bad = λ tells. FarNode refl refl block ((subst (IsFault g old new (PastAbove (g.content old) (g.blocks old) (root_spelling root) leaf)) is bad).1 tells)
+far_node g at old new root leaf fault block is bad = (refl, λ tells. FarNode refl refl block ((subst (IsFault g old new (PastAbove (g.content old) (g.blocks old) (root_spelling root) leaf)) is bad).1 tells))

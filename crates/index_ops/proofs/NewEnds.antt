@@ -23,11 +23,12 @@ module _ {D : Type 0} (g : Ghosts D) (at slot : ℕ) (d0 : D) (k0 : Kept) where
     memory = λ same. (kept, reads_within g d0 d1 n 9 few reads);
     untried = λ same. (kept, reads_within g d0 d1 n 9 few reads);
     cylinders = ap (λ (k : Kept). length k.free) kept;
+    left = ap (λ (k : Kept). k.left) kept;
     calls = makes_more g d0 d1 n 0 42 24 (omega (arith, few)) (omega arith) (reads_make g d0 d1 n reads);
   }
 
   -- made after reads, or not
-  module _ (d2 d3 : D) (k1 k3 : Kept) (c : ℕ) (root : roots.Root) (reads : OnlyReads g 2 d0 d2) (kept : k1 ≡ k0) (cylinders : length k3.free ≡ length k1.free) (made : MakesAtMost g 40 24 d2 d3)
+  module _ (d2 d3 : D) (k1 k3 : Kept) (c : ℕ) (root : roots.Root) (reads : OnlyReads g 2 d0 d2) (kept : k1 ≡ k0) (cylinders : length k3.free ≡ length k1.free) (left : k3.left ≡ k1.left) (made : MakesAtMost g 40 24 d2 d3)
       (least : (graph : Graph) (ds : List Opened) (id : Puid) (i : Index) → HasSlot g graph ds d0 k0 at id i slot → IsLeastFree (g.content d0) c) where
     abbrev Ends3 : Result Puid Refused → Type 0
     Ends3 r = (graph : Graph) (ds : List Opened) (id : Puid) (i : Index) → HasSlot g graph ds d0 k0 at id i slot → MakeEnds g graph ds id i slot (named c root.word) (bare_object root) d2 d3 k3 r
@@ -60,6 +61,7 @@ module _ {D : Type 0} (g : Ghosts D) (at slot : ℕ) (d0 : D) (k0 : Kept) where
       memory = tt;
       untried = tt;
       cylinders = cylinders ∙ ap (λ (k : Kept). length k.free) kept;
+      left = left ∙ ap (λ (k : Kept). k.left) kept;
       calls = all;
     }
 
@@ -72,6 +74,7 @@ module _ {D : Type 0} (g : Ghosts D) (at slot : ℕ) (d0 : D) (k0 : Kept) where
       memory = λ same. absurd (subst (IsRefusal g at 0 d2 d3 k3) same why.0);
       untried = λ same. let two = untried same in (two.0 ∙ kept, reads_then g d0 d2 d3 2 3 9 reads two.1 (omega arith));
       cylinders = cylinders ∙ ap (λ (k : Kept). length k.free) kept;
+      left = left ∙ ap (λ (k : Kept). k.left) kept;
       calls = all;
     }
 

@@ -62,6 +62,7 @@ module _ {D : Type 0} (g : Ghosts D) (n : ℕ) (d0 d1 : D) (k0 : Kept) where
     refused = tt;
     untried = tt;
     cylinders = cylinders;
+    left = ap (λ (k : Kept). k.left) taken;
     takes = subst (λ (k : Kept). sum k0.free ≤ sum k.free + 1) (sym taken) (one_less k0.free (n / 64));
     calls = is.calls;
   }
@@ -72,6 +73,7 @@ module _ {D : Type 0} (g : Ghosts D) (n : ℕ) (d0 d1 : D) (k0 : Kept) where
     refused = why t is.refused is.unless_tried;
     untried = λ same. (refl, reads_within g d0 d1 1 2 (omega arith) (is.unless_tried (untried t same)));
     cylinders = refl;
+    left = refl;
     takes = omega arith;
     calls = is.calls;
   }
@@ -193,6 +195,7 @@ module _ {D : Type 0} (g : Ghosts D) (at : ℕ) where
     refused = is.refused;
     untried = λ same. (let two = is.untried same in (two.0, reads_within g d0 d1 2 3 (omega arith) two.1));
     cylinders = is.cylinders;
+    left = is.left;
     takes = is.takes;
     calls = makes_more g d0 d1 2 1 3 2 (omega arith) (omega arith) is.calls;
   }

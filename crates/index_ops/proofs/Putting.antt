@@ -188,6 +188,7 @@ module _ {D : Type 0} (g : Ghosts D) (at slot : ℕ) (what : Option Puid) (d0 : 
     memory = λ same. (kept, reads_within g d0 d1 n 9 few reads);
     untried = λ same. (kept, reads_within g d0 d1 n 9 few reads);
     cylinders = ap (λ (k : Kept). length k.free) kept;
+    left = ap (λ (k : Kept). k.left) kept;
     calls = makes_more g d0 d1 n 0 38 22 (omega (arith, few)) (omega arith) (reads_make g d0 d1 n reads);
   }
 
@@ -216,6 +217,7 @@ module _ {D : Type 0} (g : Ghosts D) (at slot : ℕ) (what : Option Puid) (d0 : 
       memory = λ same. absurd (subst (IsRefusal g at 0 d0 d2 k2) same why);
       untried = λ same. let two = ends.untried same in (two.0, reads_then g d0 d1 d2 1 8 9 reads two.1 (omega arith));
       cylinders = ends.cylinders;
+      left = ends.left;
       calls = makes_then g d0 d1 d2 1 8 38 0 4 22 (reads_make g d0 d1 1 reads) ends.calls (omega arith) (omega arith);
     }
       where
@@ -226,7 +228,7 @@ module _ {D : Type 0} (g : Ghosts D) (at slot : ℕ) (what : Option Puid) (d0 : 
         why = refusal_after_reads g at d0 d1 d2 k2 0 1 e reads (subst (λ (n : ℕ). IsRefusal g n 0 d1 d2 k2 e) here ends.refused)
 
     -- filled, and committed or not
-    module _ (d3 : D) (k3 : Kept) (put : Option Swap) (ended : Ends {A = Option Swap} g was.at 0 8 4 (leaf_takes was (slot / 64)) d1 d2 k1 k2 (Ok put)) (tried : HasTried g d1 d2) (cylinders : length k3.free ≡ length k2.free)
+    module _ (d3 : D) (k3 : Kept) (put : Option Swap) (ended : Ends {A = Option Swap} g was.at 0 8 4 (leaf_takes was (slot / 64)) d1 d2 k1 k2 (Ok put)) (tried : HasTried g d1 d2) (cylinders : length k3.free ≡ length k2.free) (left : k3.left ≡ k2.left)
         (commit : MakesAtMost g 29 18 d2 d3)
         (leaves : (graph : Graph) (ds : List Opened) (id : Puid) (i : Index) → HasSlot g graph ds d0 k0 at id i slot → Leaves g d1 d2 (λ c. Holds c graph) × Leaves g d2 d3 (IsOldOrNew graph graph id (index_with i slot what))) where
       ends : Ends {A = Option Swap} g was.at 0 8 4 (leaf_takes was (slot / 64)) d1 d2 k0 k2 (Ok put)
@@ -246,7 +248,7 @@ module _ {D : Type 0} (g : Ghosts D) (at slot : ℕ) (what : Option Puid) (d0 : 
 
       pub ok_commit : ((graph : Graph) (ds : List Opened) (id : Puid) (i : Index) → HasSlot g graph ds d0 k0 at id i slot → Changes g graph ds id (index_with i slot what) d0 d3 k3)
           → ((graph : Graph) (ds : List Opened) (id : Puid) (i : Index) → HasSlot g graph ds d0 k0 at id i slot → ChangesLeaf g (slot / 64) at what d0 d3) → PutsSlot g at slot what d0 d3 k0 k3 (Ok tt)
-      ok_commit done leaf = record { done = done; leaf = leaf; leaves = images; sound = λ graph ds id i has. tt; refused = tt; memory = tt; untried = tt; cylinders = cylinders ∙ ends.cylinders; calls = all }
+      ok_commit done leaf = record { done = done; leaf = leaf; leaves = images; sound = λ graph ds id i has. tt; refused = tt; memory = tt; untried = tt; cylinders = cylinders ∙ ends.cylinders; left = left ∙ ends.left; calls = all }
 
       pub err_commit : (t : Trouble) → IsTrouble g at d2 d3 k3 t → ((graph : Graph) (ds : List Opened) (id : Puid) (i : Index) → HasSlot g graph ds d0 k0 at id i slot → is_damage t ≡ false)
           → PutsSlot g at slot what d0 d3 k0 k3 (Err (refused_by (trouble_after_try t)))
@@ -260,6 +262,7 @@ module _ {D : Type 0} (g : Ghosts D) (at slot : ℕ) (what : Option Puid) (d0 : 
         memory = λ same. absurd (no_memory (trouble_after_try t) same);
         untried = λ same. absurd (tried_disk t same);
         cylinders = cylinders ∙ ends.cylinders;
+        left = left ∙ ends.left;
         calls = all;
       }
 
@@ -298,6 +301,7 @@ module _ {D : Type 0} (g : Ghosts D) (at slot : ℕ) (what : Option Puid) (d0 : 
           memory = tt;
           untried = tt;
           cylinders = ap (λ (k : Kept). length k.free) kept;
+          left = ap (λ (k : Kept). k.left) kept;
           calls = calls is.calls;
         }
         by (Err e) is = record {
@@ -309,5 +313,6 @@ module _ {D : Type 0} (g : Ghosts D) (at slot : ℕ) (what : Option Puid) (d0 : 
           memory = λ same. (let no : refused.Disk true ≡ refused.Memory = sym is.refused ∙ same in cc);
           untried = λ same. (let no : refused.Disk true ≡ refused.Disk false = sym is.refused ∙ same in cc);
           cylinders = ap (λ (k : Kept). length k.free) kept;
+          left = ap (λ (k : Kept). k.left) kept;
           calls = calls is.calls;
         }

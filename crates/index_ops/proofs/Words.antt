@@ -18,6 +18,7 @@ pub use Rattle.cfs_base.specs.declared.refusal.Damage.{Damage}
 pub use Rattle.cfs_base.specs.declared.refusal.Refused.{Refused}
 pub use Rattle.cfs_base.specs.declared.refusal.Trouble.{Trouble}
 pub use Rattle.claims.specs.Claims.{AreClaimed}
+pub use Rattle.cyl_alloc.proofs.Counted.{counts_content}
 pub use Rattle.cyl_alloc.proofs.Counted.{counts_taken}
 pub use Rattle.cyl_alloc.specs.Refusals.{IsFindRefusal, IsMapTrouble}
 pub use Rattle.cyl_alloc.specs.Space.{AreCounts, IsBadMap, IsLeastFree, Kept, after_taking, intended}
@@ -38,14 +39,14 @@ pub use Rattle.leaf_changes.specs.Gives.{GivesIndex}
 pub use Rattle.special_files.proofs.Amid.{framed_carries, framed_holds, written_framed}
 pub use Rattle.special_files.proofs.Begun.{begun_fresh, own_root, own_tree, store_reads}
 pub use Rattle.special_files.proofs.CommitDone.{makes_more}
-pub use Rattle.special_files.proofs.CommitFlips.{first_number, more_numbers}
-pub use Rattle.special_files.proofs.CommitRuns.{no_damage}
+pub use Rattle.intentions.proofs.Flips.{first_number, more_numbers}
+pub use Rattle.intentions.proofs.Flips.{no_damage}
 pub use Rattle.special_files.proofs.CommitStore.{owners_change}
 pub use Rattle.special_files.proofs.Endings.{ends_then_err, ends_then_ok, trouble_after_tried, write_ends}
 pub use Rattle.special_files.proofs.Levels.{length-none, none_is}
 pub use Rattle.special_files.proofs.Lists.{first_here, first_others}
 pub use Rattle.special_files.proofs.Made.{bare_kept, content_kept, made_kept}
-pub use Rattle.special_files.proofs.Meant.{counts_content, free_is, meant_open}
+pub use Rattle.special_files.proofs.Meant.{free_is, meant_open}
 pub use Rattle.special_files.proofs.PutCall.{find_sound}
 pub use Rattle.special_files.proofs.PutStore.{the_draft}
 pub use Rattle.special_files.proofs.Puts.{taken_not_free}

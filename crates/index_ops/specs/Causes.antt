@@ -29,13 +29,14 @@ pub data IsFarLeaf (image : Image) (size at : ℕ) (root : Root) (leaf : ℕ) (d
       → IsPast size (leaf_block image (root_spelling root) leaf) → IsFarLeaf image size at root leaf damage
 
 -- that for a slot of the index at this block; or the block is no root
-pub data IsBadSlot (image : Image) (size at slot : ℕ) (damage : Damage) : Type 0 where
-  NoRoot : damage ≡ record { block = at; code = no_root } → ((root : Root) → ¬ IsRootBlock (block_at image at) root)
-      → IsBadSlot image size at slot damage
-  Far : (root : Root) → IsRootBlock (block_at image at) root → IsFarLeaf image size at root (slot / 64) damage
-      → IsBadSlot image size at slot damage
+pub data IsSlotDamage {D : Type 0} (g : Ghosts D) (at slot : ℕ) (old : D) (damage : Damage) : Type 0 where
+  NoRoot : damage ≡ record { block = at; code = no_root }
+      → (Tells g old → (root : Root) → ¬ IsRootBlock (block_at (g.content old) at) root)
+      → IsSlotDamage g at slot old damage
+  Far : damage.code ≡ past_disk → (Tells g old → (root : Root) × IsRootBlock (block_at (g.content old) at) root
+      × IsFarLeaf (g.content old) (g.blocks old) at root (slot / 64) damage) → IsSlotDamage g at slot old damage
 
--- ---- why a call ends: a device call failed, or the disk tells what is wrong
+-- ---- why a call ends: a device call failed, or a block is damaged
 
 abbrev pub IsFollowTrouble : {D : Type 0} → Ghosts D → (holder block : ℕ) → D → D → Trouble → Type 0
 IsFollowTrouble g holder block old new (trouble.Disk tried) = (tried ≡ false) × HasFailed g old new
@@ -45,9 +46,8 @@ IsFollowTrouble g holder block old new (trouble.Damaged damage) =
 abbrev pub IsLeafTrouble : {D : Type 0} → Ghosts D → ℕ → Root → ℕ → D → D → Trouble → Type 0
 IsLeafTrouble g at root leaf old new (trouble.Disk tried) = (tried ≡ false) × HasFailed g old new
 IsLeafTrouble g at root leaf old new (trouble.Damaged damage) =
-    Tells g old → IsFarLeaf (g.content old) (g.blocks old) at root leaf damage
+    (damage.code ≡ past_disk) × (Tells g old → IsFarLeaf (g.content old) (g.blocks old) at root leaf damage)
 
 abbrev pub IsSlotTrouble : {D : Type 0} → Ghosts D → (at slot : ℕ) → D → D → Trouble → Type 0
 IsSlotTrouble g at slot old new (trouble.Disk tried) = (tried ≡ false) × HasFailed g old new
-IsSlotTrouble g at slot old new (trouble.Damaged damage) =
-    Tells g old → IsBadSlot (g.content old) (g.blocks old) at slot damage
+IsSlotTrouble g at slot old new (trouble.Damaged damage) = IsSlotDamage g at slot old damage

@@ -126,4 +126,5 @@ pub record PutsObject {D : Type 0} (g : Ghosts D) (at slot : ℕ) (made : Object
   pub memory : IfErr result (λ e. e ≡ refusals.Memory → (after ≡ before) × OnlyReads g 9 old new)
   pub untried : IfErr result (λ e. e ≡ refusals.Disk false → (after ≡ before) × OnlyReads g 9 old new)
   pub cylinders : length after.free ≡ length before.free
+  pub left : after.left ≡ before.left
   pub calls : MakesAtMost g 42 24 old new

@@ -147,6 +147,7 @@ fn make_at<D: Disk>(
     ensures untried { IfErr result (λ e. e ≡ refusals.Disk false → (space.new ≡ space.old)
         × OnlyReads D.Disk 3 disk.old disk.new) }
     ensures cylinders { length space.new.free ≡ length space.old.free }
+    ensures left { space.new.left ≡ space.old.left }
     ensures calls { MakesAtMost D.Disk 40 24 disk.old disk.new }
 {
     match make_root(disk, space, block, root) {

@@ -3,3 +3,5 @@ pub mod Course
 pub mod Commit
 pub mod Calls
 pub mod Store
+pub mod Flips
+pub mod Left

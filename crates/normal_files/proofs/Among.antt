@@ -1,8 +1,7 @@
 -- Images that a change of a file in place may leave.
-use Rattle.normal_files.proofs.Words.{◌≡◌, ◌≢◌, ◌⊎◌, inl, inr, ℕ, ◌+◌, ◌*◌, ◌%◌, ◌<◌, List, [], get_or, set, Some, None, refl, sym, ◌∙◌, ap, subst, get_or-set_other, get_or-set_same, arith, cases_eq, same_Some, Image, block_at, Puid, Place, Leaf, Node, Root, IsRootBlock, root_spelling, entry_in-set, LeavesFit, Graph, with_object, Frames, IsBlockOf, IsLoose, BelongsTo, is_committed, part_at, part_of, held_at, sight, Holds, ReadsAs, object_put, other_is, others, owned_is_loose, placed, taken_apart, held_there, entry_mixed, frames_content, frames_fewer, frames_mix, not_map, held, File}
+use Rattle.normal_files.proofs.Words.{◌≡◌, ◌≢◌, ◌⊎◌, inl, inr, ℕ, ◌+◌, ◌*◌, ◌%◌, ◌<◌, List, [], get_or, set, Some, None, refl, sym, ◌∙◌, ap, subst, get_or-set_other, get_or-set_same, arith, cases_eq, same_Some, Image, block_at, Puid, Place, Leaf, Node, Root, IsRootBlock, root_spelling, entry_in-set, LeavesFit, Graph, with_object, Frames, IsBlockOf, IsLoose, BelongsTo, is_committed, part_at, part_of, held_at, sight, Holds, ReadsAs, object_put, other_is, others, owned_is_loose, placed, taken_apart, held_there, entry_mixed, frames_content, frames_fewer, frames_mix, not_map, held, File, leaf_pointers, leaves_at}
 use Rattle.normal_files.specs.Among.{IsAmong}
 use Rattle.normal_files.specs.Laid.{IsAt, IsRooted, leaf_of, leaves_of, node_of, object_of}
-use Rattle.normal_files.specs.Nodes.{leaves_at}
 use Rattle.normal_files.proofs.Laid.{rooted_reads}
 use Rattle.normal_files.proofs.Owned.{node_block as owned_node, leaf_block as owned_leaf}
 use Rattle.normal_files.proofs.Trees.{each_leaf, leaf_stands, same_leaves, stands_at}
@@ -22,7 +21,7 @@ module _ {a : Image} {graph : Graph} {id : Puid} {f : File} {root : roots.Root} 
 
   -- ---- the file's own blocks
 
-  leaf_is : (n k : ℕ) → k < 128 → leaf_of a root n k ≢ 0 → BelongsTo id.block (Leaf (128 * n + k)) (part_at a (leaf_of a root n k))
+  leaf_is : (n k : ℕ) → k < leaf_pointers.count → leaf_of a root n k ≢ 0 → BelongsTo id.block (Leaf (leaf_pointers.count * n + k)) (part_at a (leaf_of a root n k))
   leaf_is n k small real = (s.rooted.laid.leaves n k small real).part
 
   node_is : (n : ℕ) → node_of root n ≢ 0 → BelongsTo id.block (Node n) (part_at a (node_of root n))
@@ -37,22 +36,22 @@ module _ {a : Image} {graph : Graph} {id : Puid} {f : File} {root : roots.Root} 
   node_block : (n : ℕ) → node_of root n ≢ 0 → IsBlockOf a id.block (node_of root n)
   node_block = owned_node a id root s.rooted
 
-  leaf_block : (n k : ℕ) → k < 128 → leaf_of a root n k ≢ 0 → IsBlockOf a id.block (leaf_of a root n k)
+  leaf_block : (n k : ℕ) → k < leaf_pointers.count → leaf_of a root n k ≢ 0 → IsBlockOf a id.block (leaf_of a root n k)
   leaf_block = owned_leaf a id root s.rooted
 
-  pub leaf_held : (n k : ℕ) → k < 128 → leaf_of a root n k ≢ 0 → leaves_of a root (128 * n + k) ≡ Some (held a (leaf_of a root n k))
+  pub leaf_held : (n k : ℕ) → k < leaf_pointers.count → leaf_of a root n k ≢ 0 → leaves_of a root (leaf_pointers.count * n + k) ≡ Some (held a (leaf_of a root n k))
   leaf_held n k small real = leaf_stands a (root_spelling root) root is_root n k small ∙ held_there a (leaf_of a root n k) real
 
   -- ---- what is among these images
 
   module _ (P : ℕ → List ℕ → Type 0) where
-    pub among_begin : (c : Image) → Frames a graph c → ((n k : ℕ) → k < 128 → leaf_of a root n k ≢ 0 → P (128 * n + k) (block_at a (leaf_of a root n k))) → IsAmong a graph id root P c
+    pub among_begin : (c : Image) → Frames a graph c → ((n k : ℕ) → k < leaf_pointers.count → leaf_of a root n k ≢ 0 → P (leaf_pointers.count * n + k) (block_at a (leaf_of a root n k))) → IsAmong a graph id root P c
     among_begin c frames bytes = record {
       frames = frames_fewer a c graph (others graph id) frames (λ x p there. (other_is graph id x p there).0);
       root_kept = frames.held id.block (id, objects.File f, s.at, inl refl);
       nodes = λ n real. frames.held (node_of root n) (id, objects.File f, s.at, node_block n real);
       parts = λ n k small real. (frames.held (leaf_of a root n k) (id, objects.File f, s.at, leaf_block n k small real)).part;
-      bytes = λ n k small real. subst (P (128 * n + k)) (sym (frames.held (leaf_of a root n k) (id, objects.File f, s.at, leaf_block n k small real)).content) (bytes n k small real);
+      bytes = λ n k small real. subst (P (leaf_pointers.count * n + k)) (sym (frames.held (leaf_of a root n k) (id, objects.File f, s.at, leaf_block n k small real)).content) (bytes n k small real);
     }
 
     -- a block that no object holds is written
@@ -67,7 +66,7 @@ module _ {a : Image} {graph : Graph} {id : Puid} {f : File} {root : roots.Root} 
           root_kept = record { part = part id.block ∙ among.root_kept.part; content = same_at id.block (inl refl) ∙ among.root_kept.content };
           nodes = λ n real. record { part = part (node_of root n) ∙ (among.nodes n real).part; content = same_at (node_of root n) (node_block n real) ∙ (among.nodes n real).content };
           parts = λ n k small real. part (leaf_of a root n k) ∙ among.parts n k small real;
-          bytes = λ n k small real. subst (P (128 * n + k)) (sym (same_at (leaf_of a root n k) (leaf_block n k small real))) (among.bytes n k small real);
+          bytes = λ n k small real. subst (P (leaf_pointers.count * n + k)) (sym (same_at (leaf_of a root n k) (leaf_block n k small real))) (among.bytes n k small real);
         }
 
     -- a map of one is written into another
@@ -80,13 +79,13 @@ module _ {a : Image} {graph : Graph} {id : Puid} {f : File} {root : roots.Root} 
           root_kept = record { part = part id.block one.root_kept.part two.root_kept.part; content = content id.block Root s.rooted.part ∙ one.root_kept.content };
           nodes = λ n real. record { part = part (node_of root n) (one.nodes n real).part (two.nodes n real).part; content = content (node_of root n) (Node n) (node_is n real) ∙ (one.nodes n real).content };
           parts = λ n j small real. part (leaf_of a root n j) (one.parts n j small real) (two.parts n j small real);
-          bytes = λ n j small real. subst (P (128 * n + j)) (sym (content (leaf_of a root n j) (Leaf (128 * n + j)) (leaf_is n j small real))) (one.bytes n j small real);
+          bytes = λ n j small real. subst (P (leaf_pointers.count * n + j)) (sym (content (leaf_of a root n j) (Leaf (leaf_pointers.count * n + j)) (leaf_is n j small real))) (one.bytes n j small real);
         }
       where
         by : (b : ℕ) → part_at c b ≡ part_at a b → part_at k b ≡ part_at a b → part_at (set c m (block_at k m)) b ≡ part_at a b
         by b p q = elim (entry_mixed c k m b) [ inl is ↦ ap part_of is ∙ p | inr is ↦ ap part_of is ∙ q ]
 
-    pub among_weaker : (Q : ℕ → List ℕ → Type 0) (c : Image) → IsAmong a graph id root P c → ((n k : ℕ) → k < 128 → leaf_of a root n k ≢ 0 → (content : List ℕ) → P (128 * n + k) content → Q (128 * n + k) content) → IsAmong a graph id root Q c
+    pub among_weaker : (Q : ℕ → List ℕ → Type 0) (c : Image) → IsAmong a graph id root P c → ((n k : ℕ) → k < leaf_pointers.count → leaf_of a root n k ≢ 0 → (content : List ℕ) → P (leaf_pointers.count * n + k) content → Q (leaf_pointers.count * n + k) content) → IsAmong a graph id root Q c
     among_weaker Q c among weaker = record {
       frames = among.frames;
       root_kept = among.root_kept;
@@ -96,32 +95,32 @@ module _ {a : Image} {graph : Graph} {id : Puid} {f : File} {root : roots.Root} 
     }
 
     -- a held leaf is written
-    pub among_leaf : (Q : ℕ → List ℕ → Type 0) (c : Image) (n k : ℕ) (v : List ℕ) → IsAmong a graph id root P c → k < 128 → leaf_of a root n k ≢ 0 → Q (128 * n + k) v → ((l : ℕ) (bytes : List ℕ) → l ≢ 128 * n + k → P l bytes → Q l bytes)
+    pub among_leaf : (Q : ℕ → List ℕ → Type 0) (c : Image) (n k : ℕ) (v : List ℕ) → IsAmong a graph id root P c → k < leaf_pointers.count → leaf_of a root n k ≢ 0 → Q (leaf_pointers.count * n + k) v → ((l : ℕ) (bytes : List ℕ) → l ≢ leaf_pointers.count * n + k → P l bytes → Q l bytes)
         → IsAmong a graph id root Q (set c (leaf_of a root n k) v)
     among_leaf Q c n k v among small real new old =
         let x = leaf_of a root n k in
         let mine = leaf_is n k small real in
-        let no_map = own_apart x (Leaf (128 * n + k)) mine in
+        let no_map = own_apart x (Leaf (leaf_pointers.count * n + k)) mine in
         let part = λ (b : ℕ). ap part_of (entry_in-set c x v b no_map) in
         let below = (s.rooted.laid.leaves n k small real).below in
         record {
-          frames = frames_content a (others graph id) c x v among.frames (own_loose x (Leaf (128 * n + k)) mine);
-          root_kept = record { part = part id.block ∙ among.root_kept.part; content = get_or-set_other c x id.block v [] (λ same. leaf_no_root (128 * n + k) (sym (places_differ a id.block x id.block Root (Leaf (128 * n + k)) s.rooted.part mine same))) ∙ among.root_kept.content };
+          frames = frames_content a (others graph id) c x v among.frames (own_loose x (Leaf (leaf_pointers.count * n + k)) mine);
+          root_kept = record { part = part id.block ∙ among.root_kept.part; content = get_or-set_other c x id.block v [] (λ same. leaf_no_root (leaf_pointers.count * n + k) (sym (places_differ a id.block x id.block Root (Leaf (leaf_pointers.count * n + k)) s.rooted.part mine same))) ∙ among.root_kept.content };
           nodes = λ m there. record {
             part = part (node_of root m) ∙ (among.nodes m there).part;
-            content = get_or-set_other c x (node_of root m) v [] (λ same. leaf_no_node (128 * n + k) m (sym (places_differ a (node_of root m) x id.block (Node m) (Leaf (128 * n + k)) (node_is m there) mine same))) ∙ (among.nodes m there).content;
+            content = get_or-set_other c x (node_of root m) v [] (λ same. leaf_no_node (leaf_pointers.count * n + k) m (sym (places_differ a (node_of root m) x id.block (Node m) (Leaf (leaf_pointers.count * n + k)) (node_is m there) mine same))) ∙ (among.nodes m there).content;
           };
           parts = λ m j low there. part (leaf_of a root m j) ∙ among.parts m j low there;
-          bytes = λ m j low there. elim (cases_eq (128 * m + j) (128 * n + k)) [
+          bytes = λ m j low there. elim (cases_eq (leaf_pointers.count * m + j) (leaf_pointers.count * n + k)) [
             | inl same ↦
                 let high : m ≡ n = omega (arith, same, low, small) in
                 let place : j ≡ k = omega (arith, same, low, small) in
                 let here : leaf_of a root m j ≡ x = ap (λ (p : ℕ). leaf_of a root p j) high ∙ ap (leaf_of a root n) place in
                 subst (λ (l : ℕ). Q l (block_at (set c x v) (leaf_of a root m j))) (sym same)
-                (subst (Q (128 * n + k)) (sym (ap (block_at (set c x v)) here ∙ get_or-set_same c x v [] (omega (arith, below, among.frames.size)))) new)
+                (subst (Q (leaf_pointers.count * n + k)) (sym (ap (block_at (set c x v)) here ∙ get_or-set_same c x v [] (omega (arith, below, among.frames.size)))) new)
             | inr other ↦
-                let apart = λ (same : leaf_of a root m j ≡ x). other (one_leaf _ _ (places_differ a (leaf_of a root m j) x id.block (Leaf (128 * m + j)) (Leaf (128 * n + k)) (leaf_is m j low there) mine same)) in
-                subst (Q (128 * m + j)) (sym (get_or-set_other c x (leaf_of a root m j) v [] apart)) (old (128 * m + j) (block_at c (leaf_of a root m j)) other (among.bytes m j low there))
+                let apart = λ (same : leaf_of a root m j ≡ x). other (one_leaf _ _ (places_differ a (leaf_of a root m j) x id.block (Leaf (leaf_pointers.count * m + j)) (Leaf (leaf_pointers.count * n + k)) (leaf_is m j low there) mine same)) in
+                subst (Q (leaf_pointers.count * m + j)) (sym (get_or-set_other c x (leaf_of a root m j) v [] apart)) (old (leaf_pointers.count * m + j) (block_at c (leaf_of a root m j)) other (among.bytes m j low there))
           ];
         }
 
@@ -154,7 +153,7 @@ module _ {a : Image} {graph : Graph} {id : Puid} {f : File} {root : roots.Root} 
               let same = same_leaf n k in
               let there : leaf_of a root n k ≢ 0 = λ none. real (same ∙ none) in
               let was = s.rooted.laid.leaves n k small there in
-              subst (IsAt c id.block (Leaf (128 * n + k))) (sym same) (record { below = omega (arith, was.below, among.frames.size); part = subst (BelongsTo id.block (Leaf (128 * n + k))) (sym (among.parts n k small there)) was.part });
+              subst (IsAt c id.block (Leaf (leaf_pointers.count * n + k))) (sym same) (record { below = omega (arith, was.below, among.frames.size); part = subst (BelongsTo id.block (Leaf (leaf_pointers.count * n + k))) (sym (among.parts n k small there)) was.part });
           leads = λ n real. let to = s.rooted.laid.leads n real in (to.0, to.1, λ none. to.2 (sym (same_leaf n to.0) ∙ none));
           fit = fit;
         };

@@ -1,6 +1,6 @@
 -- Runs of calls of which some may have tried a write.
-use Rattle.normal_files.proofs.Words.{◌≡◌, ℕ, ◌+◌, ◌≤◌, Bool, true, false, inl, refl, arith, Err, List, Ok, subst, sym, ◌∙◌, HasTried, MakesAtMost, OnlyReads, Ghosts, Trouble, makes_then, reads_then, reads_within, stopped_after_reads, stopped_after_try, then_tried, reads_make, tried_then, ◌||◌}
-use Rattle.normal_files.specs.Steps.{HasCome, HasStoppedBy, told_after, WritesBlock, Stops}
+use Rattle.normal_files.proofs.Words.{◌≡◌, ℕ, ◌+◌, ◌≤◌, Bool, true, false, inl, refl, arith, Err, List, Ok, subst, sym, ◌∙◌, HasTried, MakesAtMost, OnlyReads, Ghosts, Trouble, makes_then, reads_then, reads_within, stopped_after_reads, stopped_after_try, then_tried, reads_make, tried_then, ◌||◌, HasStoppedBy}
+use Rattle.normal_files.specs.Steps.{HasCome, told_after, WritesBlock, Stops}
 use Rattle.cfs_base.specs.declared.refusal.Trouble.TheVariants as trouble
 
 -- no call

@@ -1,12 +1,11 @@
 -- The end of a file as it was read, and the images that its trimming leaves.
-use Rattle.normal_files.proofs.Words.{◌≡◌, ◌≢◌, ◌⊎◌, inl, inr, ℕ, ◌+◌, ◌*◌, ◌/◌, ◌%◌, ◌<◌, ◌≤◌, List, [], length, set, get_or, refl, sym, ◌∙◌, ap, subst, get_or-set_other, get_or-set_same, arith, length-set, cases_eq, cases_lt, ne_eqb, get_or_past, Image, block_at, left_now, Ghosts, Puid, Place, Leaf, Node, Root, IsNode, node_spelling, leaf_pointers, pointers_of, IsGoodRoot, node_leaves, Kept, cut, leaves_in, BelongsTo, part_at, frames_begin}
+use Rattle.normal_files.proofs.Words.{◌≡◌, ◌≢◌, ◌⊎◌, inl, inr, ℕ, ◌+◌, ◌*◌, ◌/◌, ◌%◌, ◌<◌, ◌≤◌, List, [], length, set, get_or, refl, sym, ◌∙◌, ap, subst, get_or-set_other, get_or-set_same, arith, length-set, cases_eq, cases_lt, ne_eqb, get_or_past, Image, block_at, left_now, Ghosts, Puid, Place, Leaf, Node, Root, IsNode, node_spelling, leaf_pointers, pointers_of, IsGoodRoot, node_leaves, Kept, cut, leaves_in, BelongsTo, part_at, frames_begin, node_pointers, leaves_at, leaves_there, zeros}
 use Rattle.normal_files.specs.Cuts.{IsCutRoot, IsEnd, IsReadEnd, MayPut, MayTrim, cut_block, first_gone, last_node, put_at, trimmed}
 use Rattle.normal_files.specs.Laid.{leaf_of, node_of}
-use Rattle.normal_files.specs.Nodes.{leaves_at}
 use Rattle.normal_files.specs.declared.cut.End.{End}
 use Rattle.normal_files.proofs.Among.{places_differ}
 use Rattle.normal_files.proofs.Owned.{IsOwn}
-use Rattle.normal_files.proofs.Trees.{leaves_there, same_leaves, zeros}
+use Rattle.normal_files.proofs.Trees.{same_leaves}
 use Rattle.normal_files.proofs.Trimmed.{IsEitherWay, IsTrimmed, either_begin, either_put}
 use Rattle.normal_files.proofs.Places.{leaf_no_node, leaf_no_root, node_no_root, one_leaf, one_node}
 use Rattle.normal_files.proofs.LeafReads.{block_read}
@@ -66,7 +65,7 @@ module _ {D : Type 0} {g : Ghosts D} {r : ℕ} {root : roots.Root} {start : D} {
   from = first_gone size y
 
   abbrev j : ℕ
-  j = size / 512 % 128
+  j = size / 512 % leaf_pointers.count
 
   abbrev pub e : Image
   e = trimmed a end
@@ -97,14 +96,14 @@ module _ {D : Type 0} {g : Ghosts D} {r : ℕ} {root : roots.Root} {start : D} {
   x_within : x ≢ 0 → size % 512 ≢ 0
   x_within some whole = some (cut_none whole)
 
-  at_cut : size % 512 ≢ 0 → 128 * last + j ≡ size / 512
+  at_cut : size % 512 ≢ 0 → leaf_pointers.count * last + j ≡ size / 512
   at_cut within = omega (arith, within)
 
   x_real : (some : x ≢ 0) → leaf_of a root last j ≢ 0
   x_real some none = some (cut_when (x_within some) ∙ none)
 
-  x_part : (some : x ≢ 0) → BelongsTo r (Leaf (128 * last + j)) (part_at a x)
-  x_part some = subst (λ (m : ℕ). BelongsTo r (Leaf (128 * last + j)) (part_at a m)) (sym (cut_when (x_within some))) (v.has.rooted.laid.leaves last j (omega arith) (x_real some)).part
+  x_part : (some : x ≢ 0) → BelongsTo r (Leaf (leaf_pointers.count * last + j)) (part_at a x)
+  x_part some = subst (λ (m : ℕ). BelongsTo r (Leaf (leaf_pointers.count * last + j)) (part_at a m)) (sym (cut_when (x_within some))) (v.has.rooted.laid.leaves last j (omega arith) (x_real some)).part
 
   x_below : x ≢ 0 → x < length a
   x_below some = subst (λ (m : ℕ). m < length a) (sym (cut_when (x_within some))) (v.has.rooted.laid.leaves last j (omega arith) (x_real some)).below
@@ -133,19 +132,19 @@ module _ {D : Type 0} {g : Ghosts D} {r : ℕ} {root : roots.Root} {start : D} {
   e_other m not_x not_y = put_other mid y (node_spelling end.node) m not_y ∙ put_other a x end.content m not_x
 
   e_x : x ≢ 0 → block_at e x ≡ end.content
-  e_x some = put_other mid y (node_spelling end.node) x (λ real same. leaf_no_node (128 * last + j) last (places_differ a x y r (Leaf (128 * last + j)) (Node last) (x_part some) (y_part real) same)) ∙ put_here a x end.content some (x_below some)
+  e_x some = put_other mid y (node_spelling end.node) x (λ real same. leaf_no_node (leaf_pointers.count * last + j) last (places_differ a x y r (Leaf (leaf_pointers.count * last + j)) (Node last) (x_part some) (y_part real) same)) ∙ put_here a x end.content some (x_below some)
 
   e_y : y ≢ 0 → block_at e y ≡ node_spelling end.node
   e_y some = put_here mid y (node_spelling end.node) some (omega (arith, y_below some, put_long a x end.content))
 
   -- a block of the file at another place stays
-  place_stays : (m : ℕ) (p : Place) → BelongsTo r p (part_at a m) → p ≢ Leaf (128 * last + j) ⊎ (x ≡ 0) → p ≢ Node last ⊎ (y ≡ 0) → block_at e m ≡ block_at a m
+  place_stays : (m : ℕ) (p : Place) → BelongsTo r p (part_at a m) → p ≢ Leaf (leaf_pointers.count * last + j) ⊎ (x ≡ 0) → p ≢ Node last ⊎ (y ≡ 0) → block_at e m ≡ block_at a m
   place_stays m p own not_x not_y = e_other m
-      (λ some same. elim not_x [ inl other ↦ other (places_differ a m x r p (Leaf (128 * last + j)) own (x_part some) same) | inr none ↦ some none ])
+      (λ some same. elim not_x [ inl other ↦ other (places_differ a m x r p (Leaf (leaf_pointers.count * last + j)) own (x_part some) same) | inr none ↦ some none ])
       (λ some same. elim not_y [ inl other ↦ other (places_differ a m y r p (Node last) own (y_part some) same) | inr none ↦ some none ])
 
   pub node_stays : (n : ℕ) → (n ≢ last) ⊎ (y ≡ 0) → leaves_at e (node_of root n) ≡ leaves_at a (node_of root n)
-  node_stays n other = same_leaves e a (node_of root n) (λ some. place_stays (node_of root n) (Node n) (v.has.rooted.laid.nodes n some).part (inl (λ same. leaf_no_node (128 * last + j) n (sym same))) (elim other [ inl apart ↦ inl (λ same. apart (one_node n last same)) | inr none ↦ inr none ]))
+  node_stays n other = same_leaves e a (node_of root n) (λ some. place_stays (node_of root n) (Node n) (v.has.rooted.laid.nodes n some).part (inl (λ same. leaf_no_node (leaf_pointers.count * last + j) n (sym same))) (elim other [ inl apart ↦ inl (λ same. apart (one_node n last same)) | inr none ↦ inr none ]))
 
   last_leaves : y ≢ 0 → leaves_at e (node_of root last) ≡ end.node.leaves
   last_leaves some = ap (leaves_at e) (sym (y_is some)) ∙ leaves_there e y some ∙ ap (λ (c : List ℕ). pointers_of leaf_pointers c) (e_y some) ∙ sym (node_leaves end.node z.spelled)
@@ -162,26 +161,26 @@ module _ {D : Type 0} {g : Ghosts D} {r : ℕ} {root : roots.Root} {start : D} {
     ]
   ]
 
-  early : (n k : ℕ) → k < 128 → 128 * n + k < keep → leaf_of e root n k ≡ leaf_of a root n k
+  early : (n k : ℕ) → k < leaf_pointers.count → leaf_pointers.count * n + k < keep → leaf_of e root n k ≡ leaf_of a root n k
   early n k small before = elim (pointer n k) [
     | inl same ↦ same
     | inr now ↦ now.2 ∙ z.read.before k (omega (arith, before, now.0)) ∙ own_at k ∙ ap (λ (m : ℕ). leaf_of a root m k) (sym now.0)
   ]
 
-  late : (n k : ℕ) → k < 128 → keep ≤ 128 * n + k → (leaf_of e root n k ≡ leaf_of a root n k) ⊎ (leaf_of e root n k ≡ 0)
+  late : (n k : ℕ) → k < leaf_pointers.count → keep ≤ leaf_pointers.count * n + k → (leaf_of e root n k ≡ leaf_of a root n k) ⊎ (leaf_of e root n k ≡ 0)
   late n k small past = elim (pointer n k) [ inl same ↦ inl same | inr now ↦ inr (now.2 ∙ z.read.past k small (omega (arith, past, now.0))) ]
 
   -- where no node is kept the last one has no leaf that is
-  none_kept : y ≡ 0 → (k : ℕ) → k < 128 → get_or end.node.leaves k 0 ≡ 0
+  none_kept : y ≡ 0 → (k : ℕ) → k < leaf_pointers.count → get_or end.node.leaves k 0 ≡ 0
   none_kept none k small = elim z.read.kept [
     | inr all ↦ all.1 k small
     | inl node ↦
         let zero_node : node_of root last ≡ 0 = sym node.0 ∙ none in
-        let nothing : (i : ℕ) → get_or end.own.leaves i 0 ≡ 0 = λ i. own_at i ∙ ap (λ (m : ℕ). get_or (leaves_at a m) i 0) zero_node ∙ zeros 128 i in
-        absurd (node.1.2 (elim (cases_lt (128 * last + node.1.0) keep) [ inl before ↦ z.read.before node.1.0 before ∙ nothing node.1.0 | inr past ↦ z.read.past node.1.0 node.1.1 past ]))
+        let nothing : (i : ℕ) → get_or end.own.leaves i 0 ≡ 0 = λ i. own_at i ∙ ap (λ (m : ℕ). get_or (leaves_at a m) i 0) zero_node ∙ zeros leaf_pointers.count i in
+        absurd (node.1.2 (elim (cases_lt (leaf_pointers.count * last + node.1.0) keep) [ inl before ↦ z.read.before node.1.0 before ∙ nothing node.1.0 | inr past ↦ z.read.past node.1.0 node.1.1 past ]))
   ]
 
-  leads : (n : ℕ) → node_of root n ≢ 0 → (k : ℕ) × (k < 128) × (leaf_of e root n k ≢ 0)
+  leads : (n : ℕ) → node_of root n ≢ 0 → (k : ℕ) × (k < leaf_pointers.count) × (leaf_of e root n k ≢ 0)
   leads n real = elim (cases_eq n last) [
     | inr apart ↦ let to = v.has.rooted.laid.leads n real in (to.0, to.1, λ none. to.2 (sym (ap (λ (ls : List ℕ). get_or ls to.0 0) (node_stays n (inl apart))) ∙ none))
     | inl same ↦ elim (cases_eq y 0) [
@@ -193,12 +192,12 @@ module _ {D : Type 0} {g : Ghosts D} {r : ℕ} {root : roots.Root} {start : D} {
     ]
   ]
 
-  leaf_stays : (n k : ℕ) → k < 128 → leaf_of a root n k ≢ 0 → (128 * n + k ≡ size / 512 → size % 512 ≡ 0) → block_at e (leaf_of a root n k) ≡ block_at a (leaf_of a root n k)
-  leaf_stays n k small some whole = place_stays (leaf_of a root n k) (Leaf (128 * n + k)) (v.has.rooted.laid.leaves n k small some).part
-      (elim (cases_eq (size % 512) 0) [ inl end_whole ↦ inr (cut_none end_whole) | inr within ↦ inl (λ same. within (whole (one_leaf (128 * n + k) (128 * last + j) same ∙ at_cut within))) ])
-      (inl (λ same. leaf_no_node (128 * n + k) last same))
+  leaf_stays : (n k : ℕ) → k < leaf_pointers.count → leaf_of a root n k ≢ 0 → (leaf_pointers.count * n + k ≡ size / 512 → size % 512 ≡ 0) → block_at e (leaf_of a root n k) ≡ block_at a (leaf_of a root n k)
+  leaf_stays n k small some whole = place_stays (leaf_of a root n k) (Leaf (leaf_pointers.count * n + k)) (v.has.rooted.laid.leaves n k small some).part
+      (elim (cases_eq (size % 512) 0) [ inl end_whole ↦ inr (cut_none end_whole) | inr within ↦ inl (λ same. within (whole (one_leaf (leaf_pointers.count * n + k) (leaf_pointers.count * last + j) same ∙ at_cut within))) ])
+      (inl (λ same. leaf_no_node (leaf_pointers.count * n + k) last same))
 
-  leaf_cut : (n k : ℕ) → k < 128 → leaf_of a root n k ≢ 0 → 128 * n + k ≡ size / 512 → size % 512 ≢ 0 → block_at e (leaf_of a root n k) ≡ cut size root.fill (block_at a (leaf_of a root n k))
+  leaf_cut : (n k : ℕ) → k < leaf_pointers.count → leaf_of a root n k ≢ 0 → leaf_pointers.count * n + k ≡ size / 512 → size % 512 ≢ 0 → block_at e (leaf_of a root n k) ≡ cut size root.fill (block_at a (leaf_of a root n k))
   leaf_cut n k small some here within =
       let at_l = at_cut within in
       let high : n ≡ last = omega (arith, here, at_l, small) in
@@ -210,7 +209,7 @@ module _ {D : Type 0} {g : Ghosts D} {r : ℕ} {root : roots.Root} {start : D} {
   -- ---- the next root
 
   next_past : (n : ℕ) → from ≤ n → node_of next n ≡ 0
-  next_past n past = elim (cases_lt n 120) [ inl few ↦ z.cut_is.past n past few | inr many ↦ get_or_past next.nodes n 0 (omega (arith, many, z.good.0.count)) ]
+  next_past n past = elim (cases_lt n node_pointers.count) [ inl few ↦ z.cut_is.past n past few | inr many ↦ get_or_past next.nodes n 0 (omega (arith, many, z.good.0.count)) ]
 
   next_before : (n : ℕ) → node_of next n ≢ 0 → n < from
   next_before n real = elim (cases_lt n from) [ inl before ↦ before | inr past ↦ absurd (real (next_past n past)) ]
@@ -222,9 +221,9 @@ module _ {D : Type 0} {g : Ghosts D} {r : ℕ} {root : roots.Root} {start : D} {
   from_least = elim (cases_eq y 0) [ inl none ↦ omega (arith, from_low none) | inr some ↦ omega (arith, from_high some) ]
 
   past_pointer : (n k : ℕ) → from ≤ n → leaf_of e next n k ≡ 0
-  past_pointer n k past = ap (λ (m : ℕ). get_or (leaves_at e m) k 0) (next_past n past) ∙ zeros 128 k
+  past_pointer n k past = ap (λ (m : ℕ). get_or (leaves_at e m) k 0) (next_past n past) ∙ zeros leaf_pointers.count k
 
-  next_early : (n k : ℕ) → k < 128 → 128 * n + k < keep → leaf_of e next n k ≡ leaf_of a root n k
+  next_early : (n k : ℕ) → k < leaf_pointers.count → leaf_pointers.count * n + k < keep → leaf_of e next n k ≡ leaf_of a root n k
   next_early n k small before = elim (cases_lt n from) [
     | inl stays ↦ ap (λ (m : ℕ). get_or (leaves_at e m) k 0) (z.cut_is.before n stays) ∙ early n k small before
     | inr past ↦
@@ -233,7 +232,7 @@ module _ {D : Type 0} {g : Ghosts D} {r : ℕ} {root : roots.Root} {start : D} {
         past_pointer n k past ∙ sym (ap (λ (m : ℕ). leaf_of a root m k) same ∙ sym (own_at k) ∙ sym (z.read.before k (omega (arith, before, same))) ∙ none_kept none k small)
   ]
 
-  next_late : (n k : ℕ) → k < 128 → keep ≤ 128 * n + k → leaf_of e next n k ≡ 0
+  next_late : (n k : ℕ) → k < leaf_pointers.count → keep ≤ leaf_pointers.count * n + k → leaf_of e next n k ≡ 0
   next_late n k small past = elim (cases_lt n from) [
     | inr gone ↦ past_pointer n k gone
     | inl stays ↦
@@ -248,7 +247,7 @@ module _ {D : Type 0} {g : Ghosts D} {r : ℕ} {root : roots.Root} {start : D} {
     head = z.cut_is.head;
     word = z.cut_is.word;
     long = put_long mid y (node_spelling end.node) ∙ put_long a x end.content;
-    root_kept = place_stays r Root v.has.rooted.part (inl (λ same. leaf_no_root (128 * last + j) (sym same))) (inl (λ same. node_no_root last (sym same)));
+    root_kept = place_stays r Root v.has.rooted.part (inl (λ same. leaf_no_root (leaf_pointers.count * last + j) (sym same))) (inl (λ same. node_no_root last (sym same)));
     early = early;
     late = late;
     leads = leads;

@@ -1,7 +1,7 @@
 -- How calls end that take blocks, one after another.
-use Rattle.normal_files.proofs.Words.{◌≡◌, ◌⊎◌, inl, inr, ℕ, zero, suc, ◌+◌, ◌-◌, ◌/◌, ◌≤◌, Bool, true, false, Ok, Err, List, [], ◌∷◌, get_or, set, refl, sym, ◌∙◌, ap, subst, arith, sum, IsSome, None, Some, Option, ◌||◌, sum_by-cons, OnlyReads, Image, after_try, had_tried, refused_by, trouble_after_try, Tells, Ghosts, BlockNo, Refused, Trouble, makes_then, reads_then, reads_within, stopped_after_reads, stopped_after_try, still_tells, MapEntry, AreMaps, entry_in, map_of, Enters, IsFindRefusal, AreCounts, IsBadMap, Kept, Damage}
+use Rattle.normal_files.proofs.Words.{◌≡◌, ◌⊎◌, inl, inr, ℕ, zero, suc, ◌+◌, ◌-◌, ◌/◌, ◌≤◌, Bool, true, false, Ok, Err, List, [], ◌∷◌, get_or, set, refl, sym, ◌∙◌, ap, subst, arith, sum, IsSome, None, Some, Option, ◌||◌, sum_by-cons, OnlyReads, Image, after_try, had_tried, refused_by, trouble_after_try, Tells, Ghosts, BlockNo, Refused, Trouble, makes_then, reads_then, reads_within, stopped_after_reads, stopped_after_try, still_tells, MapEntry, AreMaps, entry_in, map_of, Enters, IsFindRefusal, AreCounts, IsBadMap, Kept, Damage, HasStoppedBy}
 use Rattle.normal_files.specs.Ends.{HasGone, IsNoSpace, IsStop, is_damaged, refused_after, Halts, NoMap, OtherCount}
-use Rattle.normal_files.specs.Steps.{HasStoppedBy, WritesBlock, HasCome, told_after, Stops}
+use Rattle.normal_files.specs.Steps.{WritesBlock, HasCome, told_after, Stops}
 use Rattle.normal_files.specs.Takes.{GetsNode, leaf_takes, Claims, Had}
 use Rattle.normal_files.proofs.Come.{makes_within, come_none, come_then, come_within, come_wrote, write_stopped}
 use Rattle.cfs_base.specs.declared.refusal.Refused.TheVariants as refusals
@@ -50,11 +50,11 @@ stop_after {g = g} {n = n} {t = t} {start = start} {mid = mid} new kept b e come
 -- ---- runs
 
 pub gone_none : {D : Type 0} (g : Ghosts D) (d : D) (kept : Kept) (n t k : ℕ) → HasGone g n t k false d d kept kept
-gone_none g d kept n t k = record { come = come_none g d n t; kept = λ none. refl; cylinders = refl; takes = omega arith }
+gone_none g d kept n t k = record { come = come_none g d n t; kept = λ none. refl; cylinders = refl; left = refl; takes = omega arith }
 
 -- calls that take no block
 pub gone_come : {D : Type 0} {g : Ghosts D} {n t : ℕ} {b : Bool} {old new : D} → HasCome g n t b old new → (kept : Kept) → HasGone g n t 0 b old new kept kept
-gone_come come kept = record { come = come; kept = λ none. refl; cylinders = refl; takes = omega arith }
+gone_come come kept = record { come = come; kept = λ none. refl; cylinders = refl; left = refl; takes = omega arith }
 
 pub or_true : (b : Bool) → (b || true) ≡ true
 or_true true = refl
@@ -64,19 +64,20 @@ pub gone_as : {D : Type 0} {g : Ghosts D} {n t k : ℕ} {b c : Bool} {old new : 
 gone_as {g = g} {n = n} {t = t} {k = k} {old = old} {new = new} {before = before} {after = after} same gone = subst (λ (x : Bool). HasGone g n t k x old new before after) same gone
 
 pub gone_within : {D : Type 0} {g : Ghosts D} {n t k m s j : ℕ} {b : Bool} {old new : D} {before after : Kept} → HasGone g n t k b old new before after → n ≤ m → t ≤ s → k ≤ j → HasGone g m s j b old new before after
-gone_within gone more tries blocks = record { come = come_within gone.come more tries; kept = gone.kept; cylinders = gone.cylinders; takes = omega (arith, gone.takes, blocks) }
+gone_within gone more tries blocks = record { come = come_within gone.come more tries; kept = gone.kept; cylinders = gone.cylinders; left = gone.left; takes = omega (arith, gone.takes, blocks) }
 
 pub halts_within : {D : Type 0} {g : Ghosts D} {n t k m s j : ℕ} {old new : D} {before after : Kept} {e : Refused} → Halts g n t k old new before after e → n ≤ m → t ≤ s → k ≤ j → Halts g m s j old new before after e
 halts_within {g = g} {n = n} {t = t} {m = m} {s = s} {old = old} {new = new} ends more tries blocks = record {
   refused = λ room. ends.refused (omega (arith, room, blocks));
   untried = λ same. let two = ends.untried same in (two.0, reads_within g old new n m more two.1);
   cylinders = ends.cylinders;
+  left = ends.left;
   calls = makes_within g old new n t m s more tries ends.calls;
 }
 
 module _ {D : Type 0} {g : Ghosts D} {n t k : ℕ} {start mid : D} {k0 k1 : Kept} where
   pub gone_then : {m s j : ℕ} (b c : Bool) {new : D} {k2 : Kept} → HasGone g n t k b start mid k0 k1 → HasGone g m s j c mid new k1 k2 → HasGone g (n + m) (t + s) (k + j) (b || c) start new k0 k2
-  gone_then b c {new} {k2} gone more = record { come = come_then b c gone.come more.come; kept = kept b gone.kept; cylinders = more.cylinders ∙ gone.cylinders; takes = omega (arith, gone.takes, more.takes) }
+  gone_then b c {new} {k2} gone more = record { come = come_then b c gone.come more.come; kept = kept b gone.kept; cylinders = more.cylinders ∙ gone.cylinders; left = more.left ∙ gone.left; takes = omega (arith, gone.takes, more.takes) }
     where
       kept : (x : Bool) → (x ≡ false → k1 ≡ k0) → (x || c) ≡ false → k2 ≡ k0
       kept true was none = cc
@@ -87,6 +88,7 @@ module _ {D : Type 0} {g : Ghosts D} {n t k : ℕ} {start mid : D} {k0 k1 : Kept
     refused = λ room. stop_after new k2 b e gone.come (ends.refused (omega (arith, room, gone.takes)));
     untried = untried b e gone ends.untried;
     cylinders = ends.cylinders ∙ gone.cylinders;
+    left = ends.left ∙ gone.left;
     calls = makes_then g start mid new n m (n + m) t s (t + s) gone.come.makes ends.calls (omega arith) (omega arith);
   }
     where
@@ -99,7 +101,7 @@ module _ {D : Type 0} {g : Ghosts D} {n t k : ℕ} {start mid : D} {k0 k1 : Kept
 
 -- calls that take no block, stopped
 pub halts_come : {D : Type 0} {g : Ghosts D} {n t : ℕ} {old new : D} {e : Trouble} → Stops g n t old new e → (kept : Kept) → Halts g n t 0 old new kept kept (refused_by e)
-halts_come {g = g} {n = n} {old = old} {new = new} {e = e} ends kept = record { refused = λ room. stop e ends.stopped; untried = λ same. (refl, ends.untried (disk e same)); cylinders = refl; calls = ends.calls }
+halts_come {g = g} {n = n} {old = old} {new = new} {e = e} ends kept = record { refused = λ room. stop e ends.stopped; untried = λ same. (refl, ends.untried (disk e same)); cylinders = refl; left = refl; calls = ends.calls }
   where
     stop : (x : Trouble) → HasStoppedBy g old new x → IsStop g old new kept (refused_by x)
     stop (trouble.Disk tried) is = is
@@ -128,6 +130,7 @@ enters_gone {before = before} {x = x} is = record {
   come = record { told = is.told; makes = is.calls; tries = λ yes. is.made; reads = λ none. cc };
   kept = λ none. cc;
   cylinders = is.cylinders;
+  left = is.left;
   takes = subst (λ (k : Kept). sum before.free ≤ sum k.free + 1) (sym is.taken) (one_less before.free (x.0 / 64));
 }
 
@@ -137,6 +140,7 @@ module _ {D : Type 0} {g : Ghosts D} {e : MapEntry} {old new : D} {before after 
     refused = λ room. why error is.refused is.unless_tried room;
     untried = λ same. (is.kept refl, reads_within g old new 1 2 (omega arith) (is.unless_tried (ap had_tried same)));
     cylinders = is.cylinders;
+    left = is.left;
     calls = is.calls;
   }
     where

@@ -1,13 +1,12 @@
 -- A file written, or set to a size, from what the store has of it.
-use Rattle.normal_files.proofs.Words.{◌≡◌, inl, inr, ℕ, ◌+◌, ◌<◌, ◌≤◌, true, false, List, [], length, Some, refl, sym, ◌∙◌, ap, subst, arith, Ok, Err, set, sum, IfErr, OnOk, Result, OnlyReads, then, wider, AreBlocks, Image, block_at, Leaves, IsSettled, left_now, refused_by, Ghosts, Puid, Refused, Trouble, stopped_after_reads, IsRootBlock, IsGoodRoot, IsRoot, root_spelling, one_root, AreCounts, Kept, StoreHas, file_to_leaves, File, Graph, object_at, with_object, tree_in, IsTree, carries_on, Accounts, Opened, drafts_of, ChangesOnly, of_owner, IsNode, leaves_in, resized, AreClaimed}
+use Rattle.normal_files.proofs.Words.{◌≡◌, inl, inr, ℕ, ◌+◌, ◌<◌, ◌≤◌, true, false, List, [], length, Some, refl, sym, ◌∙◌, ap, subst, arith, Ok, Err, set, sum, IfErr, OnOk, Result, OnlyReads, then, wider, AreBlocks, Image, block_at, Leaves, IsSettled, left_now, refused_by, Ghosts, Puid, Refused, Trouble, stopped_after_reads, IsRootBlock, IsGoodRoot, IsRoot, root_spelling, one_root, AreCounts, Kept, file_to_leaves, File, Graph, object_at, with_object, tree_in, IsTree, carries_on, Accounts, Opened, drafts_of, ChangesOnly, of_owner, IsNode, leaves_in, resized, AreClaimed, node_pointers, leaf_limit, size_limit, IsNear, is_damage, HasStoppedBy}
+use Rattle.normal_files.specs.Calls.{Handed}
 use Rattle.normal_files.specs.Ends.{is_damaged, IsStop}
 use Rattle.normal_files.specs.Cuts.{IsCutRoot, IsEnd, IsReadEnd, MayTrim, first_gone, last_node, trimmed}
 use Rattle.normal_files.specs.Laid.{IsRooted, leaves_of, node_of, object_of}
-use Rattle.normal_files.specs.Nodes.{IsNear}
 use Rattle.normal_files.specs.Parts.{IsPart}
-use Rattle.normal_files.specs.Refusal.{IsTrouble, is_damage}
+use Rattle.normal_files.specs.Refusal.{IsTrouble}
 use Rattle.normal_files.specs.Standing.{BecomesFile, IsFileAt, IsPartly, Becomes}
-use Rattle.normal_files.specs.Steps.{HasStoppedBy}
 use Rattle.normal_files.specs.WriteRefusal.{IsWriteRefusal, TellsNeed, is_untried}
 use Rattle.normal_files.specs.declared.part.Part.{Part}
 use Rattle.normal_files.proofs.Laid.{rooted_is, tree_of_laid}
@@ -52,13 +51,6 @@ has_file a graph ds id f root account there blocks is =
 pub file_size : {D : Type 0} {g : Ghosts D} {r : ℕ} {root : roots.Root} {disk : D} {kept : Kept} (v : View g r root disk kept) → length v.file.bytes ≡ root.size
 file_size {g = g} {root = root} {disk = disk} v = (file_to_leaves root (leaves_of (g.content disk) root) v.file v.has.same).size
 
--- told of the identifier that the call was given
-pub becomes_as : {D : Type 0} {g : Ghosts D} {graph : Graph} {ds : List Opened} (id : Puid) (at : ℕ) {to : File} {old new : D} {after : Kept} → id.block ≡ at → BecomesFile g graph ds (id_at at id.word) to old new after → BecomesFile g graph ds id to old new after
-becomes_as {g = g} {graph = graph} {ds = ds} id at {to} {old} {new} {after} here is = subst (λ x. BecomesFile g graph ds x to old new after) (sym (by_block id at here)) is
-
-pub partly_as : {D : Type 0} (g : Ghosts D) (graph : Graph) (id : Puid) (at : ℕ) (f to : File) (old new : D) → id.block ≡ at → Leaves g old new (λ c. IsPartly c graph (id_at at id.word) f to) → Leaves g old new (λ c. IsPartly c graph id f to)
-partly_as g graph id at f to old new here is = subst (λ x. Leaves g old new (λ c. IsPartly c graph x f to)) (sym (by_block id at here)) is
-
 module _ {D : Type 0} {n : ℕ} {g : Ghosts D} {old mid : D} (reads : OnlyReads g n old mid) where
   -- what was known of a file is known after calls that only read
   abbrev pub view_on : {r : ℕ} {root : roots.Root} {kept : Kept} → View g r root old kept → View g r root mid kept
@@ -99,19 +91,6 @@ module _ {D : Type 0} {n : ℕ} {g : Ghosts D} {old mid : D} (reads : OnlyReads 
   writable_on {root = root} {low = low} {high = high} v inside low_is high_is =
       record { inside = inside; low_is = subst (λ (i : Image). IsPart i root low) (sym reads.content) low_is; high_is = subst (λ (i : Image). IsPart i root high) (sym reads.content) high_is }
 
--- the store has a file without a draft, and its root was read
-abbrev pub view : {D : Type 0} (g : Ghosts D) (disk : D) (graph : Graph) (ds : List Opened) (id : Puid) (f : File) (kept : Kept) (at : ℕ) (root : roots.Root) → StoreHas g graph ds disk kept → object_at graph id ≡ Some (objects.File f) → drafts_of ds id ≡ [] → id.block ≡ at
-    → AreBlocks (g.content disk) → IsRootBlock (block_at (g.content disk) at) root → View g at root disk kept
-view g disk graph ds id f kept at root store there no_draft here blocks is = record {
-  graph = graph;
-  drafts = ds;
-  word = id.word;
-  file = f;
-  store = store;
-  has = has_file (g.content disk) graph ds (id_at at id.word) f root store.account (subst (λ x. object_at graph x ≡ Some (objects.File f)) (by_block id at here) there) blocks is;
-  no_draft = subst (λ x. drafts_of ds x ≡ []) (by_block id at here) no_draft;
-}
-
 -- the file by its root block
 pub file_of : (image : Image) (graph : Graph) (ds : List Opened) (id : Puid) (f : File) (at : ℕ) → Accounts image graph ds → object_at graph id ≡ Some (objects.File f) → id.block ≡ at → IsFileAt image at f
 file_of image graph ds id f at account there here =
@@ -122,6 +101,29 @@ file_of image graph ds id f at account there here =
       root = r.0;
       tree = subst (λ o. IsTree (length image) id.block (tree_in image content) r.0 o) r.2 (tree_of_laid image content r.0 (record { good = r.1.laid.good; spelled = r.1.here }) id.block r.1.here r.1.laid);
     })
+
+module _ {D : Type 0} {g : Ghosts D} {at : ℕ} {disk : D} {kept : Kept} (h : Handed g at disk kept) where
+  -- the file that was handed, and its root was read
+  abbrev pub view : {root : roots.Root} → AreBlocks (g.content disk) → IsRootBlock (block_at (g.content disk) at) root → View g at root disk kept
+  view {root} blocks is = record {
+    graph = h.graph;
+    drafts = h.drafts;
+    word = h.id.word;
+    file = h.file;
+    store = h.store;
+    has = has_file (g.content disk) h.graph h.drafts (id_at at h.id.word) h.file root h.store.account (subst (λ x. object_at h.graph x ≡ Some (objects.File h.file)) (by_block h.id at h.here) h.there) blocks is;
+    no_draft = subst (λ x. drafts_of h.drafts x ≡ []) (by_block h.id at h.here) h.no_draft;
+  }
+
+  -- told of the identifier that was handed
+  pub becomes_as : (to : File) (new : D) (after : Kept) (result : Result (Unit {0}) Refused) → OnOk result (BecomesFile g h.graph h.drafts (id_at at h.id.word) to disk new after) → OnOk result (BecomesFile g h.graph h.drafts h.id to disk new after)
+  becomes_as to new after result is = subst (λ x. OnOk result (BecomesFile g h.graph h.drafts x to disk new after)) (sym (by_block h.id at h.here)) is
+
+  pub partly_as : {to : File} {new : D} → Leaves g disk new (λ c. IsPartly c h.graph (id_at at h.id.word) h.file to) → Leaves g disk new (λ c. IsPartly c h.graph h.id h.file to)
+  partly_as {to} {new} is = subst (λ x. Leaves g disk new (λ c. IsPartly c h.graph x h.file to)) (sym (by_block h.id at h.here)) is
+
+  pub handed_file : IsFileAt (g.content disk) at h.file
+  handed_file = file_of (g.content disk) h.graph h.drafts h.id h.file at h.store.account h.there h.here
 
 -- ---- refusals
 
@@ -179,7 +181,7 @@ near_of {a} {graph} {id} {f} {root} s blocks sized n =
     (omega (arith, s.holds.label.size_is, s.holds.label.is_label.some)) n)
 
 -- the next root is one
-pub next_root : {a : Image} {graph : Graph} {id : Puid} {f : File} {root : roots.Root} → HasFile a graph id f root → {size from : ℕ} {next : roots.Root} → size ≤ 7864320 → IsCutRoot root size from next → IsRoot next
+pub next_root : {a : Image} {graph : Graph} {id : Puid} {f : File} {root : roots.Root} → HasFile a graph id f root → {size from : ℕ} {next : roots.Root} → size ≤ size_limit → IsCutRoot root size from next → IsRoot next
 next_root {a} {graph} {id} {f} {root} s {size} {from} {next} small cut =
     let file = λ (index : next.kind ≡ kinds.Index). no_index f.kind (sym (file_to_leaves root (leaves_of a root) f s.same).kind ∙ sym cut.head.kind ∙ index) in
     record { fill = λ index. absurd (file index); size = record { limit = omega (arith, small, cut.head.size); slots = λ index. absurd (file index) } }
@@ -206,7 +208,7 @@ module _ {D : Type 0} {g : Ghosts D} {r : ℕ} {root : roots.Root} {start : D} {
     root_images = (then) g start mid now Partly _ (trim_images mid trims) images (λ c same. subst Partly (sym (as_b c same)) (root_partly z))
 
     module _ (written : g.content now ≡ set (g.content mid) r (root_spelling next)) (settled : IsSettled g now)
-        {new : D} {k1 : Kept} {result : Result (Unit {0}) Trouble} (frees : FreesTo g root (GivesEnd root size end) (leaves_in size) (last_node size) 15360 120 now new kept k1 result) where
+        {new : D} {k1 : Kept} {result : Result (Unit {0}) Trouble} (frees : FreesTo g root (GivesEnd root size end) (leaves_in size) (last_node size) leaf_limit node_pointers.count now new kept k1 result) where
       given : GivesEnd root size end (g.content start) next (leaves_in size)
       given = (refl, z.ended.own, z.cut_is)
 
@@ -220,11 +222,11 @@ module _ {D : Type 0} {g : Ghosts D} {r : ℕ} {root : roots.Root} {start : D} {
           begun : IsFreeing g (g.content start) (set (trimmed (g.content start) end) r (root_spelling next)) (with_object v.graph (id_at r v.word) (objects.File (resized v.file size))) (id_at r v.word) root next (leaves_in size) (leaves_in size) (last_node size) now now kept
           begun = freeing z now settled (as_b (g.content now) written)
 
-          done : (x : Result (Unit {0}) Trouble) → OnOk x (IsFreeing g (g.content start) (set (trimmed (g.content start) end) r (root_spelling next)) (with_object v.graph (id_at r v.word) (objects.File (resized v.file size))) (id_at r v.word) root next (leaves_in size) 15360 120 now new k1) → OnOk x (BecomesFile g v.graph v.drafts (id_at r v.word) (resized v.file size) start new k1)
+          done : (x : Result (Unit {0}) Trouble) → OnOk x (IsFreeing g (g.content start) (set (trimmed (g.content start) end) r (root_spelling next)) (with_object v.graph (id_at r v.word) (objects.File (resized v.file size))) (id_at r v.word) root next (leaves_in size) leaf_limit node_pointers.count now new k1) → OnOk x (BecomesFile g v.graph v.drafts (id_at r v.word) (resized v.file size) start new k1)
           done (Ok y) is = shrunk_stores z now new k1 is
           done (Err e) is = tt
 
-          none : (x : Result (Unit {0}) Trouble) → OnOk x (IsFreeing g (g.content start) (set (trimmed (g.content start) end) r (root_spelling next)) (with_object v.graph (id_at r v.word) (objects.File (resized v.file size))) (id_at r v.word) root next (leaves_in size) 15360 120 now new k1) → OnOk x (TakesNone (g.content start) (g.content new))
+          none : (x : Result (Unit {0}) Trouble) → OnOk x (IsFreeing g (g.content start) (set (trimmed (g.content start) end) r (root_spelling next)) (with_object v.graph (id_at r v.word) (objects.File (resized v.file size))) (id_at r v.word) root next (leaves_in size) leaf_limit node_pointers.count now new k1) → OnOk x (TakesNone (g.content start) (g.content new))
           none (Ok y) is = shrunk_entries z now new k1 is
           none (Err e) is = tt
 

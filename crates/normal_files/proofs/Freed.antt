@@ -1,5 +1,5 @@
 -- Blocks given back, one after another.
-use Rattle.normal_files.proofs.Words.{◌≡◌, ◌≢◌, ◌⊎◌, inl, inr, ℕ, ◌+◌, ◌*◌, ◌<◌, ◌≤◌, false, IsTrue, Ok, Err, List, length, set, Some, refl, sym, ◌∙◌, ap, subst, arith, OnOk, Result, both_ways, cases_eq, false_from_ne_true, same_Some, MakesAtMost, OnlyReads, Image, IsSameDisk, Written, block_at, trouble_after_try, Leaves, left_now, Ghosts, Puid, Place, Leaf, Node, Root, ShadowRoot, Trouble, makes_then, tried_then, AreCounts, Kept, free_entry, IsEntry, entry_in, is_free_entry, is_free_in, map_of, map_with, with_entry, MapEntry, block_at-with_entry, entry_in-with_entry_other, entry_in-with_entry_same, map_in_image, same_or_not, Graph, Frames, IsTaken, part_at, stands_for, IsPlaced, placed, shadow_entry, stays, tried, wrote, frames_entry, ChangesOnly, IsOpenTo, of_owner, is_taken, changes_entry, changes_then, free_unowned, taken_of}
+use Rattle.normal_files.proofs.Words.{◌≡◌, ◌≢◌, ◌⊎◌, inl, inr, ℕ, ◌+◌, ◌*◌, ◌<◌, ◌≤◌, false, IsTrue, Ok, Err, List, length, set, Some, refl, sym, ◌∙◌, ap, subst, arith, OnOk, Result, both_ways, cases_eq, false_from_ne_true, same_Some, MakesAtMost, OnlyReads, Image, IsSameDisk, Written, block_at, trouble_after_try, Leaves, left_now, Ghosts, Puid, Place, Leaf, Node, Root, ShadowRoot, Trouble, makes_then, tried_then, AreCounts, Kept, free_entry, IsEntry, entry_in, is_free_entry, is_free_in, map_of, map_with, with_entry, MapEntry, block_at-with_entry, entry_in-with_entry_other, entry_in-with_entry_same, map_in_image, same_or_not, Graph, Frames, IsTaken, part_at, stands_for, IsPlaced, placed, shadow_entry, stays, tried, wrote, frames_entry, ChangesOnly, IsOpenTo, of_owner, is_taken, changes_entry, changes_then, free_unowned, taken_of, leaf_pointers}
 use Rattle.normal_files.specs.Frees.{Drops, Follows, FreesBlock, HasBegun, IsDropped, IsFreed, IsFreeing, FreedLeaf, FreedNode}
 use Rattle.normal_files.specs.Laid.{leaf_of, node_of}
 use Rattle.normal_files.proofs.Amid.{taken_open}
@@ -26,6 +26,7 @@ follows_on g at n t m s k r old mid new k0 k1 k2 result few fewer one two = reco
   stopped = λ start begun. two.stopped start (begun_on g start old mid n t begun one.told one.calls);
   tried = two.tried;
   cylinders = two.cylinders ∙ one.cylinders;
+  left = two.left ∙ one.left;
   calls = makes_then g old mid new n m k t s r one.calls two.calls few fewer;
 }
   where
@@ -174,12 +175,12 @@ module _ {D : Type 0} (g : Ghosts D) (a b : Image) (graph : Graph) (id : Puid) (
 
   -- ---- which block it is
 
-  leaf_more : (q k node m : ℕ) → Freed (128 * q + k) node m → Freed (128 * q + (k + 1)) node m
+  leaf_more : (q k node m : ℕ) → Freed (leaf_pointers.count * q + k) node m → Freed (leaf_pointers.count * q + (k + 1)) node m
   leaf_more q k node m (FreedLeaf p j low from to real at) = FreedLeaf p j low from (omega (arith, to)) real at
   leaf_more q k node m (FreedNode p to real gone at) = FreedNode p to real gone at
 
-  leaf_grows : (q k node : ℕ) → k < 128 → (m : ℕ) → Freed (128 * q + (k + 1)) node m → Freed (128 * q + k) node m ⊎ ((m ≡ leaf_of a root q k) × (leaf_of a root q k ≢ 0))
-  leaf_grows q k node small m (FreedLeaf p j low from to real at) = elim (cases_eq (128 * p + j) (128 * q + k)) [
+  leaf_grows : (q k node : ℕ) → k < leaf_pointers.count → (m : ℕ) → Freed (leaf_pointers.count * q + (k + 1)) node m → Freed (leaf_pointers.count * q + k) node m ⊎ ((m ≡ leaf_of a root q k) × (leaf_of a root q k ≢ 0))
+  leaf_grows q k node small m (FreedLeaf p j low from to real at) = elim (cases_eq (leaf_pointers.count * p + j) (leaf_pointers.count * q + k)) [
     | inl same ↦
         let high : p ≡ q = omega (arith, same, low, small) in
         let place : j ≡ k = omega (arith, same, low, small) in
@@ -201,26 +202,26 @@ module _ {D : Type 0} (g : Ghosts D) (a b : Image) (graph : Graph) (id : Puid) (
   ]
 
   -- the leaf at a place
-  pub next_leaf : (q k node block : ℕ) → k < 128 → keep ≤ 128 * q + k → block ≡ leaf_of a root q k → block ≢ 0 → IsNext (128 * q + k) node (128 * q + (k + 1)) node block
+  pub next_leaf : (q k node block : ℕ) → k < leaf_pointers.count → keep ≤ leaf_pointers.count * q + k → block ≡ leaf_of a root q k → block ≢ 0 → IsNext (leaf_pointers.count * q + k) node (leaf_pointers.count * q + (k + 1)) node block
   next_leaf q k node block small late is some =
       let real : leaf_of a root q k ≢ 0 = λ none. some (is ∙ none) in
-      let dropped = subst (IsDropped b graph id.block (Leaf (128 * q + k))) (sym is) (drops.leaves q k small late real) in
+      let dropped = subst (IsDropped b graph id.block (Leaf (leaf_pointers.count * q + k))) (sym is) (drops.leaves q k small late real) in
       record {
-        place = Leaf (128 * q + k);
+        place = Leaf (leaf_pointers.count * q + k);
         dropped = dropped;
-        inner = leaf_no_shadow (128 * q + k);
+        inner = leaf_no_shadow (leaf_pointers.count * q + k);
         stands = stands dropped;
         here = FreedLeaf q k small late (omega arith) real is;
         keeps = leaf_more q k node;
         grows = λ m freed. elim (leaf_grows q k node small m freed) [ inl was ↦ inl was | inr at ↦ inr (at.0 ∙ sym is) ];
       }
     where
-      stands : IsDropped b graph id.block (Leaf (128 * q + k)) block → Freed (128 * q + k) node block → ⊥
-      stands dropped (FreedLeaf p j low from to real at) = let same = one_leaf _ _ (places_differ b block (leaf_of a root p j) id.block (Leaf (128 * q + k)) (Leaf (128 * p + j)) dropped.part (drops.leaves p j low from real).part at) in omega (arith, same, to)
-      stands dropped (FreedNode p to real gone at) = leaf_no_node _ _ (places_differ b block (node_of root p) id.block (Leaf (128 * q + k)) (Node p) dropped.part (drops.nodes p real gone).part at)
+      stands : IsDropped b graph id.block (Leaf (leaf_pointers.count * q + k)) block → Freed (leaf_pointers.count * q + k) node block → ⊥
+      stands dropped (FreedLeaf p j low from to real at) = let same = one_leaf _ _ (places_differ b block (leaf_of a root p j) id.block (Leaf (leaf_pointers.count * q + k)) (Leaf (leaf_pointers.count * p + j)) dropped.part (drops.leaves p j low from real).part at) in omega (arith, same, to)
+      stands dropped (FreedNode p to real gone at) = leaf_no_node _ _ (places_differ b block (node_of root p) id.block (Leaf (leaf_pointers.count * q + k)) (Node p) dropped.part (drops.nodes p real gone).part at)
 
   -- which isn't held
-  pub none_leaf : (q k node block : ℕ) → k < 128 → block ≡ leaf_of a root q k → block ≡ 0 → ((m : ℕ) → Freed (128 * q + k) node m → Freed (128 * q + (k + 1)) node m) × ((m : ℕ) → Freed (128 * q + (k + 1)) node m → Freed (128 * q + k) node m)
+  pub none_leaf : (q k node block : ℕ) → k < leaf_pointers.count → block ≡ leaf_of a root q k → block ≡ 0 → ((m : ℕ) → Freed (leaf_pointers.count * q + k) node m → Freed (leaf_pointers.count * q + (k + 1)) node m) × ((m : ℕ) → Freed (leaf_pointers.count * q + (k + 1)) node m → Freed (leaf_pointers.count * q + k) node m)
   none_leaf q k node block small is none = (leaf_more q k node, λ m freed. elim (leaf_grows q k node small m freed) [ inl was ↦ was | inr at ↦ absurd (at.1 (sym is ∙ none)) ])
 
   -- a node
@@ -239,7 +240,7 @@ module _ {D : Type 0} (g : Ghosts D) (a b : Image) (graph : Graph) (id : Puid) (
       }
     where
       stands : IsDropped b graph id.block (Node q) block → Freed leaf q block → ⊥
-      stands dropped (FreedLeaf p j low from to real at) = leaf_no_node _ _ (sym (places_differ b block (leaf_of a root p j) id.block (Node q) (Leaf (128 * p + j)) dropped.part (drops.leaves p j low from real).part at))
+      stands dropped (FreedLeaf p j low from to real at) = leaf_no_node _ _ (sym (places_differ b block (leaf_of a root p j) id.block (Node q) (Leaf (leaf_pointers.count * p + j)) dropped.part (drops.leaves p j low from real).part at))
       stands dropped (FreedNode p to real gone' at) = let same = one_node _ _ (places_differ b block (node_of root p) id.block (Node q) (Node p) dropped.part (drops.nodes p real gone').part at) in omega (arith, same, to)
 
   -- one that stays, or is absent

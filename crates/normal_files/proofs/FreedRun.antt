@@ -1,10 +1,9 @@
 -- Blocks given back by calls in a row.
-use Rattle.normal_files.proofs.Words.{◌≡◌, ◌≢◌, inl, inr, ℕ, ◌+◌, ◌-◌, ◌*◌, ◌<◌, ◌≤◌, false, IsTrue, Ok, Err, List, length, get_or, refl, sym, ◌∙◌, ap, subst, arith, ◌==◌, if◌then◌else◌, OnOk, Result, cases_eq, ne_eqb, OnlyReads, Image, trouble_after_try, trouble_had_tried, Tells, Ghosts, Puid, Trouble, reads_make, stopped_after_try, Kept, Graph, tried, not_map, leaves_in}
+use Rattle.normal_files.proofs.Words.{◌≡◌, ◌≢◌, inl, inr, ℕ, ◌+◌, ◌-◌, ◌*◌, ◌<◌, ◌≤◌, false, IsTrue, Ok, Err, List, length, get_or, refl, sym, ◌∙◌, ap, subst, arith, ◌==◌, if◌then◌else◌, OnOk, Result, cases_eq, ne_eqb, OnlyReads, Image, trouble_after_try, trouble_had_tried, Tells, Ghosts, Puid, Trouble, reads_make, stopped_after_try, Kept, Graph, tried, not_map, leaves_in, leaf_pointers, node_pointers, leaf_limit, size_limit, IsNear, leaves_at, is_damage}
 use Rattle.normal_files.specs.Frees.{Drops, Follows, FreesBlock, FreesTo, GivesEnd, GivesLeaves, GivesNode, GivesNodes, HasBegun, IsDropTrouble, IsFreed, IsFreeing, OfFile}
 use Rattle.normal_files.specs.Cuts.{first_gone, last_node}
 use Rattle.normal_files.specs.Laid.{leaf_of, node_of}
-use Rattle.normal_files.specs.Nodes.{IsNear, leaves_at}
-use Rattle.normal_files.specs.Refusal.{IsTrouble, is_damage}
+use Rattle.normal_files.specs.Refusal.{IsTrouble}
 use Rattle.normal_files.specs.declared.cut.End.{End}
 use Rattle.normal_files.proofs.Come.{makes_within}
 use Rattle.normal_files.proofs.Trees.{same_leaves}
@@ -52,10 +51,10 @@ frees_one g root Given leaf node to_leaf to_node block old new k0 k1 at n t resu
     by (Err e) f w a b graph id next keep start drops given was = tt
 
 -- one leaf of a node
-pub frees_leaf : {D : Type 0} (g : Ghosts D) (root : roots.Root) (Given : Image → roots.Root → ℕ → Type 0) (q k node block : ℕ) (old new : D) (k0 k1 : Kept) (at n t : ℕ) (result : Result (Unit {0}) Trouble) → k < 128
-    → ((a : Image) (next : roots.Root) (keep : ℕ) → Given a next keep → (block ≡ leaf_of a root q k) × (keep ≤ 128 * q + k)) → FreesBlock g block old new k0 k1 result → Follows g at n t old new k0 k1 result
-    → FreesTo g root Given (128 * q + k) node (128 * q + (k + 1)) node old new k0 k1 result
-frees_leaf g root Given q k node block old new k0 k1 at n t result small is = frees_one g root Given (128 * q + k) node (128 * q + (k + 1)) node block old new k0 k1 at n t result (λ a b graph id next keep start drops given.
+pub frees_leaf : {D : Type 0} (g : Ghosts D) (root : roots.Root) (Given : Image → roots.Root → ℕ → Type 0) (q k node block : ℕ) (old new : D) (k0 k1 : Kept) (at n t : ℕ) (result : Result (Unit {0}) Trouble) → k < leaf_pointers.count
+    → ((a : Image) (next : roots.Root) (keep : ℕ) → Given a next keep → (block ≡ leaf_of a root q k) × (keep ≤ leaf_pointers.count * q + k)) → FreesBlock g block old new k0 k1 result → Follows g at n t old new k0 k1 result
+    → FreesTo g root Given (leaf_pointers.count * q + k) node (leaf_pointers.count * q + (k + 1)) node old new k0 k1 result
+frees_leaf g root Given q k node block old new k0 k1 at n t result small is = frees_one g root Given (leaf_pointers.count * q + k) node (leaf_pointers.count * q + (k + 1)) node block old new k0 k1 at n t result (λ a b graph id next keep start drops given.
     let two = is a next keep given in
     (next_leaf g a b graph id root next keep start drops q k node block small two.1 two.0, none_leaf g a b graph id root next keep start drops q k node block small two.0))
 
@@ -72,10 +71,10 @@ pub frees_err : {D : Type 0} (g : Ghosts D) (root : roots.Root) (Given : Image �
 frees_err g root Given leaf node l n to_leaf to_node old new k0 k1 e is = record { on = λ a b graph id next keep start drops given was. tt; leaves = is.leaves; sound = is.sound }
 
 -- the leaves of a node, one after another
-pub leaves_on : {D : Type 0} (g : Ghosts D) (root : roots.Root) (leaves : List ℕ) (n from k at : ℕ) (old mid new : D) (k0 k1 k2 : Kept) (result : Result (Unit {0}) Trouble) → k < 128 → from ≤ k → FreesTo g root (GivesLeaves root leaves n from) (128 * n + from) n (128 * n + k) n old mid k0 k1 (Ok tt)
-    → FreesBlock g (get_or leaves k 0) mid new k1 k2 result → Follows g at 2 1 mid new k1 k2 result → FreesTo g root (GivesLeaves root leaves n from) (128 * n + from) n (128 * n + (k + 1)) n old new k0 k2 result
+pub leaves_on : {D : Type 0} (g : Ghosts D) (root : roots.Root) (leaves : List ℕ) (n from k at : ℕ) (old mid new : D) (k0 k1 k2 : Kept) (result : Result (Unit {0}) Trouble) → k < leaf_pointers.count → from ≤ k → FreesTo g root (GivesLeaves root leaves n from) (leaf_pointers.count * n + from) n (leaf_pointers.count * n + k) n old mid k0 k1 (Ok tt)
+    → FreesBlock g (get_or leaves k 0) mid new k1 k2 result → Follows g at 2 1 mid new k1 k2 result → FreesTo g root (GivesLeaves root leaves n from) (leaf_pointers.count * n + from) n (leaf_pointers.count * n + (k + 1)) n old new k0 k2 result
 leaves_on g root leaves n from k at old mid new k0 k1 k2 result small late done frees follows =
-    frees_on g root (GivesLeaves root leaves n from) (GivesLeaves root leaves n from) (128 * n + from) n (128 * n + k) n (128 * n + (k + 1)) n old mid new k0 k1 k2 result (λ a next keep given. given) done
+    frees_on g root (GivesLeaves root leaves n from) (GivesLeaves root leaves n from) (leaf_pointers.count * n + from) n (leaf_pointers.count * n + k) n (leaf_pointers.count * n + (k + 1)) n old mid new k0 k1 k2 result (λ a next keep given. given) done
     (frees_leaf g root (GivesLeaves root leaves n from) n k n (get_or leaves k 0) mid new k1 k2 at 2 1 result small (λ a next keep given. (ap (λ (ls : List ℕ). get_or ls k 0) given.0, omega (arith, given.1, late))) frees follows)
 
 pub leaves_follow : {D : Type 0} (g : Ghosts D) (from k at : ℕ) (old mid new : D) (k0 k1 k2 : Kept) (result : Result (Unit {0}) Trouble) → from ≤ k → (most tries : ℕ) → 2 * (k + 1 - from) ≤ most → k + 1 - from ≤ tries → Follows g at (2 * (k - from)) (k - from) old mid k0 k1 (Ok tt) → Follows g at 2 1 mid new k1 k2 result
@@ -127,7 +126,7 @@ module _ {D : Type 0} (g : Ghosts D) (root : roots.Root) (n : ℕ) (old mid : D)
 
   pub read_follows : (at m t most tries : ℕ) (new : D) (k1 : Kept) (result : Result (Unit {0}) Trouble) → m + 1 ≤ most → t ≤ tries → Follows g at m t mid new k0 k1 result → Follows g at most tries old new k0 k1 result
   read_follows at m t most tries new k1 result few fewer follows = follows_on g at 1 0 m t most tries old mid new k0 k0 k1 result (omega (arith, few)) (omega (arith, fewer))
-      (record { told = reads.told; stopped = λ start begun. tt; tried = tt; cylinders = refl; calls = reads_make g old mid 1 reads }) follows
+      (record { told = reads.told; stopped = λ start begun. tt; tried = tt; cylinders = refl; left = refl; calls = reads_make g old mid 1 reads }) follows
 
   pub unread_follows : (at most tries : ℕ) (t : Trouble) → 1 ≤ most → IsTrouble g at old mid t → trouble_had_tried t ≡ false → Follows g at most tries old mid k0 k0 (Err (trouble_after_try t))
   unread_follows at most tries t few is untried = record {
@@ -135,6 +134,7 @@ module _ {D : Type 0} (g : Ghosts D) (root : roots.Root) (n : ℕ) (old mid : D)
     stopped = λ start begun. by t is start begun;
     tried = not_untried t;
     cylinders = refl;
+    left = refl;
     calls = makes_within g old mid 1 0 most tries few (omega arith) (reads_make g old mid 1 reads);
   }
     where
@@ -143,75 +143,75 @@ module _ {D : Type 0} (g : Ghosts D) (root : roots.Root) (n : ℕ) (old mid : D)
       by (trouble.Damaged damage) is start begun = OfFile old (λ tells. record { honest = subst IsTrue (sym begun.makes.same.honesty) tells.honest; told = λ b. begun.told b (tells.told b) }) (sym reads.content) is
 
 -- its leaves and the node itself
-pub node_on : {D : Type 0} (g : Ghosts D) (root : roots.Root) (leaves : List ℕ) (n at : ℕ) (mid mid2 new : D) (k0 k1 k2 : Kept) (result : Result (Unit {0}) Trouble) → FreesTo g root (GivesLeaves root leaves n 0) (128 * n + 0) n (128 * n + 128) n mid mid2 k0 k1 (Ok tt)
-    → FreesBlock g (node_of root n) mid2 new k1 k2 result → Follows g at 2 1 mid2 new k1 k2 result → FreesTo g root (λ a next keep. GivesLeaves root leaves n 0 a next keep × (node_of next n ≡ 0)) (128 * n) n (128 * n + 128) (n + 1) mid new k0 k2 result
+pub node_on : {D : Type 0} (g : Ghosts D) (root : roots.Root) (leaves : List ℕ) (n at : ℕ) (mid mid2 new : D) (k0 k1 k2 : Kept) (result : Result (Unit {0}) Trouble) → FreesTo g root (GivesLeaves root leaves n 0) (leaf_pointers.count * n + 0) n (leaf_pointers.count * n + leaf_pointers.count) n mid mid2 k0 k1 (Ok tt)
+    → FreesBlock g (node_of root n) mid2 new k1 k2 result → Follows g at 2 1 mid2 new k1 k2 result → FreesTo g root (λ a next keep. GivesLeaves root leaves n 0 a next keep × (node_of next n ≡ 0)) (leaf_pointers.count * n) n (leaf_pointers.count * n + leaf_pointers.count) (n + 1) mid new k0 k2 result
 node_on g root leaves n at mid mid2 new k0 k1 k2 result done frees follows =
-    frees_on g root (λ a next keep. GivesLeaves root leaves n 0 a next keep × (node_of next n ≡ 0)) (λ a next keep. GivesLeaves root leaves n 0 a next keep × (node_of next n ≡ 0)) (128 * n) n (128 * n + 128) n (128 * n + 128) (n + 1) mid mid2 new k0 k1 k2 result (λ a next keep given. given)
-    (frees_given g root (λ a next keep. GivesLeaves root leaves n 0 a next keep × (node_of next n ≡ 0)) (GivesLeaves root leaves n 0) (128 * n) n (128 * n + 128) n mid mid2 k0 k1 (Ok tt) (λ a next keep given. given.0)
-    (subst (λ (l : ℕ). FreesTo g root (GivesLeaves root leaves n 0) l n (128 * n + 128) n mid mid2 k0 k1 (Ok tt)) plus done))
-    (frees_node g root (λ a next keep. GivesLeaves root leaves n 0 a next keep × (node_of next n ≡ 0)) n (128 * n + 128) (node_of root n) mid2 new k1 k2 at 2 1 result (λ a next keep given. (λ some. (refl, given.1), λ none real. absurd (real none))) frees follows)
+    frees_on g root (λ a next keep. GivesLeaves root leaves n 0 a next keep × (node_of next n ≡ 0)) (λ a next keep. GivesLeaves root leaves n 0 a next keep × (node_of next n ≡ 0)) (leaf_pointers.count * n) n (leaf_pointers.count * n + leaf_pointers.count) n (leaf_pointers.count * n + leaf_pointers.count) (n + 1) mid mid2 new k0 k1 k2 result (λ a next keep given. given)
+    (frees_given g root (λ a next keep. GivesLeaves root leaves n 0 a next keep × (node_of next n ≡ 0)) (GivesLeaves root leaves n 0) (leaf_pointers.count * n) n (leaf_pointers.count * n + leaf_pointers.count) n mid mid2 k0 k1 (Ok tt) (λ a next keep given. given.0)
+    (subst (λ (l : ℕ). FreesTo g root (GivesLeaves root leaves n 0) l n (leaf_pointers.count * n + leaf_pointers.count) n mid mid2 k0 k1 (Ok tt)) plus done))
+    (frees_node g root (λ a next keep. GivesLeaves root leaves n 0 a next keep × (node_of next n ≡ 0)) n (leaf_pointers.count * n + leaf_pointers.count) (node_of root n) mid2 new k1 k2 at 2 1 result (λ a next keep given. (λ some. (refl, given.1), λ none real. absurd (real none))) frees follows)
   where
-    plus : 128 * n + 0 ≡ 128 * n
+    plus : leaf_pointers.count * n + 0 ≡ leaf_pointers.count * n
     plus = omega arith
 
 -- its leaves couldn't all be freed
-pub node_err : {D : Type 0} (g : Ghosts D) (root : roots.Root) (leaves : List ℕ) (n l m : ℕ) (mid new : D) (k0 k1 : Kept) (e : Trouble) → FreesTo g root (GivesLeaves root leaves n 0) (128 * n + 0) n l m mid new k0 k1 (Err e)
-    → FreesTo g root (λ a next keep. GivesLeaves root leaves n 0 a next keep × (node_of next n ≡ 0)) (128 * n) n (128 * n + 128) (n + 1) mid new k0 k1 (Err e)
+pub node_err : {D : Type 0} (g : Ghosts D) (root : roots.Root) (leaves : List ℕ) (n l m : ℕ) (mid new : D) (k0 k1 : Kept) (e : Trouble) → FreesTo g root (GivesLeaves root leaves n 0) (leaf_pointers.count * n + 0) n l m mid new k0 k1 (Err e)
+    → FreesTo g root (λ a next keep. GivesLeaves root leaves n 0 a next keep × (node_of next n ≡ 0)) (leaf_pointers.count * n) n (leaf_pointers.count * n + leaf_pointers.count) (n + 1) mid new k0 k1 (Err e)
 node_err g root leaves n l m mid new k0 k1 e frees =
-    frees_err g root (λ a next keep. GivesLeaves root leaves n 0 a next keep × (node_of next n ≡ 0)) (128 * n) n l m (128 * n + 128) (n + 1) mid new k0 k1 e
-    (frees_given g root (λ a next keep. GivesLeaves root leaves n 0 a next keep × (node_of next n ≡ 0)) (GivesLeaves root leaves n 0) (128 * n) n l m mid new k0 k1 (Err e) (λ a next keep given. given.0)
+    frees_err g root (λ a next keep. GivesLeaves root leaves n 0 a next keep × (node_of next n ≡ 0)) (leaf_pointers.count * n) n l m (leaf_pointers.count * n + leaf_pointers.count) (n + 1) mid new k0 k1 e
+    (frees_given g root (λ a next keep. GivesLeaves root leaves n 0 a next keep × (node_of next n ≡ 0)) (GivesLeaves root leaves n 0) (leaf_pointers.count * n) n l m mid new k0 k1 (Err e) (λ a next keep given. given.0)
     (subst (λ (q : ℕ). FreesTo g root (GivesLeaves root leaves n 0) q n l m mid new k0 k1 (Err e)) plus frees))
   where
-    plus : 128 * n + 0 ≡ 128 * n
+    plus : leaf_pointers.count * n + 0 ≡ leaf_pointers.count * n
     plus = omega arith
 
 -- ---- all nodes from one on
 
-pub nodes_on : {D : Type 0} (g : Ghosts D) (root : roots.Root) (from n : ℕ) (old mid new : D) (k0 k1 k2 : Kept) (result : Result (Unit {0}) Trouble) → from ≤ n → n < 120 → FreesTo g root (GivesNodes from) (128 * from) from (128 * n) n old mid k0 k1 (Ok tt) → FreesTo g root (GivesNode n) (128 * n) n (128 * n + 128) (n + 1) mid new k1 k2 result
-    → FreesTo g root (GivesNodes from) (128 * from) from (128 * n + 128) (n + 1) old new k0 k2 result
+pub nodes_on : {D : Type 0} (g : Ghosts D) (root : roots.Root) (from n : ℕ) (old mid new : D) (k0 k1 k2 : Kept) (result : Result (Unit {0}) Trouble) → from ≤ n → n < node_pointers.count → FreesTo g root (GivesNodes from) (leaf_pointers.count * from) from (leaf_pointers.count * n) n old mid k0 k1 (Ok tt) → FreesTo g root (GivesNode n) (leaf_pointers.count * n) n (leaf_pointers.count * n + leaf_pointers.count) (n + 1) mid new k1 k2 result
+    → FreesTo g root (GivesNodes from) (leaf_pointers.count * from) from (leaf_pointers.count * n + leaf_pointers.count) (n + 1) old new k0 k2 result
 nodes_on g root from n old mid new k0 k1 k2 result late few done frees =
-    frees_on g root (GivesNodes from) (GivesNode n) (128 * from) from (128 * n) n (128 * n + 128) (n + 1) old mid new k0 k1 k2 result (λ a next keep given. (given.0 n late few, omega (arith, given.1, late))) done frees
+    frees_on g root (GivesNodes from) (GivesNode n) (leaf_pointers.count * from) from (leaf_pointers.count * n) n (leaf_pointers.count * n + leaf_pointers.count) (n + 1) old mid new k0 k1 k2 result (λ a next keep given. (given.0 n late few, omega (arith, given.1, late))) done frees
 
 -- ---- the end of a file
 
-module _ {D : Type 0} (g : Ghosts D) (root : roots.Root) (size : ℕ) (end : End) (small : size ≤ 7864320) (old mid : D) (k0 k1 : Kept) where
+module _ {D : Type 0} (g : Ghosts D) (root : roots.Root) (size : ℕ) (end : End) (small : size ≤ size_limit) (old mid : D) (k0 k1 : Kept) where
   abbrev last : ℕ
   last = last_node size
 
   abbrev place : ℕ
-  place = leaves_in size - 128 * last
+  place = leaves_in size - leaf_pointers.count * last
 
   abbrev Given : Image → roots.Root → ℕ → Type 0
   Given = GivesEnd root size end
 
-  few : last < 120
+  few : last < node_pointers.count
   few = omega (arith, small)
 
-  starts_at : 128 * last + place ≡ leaves_in size
+  starts_at : leaf_pointers.count * last + place ≡ leaves_in size
   starts_at = omega arith
 
   -- the leaves of the last node
-  pub end_leaves : (to_leaf to_node : ℕ) (result : Result (Unit {0}) Trouble) → FreesTo g root (GivesLeaves root end.own.leaves last place) (128 * last + place) last to_leaf to_node old mid k0 k1 result → FreesTo g root Given (leaves_in size) last to_leaf to_node old mid k0 k1 result
+  pub end_leaves : (to_leaf to_node : ℕ) (result : Result (Unit {0}) Trouble) → FreesTo g root (GivesLeaves root end.own.leaves last place) (leaf_pointers.count * last + place) last to_leaf to_node old mid k0 k1 result → FreesTo g root Given (leaves_in size) last to_leaf to_node old mid k0 k1 result
   end_leaves to_leaf to_node result frees =
       subst (λ (l : ℕ). FreesTo g root Given l last to_leaf to_node old mid k0 k1 result) starts_at
-      (frees_given g root Given (GivesLeaves root end.own.leaves last place) (128 * last + place) last to_leaf to_node old mid k0 k1 result (λ a next keep given. (given.1, omega (arith, given.0, starts_at))) frees)
+      (frees_given g root Given (GivesLeaves root end.own.leaves last place) (leaf_pointers.count * last + place) last to_leaf to_node old mid k0 k1 result (λ a next keep given. (given.1, omega (arith, given.0, starts_at))) frees)
 
   -- told by how many leaves are kept, and the number of the last node
-  pub end_first : (k n : ℕ) → k ≡ leaves_in size → n ≡ last → (result : Result (Unit {0}) Trouble) → FreesTo g root (GivesLeaves root end.own.leaves n (k - 128 * n)) (128 * n + (k - 128 * n)) n (128 * n + 128) n old mid k0 k1 result
-      → FreesTo g root Given (leaves_in size) last (128 * last + 128) last old mid k0 k1 result
-  end_first k n same number result frees = end_leaves (128 * last + 128) last result
-      (subst (λ (m : ℕ). FreesTo g root (GivesLeaves root end.own.leaves m (leaves_in size - 128 * m)) (128 * m + (leaves_in size - 128 * m)) m (128 * m + 128) m old mid k0 k1 result) number
-      (subst (λ (q : ℕ). FreesTo g root (GivesLeaves root end.own.leaves n (q - 128 * n)) (128 * n + (q - 128 * n)) n (128 * n + 128) n old mid k0 k1 result) same frees))
+  pub end_first : (k n : ℕ) → k ≡ leaves_in size → n ≡ last → (result : Result (Unit {0}) Trouble) → FreesTo g root (GivesLeaves root end.own.leaves n (k - leaf_pointers.count * n)) (leaf_pointers.count * n + (k - leaf_pointers.count * n)) n (leaf_pointers.count * n + leaf_pointers.count) n old mid k0 k1 result
+      → FreesTo g root Given (leaves_in size) last (leaf_pointers.count * last + leaf_pointers.count) last old mid k0 k1 result
+  end_first k n same number result frees = end_leaves (leaf_pointers.count * last + leaf_pointers.count) last result
+      (subst (λ (m : ℕ). FreesTo g root (GivesLeaves root end.own.leaves m (leaves_in size - leaf_pointers.count * m)) (leaf_pointers.count * m + (leaves_in size - leaf_pointers.count * m)) m (leaf_pointers.count * m + leaf_pointers.count) m old mid k0 k1 result) number
+      (subst (λ (q : ℕ). FreesTo g root (GivesLeaves root end.own.leaves n (q - leaf_pointers.count * n)) (leaf_pointers.count * n + (q - leaf_pointers.count * n)) n (leaf_pointers.count * n + leaf_pointers.count) n old mid k0 k1 result) same frees))
 
-  pub end_err : (l n : ℕ) (e : Trouble) → FreesTo g root Given (leaves_in size) last l n old mid k0 k1 (Err e) → FreesTo g root Given (leaves_in size) last 15360 120 old mid k0 k1 (Err e)
-  end_err l n e frees = frees_err g root Given (leaves_in size) last l n 15360 120 old mid k0 k1 e frees
+  pub end_err : (l n : ℕ) (e : Trouble) → FreesTo g root Given (leaves_in size) last l n old mid k0 k1 (Err e) → FreesTo g root Given (leaves_in size) last leaf_limit node_pointers.count old mid k0 k1 (Err e)
+  end_err l n e frees = frees_err g root Given (leaves_in size) last l n leaf_limit node_pointers.count old mid k0 k1 e frees
 
   -- that node, where it goes
-  pub end_node : (at n block : ℕ) (new : D) (k2 : Kept) (result : Result (Unit {0}) Trouble) → n ≡ last → block ≡ (if end.kept == 0 then node_of root n else 0) → FreesTo g root Given (leaves_in size) last (128 * last + 128) last old mid k0 k1 (Ok tt) → FreesBlock g block mid new k1 k2 result → Follows g at 2 1 mid new k1 k2 result
-      → FreesTo g root Given (leaves_in size) last (128 * last + 128) (last + 1) old new k0 k2 result
+  pub end_node : (at n block : ℕ) (new : D) (k2 : Kept) (result : Result (Unit {0}) Trouble) → n ≡ last → block ≡ (if end.kept == 0 then node_of root n else 0) → FreesTo g root Given (leaves_in size) last (leaf_pointers.count * last + leaf_pointers.count) last old mid k0 k1 (Ok tt) → FreesBlock g block mid new k1 k2 result → Follows g at 2 1 mid new k1 k2 result
+      → FreesTo g root Given (leaves_in size) last (leaf_pointers.count * last + leaf_pointers.count) (last + 1) old new k0 k2 result
   end_node at n block new k2 result number is done frees follows =
-      frees_on g root Given Given (leaves_in size) last (128 * last + 128) last (128 * last + 128) (last + 1) old mid new k0 k1 k2 result (λ a next keep given. given) done
-      (frees_node g root Given last (128 * last + 128) block mid new k1 k2 at 2 1 result (λ a next keep given. (
+      frees_on g root Given Given (leaves_in size) last (leaf_pointers.count * last + leaf_pointers.count) last (leaf_pointers.count * last + leaf_pointers.count) (last + 1) old mid new k0 k1 k2 result (λ a next keep given. given) done
+      (frees_node g root Given last (leaf_pointers.count * last + leaf_pointers.count) block mid new k1 k2 at 2 1 result (λ a next keep given. (
         λ some. elim (cases_eq end.kept 0) [
           | inl none ↦ (gone_is none, given.2.past last (omega (arith, low none)) few)
           | inr some_kept ↦ absurd (some (stays some_kept))
@@ -241,14 +241,14 @@ module _ {D : Type 0} (g : Ghosts D) (root : roots.Root) (size : ℕ) (end : End
       high some = rw (ne_eqb end.kept 0 some) refl
 
   -- and all nodes past it
-  pub end_rest : (n to_leaf to_node : ℕ) (new : D) (k2 : Kept) (result : Result (Unit {0}) Trouble) → n ≡ last → FreesTo g root Given (leaves_in size) last (128 * last + 128) (last + 1) old mid k0 k1 (Ok tt) → FreesTo g root (GivesNodes (n + 1)) (128 * (n + 1)) (n + 1) to_leaf to_node mid new k1 k2 result
+  pub end_rest : (n to_leaf to_node : ℕ) (new : D) (k2 : Kept) (result : Result (Unit {0}) Trouble) → n ≡ last → FreesTo g root Given (leaves_in size) last (leaf_pointers.count * last + leaf_pointers.count) (last + 1) old mid k0 k1 (Ok tt) → FreesTo g root (GivesNodes (n + 1)) (leaf_pointers.count * (n + 1)) (n + 1) to_leaf to_node mid new k1 k2 result
       → FreesTo g root Given (leaves_in size) last to_leaf to_node old new k0 k2 result
   end_rest n to_leaf to_node new k2 result number done frees =
-      frees_on g root Given (GivesNodes (last + 1)) (leaves_in size) last (128 * last + 128) (last + 1) to_leaf to_node old mid new k0 k1 k2 result (λ a next keep given. (λ q late below. given.2.past q (omega (arith, late, most)) below, omega (arith, given.0))) done
+      frees_on g root Given (GivesNodes (last + 1)) (leaves_in size) last (leaf_pointers.count * last + leaf_pointers.count) (last + 1) to_leaf to_node old mid new k0 k1 k2 result (λ a next keep given. (λ q late below. given.2.past q (omega (arith, late, most)) below, omega (arith, given.0))) done
       (subst (λ (l : ℕ). FreesTo g root (GivesNodes (last + 1)) l (last + 1) to_leaf to_node mid new k1 k2 result) at_next
-      (subst (λ (m : ℕ). FreesTo g root (GivesNodes (m + 1)) (128 * (m + 1)) (m + 1) to_leaf to_node mid new k1 k2 result) number frees))
+      (subst (λ (m : ℕ). FreesTo g root (GivesNodes (m + 1)) (leaf_pointers.count * (m + 1)) (m + 1) to_leaf to_node mid new k1 k2 result) number frees))
     where
-      at_next : 128 * (last + 1) ≡ 128 * last + 128
+      at_next : leaf_pointers.count * (last + 1) ≡ leaf_pointers.count * last + leaf_pointers.count
       at_next = omega arith
 
       most : first_gone size end.kept ≤ last + 1

@@ -1,5 +1,5 @@
 -- The root written with a greater size, and then a barrier.
-use Rattle.normal_files.proofs.Words.{◌≡◌, inl, ◌≤◌, ℕ, List, Ok, set, refl, sym, ◌∙◌, ap, subst, arith, length, Result, Image, Nothing, block_at, IsSettled, Leaves, Ghosts, Puid, Trouble, on, wider, IsGoodRoot, root_spelling, AreCounts, Kept, bytes_held, grown_fit, grown_object, SetSize, File, with_object, changed_object, resized, entry_in, rises-with_object, Frames, Holds, carries_settled, frames_begin, Accounts, HasDrafts, ChangesOnly, of_owner, is_meant, is_of, object_changes_on}
+use Rattle.normal_files.proofs.Words.{◌≡◌, inl, ◌≤◌, ℕ, List, Ok, set, refl, sym, ◌∙◌, ap, subst, arith, length, Result, Image, Nothing, block_at, IsSettled, Leaves, Ghosts, Puid, Trouble, on, wider, IsGoodRoot, root_spelling, AreCounts, Kept, bytes_held, grown_fit, grown_object, SetSize, File, with_object, changed_object, resized, entry_in, rises-with_object, Frames, Holds, carries_settled, frames_begin, Accounts, HasDrafts, ChangesOnly, of_owner, is_meant, is_of, object_changes_on, size_limit}
 use Rattle.normal_files.specs.Frees.{TakesNone}
 use Rattle.normal_files.specs.Laid.{leaves_of}
 use Rattle.normal_files.specs.Standing.{BecomesFile, IsPartly}
@@ -11,7 +11,7 @@ use Rattle.normal_files.specs.View.{View, id_at}
 use Rattle.block_tree.specs.declared.root.Root as roots
 use Rattle.ufs_model.specs.declared.object.Object.TheVariants as objects
 
-module _ {D : Type 0} {g : Ghosts D} {r : ℕ} {root : roots.Root} {start : D} {kept : Kept} (v : View g r root start kept) {size : ℕ} (more : length v.file.bytes ≤ size) (allowed : size ≤ 7864320) where
+module _ {D : Type 0} {g : Ghosts D} {r : ℕ} {root : roots.Root} {start : D} {kept : Kept} (v : View g r root start kept) {size : ℕ} (more : length v.file.bytes ≤ size) (allowed : size ≤ size_limit) where
   abbrev a : Image
   a = g.content start
 

@@ -1,36 +1,10 @@
 -- A file that lies on a disk is the tree of its root, and the other way round.
-use Rattle.normal_files.proofs.Words.{◌≡◌, ◌≢◌, inl, inr, ℕ, zero, suc, ◌+◌, ◌*◌, ◌<◌, ◌≤◌, false, List, [], ◌∷◌, ◌++◌, length, Option, Some, refl, sym, ◌∙◌, ap, subst, arith, IsTrue, is_some, cases_lt, Image, block_at, Puid, Leaf, Node, leaf_pointers, node_pointers, IsRootBlock, root_spelling, end_of, levels_of, pointer, tree_of, one_root, Object, BelongsTo, is_committed, part_at, LeavesFit, IsTree, leaf_in, object_with, Held, held_at, place_at, tree_in, first_or, sight, source, ReadsAs, no_shadows, reads_by_root, held_some, held_there, some_held, held, held_is}
+use Rattle.normal_files.proofs.Words.{◌≡◌, ◌≢◌, inl, inr, ℕ, zero, suc, ◌<◌, ◌≤◌, false, List, [], ◌∷◌, ◌++◌, length, Option, Some, refl, sym, ◌∙◌, ap, subst, arith, IsTrue, is_some, cases_lt, Image, block_at, Puid, leaf_pointers, node_pointers, IsRootBlock, root_spelling, end_of, levels_of, pointer, tree_of, one_root, Object, BelongsTo, is_committed, part_at, LeavesFit, IsTree, leaf_in, object_with, Held, held_at, place_at, tree_in, first_or, sight, source, ReadsAs, no_shadows, reads_by_root, held_some, held_there, some_held, held, held_is, leaf_place, node_place, nothing_below, two_levels}
 use Rattle.normal_files.specs.Laid.{IsLaid, IsRooted, leaf_of, node_of, object_of}
 use Rattle.normal_files.proofs.Trees.{leaf_at, node_at, none_past}
 use Rattle.block_tree.specs.declared.root.Root as roots
 
--- ---- places
-
-node_place : (content : List ℕ) (n : ℕ) → place_at (levels_of content) (n ∷ []) ≡ Node n
-unfolding place_at levels_of
-node_place content n = ap Node (omega arith)
-
-leaf_place : (content : List ℕ) (n k : ℕ) → place_at (levels_of content) (n ∷ k ∷ []) ≡ Leaf (128 * n + k)
-unfolding place_at levels_of
-leaf_place content n k = ap Leaf (omega arith)
-
-two_levels : (content : List ℕ) → length (levels_of content) ≡ 2
-unfolding levels_of
-two_levels content = refl
-
-nothing_below : (image : Image) (content : List ℕ) (m j i : ℕ) (q : List ℕ) → tree_of image content (m ∷ j ∷ i ∷ q) ≡ 0
-unfolding levels_of
-nothing_below image content m j i q = by (pointer node_pointers content m)
-  where
-    end : (p : ℕ) → end_of image [] p (i ∷ q) ≡ 0
-    end zero = refl
-    end (suc p) = refl
-
-    by : (p : ℕ) → end_of image (leaf_pointers ∷ []) p (j ∷ i ∷ q) ≡ 0
-    by zero = refl
-    by (suc p) = end (pointer leaf_pointers (block_at image (suc p)) j)
-
-past_leaf : (image : Image) (content : List ℕ) (root : roots.Root) → IsRootBlock content root → (n k : ℕ) → 128 ≤ k → tree_of image content (n ∷ k ∷ []) ≡ 0
+past_leaf : (image : Image) (content : List ℕ) (root : roots.Root) → IsRootBlock content root → (n k : ℕ) → leaf_pointers.count ≤ k → tree_of image content (n ∷ k ∷ []) ≡ 0
 unfolding levels_of
 past_leaf image content root is n k past = by (pointer node_pointers content n)
   where
@@ -43,13 +17,13 @@ module _ (image : Image) (content : List ℕ) (root : roots.Root) (is : IsRootBl
   below = (tree_in image content).below
 
   -- what is so of all nodes and leaves is so of all that stands in the tree
-  pub each : (P : List ℕ → Held → Type 0) → ((n : ℕ) → node_of root n ≢ 0 → P (n ∷ []) (held image (node_of root n))) → ((n k : ℕ) → k < 128 → leaf_of image root n k ≢ 0 → P (n ∷ k ∷ []) (held image (leaf_of image root n k)))
+  pub each : (P : List ℕ → Held → Type 0) → ((n : ℕ) → node_of root n ≢ 0 → P (n ∷ []) (held image (node_of root n))) → ((n k : ℕ) → k < leaf_pointers.count → leaf_of image root n k ≢ 0 → P (n ∷ k ∷ []) (held image (leaf_of image root n k)))
       → (p : List ℕ) (h : Held) → below p ≡ Some h → P p h
   each P nodes leaves [] h v = cc
   each P nodes leaves (n ∷ []) h v =
       let two = held_is image (node_of root n) h (ap (held_at image) (sym (node_at image content root is n)) ∙ v) in
       subst (P (n ∷ [])) (sym two.0) (nodes n two.1)
-  each P nodes leaves (n ∷ k ∷ []) h v = elim (cases_lt k 128) [
+  each P nodes leaves (n ∷ k ∷ []) h v = elim (cases_lt k leaf_pointers.count) [
     | inl small ↦
         let two = held_is image (leaf_of image root n k) h (ap (held_at image) (sym (leaf_at image content root is n k small)) ∙ v) in
         subst (P (n ∷ k ∷ [])) (sym two.0) (leaves n k small two.1)
@@ -60,7 +34,7 @@ module _ (image : Image) (content : List ℕ) (root : roots.Root) (is : IsRootBl
   pub node_there : (n : ℕ) → node_of root n ≢ 0 → below (n ∷ []) ≡ Some (held image (node_of root n))
   node_there n real = ap (held_at image) (node_at image content root is n) ∙ held_there image (node_of root n) real
 
-  pub leaf_there : (n k : ℕ) → k < 128 → leaf_of image root n k ≢ 0 → below (n ∷ k ∷ []) ≡ Some (held image (leaf_of image root n k))
+  pub leaf_there : (n k : ℕ) → k < leaf_pointers.count → leaf_of image root n k ≢ 0 → below (n ∷ k ∷ []) ≡ Some (held image (leaf_of image root n k))
   leaf_there n k small real = ap (held_at image) (leaf_at image content root is n k small) ∙ held_there image (leaf_of image root n k) real
 
   -- from blocks to the tree
@@ -71,7 +45,7 @@ module _ (image : Image) (content : List ℕ) (root : roots.Root) (is : IsRootBl
     on_disk = each (λ p h. h.block < length image) (λ n real. (laid.nodes n real).below) (λ n k small real. (laid.leaves n k small real).below);
     owned = each (λ p h. BelongsTo r (place_at (levels_of content) p) h.part)
         (λ n real. subst (λ pl. BelongsTo r pl (part_at image (node_of root n))) (sym (node_place content n)) (laid.nodes n real).part)
-        (λ n k small real. subst (λ pl. BelongsTo r pl (part_at image (leaf_of image root n k))) (sym (leaf_place content n k)) (laid.leaves n k small real).part);
+        (λ n k small real. subst (λ pl. BelongsTo r pl (part_at image (leaf_of image root n k))) (sym (leaf_place content n k _ refl)) (laid.leaves n k small real).part);
     within = λ l h v. laid.fit.within l h (ap (λ (c : List ℕ). leaf_in (tree_in image c) l) (sym spelled) ∙ v);
     filled = λ l i h v. laid.fit.filled l i h (ap (λ (c : List ℕ). leaf_in (tree_in image c) l) (sym spelled) ∙ v);
     leads_on = each (λ p h. length p < length (levels_of content) → (k : ℕ) × IsTrue (is_some (below (p ++ k ∷ []))))
@@ -81,8 +55,8 @@ module _ (image : Image) (content : List ℕ) (root : roots.Root) (is : IsRootBl
 
   -- and back
   module _ (r size : ℕ) (o : Object) (tree : IsTree size r (tree_in image content) root o) where
-    led : (n : ℕ) → (k : ℕ) × IsTrue (is_some (below (n ∷ k ∷ []))) → (k : ℕ) × (k < 128) × (leaf_of image root n k ≢ 0)
-    led n more = elim (cases_lt more.0 128) [
+    led : (n : ℕ) → (k : ℕ) × IsTrue (is_some (below (n ∷ k ∷ []))) → (k : ℕ) × (k < leaf_pointers.count) × (leaf_of image root n k ≢ 0)
+    led n more = elim (cases_lt more.0 leaf_pointers.count) [
       | inl small ↦ (more.0, small, some_held image (leaf_of image root n more.0) (ap (λ (b : ℕ). is_some (held_at image b)) (sym (leaf_at image content root is n more.0 small)) ∙ more.1))
       | inr past ↦ absurd (some_held image 0 (ap (λ (b : ℕ). is_some (held_at image b)) (sym (past_leaf image content root is n more.0 past)) ∙ more.1) refl)
     ]
@@ -96,7 +70,7 @@ module _ (image : Image) (content : List ℕ) (root : roots.Root) (is : IsRootBl
       };
       leaves = λ n k small real. record {
         below = rw (← sized) (tree.on_disk (n ∷ k ∷ []) (held image (leaf_of image root n k)) (leaf_there n k small real));
-        part = subst (λ pl. BelongsTo r pl (part_at image (leaf_of image root n k))) (leaf_place content n k) (tree.owned (n ∷ k ∷ []) (held image (leaf_of image root n k)) (leaf_there n k small real));
+        part = subst (λ pl. BelongsTo r pl (part_at image (leaf_of image root n k))) (leaf_place content n k _ refl) (tree.owned (n ∷ k ∷ []) (held image (leaf_of image root n k)) (leaf_there n k small real));
       };
       leads = λ n real. led n (tree.leads_on (n ∷ []) (held image (node_of root n)) (node_there n real) (omega (arith, two_levels content)));
       fit = subst (λ (c : List ℕ). LeavesFit root (leaf_in (tree_in image c))) spelled (record { within = tree.within; filled = tree.filled });

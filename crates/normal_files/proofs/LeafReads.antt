@@ -1,6 +1,6 @@
 -- Leaves that are read one after another.
-use Rattle.normal_files.proofs.Words.{◌≡◌, ◌≢◌, ℕ, zero, suc, ◌+◌, ◌*◌, ◌%◌, ◌<◌, ◌≤◌, List, length, Option, refl, sym, ◌∙◌, ap, subst, arith, min, replicate, slice_index, slice_range, ext_get_or, take_at, AreBlocks, Image, block_at, IsRootBlock, one_root, bytes_in, overlaid, IsReadTo, laid, length-overlaid, file_to_leaves, read_all, leaves_in, File, leaf_content, leaf_in, Held, held_at, tree_in}
-use Rattle.normal_files.specs.Nodes.{LeadTo, leaves_at}
+use Rattle.normal_files.proofs.Words.{◌≡◌, ◌≢◌, ℕ, zero, suc, ◌+◌, ◌*◌, ◌%◌, ◌<◌, ◌≤◌, List, length, Option, refl, sym, ◌∙◌, ap, subst, arith, min, replicate, slice_index, slice_range, ext_get_or, take_at, AreBlocks, Image, block_at, IsRootBlock, one_root, bytes_in, overlaid, IsReadTo, laid, length-overlaid, file_to_leaves, read_all, leaves_in, File, leaf_content, leaf_in, Held, held_at, tree_in, leaf_pointers, leaves_at}
+use Rattle.normal_files.specs.Nodes.{LeadTo}
 use Rattle.normal_files.specs.Standing.{IsFileAt}
 use Rattle.normal_files.proofs.Trees.{leads}
 use Rattle.block_tree.specs.declared.root.Root as roots
@@ -16,13 +16,13 @@ module _ (fill : ℕ) (leaf : ℕ → Option Held) (offset : ℕ) (part : List �
   read_on n m last read k inside early = read k inside (omega (arith, last, early, inside))
 
 -- the leaf that was read is the tree's
-pub one_leaf : (image mid : Image) (leaves : List ℕ) (number n fill : ℕ) (leaf : ℕ → Option Held) (content : List ℕ) → LeadTo image leaves number leaf → mid ≡ image → AreBlocks image → 128 * number ≤ n → n < 128 * number + 128
-    → slice_index leaves (n % 128) < length image → content ≡ bytes_in mid fill (slice_index leaves (n % 128)) → content ≡ leaf_content fill (leaf n)
+pub one_leaf : (image mid : Image) (leaves : List ℕ) (number n fill : ℕ) (leaf : ℕ → Option Held) (content : List ℕ) → LeadTo image leaves number leaf → mid ≡ image → AreBlocks image → leaf_pointers.count * number ≤ n → n < leaf_pointers.count * number + leaf_pointers.count
+    → slice_index leaves (n % leaf_pointers.count) < length image → content ≡ bytes_in mid fill (slice_index leaves (n % leaf_pointers.count)) → content ≡ leaf_content fill (leaf n)
 one_leaf image mid leaves number n fill leaf content lead same blocks from below there is =
-    let small : n % 128 < 128 = omega arith in
-    let place : n ≡ 128 * number + n % 128 = omega (arith, from, below) in
-    is ∙ ap (λ (i : Image). bytes_in i fill (slice_index leaves (n % 128))) same ∙ sym (content_read image fill (slice_index leaves (n % 128)) (λ real. (blocks (slice_index leaves (n % 128)) there).long))
-    ∙ ap (leaf_content fill) (sym (lead (n % 128) small)) ∙ ap (λ (m : ℕ). leaf_content fill (leaf m)) (sym place)
+    let small : n % leaf_pointers.count < leaf_pointers.count = omega arith in
+    let place : n ≡ leaf_pointers.count * number + n % leaf_pointers.count = omega (arith, from, below) in
+    is ∙ ap (λ (i : Image). bytes_in i fill (slice_index leaves (n % leaf_pointers.count))) same ∙ sym (content_read image fill (slice_index leaves (n % leaf_pointers.count)) (λ real. (blocks (slice_index leaves (n % leaf_pointers.count)) there).long))
+    ∙ ap (leaf_content fill) (sym (lead (n % leaf_pointers.count) small)) ∙ ap (λ (m : ℕ). leaf_content fill (leaf m)) (sym place)
 
 -- a node that was read leads to the leaves of the tree
 pub node_leads : (image mid new : Image) (content : List ℕ) (root : roots.Root) (n : ℕ) (leaves : List ℕ) → IsRootBlock content root → mid ≡ image → new ≡ image → leaves ≡ leaves_at mid (slice_index root.nodes n)

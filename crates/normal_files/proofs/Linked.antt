@@ -1,7 +1,6 @@
 -- The root leads to a node with other leaves: a node that stood was written, or a new one is led to.
-use Rattle.normal_files.proofs.Words.{◌≡◌, ◌≢◌, ◌⊎◌, inl, inr, ℕ, zero, suc, ◌+◌, ◌*◌, ◌%◌, ◌<◌, List, length, get_or, Some, refl, sym, ◌∙◌, ap, subst, arith, cases_eq, Image, block_at, Puid, Place, Leaf, Node, Root, leaf_pointers, pointers_of, IsGoodRoot, IsRootBlock, root_spelling, entry_in, SetsSize, LeavesFit, bytes_held, BelongsTo, is_committed, part_at, part_of, held_at, held_there}
+use Rattle.normal_files.proofs.Words.{◌≡◌, ◌≢◌, ◌⊎◌, inl, inr, ℕ, zero, suc, ◌+◌, ◌*◌, ◌%◌, ◌<◌, List, length, get_or, Some, refl, sym, ◌∙◌, ap, subst, arith, cases_eq, Image, block_at, Puid, Place, Leaf, Node, Root, leaf_pointers, pointers_of, IsGoodRoot, IsRootBlock, root_spelling, entry_in, SetsSize, LeavesFit, bytes_held, BelongsTo, is_committed, part_at, part_of, held_at, held_there, leaves_at}
 use Rattle.normal_files.specs.Laid.{IsAt, IsRooted, leaf_of, leaves_of, node_of}
-use Rattle.normal_files.specs.Nodes.{leaves_at}
 use Rattle.normal_files.proofs.Among.{places_differ}
 use Rattle.normal_files.proofs.Trees.{leaf_stands}
 use Rattle.normal_files.proofs.Places.{leaf_no_node, leaf_no_root, node_no_root}
@@ -21,8 +20,8 @@ pub record IsLinked (c d : Image) (id : Puid) (r s : roots.Root) (n y : ℕ) (le
   pub good : IsGoodRoot s
   pub head : SetsSize r.size r s
   pub word : s.word ≡ r.word
-  pub each : (k : ℕ) → k < 128 → (get_or leaves k 0 ≡ leaf_of c r n k) ⊎ IsAt c id.block (Leaf (128 * n + k)) (get_or leaves k 0)
-  pub leads : (k : ℕ) × (k < 128) × (get_or leaves k 0 ≢ 0)
+  pub each : (k : ℕ) → k < leaf_pointers.count → (get_or leaves k 0 ≡ leaf_of c r n k) ⊎ IsAt c id.block (Leaf (leaf_pointers.count * n + k)) (get_or leaves k 0)
+  pub leads : (k : ℕ) × (k < leaf_pointers.count) × (get_or leaves k 0 ≢ 0)
 
 other_node : (m n : ℕ) → m ≢ n → Node m ≢ Node n
 other_node m n apart same = apart (cc)
@@ -59,18 +58,18 @@ module _ (c d : Image) (id : Puid) (r s : roots.Root) (n y : ℕ) (leaves : List
   pub leaf_other : (m k : ℕ) → m ≢ n → leaf_of d s m k ≡ leaf_of c r m k
   leaf_other m k apart = ap (λ (ls : List ℕ). get_or ls k 0) (leaves_other m apart)
 
-  leaf_is : (m k : ℕ) → k < 128 → leaf_of d s m k ≢ 0 → IsAt c id.block (Leaf (128 * m + k)) (leaf_of d s m k)
+  leaf_is : (m k : ℕ) → k < leaf_pointers.count → leaf_of d s m k ≢ 0 → IsAt c id.block (Leaf (leaf_pointers.count * m + k)) (leaf_of d s m k)
   leaf_is m k small real = elim (cases_eq m n) [
     | inr apart ↦
         let same = leaf_other m k apart in
-        subst (IsAt c id.block (Leaf (128 * m + k))) (sym same) (rooted.laid.leaves m k small (λ none. real (same ∙ none)))
+        subst (IsAt c id.block (Leaf (leaf_pointers.count * m + k))) (sym same) (rooted.laid.leaves m k small (λ none. real (same ∙ none)))
     | inl is ↦
         let here : leaf_of d s m k ≡ get_or leaves k 0 = ap (λ (q : ℕ). leaf_of d s q k) is ∙ leaf_there k in
         elim (link.each k small) [
-          | inr new ↦ subst (IsAt c id.block (Leaf (128 * m + k))) (sym here) (subst (λ (q : ℕ). IsAt c id.block (Leaf (128 * q + k)) (get_or leaves k 0)) (sym is) new)
+          | inr new ↦ subst (IsAt c id.block (Leaf (leaf_pointers.count * m + k))) (sym here) (subst (λ (q : ℕ). IsAt c id.block (Leaf (leaf_pointers.count * q + k)) (get_or leaves k 0)) (sym is) new)
           | inl old ↦
               let was : leaf_of d s m k ≡ leaf_of c r m k = here ∙ old ∙ ap (λ (q : ℕ). leaf_of c r q k) (sym is) in
-              subst (IsAt c id.block (Leaf (128 * m + k))) (sym was) (rooted.laid.leaves m k small (λ none. real (was ∙ none)))
+              subst (IsAt c id.block (Leaf (leaf_pointers.count * m + k))) (sym was) (rooted.laid.leaves m k small (λ none. real (was ∙ none)))
         ]
   ]
 
@@ -84,7 +83,7 @@ module _ (c d : Image) (id : Puid) (r s : roots.Root) (n y : ℕ) (leaves : List
         | inl is ↦ subst (λ (q : ℕ). IsAt d id.block (Node q) (node_of s q)) (sym is) (subst (IsAt d id.block (Node n)) (sym link.node_here) (at_on y (Node n) link.y_at))
         | inr apart ↦ subst (IsAt d id.block (Node m)) (sym (link.node_other m apart)) (at_on (node_of r m) (Node m) (rooted.laid.nodes m (λ none. real (link.node_other m apart ∙ none))))
       ];
-      leaves = λ m k small real. at_on (leaf_of d s m k) (Leaf (128 * m + k)) (leaf_is m k small real);
+      leaves = λ m k small real. at_on (leaf_of d s m k) (Leaf (leaf_pointers.count * m + k)) (leaf_is m k small real);
       leads = λ m real. elim (cases_eq m n) [
         | inl is ↦ (link.leads.0, link.leads.1, λ none. link.leads.2 (sym (leaf_there link.leads.0) ∙ ap (λ (q : ℕ). leaf_of d s q link.leads.0) (sym is) ∙ none))
         | inr apart ↦ let to = rooted.laid.leads m (λ none. real (link.node_other m apart ∙ none)) in (to.0, to.1, λ none. to.2 (sym (leaf_other m to.0 apart) ∙ none))
@@ -98,19 +97,19 @@ module _ (c d : Image) (id : Puid) (r s : roots.Root) (n y : ℕ) (leaves : List
   }
 
   -- what a leaf holds is what its block held
-  bytes_at : (m k : ℕ) → k < 128 → bytes_held (leaves_of d s (128 * m + k)) ≡ bytes_held (held_at c (leaf_of d s m k))
+  bytes_at : (m k : ℕ) → k < leaf_pointers.count → bytes_held (leaves_of d s (leaf_pointers.count * m + k)) ≡ bytes_held (held_at c (leaf_of d s m k))
   bytes_at m k small = ap bytes_held (leaf_stands d (root_spelling s) s is_new m k small) ∙ by (leaf_of d s m k) refl
     where
       by : (z : ℕ) → leaf_of d s m k ≡ z → bytes_held (held_at d z) ≡ bytes_held (held_at c z)
       by zero is = refl
       by (suc z) is =
-          let own = subst (λ (w : ℕ). BelongsTo id.block (Leaf (128 * m + k)) (part_at c w)) is (leaf_is m k small (λ none. cc)).part in
-          ap bytes_held (held_there d (suc z) (λ none. cc)) ∙ ap Some (stays (suc z) (Leaf (128 * m + k)) own (leaf_no_node (128 * m + k) n) (leaf_no_root (128 * m + k))) ∙ sym (ap bytes_held (held_there c (suc z) (λ none. cc)))
+          let own = subst (λ (w : ℕ). BelongsTo id.block (Leaf (leaf_pointers.count * m + k)) (part_at c w)) is (leaf_is m k small (λ none. cc)).part in
+          ap bytes_held (held_there d (suc z) (λ none. cc)) ∙ ap Some (stays (suc z) (Leaf (leaf_pointers.count * m + k)) own (leaf_no_node (leaf_pointers.count * m + k) n) (leaf_no_root (leaf_pointers.count * m + k))) ∙ sym (ap bytes_held (held_there c (suc z) (λ none. cc)))
 
   -- where the pointer stays the leaf stays
-  pub bytes_stay : (m k : ℕ) → k < 128 → leaf_of d s m k ≡ leaf_of c r m k → bytes_held (leaves_of d s (128 * m + k)) ≡ bytes_held (leaves_of c r (128 * m + k))
+  pub bytes_stay : (m k : ℕ) → k < leaf_pointers.count → leaf_of d s m k ≡ leaf_of c r m k → bytes_held (leaves_of d s (leaf_pointers.count * m + k)) ≡ bytes_held (leaves_of c r (leaf_pointers.count * m + k))
   bytes_stay m k small same = bytes_at m k small ∙ ap (λ (z : ℕ). bytes_held (held_at c z)) same ∙ sym (ap bytes_held (leaf_stands c (root_spelling r) r is_old m k small))
 
   -- a new leaf has what was written into its block
-  pub bytes_new : (k : ℕ) → k < 128 → get_or leaves k 0 ≢ 0 → bytes_held (leaves_of d s (128 * n + k)) ≡ Some (block_at c (get_or leaves k 0))
+  pub bytes_new : (k : ℕ) → k < leaf_pointers.count → get_or leaves k 0 ≢ 0 → bytes_held (leaves_of d s (leaf_pointers.count * n + k)) ≡ Some (block_at c (get_or leaves k 0))
   bytes_new k small some = bytes_at n k small ∙ ap (λ (z : ℕ). bytes_held (held_at c z)) (leaf_there k) ∙ ap bytes_held (held_there c (get_or leaves k 0) some)

@@ -1,10 +1,9 @@
 -- How many blocks a write takes, told by the pointers of the file.
-use Rattle.normal_files.proofs.Words.{◌≡◌, ◌≢◌, inl, inr, ℕ, zero, suc, ◌+◌, ◌-◌, ◌*◌, ◌/◌, ◌%◌, ◌<◌, ◌≤◌, Bool, true, false, List, length, get_or, refl, sym, ◌∙◌, ap, subst, arith, cond, ◌==◌, count_by, is_some, map, not, ◌&&◌, filter, if◌then◌else◌, nat_lt, range_with_len, fun_ext, cases_lt, ne_eqb, lt-ltb, length-filter, Image, Puid, IsRootBlock, root_spelling, GivesFile, file_to_leaves, held_each, in_touched, to_touched, first_to_last, branches, has_number, lacking, missing, parents, held_levels, leaves_in, touched, File, in_map, in_numbers, in_withs, numbers-rise, same_numbers, to_map, to_numbers, to_withs, with_numbers-rise, held_at, held_some, held_there, some_held, nat_tests, Graph}
+use Rattle.normal_files.proofs.Words.{◌≡◌, ◌≢◌, inl, inr, ℕ, zero, suc, ◌+◌, ◌-◌, ◌*◌, ◌/◌, ◌%◌, ◌<◌, ◌≤◌, Bool, true, false, List, length, get_or, refl, sym, ◌∙◌, ap, subst, arith, cond, ◌==◌, count_by, is_some, map, not, ◌&&◌, filter, if◌then◌else◌, nat_lt, range_with_len, fun_ext, cases_lt, ne_eqb, lt-ltb, length-filter, Image, Puid, IsRootBlock, root_spelling, GivesFile, file_to_leaves, held_each, in_touched, to_touched, first_to_last, branches, has_number, lacking, missing, parents, held_levels, leaves_in, touched, File, in_map, in_numbers, in_withs, numbers-rise, same_numbers, to_map, to_numbers, to_withs, with_numbers-rise, held_at, held_some, held_there, some_held, nat_tests, Graph, leaf_pointers, leaves_at, zeros}
 use Rattle.normal_files.specs.Laid.{leaf_of, leaves_of, node_of}
-use Rattle.normal_files.specs.Nodes.{leaves_at}
 use Rattle.normal_files.specs.Parts.{IsPart, IsReadPart, absent_in, lacking_to, part_need, AreParts}
 use Rattle.normal_files.specs.declared.part.Part.{Part}
-use Rattle.normal_files.proofs.Trees.{leaf_stands, zeros}
+use Rattle.normal_files.proofs.Trees.{leaf_stands}
 use Rattle.normal_files.proofs.LackingTo.{filter_more}
 use Rattle.normal_files.specs.View.{HasFile}
 use Rattle.block_tree.specs.declared.root.Root as roots
@@ -18,24 +17,24 @@ same_test false true forth back = back refl
 same_test false false forth back = refl
 
 -- the nodes of the touched leaves
-pub touched_nodes : (offset count : ℕ) → 0 < count → parents (touched offset count) ≡ range_with_len (offset / 512 / 128) ((offset + count - 1) / 512 / 128 + 1 - offset / 512 / 128)
-touched_nodes offset count some = same_numbers (parents (touched offset count)) (range_with_len first many) (with_numbers-rise (map (λ n. n / 128) (touched offset count))) (numbers-rise first many) forth back
+pub touched_nodes : (offset count : ℕ) → 0 < count → parents (touched offset count) ≡ range_with_len (offset / 512 / leaf_pointers.count) ((offset + count - 1) / 512 / leaf_pointers.count + 1 - offset / 512 / leaf_pointers.count)
+touched_nodes offset count some = same_numbers (parents (touched offset count)) (range_with_len first many) (with_numbers-rise (map (λ n. n / leaf_pointers.count) (touched offset count))) (numbers-rise first many) forth back
   where
     first : ℕ
-    first = offset / 512 / 128
+    first = offset / 512 / leaf_pointers.count
 
     many : ℕ
-    many = (offset + count - 1) / 512 / 128 + 1 - offset / 512 / 128
+    many = (offset + count - 1) / 512 / leaf_pointers.count + 1 - offset / 512 / leaf_pointers.count
 
     forth : (x : ℕ) → has_number x (parents (touched offset count)) ≡ true → has_number x (range_with_len first many) ≡ true
     forth x h =
-        let of = in_map (λ n. n / 128) x (touched offset count) (in_withs x (map (λ n. n / 128) (touched offset count)) h) in
+        let of = in_map (λ n. n / leaf_pointers.count) x (touched offset count) (in_withs x (map (λ n. n / leaf_pointers.count) (touched offset count)) h) in
         let here = in_touched offset count of.0 of.1 in
         to_numbers x first many (omega (arith, here.0, of.2)) (omega (arith, here.0, here.1, of.2, some))
 
-    leaf_in : (x : ℕ) → first ≤ x → x < first + many → (n : ℕ) × (offset / 512 ≤ n) × (n < leaves_in (offset + count)) × (n / 128 ≡ x)
-    leaf_in x from to = elim (cases_lt (offset / 512) (128 * x)) [
-      | inl less ↦ (128 * x, omega (arith, less), omega (arith, to, some), omega arith)
+    leaf_in : (x : ℕ) → first ≤ x → x < first + many → (n : ℕ) × (offset / 512 ≤ n) × (n < leaves_in (offset + count)) × (n / leaf_pointers.count ≡ x)
+    leaf_in x from to = elim (cases_lt (offset / 512) (leaf_pointers.count * x)) [
+      | inl less ↦ (leaf_pointers.count * x, omega (arith, less), omega (arith, to, some), omega arith)
       | inr more ↦ (offset / 512, omega arith, omega (arith, some), omega (arith, more, from))
     ]
 
@@ -43,7 +42,7 @@ touched_nodes offset count some = same_numbers (parents (touched offset count)) 
     back x h =
         let row = in_numbers x first many h in
         let n = leaf_in x row.0 row.1 in
-        to_withs x (map (λ m. m / 128) (touched offset count)) (subst (λ (y : ℕ). has_number y (map (λ m. m / 128) (touched offset count)) ≡ true) n.3 (to_map (λ m. m / 128) n.0 (touched offset count) (to_touched offset count n.0 n.1 n.2)))
+        to_withs x (map (λ m. m / leaf_pointers.count) (touched offset count)) (subst (λ (y : ℕ). has_number y (map (λ m. m / leaf_pointers.count) (touched offset count)) ≡ true) n.3 (to_map (λ m. m / leaf_pointers.count) n.0 (touched offset count) (to_touched offset count n.0 n.1 n.2)))
 
 module _ {a : Image} {graph : Graph} {id : Puid} {f : File} {root : roots.Root} (s : HasFile a graph id f root) where
   abbrev pub absent_leaf : ℕ → Bool
@@ -61,7 +60,7 @@ module _ {a : Image} {graph : Graph} {id : Puid} {f : File} {root : roots.Root} 
   pub held_is : (l : ℕ) → has_number l f.held ≡ is_some (leaves_of a root l)
   held_is l = ap (has_number l) gives.held ∙ held_each root (leaves_of a root) l (s.rooted.laid.fit.within l)
 
-  pub some_is : (n k : ℕ) → k < 128 → is_some (leaves_of a root (128 * n + k)) ≡ is_some (held_at a (leaf_of a root n k))
+  pub some_is : (n k : ℕ) → k < leaf_pointers.count → is_some (leaves_of a root (leaf_pointers.count * n + k)) ≡ is_some (held_at a (leaf_of a root n k))
   some_is n k small = ap is_some (leaf_stands a (root_spelling root) root is_root n k small)
 
   no_block : (z : ℕ) → (z == 0) ≡ not (is_some (held_at a z))
@@ -69,14 +68,14 @@ module _ {a : Image} {graph : Graph} {id : Puid} {f : File} {root : roots.Root} 
   no_block (suc z) = ne_eqb (suc z) 0 (λ none. cc) ∙ sym (ap (λ o. not (is_some o)) (held_there a (suc z) (λ none. cc)))
 
   -- an absent leaf is one to which the node doesn't lead
-  pub told_leaf : (size : ℕ) (part : Part) → IsReadPart size part → IsPart a root part → part.leaves.from < part.leaves.to → (l : ℕ) → l / 128 ≡ part.number → absent_in part.own.leaves l ≡ absent_leaf l
+  pub told_leaf : (size : ℕ) (part : Part) → IsReadPart size part → IsPart a root part → part.leaves.from < part.leaves.to → (l : ℕ) → l / leaf_pointers.count ≡ part.number → absent_in part.own.leaves l ≡ absent_leaf l
   told_leaf size part read is some l number =
-      let at : 128 * part.number + l % 128 ≡ l = omega (arith, number) in
-      ap (λ (ls : List ℕ). get_or ls (l % 128) 0 == 0) (is.own some) ∙ no_block (leaf_of a root part.number (l % 128))
-      ∙ ap not (sym (some_is part.number (l % 128) (omega arith)) ∙ ap (λ (m : ℕ). is_some (leaves_of a root m)) at)
+      let at : leaf_pointers.count * part.number + l % leaf_pointers.count ≡ l = omega (arith, number) in
+      ap (λ (ls : List ℕ). get_or ls (l % leaf_pointers.count) 0 == 0) (is.own some) ∙ no_block (leaf_of a root part.number (l % leaf_pointers.count))
+      ∙ ap not (sym (some_is part.number (l % leaf_pointers.count) (omega arith)) ∙ ap (λ (m : ℕ). is_some (leaves_of a root m)) at)
 
   no_node : (n k : ℕ) → node_of root n ≡ 0 → leaf_of a root n k ≡ 0
-  no_node n k none = ap (λ (p : ℕ). get_or (leaves_at a p) k 0) none ∙ zeros 128 k
+  no_node n k none = ap (λ (p : ℕ). get_or (leaves_at a p) k 0) none ∙ zeros leaf_pointers.count k
 
   pub node_held : (n : ℕ) → has_number n (parents f.held) ≡ not (absent_node n)
   node_held n = same_test (has_number n (parents f.held)) (not (absent_node n)) forth back
@@ -90,29 +89,29 @@ module _ {a : Image} {graph : Graph} {id : Puid} {f : File} {root : roots.Root} 
 
       forth : has_number n (parents f.held) ≡ true → not (absent_node n) ≡ true
       forth h =
-          let of = in_map (λ m. m / 128) n f.held (in_withs n (map (λ m. m / 128) f.held) h) in
+          let of = in_map (λ m. m / leaf_pointers.count) n f.held (in_withs n (map (λ m. m / leaf_pointers.count) f.held) h) in
           let l = of.0 in
-          let k = l % 128 in
-          let at : 128 * n + k ≡ l = omega (arith, of.2) in
-          let small : k < 128 = omega arith in
+          let k = l % leaf_pointers.count in
+          let at : leaf_pointers.count * n + k ≡ l = omega (arith, of.2) in
+          let small : k < leaf_pointers.count = omega arith in
           let there : is_some (held_at a (leaf_of a root n k)) ≡ true = sym (some_is n k small) ∙ ap (λ (m : ℕ). is_some (leaves_of a root m)) at ∙ sym (held_is l) ∙ of.1 in
           real (node_of root n) (λ none. some_held a (leaf_of a root n k) there (no_node n k none))
 
       back : not (absent_node n) ≡ true → has_number n (parents f.held) ≡ true
       back h =
           let to = s.rooted.laid.leads n (unreal (node_of root n) h) in
-          let l = 128 * n + to.0 in
-          let up : l / 128 ≡ n = omega (arith, to.1) in
+          let l = leaf_pointers.count * n + to.0 in
+          let up : l / leaf_pointers.count ≡ n = omega (arith, to.1) in
           let held : has_number l f.held ≡ true = held_is l ∙ some_is n to.0 to.1 ∙ held_some a (leaf_of a root n to.0) to.2 in
-          to_withs n (map (λ m. m / 128) f.held) (subst (λ (y : ℕ). has_number y (map (λ m. m / 128) f.held) ≡ true) up (to_map (λ m. m / 128) l f.held held))
+          to_withs n (map (λ m. m / leaf_pointers.count) f.held) (subst (λ (y : ℕ). has_number y (map (λ m. m / leaf_pointers.count) f.held) ≡ true) up (to_map (λ m. m / leaf_pointers.count) l f.held held))
 
   -- the model's need of a write: the touched leaves that are absent, and their nodes that are
   pub need_is : (offset count : ℕ) → 0 < count → missing (branches 1 (touched offset count)) (held_levels (objects.File f))
-      ≡ count_by absent_leaf (touched offset count) + count_by absent_node (range_with_len (offset / 512 / 128) ((offset + count - 1) / 512 / 128 + 1 - offset / 512 / 128))
+      ≡ count_by absent_leaf (touched offset count) + count_by absent_node (range_with_len (offset / 512 / leaf_pointers.count) ((offset + count - 1) / 512 / leaf_pointers.count + 1 - offset / 512 / leaf_pointers.count))
   need_is offset count some =
       let leaves : length (lacking (touched offset count) f.held) ≡ count_by absent_leaf (touched offset count) =
       length-filter (λ n. not (has_number n f.held)) (touched offset count) ∙ ap (λ (P : ℕ → Bool). count_by P (touched offset count)) (fun_ext (λ n. ap not (held_is n))) in
-      let nodes : length (lacking (parents (touched offset count)) (parents f.held)) ≡ count_by absent_node (range_with_len (offset / 512 / 128) ((offset + count - 1) / 512 / 128 + 1 - offset / 512 / 128)) =
+      let nodes : length (lacking (parents (touched offset count)) (parents f.held)) ≡ count_by absent_node (range_with_len (offset / 512 / leaf_pointers.count) ((offset + count - 1) / 512 / leaf_pointers.count + 1 - offset / 512 / leaf_pointers.count)) =
       length-filter (λ n. not (has_number n (parents f.held))) (parents (touched offset count))
       ∙ ap (λ (P : ℕ → Bool). count_by P (parents (touched offset count))) (fun_ext (λ n. ap not (node_held n) ∙ twice (absent_node n)))
       ∙ ap (count_by absent_node) (touched_nodes offset count some) in
@@ -195,31 +194,31 @@ module _ {a : Image} {graph : Graph} {id : Puid} {f : File} {root : roots.Root} 
       same_lt : (n : ℕ) → nat_lt n n ≡ false
       same_lt n = grind (arith, nat_tests)
 
-  nodes_is : count_of Node (offset / 512 / 128) ((offset + count - 1) / 512 / 128 + 1 - offset / 512 / 128) ≡ nodes_of low + nodes_of high
+  nodes_is : count_of Node (offset / 512 / leaf_pointers.count) ((offset + count - 1) / 512 / leaf_pointers.count + 1 - offset / 512 / leaf_pointers.count) ≡ nodes_of low + nodes_of high
   unfolding count_of
   nodes_is =
       let low_one = node_one low parts.some in
-      let at : low.number ≡ offset / 512 / 128 = omega (arith, parts.first, parts.low_read.from, parts.low_read.to, parts.some) in
+      let at : low.number ≡ offset / 512 / leaf_pointers.count = omega (arith, parts.first, parts.low_read.from, parts.low_read.to, parts.some) in
       let here = ap (λ (m : ℕ). one (Node m)) at in
       elim (cases_lt high.leaves.from high.leaves.to) [
         | inl more ↦
             let differ = parts.apart more in
             let next : high.number ≡ low.number + 1 = omega (arith, differ, parts.next, more, parts.some, parts.low_read.from, parts.low_read.to, parts.high_read.from, parts.high_read.to, parts.last, least, parts.first) in
-            let n : (offset + count - 1) / 512 / 128 + 1 - offset / 512 / 128 ≡ 2 = omega (arith, next, at, parts.last, more, parts.high_read.from, parts.high_read.to, least) in
-            let e = ap (count_of Node (offset / 512 / 128)) n in
+            let n : (offset + count - 1) / 512 / leaf_pointers.count + 1 - offset / 512 / leaf_pointers.count ≡ 2 = omega (arith, next, at, parts.last, more, parts.high_read.from, parts.high_read.to, least) in
+            let e = ap (count_of Node (offset / 512 / leaf_pointers.count)) n in
             let high_one = node_one high more in
-            let p = many_more Node (offset / 512 / 128) 1 in
-            let q = many_more Node (offset / 512 / 128) 0 in
-            let there = ap (λ (m : ℕ). one (Node m)) (let z : high.number ≡ offset / 512 / 128 + 1 = omega (arith, next, at) in z) in
-            let zero_is = ap (λ (m : ℕ). one (Node m)) (let z : offset / 512 / 128 + 0 ≡ offset / 512 / 128 = omega arith in z) in
+            let p = many_more Node (offset / 512 / leaf_pointers.count) 1 in
+            let q = many_more Node (offset / 512 / leaf_pointers.count) 0 in
+            let there = ap (λ (m : ℕ). one (Node m)) (let z : high.number ≡ offset / 512 / leaf_pointers.count + 1 = omega (arith, next, at) in z) in
+            let zero_is = ap (λ (m : ℕ). one (Node m)) (let z : offset / 512 / leaf_pointers.count + 0 ≡ offset / 512 / leaf_pointers.count = omega arith in z) in
             omega (arith, low_one, here, e, high_one, p, q, there, zero_is)
         | inr past ↦
             let none : high.leaves.from ≡ high.leaves.to = omega (arith, past, parts.high_read.some) in
-            let n : (offset + count - 1) / 512 / 128 + 1 - offset / 512 / 128 ≡ 1 = omega (arith, none, at, parts.next, parts.last, parts.low_read.from, parts.low_read.to, parts.some, parts.first, least) in
-            let e = ap (count_of Node (offset / 512 / 128)) n in
+            let n : (offset + count - 1) / 512 / leaf_pointers.count + 1 - offset / 512 / leaf_pointers.count ≡ 1 = omega (arith, none, at, parts.next, parts.last, parts.low_read.from, parts.low_read.to, parts.some, parts.first, least) in
+            let e = ap (count_of Node (offset / 512 / leaf_pointers.count)) n in
             let high_none = node_none high none in
-            let q = many_more Node (offset / 512 / 128) 0 in
-            let zero_is = ap (λ (m : ℕ). one (Node m)) (let z : offset / 512 / 128 + 0 ≡ offset / 512 / 128 = omega arith in z) in
+            let q = many_more Node (offset / 512 / leaf_pointers.count) 0 in
+            let zero_is = ap (λ (m : ℕ). one (Node m)) (let z : offset / 512 / leaf_pointers.count + 0 ≡ offset / 512 / leaf_pointers.count = omega arith in z) in
             omega (arith, low_one, here, e, high_none, q, zero_is)
       ]
 
@@ -228,5 +227,5 @@ module _ {a : Image} {graph : Graph} {id : Puid} {f : File} {root : roots.Root} 
   parts_need =
       let need = need_is s offset count least in
       let leaf_count = ap (count_by Leaf) (first_to_last offset count least) ∙ sym (length-filter Leaf (range_with_len (offset / 512) ((offset + count - 1) / 512 + 1 - offset / 512))) in
-      let node_count = sym (length-filter Node (range_with_len (offset / 512 / 128) ((offset + count - 1) / 512 / 128 + 1 - offset / 512 / 128))) in
+      let node_count = sym (length-filter Node (range_with_len (offset / 512 / leaf_pointers.count) ((offset + count - 1) / 512 / leaf_pointers.count + 1 - offset / 512 / leaf_pointers.count))) in
       omega (arith, need, leaf_count, node_count, leaves_is, nodes_is)

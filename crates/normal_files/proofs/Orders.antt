@@ -1,5 +1,5 @@
 -- The claims of a write, leaf after leaf.
-use Rattle.normal_files.proofs.Words.{◌≡◌, ◌≢◌, inl, inr, ℕ, suc, ◌+◌, ◌*◌, ◌/◌, ◌%◌, ◌<◌, Bool, true, false, List, ◌∷◌, get_or, refl, sym, ◌∙◌, ap, subst, eq-eqb, arith, ◌||◌, ◌==◌, if◌then◌else◌, not, cases_eq, ne_eqb, Image, Leaf, allocated, entry_in, with_entry, entry_in-with_entry_other, entry_in-with_entry_same, entry_in_table, AreClaimed, has_number, here}
+use Rattle.normal_files.proofs.Words.{◌≡◌, ◌≢◌, inl, inr, ℕ, suc, ◌+◌, ◌*◌, ◌/◌, ◌%◌, ◌<◌, Bool, true, false, List, ◌∷◌, get_or, refl, sym, ◌∙◌, ap, subst, eq-eqb, arith, ◌||◌, ◌==◌, if◌then◌else◌, not, cases_eq, ne_eqb, Image, Leaf, allocated, entry_in, with_entry, entry_in-with_entry_other, entry_in-with_entry_same, entry_in_table, AreClaimed, has_number, here, leaf_pointers}
 use Rattle.normal_files.specs.Order.{TellsHeld, claims_from, nodes_now}
 use Rattle.normal_files.specs.Takes.{TakesLeaf}
 use Rattle.normal_files.specs.declared.part.Part.{Part}
@@ -11,8 +11,8 @@ not_is false c is = sym (ap not is)
 
 -- ---- what a node tells of its leaves
 
-module _ (part : Part) (had : ℕ) (leaves nodes : List ℕ) (tells : TellsHeld part had leaves nodes) (leaf l : ℕ) (at : 128 * part.number + l ≡ leaf) (small : l < 128) where
-  place : leaf % 128 ≡ l
+module _ (part : Part) (had : ℕ) (leaves nodes : List ℕ) (tells : TellsHeld part had leaves nodes) (leaf l : ℕ) (at : leaf_pointers.count * part.number + l ≡ leaf) (small : l < leaf_pointers.count) where
+  place : leaf % leaf_pointers.count ≡ l
   place = omega (arith, at, small)
 
   told : has_number leaf leaves ≡ not (get_or part.own.leaves l 0 == 0)
@@ -51,7 +51,7 @@ now_more false grown n nodes held = cc
 
 -- ---- one leaf
 
-pub leaf_claimed : (owner : ℕ) (leaves N M : List ℕ) (leaf n : ℕ) (c d e : Image) (held : Bool) (block x y : ℕ) (content : List ℕ) → has_number leaf leaves ≡ false → has_number (leaf / 128) N ≡ held → (held ≡ true → M ≡ N) → (held ≡ false → M ≡ leaf / 128 ∷ N)
+pub leaf_claimed : (owner : ℕ) (leaves N M : List ℕ) (leaf n : ℕ) (c d e : Image) (held : Bool) (block x y : ℕ) (content : List ℕ) → has_number leaf leaves ≡ false → has_number (leaf / leaf_pointers.count) N ≡ held → (held ≡ true → M ≡ N) → (held ≡ false → M ≡ leaf / leaf_pointers.count ∷ N)
     → TakesLeaf c d owner leaf held block x y content → AreClaimed (claims_from owner leaves M (leaf + 1) n) d e → AreClaimed (claims_from owner leaves N leaf (suc n)) c e
 leaf_claimed owner leaves N M leaf n c d e true block x y content absent node same more takes rest =
     rw (absent, node) (

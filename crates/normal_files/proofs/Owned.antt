@@ -1,5 +1,5 @@
 -- The blocks of a file that is read by its root: the root, and the nodes and leaves to which the pointers lead.
-use Rattle.normal_files.proofs.Words.{◌≡◌, ◌≢◌, ◌⊎◌, inl, inr, ℕ, ◌<◌, List, [], ◌∷◌, Some, refl, sym, ◌∙◌, ap, subst, true, Image, Puid, IsRootBlock, root_spelling, entry_in, IsBlockOf, tree_in, first_or, sight, no_shadows, read_by_root, held, HasItsBlocks, Opened, is_had, is_leaving, is_of, list_all, and_from, and_parts, Object, Graph, is_there, with_object, still_there}
+use Rattle.normal_files.proofs.Words.{◌≡◌, ◌≢◌, ◌⊎◌, inl, inr, ℕ, ◌<◌, List, [], ◌∷◌, Some, refl, sym, ◌∙◌, ap, subst, true, Image, Puid, IsRootBlock, root_spelling, entry_in, IsBlockOf, tree_in, first_or, sight, no_shadows, read_by_root, held, HasItsBlocks, Opened, is_had, is_leaving, is_of, list_all, and_from, and_parts, Object, Graph, is_there, with_object, still_there, leaf_pointers}
 use Rattle.normal_files.specs.Laid.{IsRooted, leaf_of, node_of}
 use Rattle.normal_files.proofs.Laid.{each, leaf_there, node_there}
 use Rattle.block_tree.specs.declared.root.Root as roots
@@ -7,7 +7,7 @@ use Rattle.block_tree.specs.declared.root.Root as roots
 -- one of these blocks
 abbrev pub IsOwn : Image → Puid → roots.Root → ℕ → Type 0
 IsOwn image id root m =
-    (m ≡ id.block) ⊎ (((n : ℕ) × (node_of root n ≢ 0) × (m ≡ node_of root n)) ⊎ ((n : ℕ) × (k : ℕ) × (k < 128) × (leaf_of image root n k ≢ 0) × (m ≡ leaf_of image root n k)))
+    (m ≡ id.block) ⊎ (((n : ℕ) × (node_of root n ≢ 0) × (m ≡ node_of root n)) ⊎ ((n : ℕ) × (k : ℕ) × (k < leaf_pointers.count) × (leaf_of image root n k ≢ 0) × (m ≡ leaf_of image root n k)))
 
 module _ (image : Image) (id : Puid) (root : roots.Root) (rooted : IsRooted image id root) where
   is_root : IsRootBlock (root_spelling root) root
@@ -20,7 +20,7 @@ module _ (image : Image) (id : Puid) (root : roots.Root) (rooted : IsRooted imag
   pub node_block : (n : ℕ) → node_of root n ≢ 0 → IsBlockOf image id.block (node_of root n)
   node_block n real = in_tree (n ∷ []) (node_of root n) (node_there image (root_spelling root) root is_root n real)
 
-  pub leaf_block : (n k : ℕ) → k < 128 → leaf_of image root n k ≢ 0 → IsBlockOf image id.block (leaf_of image root n k)
+  pub leaf_block : (n k : ℕ) → k < leaf_pointers.count → leaf_of image root n k ≢ 0 → IsBlockOf image id.block (leaf_of image root n k)
   leaf_block n k small real = in_tree (n ∷ k ∷ []) (leaf_of image root n k) (leaf_there image (root_spelling root) root is_root n k small real)
 
   pub block_from_own : (m : ℕ) → IsOwn image id root m → IsBlockOf image id.block m

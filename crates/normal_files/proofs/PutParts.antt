@@ -1,5 +1,5 @@
 -- The touched leaves of one node, written one after another.
-use Rattle.normal_files.proofs.Words.{◌≡◌, ◌≢◌, ℕ, ◌+◌, ◌*◌, ◌%◌, ◌<◌, ◌≤◌, Ok, List, length, get_or, refl, sym, ◌∙◌, ap, subst, [], arith, Result, slice_index, Image, block_at, Leaves, Ghosts, Trouble, entry_in, entry_in-set, Kept, patched, Leaf}
+use Rattle.normal_files.proofs.Words.{◌≡◌, ◌≢◌, ℕ, ◌+◌, ◌*◌, ◌%◌, ◌<◌, ◌≤◌, Ok, List, length, get_or, refl, sym, ◌∙◌, ap, subst, [], arith, Result, slice_index, Image, block_at, Leaves, Ghosts, Trouble, entry_in, entry_in-set, Kept, patched, Leaf, leaf_pointers}
 use Rattle.normal_files.specs.Laid.{leaf_of}
 use Rattle.normal_files.specs.Parts.{IsPart, IsReadPart}
 use Rattle.normal_files.specs.Steps.{IsAmid, WritesBlock, MayLeave}
@@ -17,21 +17,21 @@ module _ {D : Type 0} {g : Ghosts D} {r : ℕ} {w : Way g r} {offset : ℕ} {byt
   n = part.number
 
   abbrev k : ℕ
-  k = l % 128
+  k = l % leaf_pointers.count
 
   abbrev block : ℕ
   block = slice_index part.own.leaves k
 
-  small : k < 128
+  small : k < leaf_pointers.count
   small = omega arith
 
-  at : 128 * n + k ≡ l
+  at : leaf_pointers.count * n + k ≡ l
   at = omega (arith, from, to, read.from, read.to)
 
   points : block ≡ leaf_of a w.root n k
   points = ap (λ (ns : List ℕ). get_or ns k 0) (is.own (omega (arith, from, to)))
 
-  amid_at : IsAmid w offset bytes (128 * n + k) mid kept
+  amid_at : IsAmid w offset bytes (leaf_pointers.count * n + k) mid kept
   amid_at = subst (λ (m : ℕ). IsAmid w offset bytes m mid kept) (sym at) amid
 
   pub one_absent : block ≡ 0 → IsAmid w offset bytes (l + 1) mid kept
@@ -46,10 +46,10 @@ module _ {D : Type 0} {g : Ghosts D} {r : ℕ} {w : Way g r} {offset : ℕ} {byt
 
     module _ {new : D} {result : Result (Unit {0}) Trouble} (writes : WritesBlock g 2 block (patched l offset bytes (block_at (g.content mid) block)) mid new result) where
       abbrev v : List ℕ
-      v = patched (128 * n + k) offset bytes (block_at (g.content mid) (leaf_of a w.root n k))
+      v = patched (leaf_pointers.count * n + k) offset bytes (block_at (g.content mid) (leaf_of a w.root n k))
 
       moved : WritesBlock g 2 (leaf_of a w.root n k) v mid new result
-      moved = subst (λ (b : ℕ). WritesBlock g 2 b (patched (128 * n + k) offset bytes (block_at (g.content mid) b)) mid new result) points
+      moved = subst (λ (b : ℕ). WritesBlock g 2 b (patched (leaf_pointers.count * n + k) offset bytes (block_at (g.content mid) b)) mid new result) points
           (subst (λ (m : ℕ). WritesBlock g 2 block (patched m offset bytes (block_at (g.content mid) block)) mid new result) (sym at) writes)
 
       pub one_leaves : Leaves g w.start new (MayLeave w offset bytes)
@@ -59,5 +59,5 @@ module _ {D : Type 0} {g : Ghosts D} {r : ℕ} {w : Way g r} {offset : ℕ} {byt
       one_done done =
           let on = subst (λ x. WritesBlock g 2 (leaf_of a w.root n k) v mid new x) done moved in (
             subst (λ (m : ℕ). IsAmid w offset bytes (m + 1) new kept) at (amid_puts w offset bytes n k mid new kept v small real amid_at refl on.images on.written on.told on.calls.same),
-            λ m. ap (λ (i : Image). entry_in i m) on.written ∙ entry_in-set (g.content mid) (leaf_of a w.root n k) v m (own_apart w.has (leaf_of a w.root n k) (Leaf (128 * n + k)) (w.has.rooted.laid.leaves n k small real).part),
+            λ m. ap (λ (i : Image). entry_in i m) on.written ∙ entry_in-set (g.content mid) (leaf_of a w.root n k) v m (own_apart w.has (leaf_of a w.root n k) (Leaf (leaf_pointers.count * n + k)) (w.has.rooted.laid.leaves n k small real).part),
           )

@@ -1,8 +1,7 @@
 -- A part whose leaves were taken is ready: the root may lead to them.
-use Rattle.normal_files.proofs.Words.{◌≡◌, ◌≢◌, ◌⊎◌, inl, inr, ℕ, zero, suc, ◌+◌, ◌*◌, ◌%◌, ◌<◌, ◌≤◌, ◌^◌, List, [], length, set, get_or, Some, refl, sym, ◌∙◌, ap, subst, get_or-set_other, get_or-set_same, arith, cases_eq, cases_lt, All-from_get_or, All-set, length-set, Image, block_at, Puid, Place, Leaf, Node, Root, node_spelling, leaf_pointers, pointers_of, spells_leaves, root_spelling, entry_in-set, bytes_held, BelongsTo, part_at, part_of}
+use Rattle.normal_files.proofs.Words.{◌≡◌, ◌≢◌, ◌⊎◌, inl, inr, ℕ, zero, suc, ◌+◌, ◌*◌, ◌%◌, ◌<◌, ◌≤◌, ◌^◌, List, [], length, set, get_or, Some, refl, sym, ◌∙◌, ap, subst, get_or-set_other, get_or-set_same, arith, cases_eq, cases_lt, All-from_get_or, All-set, length-set, Image, block_at, Puid, Place, Leaf, Node, Root, node_spelling, leaf_pointers, pointers_of, spells_leaves, root_spelling, entry_in-set, bytes_held, BelongsTo, part_at, part_of, node_pointers, leaves_at}
 use Rattle.normal_files.specs.Laid.{IsAt, IsRooted, leaf_of, leaves_of, node_of}
-use Rattle.normal_files.specs.Links.{with_node}
-use Rattle.normal_files.specs.Nodes.{leaves_at}
+use Rattle.block_tree.specs.Way.{with_node}
 use Rattle.normal_files.specs.Takes.{IsTakenTo, fresh_content}
 use Rattle.normal_files.specs.declared.next.Next.{Next}
 use Rattle.normal_files.specs.declared.part.Part.{Part}
@@ -14,22 +13,22 @@ use Rattle.block_tree.specs.declared.root.Root as roots
 
 -- In image c nothing leads to the leaves of a part that were taken, and all that the root is to lead to stands.
 pub record IsReady (c : Image) (id : Puid) (r : roots.Root) (fill offset : ℕ) (bytes : List ℕ) (part : Part) (next : Next) : Type 0 where
-  pub number : part.number < 120
+  pub number : part.number < node_pointers.count
   pub own : part.own.leaves ≡ leaves_at c (node_of r part.number)
   pub others : (k : ℕ) → (IsTakenTo part part.leaves.to k → ⊥) → get_or next.node.leaves k 0 ≡ get_or part.own.leaves k 0
-  pub leaves : (k : ℕ) → IsTakenTo part part.leaves.to k → IsAt c id.block (Leaf (128 * part.number + k)) (get_or next.node.leaves k 0) × (get_or next.node.leaves k 0 ≢ 0)
-  pub contents : (k : ℕ) → IsTakenTo part part.leaves.to k → block_at c (get_or next.node.leaves k 0) ≡ fresh_content fill (128 * part.number + k) offset bytes
+  pub leaves : (k : ℕ) → IsTakenTo part part.leaves.to k → IsAt c id.block (Leaf (leaf_pointers.count * part.number + k)) (get_or next.node.leaves k 0) × (get_or next.node.leaves k 0 ≢ 0)
+  pub contents : (k : ℕ) → IsTakenTo part part.leaves.to k → block_at c (get_or next.node.leaves k 0) ≡ fresh_content fill (leaf_pointers.count * part.number + k) offset bytes
   pub node_had : node_of r part.number ≢ 0 → next.block ≡ node_of r part.number
   pub node_new : node_of r part.number ≡ 0 → IsAt c id.block (Node part.number) next.block × (next.block ≢ 0) × (leaves_at c next.block ≡ next.node.leaves)
   pub some : (k : ℕ) × IsTakenTo part part.leaves.to k
   pub small : next.block < 2 ^ 32
-  pub count : length next.node.leaves ≡ 128
+  pub count : length next.node.leaves ≡ leaf_pointers.count
 
 -- a leaf was taken or wasn't
-pub taken_or : (part : Part) (upto k : ℕ) → k < 128 → IsTakenTo part upto k ⊎ (IsTakenTo part upto k → ⊥)
-taken_or part upto k small = elim (cases_lt (128 * part.number + k) part.leaves.from) [
+pub taken_or : (part : Part) (upto k : ℕ) → k < leaf_pointers.count → IsTakenTo part upto k ⊎ (IsTakenTo part upto k → ⊥)
+taken_or part upto k small = elim (cases_lt (leaf_pointers.count * part.number + k) part.leaves.from) [
   | inl early ↦ inr (λ t. omega (arith, t.from, early))
-  | inr from ↦ elim (cases_lt (128 * part.number + k) upto) [
+  | inr from ↦ elim (cases_lt (leaf_pointers.count * part.number + k) upto) [
     | inr late ↦ inr (λ t. omega (arith, t.to, late))
     | inl to ↦ elim (cases_eq (get_or part.own.leaves k 0) 0) [ inl absent ↦ inl (record { small = small; from = from; to = to; absent = absent }) | inr held ↦ inr (λ t. held t.absent) ]
   ]
@@ -46,13 +45,13 @@ module _ (c : Image) (id : Puid) (r : roots.Root) (fill offset : ℕ) (bytes : L
   abbrev leaves : List ℕ
   leaves = next.node.leaves
 
-  each : (k : ℕ) → k < 128 → (get_or leaves k 0 ≡ leaf_of c r n k) ⊎ IsAt c id.block (Leaf (128 * n + k)) (get_or leaves k 0)
+  each : (k : ℕ) → k < leaf_pointers.count → (get_or leaves k 0 ≡ leaf_of c r n k) ⊎ IsAt c id.block (Leaf (leaf_pointers.count * n + k)) (get_or leaves k 0)
   each k small = elim (taken_or part part.leaves.to k small) [
     | inl t ↦ inr (ready.leaves k t).0
     | inr not ↦ inl (ready.others k not ∙ ap (λ (ls : List ℕ). get_or ls k 0) ready.own)
   ]
 
-  leads : (k : ℕ) × (k < 128) × (get_or leaves k 0 ≢ 0)
+  leads : (k : ℕ) × (k < leaf_pointers.count) × (get_or leaves k 0 ≢ 0)
   leads = (ready.some.0, ready.some.1.small, (ready.leaves ready.some.0 ready.some.1).1)
 
   pub ready_spells : length c ≤ 4194304 → leaves ≡ pointers_of leaf_pointers (node_spelling next.node)
@@ -64,7 +63,7 @@ module _ (c : Image) (id : Puid) (r : roots.Root) (fill offset : ℕ) (bytes : L
     ]);
   })
     where
-      by : (k : ℕ) → k < 128 → (z : ℕ) → leaf_of c r n k ≡ z → get_or leaves k 0 ≡ leaf_of c r n k → get_or leaves k 0 < 2 ^ 32
+      by : (k : ℕ) → k < leaf_pointers.count → (z : ℕ) → leaf_of c r n k ≡ z → get_or leaves k 0 ≡ leaf_of c r n k → get_or leaves k 0 < 2 ^ 32
       by k small zero is same = omega (arith, is, same)
       by k small (suc z) is same = let at = (rooted.laid.leaves n k small (λ none. (let e = sym is ∙ none in cc))).below in omega (arith, at, limit, same)
 
@@ -137,20 +136,20 @@ module _ (c : Image) (id : Puid) (r : roots.Root) (fill offset : ℕ) (bytes : L
 
   module _ (d : Image) (s : roots.Root) (link : IsLinked c d id r s n y leaves) where
     -- a leaf that was taken has its new bytes
-    pub taken_bytes : (k : ℕ) → IsTakenTo part part.leaves.to k → bytes_held (leaves_of d s (128 * n + k)) ≡ Some (fresh_content fill (128 * n + k) offset bytes)
+    pub taken_bytes : (k : ℕ) → IsTakenTo part part.leaves.to k → bytes_held (leaves_of d s (leaf_pointers.count * n + k)) ≡ Some (fresh_content fill (leaf_pointers.count * n + k) offset bytes)
     taken_bytes k t = bytes_new c d id r s n y leaves rooted no_map link k t.small (ready.leaves k t).1 ∙ ap Some (ready.contents k t)
 
     -- every other leaf stays, and its pointer
-    pub pointer_stays : (m k : ℕ) → k < 128 → (m ≡ n → IsTakenTo part part.leaves.to k → ⊥) → leaf_of d s m k ≡ leaf_of c r m k
+    pub pointer_stays : (m k : ℕ) → k < leaf_pointers.count → (m ≡ n → IsTakenTo part part.leaves.to k → ⊥) → leaf_of d s m k ≡ leaf_of c r m k
     pointer_stays m k small not = elim (cases_eq m n) [
       | inl same ↦ ap (λ (q : ℕ). leaf_of d s q k) same ∙ leaf_there c d id r s n y leaves rooted no_map link k ∙ ready.others k (not same) ∙ ap (λ (ls : List ℕ). get_or ls k 0) ready.own ∙ ap (λ (q : ℕ). leaf_of c r q k) (sym same)
       | inr apart ↦ leaf_other c d id r s n y leaves rooted no_map link m k apart
     ]
 
-    pub real_stays : (m k : ℕ) → k < 128 → leaf_of c r m k ≢ 0 → leaf_of d s m k ≡ leaf_of c r m k
+    pub real_stays : (m k : ℕ) → k < leaf_pointers.count → leaf_of c r m k ≢ 0 → leaf_of d s m k ≡ leaf_of c r m k
     real_stays m k small real = pointer_stays m k small (λ same t. real (ap (λ (q : ℕ). leaf_of c r q k) same ∙ ap (λ (ls : List ℕ). get_or ls k 0) (sym ready.own) ∙ t.absent))
 
-    pub other_bytes : (m k : ℕ) → k < 128 → (m ≡ n → IsTakenTo part part.leaves.to k → ⊥) → bytes_held (leaves_of d s (128 * m + k)) ≡ bytes_held (leaves_of c r (128 * m + k))
+    pub other_bytes : (m k : ℕ) → k < leaf_pointers.count → (m ≡ n → IsTakenTo part part.leaves.to k → ⊥) → bytes_held (leaves_of d s (leaf_pointers.count * m + k)) ≡ bytes_held (leaves_of c r (leaf_pointers.count * m + k))
     other_bytes m k small not = bytes_stay c d id r s n y leaves rooted no_map link m k small (pointer_stays m k small not)
 
     pub node_stays : (m : ℕ) → node_of r m ≢ 0 → node_of s m ≡ node_of r m
@@ -178,8 +177,8 @@ module _ (c : Image) (id : Puid) (r : roots.Root) (fill offset : ℕ) (bytes : L
         number = was.number;
         own = was.own ∙ sym (leaves_other c d id r s n y leaves rooted no_map link other.number apart);
         others = was.others;
-        leaves = λ k t. (at_on (get_or more.node.leaves k 0) (Leaf (128 * other.number + k)) (was.leaves k t).0, (was.leaves k t).1);
-        contents = λ k t. stays (get_or more.node.leaves k 0) (Leaf (128 * other.number + k)) (was.leaves k t).0 (leaf_no_node (128 * other.number + k) n) (leaf_no_root (128 * other.number + k)) ∙ was.contents k t;
+        leaves = λ k t. (at_on (get_or more.node.leaves k 0) (Leaf (leaf_pointers.count * other.number + k)) (was.leaves k t).0, (was.leaves k t).1);
+        contents = λ k t. stays (get_or more.node.leaves k 0) (Leaf (leaf_pointers.count * other.number + k)) (was.leaves k t).0 (leaf_no_node (leaf_pointers.count * other.number + k) n) (leaf_no_root (leaf_pointers.count * other.number + k)) ∙ was.contents k t;
         node_had = λ some. was.node_had (λ none. some (same_node ∙ none)) ∙ sym same_node;
         node_new = λ none. let new = was.node_new (sym same_node ∙ none) in (at_on more.block (Node other.number) new.0, new.1, same_leaves d c more.block (λ _. stays more.block (Node other.number) new.0 nodes_apart (node_no_root other.number)) ∙ new.2);
         some = was.some;

@@ -1,13 +1,25 @@
 -- One refusal told as another.
-use Rattle.normal_files.proofs.Words.{◌≡◌, ◌+◌, ℕ, Ok, Err, false, refl, sym, subst, arith, IfErr, Result, IsErrAnd, OnlyReads, Tells, reads_then, stopped_after_reads, tells_on, Ghosts, Damage, Trouble, Image, leaf_pointers}
-use Rattle.normal_files.specs.Refusal.{IsDamage, IsFar, IsTrouble, is_damage, FarNode, FarRoot, NoRoot}
-use Rattle.normal_files.specs.Steps.{HasStoppedBy}
+use Rattle.normal_files.proofs.Words.{◌≡◌, ◌+◌, ℕ, Ok, Err, false, refl, sym, subst, arith, IfErr, Result, IsErrAnd, OnlyReads, Tells, reads_then, stopped_after_reads, tells_on, Ghosts, Damage, Trouble, Image, leaf_pointers, is_damage, HasStoppedBy, ap, Far, FarLeaf, IsNodeTrouble, IsRootTrouble}
+use Rattle.normal_files.specs.Refusal.{IsDamage, IsFar, IsTrouble, FarNode, FarRoot, NoRoot}
 use Rattle.cfs_base.specs.declared.refusal.Trouble.TheVariants as trouble
 
 -- what a `?` makes of a trouble
 pub passed : {A : Type 0} (P : Trouble → Type 0) (r : Result A Trouble) (t : Trouble) → IsErrAnd r (λ e. e ≡ t) → P t → IfErr r P
 passed P (Ok x) t is p = tt
 passed P (Err e) t is p = subst P (sym is) p
+
+-- ---- blocks that were read
+
+-- no root stands there
+pub root_trouble : {D : Type 0} (g : Ghosts D) (at : ℕ) (old new : D) (t : Trouble) → IsRootTrouble g at old new t → IsTrouble g at old new t
+root_trouble g at old new (trouble.Disk tried) is = is.1
+root_trouble g at old new (trouble.Damaged damage) is = NoRoot (ap (λ (d : Damage). d.code) is.0) (ap (λ (d : Damage). d.block) is.0) is.1
+
+-- a pointer to a node, or one of its own, leads past the disk
+pub node_trouble : {D : Type 0} (g : Ghosts D) (block at : ℕ) (old new : D) (t : Trouble) → IsNodeTrouble g block at old new t → IsTrouble g at old new t
+node_trouble g block at old new (trouble.Disk tried) is = is.1
+node_trouble g block at old new (trouble.Damaged damage) (Far is past) = FarRoot (ap (λ (d : Damage). d.code) is) (ap (λ (d : Damage). d.block) is)
+node_trouble g block at old new (trouble.Damaged damage) (FarLeaf is far) = FarNode (ap (λ (d : Damage). d.code) is) (λ tells. rw (ap (λ (d : Damage). d.block) is) (far tells))
 
 -- ---- after calls that only read
 

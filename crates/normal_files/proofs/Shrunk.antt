@@ -1,9 +1,8 @@
 -- A file that was set to less: what its root no longer leads to becomes Free, and then the store has the file.
-use Rattle.normal_files.proofs.Words.{◌≡◌, ◌≢◌, ◌⊎◌, inl, inr, ℕ, ◌+◌, ◌*◌, ◌<◌, ◌≤◌, Bool, true, false, cond, List, [], length, set, get_or, Some, refl, sym, ◌∙◌, ap, subst, get_or-set_other, arith, nat_lt, length-set, both_ways, cases_eq, cases_lt, get_or_past, Image, block_at, IsSettled, left_now, Ghosts, Puid, Place, Leaf, Node, Root, node_spelling, root_spelling, AreCounts, Kept, entry_in, BlockState, Free, File, Object, Graph, object_at, with_object, same_puid, leaves_in, resized, filter-rises, object_at-with_object, rises-with_object, same_puid_is, same_puid_itself, Frames, IsBlockOf, IsLoose, BelongsTo, is_committed, part_at, part_of, sight, Holds, ReadsAs, carried, other_at, others, owned_is_loose, frames_hold, framed_sight, same_blocks, placed, begins, HasDrafts, HasItsBlocks, ChangesOnly, of_owner, is_had, is_leaving, is_meant, is_of, changes_begin, changes_then, free_unowned, object_changes_on}
+use Rattle.normal_files.proofs.Words.{◌≡◌, ◌≢◌, ◌⊎◌, inl, inr, ℕ, ◌+◌, ◌*◌, ◌<◌, ◌≤◌, Bool, true, false, cond, List, [], length, set, get_or, Some, refl, sym, ◌∙◌, ap, subst, get_or-set_other, arith, nat_lt, length-set, both_ways, cases_eq, cases_lt, get_or_past, Image, block_at, IsSettled, left_now, Ghosts, Puid, Place, Leaf, Node, Root, node_spelling, root_spelling, AreCounts, Kept, entry_in, BlockState, Free, File, Object, Graph, object_at, with_object, same_puid, leaves_in, resized, filter-rises, object_at-with_object, rises-with_object, same_puid_is, same_puid_itself, Frames, IsBlockOf, IsLoose, BelongsTo, is_committed, part_at, part_of, sight, Holds, ReadsAs, carried, other_at, others, owned_is_loose, frames_hold, framed_sight, same_blocks, placed, begins, HasDrafts, HasItsBlocks, ChangesOnly, of_owner, is_had, is_leaving, is_meant, is_of, changes_begin, changes_then, free_unowned, object_changes_on, leaf_pointers, node_pointers, leaf_limit, leaves_at, zeros}
 use Rattle.normal_files.specs.Cuts.{MayTrim, last_node, put_at, trimmed}
 use Rattle.normal_files.specs.Frees.{Drops, IsDropped, IsFreed, IsFreeing, TakesNone, FreedLeaf, FreedNode}
 use Rattle.normal_files.specs.Laid.{IsRooted, leaf_of, leaves_of, node_of}
-use Rattle.normal_files.specs.Nodes.{leaves_at}
 use Rattle.normal_files.specs.Standing.{BecomesFile, IsPartly}
 use Rattle.normal_files.specs.declared.cut.End.{End}
 use Rattle.normal_files.proofs.Among.{places_differ}
@@ -11,7 +10,7 @@ use Rattle.normal_files.proofs.Ended.{either_e, either_left, gone_stays, is_trim
 use Rattle.normal_files.proofs.Laid.{tree_of_laid}
 use Rattle.normal_files.proofs.Partly.{held_rises}
 use Rattle.normal_files.proofs.Owned.{IsOwn, all_there, block_from_own, own_from_block}
-use Rattle.normal_files.proofs.Trees.{near, same_leaves, zeros}
+use Rattle.normal_files.proofs.Trees.{near, same_leaves}
 use Rattle.normal_files.proofs.Trimmed.{IsEitherWay, IsLed, IsTrimmed, KeepsEntries, either_partly, entries_begin, gives, led, set_content, shrunk_holds, shrunk_own, shrunk_partly, shrunk_parts, shrunk_rooted}
 use Rattle.normal_files.proofs.Places.{one_leaf, one_node}
 use Rattle.normal_files.specs.View.{View, id_at}
@@ -105,7 +104,7 @@ module _ {D : Type 0} {g : Ghosts D} {r : ℕ} {root : roots.Root} {start : D} {
       by x o there block true same loose = gone (own_from_block b id next b_rooted m (subst (λ (y : Puid). IsBlockOf b y.block m) (same_puid_is x id same) block))
       by x o there block false apart loose = loose.unheld (x, o, other_at after id x o there apart, block)
 
-  leaf_own : (q k : ℕ) → k < 128 → leaf_of a root q k ≢ 0 → IsOwn a id root (leaf_of a root q k)
+  leaf_own : (q k : ℕ) → k < leaf_pointers.count → leaf_of a root q k ≢ 0 → IsOwn a id root (leaf_of a root q k)
   leaf_own q k small real = inr (inr (q, k, small, real, refl))
 
   node_own : (q : ℕ) → node_of root q ≢ 0 → IsOwn a id root (node_of root q)
@@ -119,17 +118,17 @@ module _ {D : Type 0} {g : Ghosts D} {r : ℕ} {root : roots.Root} {start : D} {
   b_pointer : (n k : ℕ) → leaf_of b next n k ≡ leaf_of e next n k
   b_pointer n k = ap (λ (ls : List ℕ). get_or ls k 0) (b_node n)
 
-  leaf_gone : (q k : ℕ) → k < 128 → keep ≤ 128 * q + k → (real : leaf_of a root q k ≢ 0) → IsOwn b id next (leaf_of a root q k) → ⊥
+  leaf_gone : (q k : ℕ) → k < leaf_pointers.count → keep ≤ leaf_pointers.count * q + k → (real : leaf_of a root q k ≢ 0) → IsOwn b id next (leaf_of a root q k) → ⊥
   leaf_gone q k small past real own = by own
     where
-      mine : BelongsTo r (Leaf (128 * q + k)) (part_at b (leaf_of a root q k))
+      mine : BelongsTo r (Leaf (leaf_pointers.count * q + k)) (part_at b (leaf_of a root q k))
       mine = in_b _ _ (leaf_own q k small real) (v.has.rooted.laid.leaves q k small real).part
 
       by : IsOwn b id next (leaf_of a root q k) → ⊥
-      by (inl same) = (let clash = places_differ b _ _ r (Leaf (128 * q + k)) Root mine b_rooted.part same in cc)
-      by (inr (inl (n, there, same))) = (let clash = places_differ b _ _ r (Leaf (128 * q + k)) (Node n) mine (b_rooted.laid.nodes n there).part same in cc)
+      by (inl same) = (let clash = places_differ b _ _ r (Leaf (leaf_pointers.count * q + k)) Root mine b_rooted.part same in cc)
+      by (inr (inl (n, there, same))) = (let clash = places_differ b _ _ r (Leaf (leaf_pointers.count * q + k)) (Node n) mine (b_rooted.laid.nodes n there).part same in cc)
       by (inr (inr (n, j, low, there, same))) =
-          let number = one_leaf _ _ (places_differ b _ _ r (Leaf (128 * q + k)) (Leaf (128 * n + j)) mine (b_rooted.laid.leaves n j low there).part same) in
+          let number = one_leaf _ _ (places_differ b _ _ r (Leaf (leaf_pointers.count * q + k)) (Leaf (leaf_pointers.count * n + j)) mine (b_rooted.laid.leaves n j low there).part same) in
           there (b_pointer n j ∙ t.next_late n j low (omega (arith, number, past)))
 
   node_gone : (q : ℕ) (real : node_of root q ≢ 0) → node_of next q ≡ 0 → IsOwn b id next (node_of root q) → ⊥
@@ -141,7 +140,7 @@ module _ {D : Type 0} {g : Ghosts D} {r : ℕ} {root : roots.Root} {start : D} {
       by : IsOwn b id next (node_of root q) → ⊥
       by (inl same) = (let clash = places_differ b _ _ r (Node q) Root mine b_rooted.part same in cc)
       by (inr (inl (n, there, same))) = let number = one_node _ _ (places_differ b _ _ r (Node q) (Node n) mine (b_rooted.laid.nodes n there).part same) in there (ap (node_of next) (sym number) ∙ none)
-      by (inr (inr (n, j, low, there, same))) = (let clash = places_differ b _ _ r (Node q) (Leaf (128 * n + j)) mine (b_rooted.laid.leaves n j low there).part same in cc)
+      by (inr (inr (n, j, low, there, same))) = (let clash = places_differ b _ _ r (Node q) (Leaf (leaf_pointers.count * n + j)) mine (b_rooted.laid.leaves n j low there).part same in cc)
 
   b_long : length b ≡ length a
   b_long = length-set e r (root_spelling next) ∙ t.long
@@ -198,18 +197,18 @@ module _ {D : Type 0} {g : Ghosts D} {r : ℕ} {root : roots.Root} {start : D} {
 
   -- ---- once all of it is Free
 
-  module _ (mid now : D) (k1 : Kept) (was : IsFreeing g a b after id root next keep 15360 120 mid now k1) where
+  module _ (mid now : D) (k1 : Kept) (was : IsFreeing g a b after id root next keep leaf_limit node_pointers.count mid now k1) where
     abbrev c : Image
     c = g.content now
 
     abbrev Freed : ℕ → Type 0
-    Freed m = IsFreed a root next keep 15360 120 m
+    Freed m = IsFreed a root next keep leaf_limit node_pointers.count m
 
-    few_nodes : (n : ℕ) → node_of root n ≢ 0 → n < 120
-    few_nodes n real = elim (cases_lt n 120) [ inl few ↦ few | inr past ↦ absurd (real (get_or_past root.nodes n 0 (omega (arith, past, v.has.rooted.laid.good.0.count)))) ]
+    few_nodes : (n : ℕ) → node_of root n ≢ 0 → n < node_pointers.count
+    few_nodes n real = elim (cases_lt n node_pointers.count) [ inl few ↦ few | inr past ↦ absurd (real (get_or_past root.nodes n 0 (omega (arith, past, v.has.rooted.laid.good.0.count)))) ]
 
     has_node : (n k : ℕ) → leaf_of a root n k ≢ 0 → node_of root n ≢ 0
-    has_node n k real none = real (ap (λ (m : ℕ). get_or (leaves_at a m) k 0) none ∙ zeros 128 k)
+    has_node n k real none = real (ap (λ (m : ℕ). get_or (leaves_at a m) k 0) none ∙ zeros leaf_pointers.count k)
 
     -- a block of before is kept, or Free now
     kept_or_freed : (m : ℕ) → IsOwn a id root m → IsOwn b id next m ⊎ Freed m
@@ -218,7 +217,7 @@ module _ {D : Type 0} {g : Ghosts D} {r : ℕ} {root : roots.Root} {start : D} {
       | inl none ↦ inr (FreedNode n (few_nodes n real) real none same)
       | inr there ↦ inl (inr (inl (n, there, same ∙ sym (t.nodes n there))))
     ]
-    kept_or_freed m (inr (inr (n, k, small, real, same))) = elim (cases_lt (128 * n + k) keep) [
+    kept_or_freed m (inr (inr (n, k, small, real, same))) = elim (cases_lt (leaf_pointers.count * n + k) keep) [
       | inl early ↦
           let stays : leaf_of b next n k ≡ leaf_of a root n k = b_pointer n k ∙ t.next_early n k small early in
           inl (inr (inr (n, k, small, λ none. real (sym stays ∙ none), same ∙ sym stays)))

@@ -1,8 +1,8 @@
 -- A file on its way from its leaves before a write to those after it, as its nodes come to lead to what was taken.
-use Rattle.normal_files.proofs.Words.{◌≡◌, ◌≢◌, ◌⊎◌, inl, inr, ℕ, ◌+◌, ◌*◌, ◌/◌, ◌%◌, ◌<◌, ◌≤◌, true, false, List, length, set, get_or, Option, Some, None, refl, sym, ◌∙◌, ap, subst, arith, cases_Bool, cases_eq, ne_eqb, Image, Puid, Place, Node, Root, node_spelling, IsRootBlock, root_spelling, AreCounts, Kept, entry_in, patched, SetsSize, LeavesFit, bytes_held, File, Graph, leaves_in, Frames, IsLoose, BelongsTo, part_at, part_of, leaf_content, held_at, others, in_image, placed, frames_content, not_map, ChangesOnly, of_owner, changes_content, changes_then}
+use Rattle.normal_files.proofs.Words.{◌≡◌, ◌≢◌, ◌⊎◌, inl, inr, ℕ, ◌+◌, ◌*◌, ◌/◌, ◌%◌, ◌<◌, ◌≤◌, true, false, List, length, set, get_or, Option, Some, None, refl, sym, ◌∙◌, ap, subst, arith, cases_Bool, cases_eq, ne_eqb, Image, Puid, Place, Node, Root, node_spelling, IsRootBlock, root_spelling, AreCounts, Kept, entry_in, patched, SetsSize, LeavesFit, bytes_held, File, Graph, leaves_in, Frames, IsLoose, BelongsTo, part_at, part_of, leaf_content, held_at, others, in_image, placed, frames_content, not_map, ChangesOnly, of_owner, changes_content, changes_then, leaf_pointers, leaves_at}
 use Rattle.normal_files.specs.Laid.{IsAt, IsRooted, leaf_of, leaves_of, node_of}
-use Rattle.normal_files.specs.Links.{linked_image, linked_root, with_node}
-use Rattle.normal_files.specs.Nodes.{leaves_at}
+use Rattle.block_tree.specs.Way.{with_node}
+use Rattle.normal_files.specs.Links.{linked_image, linked_root}
 use Rattle.normal_files.specs.Takes.{IsTakenTo, fresh_content}
 use Rattle.normal_files.specs.declared.next.Next.{Next}
 use Rattle.normal_files.specs.declared.part.Part.{Part}
@@ -32,7 +32,7 @@ module _ {a : Image} {graph : Graph} {id : Puid} {f : File} {root : roots.Root} 
     pub held : (l : ℕ) → leaves_of a root l ≢ None → bytes_held (leaves_of c r l) ≡ end l
     pub mixed : (l : ℕ) → (bytes_held (leaves_of c r l) ≡ begin l) ⊎ (bytes_held (leaves_of c r l) ≡ end l)
     pub nodes : (m : ℕ) → node_of root m ≢ 0 → node_of r m ≡ node_of root m
-    pub pointers : (m k : ℕ) → k < 128 → leaf_of a root m k ≢ 0 → leaf_of c r m k ≡ leaf_of a root m k
+    pub pointers : (m k : ℕ) → k < leaf_pointers.count → leaf_of a root m k ≢ 0 → leaf_of c r m k ≡ leaf_of a root m k
     pub only : ChangesOnly (λ e. of_owner id.block e) a c
     pub counts : AreCounts c kept
     pub no_map : (m : ℕ) (p : Place) → BelongsTo id.block p (part_at c m) → m % 64 ≢ 0
@@ -40,10 +40,10 @@ module _ {a : Image} {graph : Graph} {id : Puid} {f : File} {root : roots.Root} 
   -- from one stage to the next the node of a part comes to lead to its leaves, and all else stays
   pub record Comes (c d : Image) (r s : roots.Root) (part : Part) (next : Next) : Type 0 where
     pub stage : IsStage d s
-    pub done : (k : ℕ) → IsTakenTo part part.leaves.to k → (bytes_held (leaves_of d s (128 * part.number + k)) ≡ end (128 * part.number + k)) × (leaf_of d s part.number k ≡ get_or next.node.leaves k 0)
+    pub done : (k : ℕ) → IsTakenTo part part.leaves.to k → (bytes_held (leaves_of d s (leaf_pointers.count * part.number + k)) ≡ end (leaf_pointers.count * part.number + k)) × (leaf_of d s part.number k ≡ get_or next.node.leaves k 0)
     pub block : next.grown ≡ true → node_of s part.number ≡ next.block
-    pub other_bytes : (m k : ℕ) → k < 128 → (m ≡ part.number → IsTakenTo part part.leaves.to k → ⊥) → bytes_held (leaves_of d s (128 * m + k)) ≡ bytes_held (leaves_of c r (128 * m + k))
-    pub other_leaves : (m k : ℕ) → k < 128 → (m ≡ part.number → IsTakenTo part part.leaves.to k → ⊥) → leaf_of d s m k ≡ leaf_of c r m k
+    pub other_bytes : (m k : ℕ) → k < leaf_pointers.count → (m ≡ part.number → IsTakenTo part part.leaves.to k → ⊥) → bytes_held (leaves_of d s (leaf_pointers.count * m + k)) ≡ bytes_held (leaves_of c r (leaf_pointers.count * m + k))
+    pub other_leaves : (m k : ℕ) → k < leaf_pointers.count → (m ≡ part.number → IsTakenTo part part.leaves.to k → ⊥) → leaf_of d s m k ≡ leaf_of c r m k
     pub other_nodes : (m : ℕ) → (next.grown ≡ true → m ≢ part.number) → node_of s m ≡ node_of r m
     pub ready : (other : Part) (more : Next) → other.number ≢ part.number → IsReady c id r root.fill offset bytes other more → IsReady d id s root.fill offset bytes other more
 
@@ -52,7 +52,7 @@ module _ {a : Image} {graph : Graph} {id : Puid} {f : File} {root : roots.Root} 
 
   -- ---- leaves of before
 
-  absent_leaf : (m k : ℕ) → k < 128 → leaf_of a root m k ≡ 0 → leaves_of a root (128 * m + k) ≡ None
+  absent_leaf : (m k : ℕ) → k < leaf_pointers.count → leaf_of a root m k ≡ 0 → leaves_of a root (leaf_pointers.count * m + k) ≡ None
   absent_leaf m k small none = leaf_stands a (root_spelling root) root is_root m k small ∙ ap (held_at a) none
 
   -- what is put into a leaf that was absent is what it is to have
@@ -63,27 +63,27 @@ module _ {a : Image} {graph : Graph} {id : Puid} {f : File} {root : roots.Root} 
 
   -- ---- one part
 
-  module _ (c : Image) (r : roots.Root) (stage : IsStage c r) (part : Part) (next : Next) (ready : IsReady c id r root.fill offset bytes part next) (touched : (k : ℕ) → IsTakenTo part part.leaves.to k → (offset / 512 ≤ 128 * part.number + k) × (128 * part.number + k < leaves_in (offset + length bytes)))
+  module _ (c : Image) (r : roots.Root) (stage : IsStage c r) (part : Part) (next : Next) (ready : IsReady c id r root.fill offset bytes part next) (touched : (k : ℕ) → IsTakenTo part part.leaves.to k → (offset / 512 ≤ leaf_pointers.count * part.number + k) × (leaf_pointers.count * part.number + k < leaves_in (offset + length bytes)))
       (own : part.own.leaves ≡ leaves_at a (node_of root part.number)) (grown : next.grown ≡ true) where
     abbrev n : ℕ
     n = part.number
 
-    taken_end : (k : ℕ) → IsTakenTo part part.leaves.to k → end (128 * n + k) ≡ Some (fresh_content root.fill (128 * n + k) offset bytes)
-    taken_end k t = fresh_end (128 * n + k) (absent_leaf n k t.small (ap (λ (ls : List ℕ). get_or ls k 0) (sym own) ∙ t.absent)) (touched k t).0 (touched k t).1
+    taken_end : (k : ℕ) → IsTakenTo part part.leaves.to k → end (leaf_pointers.count * n + k) ≡ Some (fresh_content root.fill (leaf_pointers.count * n + k) offset bytes)
+    taken_end k t = fresh_end (leaf_pointers.count * n + k) (absent_leaf n k t.small (ap (λ (ls : List ℕ). get_or ls k 0) (sym own) ∙ t.absent)) (touched k t).0 (touched k t).1
 
     module _ (d : Image) (s : roots.Root) (link : IsLinked c d id r s n next.block next.node.leaves) (frames : Frames a (others graph id) d) (only : ChangesOnly (λ e. of_owner id.block e) a d) (counts : AreCounts d kept) where
-      new_bytes : (k : ℕ) → IsTakenTo part part.leaves.to k → bytes_held (leaves_of d s (128 * n + k)) ≡ end (128 * n + k)
+      new_bytes : (k : ℕ) → IsTakenTo part part.leaves.to k → bytes_held (leaves_of d s (leaf_pointers.count * n + k)) ≡ end (leaf_pointers.count * n + k)
       new_bytes k t = taken_bytes c id r root.fill offset bytes part next stage.rooted_now stage.no_map ready d s link k t ∙ sym (taken_end k t)
 
-      old_bytes : (m k : ℕ) → k < 128 → (m ≡ n → IsTakenTo part part.leaves.to k → ⊥) → bytes_held (leaves_of d s (128 * m + k)) ≡ bytes_held (leaves_of c r (128 * m + k))
+      old_bytes : (m k : ℕ) → k < leaf_pointers.count → (m ≡ n → IsTakenTo part part.leaves.to k → ⊥) → bytes_held (leaves_of d s (leaf_pointers.count * m + k)) ≡ bytes_held (leaves_of c r (leaf_pointers.count * m + k))
       old_bytes = other_bytes c id r root.fill offset bytes part next stage.rooted_now stage.no_map ready d s link
 
       -- a leaf was taken, or stays
-      either : (m k : ℕ) → k < 128 → (bytes_held (leaves_of d s (128 * m + k)) ≡ end (128 * m + k)) ⊎ (bytes_held (leaves_of d s (128 * m + k)) ≡ bytes_held (leaves_of c r (128 * m + k)))
+      either : (m k : ℕ) → k < leaf_pointers.count → (bytes_held (leaves_of d s (leaf_pointers.count * m + k)) ≡ end (leaf_pointers.count * m + k)) ⊎ (bytes_held (leaves_of d s (leaf_pointers.count * m + k)) ≡ bytes_held (leaves_of c r (leaf_pointers.count * m + k)))
       either m k small = elim (cases_eq m n) [
         | inr apart ↦ inr (old_bytes m k small (λ e t. apart e))
         | inl is ↦ elim (taken_or part part.leaves.to k small) [
-          | inl t ↦ inl (subst (λ (q : ℕ). bytes_held (leaves_of d s (128 * q + k)) ≡ end (128 * q + k)) (sym is) (new_bytes k t))
+          | inl t ↦ inl (subst (λ (q : ℕ). bytes_held (leaves_of d s (leaf_pointers.count * q + k)) ≡ end (leaf_pointers.count * q + k)) (sym is) (new_bytes k t))
           | inr not ↦ inr (old_bytes m k small (λ e. not))
         ]
       ]
@@ -100,7 +100,7 @@ module _ {a : Image} {graph : Graph} {id : Puid} {f : File} {root : roots.Root} 
       fit_now : LeavesFit s (leaves_of d s)
       fit_now = mixed_fits has offset bytes inside d s head_now mixed_now
 
-      real_now : (m k : ℕ) → k < 128 → leaf_of a root m k ≢ 0 → leaf_of d s m k ≡ leaf_of a root m k
+      real_now : (m k : ℕ) → k < leaf_pointers.count → leaf_of a root m k ≢ 0 → leaf_of d s m k ≡ leaf_of a root m k
       real_now m k small real =
           let was = stage.pointers m k small real in
           real_stays c id r root.fill offset bytes part next stage.rooted_now stage.no_map ready d s link m k small (λ none. real (sym was ∙ none)) ∙ was
@@ -190,7 +190,7 @@ module _ {a : Image} {graph : Graph} {id : Puid} {f : File} {root : roots.Root} 
   -- ---- one part, whether a leaf of it was taken or none
 
   pub steps : (c : Image) (r : roots.Root) (stage : IsStage c r) (part : Part) (next : Next) → (next.grown ≡ true → IsReady c id r root.fill offset bytes part next) → (next.grown ≡ false → (k : ℕ) → IsTakenTo part part.leaves.to k → ⊥)
-      → ((k : ℕ) → IsTakenTo part part.leaves.to k → (offset / 512 ≤ 128 * part.number + k) × (128 * part.number + k < leaves_in (offset + length bytes)))
+      → ((k : ℕ) → IsTakenTo part part.leaves.to k → (offset / 512 ≤ leaf_pointers.count * part.number + k) × (leaf_pointers.count * part.number + k < leaves_in (offset + length bytes)))
       → (next.grown ≡ true → part.own.leaves ≡ leaves_at a (node_of root part.number)) → (next.grown ≡ true → node_of r part.number ≡ node_of root part.number)
       → Comes c (linked_image c id.block r part.number next) r (linked_root r part.number next) part next
   steps c r stage part next ready none touched own had = elim (cases_Bool next.grown) [

@@ -1,5 +1,5 @@
 -- One leaf that was absent, and its node, taken and written.
-use Rattle.normal_files.proofs.Words.{◌≡◌, ◌≢◌, ℕ, ◌/◌, ◌%◌, ◌<◌, Bool, true, false, List, [], length, Ok, Some, refl, sym, ◌∙◌, ap, subst, get_or-set_other, get_or-set_same, arith, ◌^◌, Err, Result, both_ways, lt-ltb, le-leb, Image, block_at, Leaves, Ghosts, BlockNo, Leaf, Node, Refused, Trouble, Enters, IsLeastFree, Kept, allocated, IsEntry, MapEntry, Free, entry_in, is_free_entry, is_free_in, with_entry, block_at-with_entry, entry_in-set, entry_in-with_entry_other, entry_in-with_entry_same, length-with_entry, IsLoose, in_image, not_map, after_try}
+use Rattle.normal_files.proofs.Words.{◌≡◌, ◌≢◌, ℕ, ◌/◌, ◌%◌, ◌<◌, Bool, true, false, List, [], length, Ok, Some, refl, sym, ◌∙◌, ap, subst, get_or-set_other, get_or-set_same, arith, ◌^◌, Err, Result, both_ways, lt-ltb, le-leb, Image, block_at, Leaves, Ghosts, BlockNo, Leaf, Node, Refused, Trouble, Enters, IsLeastFree, Kept, allocated, IsEntry, MapEntry, Free, entry_in, is_free_entry, is_free_in, with_entry, block_at-with_entry, entry_in-set, entry_in-with_entry_other, entry_in-with_entry_same, length-with_entry, IsLoose, in_image, not_map, after_try, leaf_pointers, node_pointers, leaf_limit}
 use Rattle.normal_files.specs.Steps.{WritesBlock, MayLeave}
 use Rattle.normal_files.specs.Takes.{FreesNone, GetsNode, TakesLeaf, MayTake, Claims, Had}
 use Rattle.normal_files.proofs.Taking.{claim_leaves, claimed, free_is, fresh_leaves, fresh_written, leaf_inner, loose, node_inner, entry_frees}
@@ -16,21 +16,21 @@ record GotNode (b c : Image) (owner n : ℕ) (held : Bool) (block y : ℕ) : Typ
   pub rest : (m : ℕ) → (held ≡ false → m ≢ y) → entry_in c m ≡ entry_in b m
   pub contents : (m : ℕ) → m % 64 ≢ 0 → block_at c m ≡ block_at b m
 
-pub leaf_entry : (l r : ℕ) → l < 15360 → r ≢ 0 → r < 2 ^ 32 → IsEntry (allocated (Leaf l) r)
+pub leaf_entry : (l r : ℕ) → l < leaf_limit → r ≢ 0 → r < 2 ^ 32 → IsEntry (allocated (Leaf l) r)
 leaf_entry l r below some small = record { in_table = rw (le-leb l 15359 (omega arith), lt-ltb 0 r (omega (arith, some)), lt-ltb r (2 ^ 32) small) refl }
 
-pub node_entry : (n r : ℕ) → n < 120 → r ≢ 0 → r < 2 ^ 32 → IsEntry (allocated (Node n) r)
+pub node_entry : (n r : ℕ) → n < node_pointers.count → r ≢ 0 → r < 2 ^ 32 → IsEntry (allocated (Node n) r)
 node_entry n r below some small = record { in_table = rw (le-leb n 119 (omega arith), lt-ltb 0 r (omega (arith, some)), lt-ltb r (2 ^ 32) small) refl }
 
-module _ {D : Type 0} {g : Ghosts D} {r : ℕ} {w : Way g r} {offset : ℕ} {bytes : List ℕ} {d0 : D} {k0 : Kept} (may : MayTake w offset bytes d0 k0) {leaf : ℕ} (below : leaf < 15360) (some : r ≢ 0) (small : r < 2 ^ 32) where
+module _ {D : Type 0} {g : Ghosts D} {r : ℕ} {w : Way g r} {offset : ℕ} {bytes : List ℕ} {d0 : D} {k0 : Kept} (may : MayTake w offset bytes d0 k0) {leaf : ℕ} (below : leaf < leaf_limit) (some : r ≢ 0) (small : r < 2 ^ 32) where
   abbrev a : Image
   a = g.content w.start
 
   leaf_is : IsEntry (allocated (Leaf leaf) r)
   leaf_is = leaf_entry leaf r below some small
 
-  node_is : IsEntry (allocated (Node (leaf / 128)) r)
-  node_is = node_entry (leaf / 128) r (omega (arith, below)) some small
+  node_is : IsEntry (allocated (Node (leaf / leaf_pointers.count)) r)
+  node_is = node_entry (leaf / leaf_pointers.count) r (omega (arith, below)) some small
 
   pub leaf_err : {d1 : D} {k1 : Kept} (e : Refused) → Enters g (allocated (Leaf leaf) r) d0 d1 k0 k1 (Err e) → Leaves g w.start d1 (MayLeave w offset bytes) × (is_damaged e ≡ false)
   leaf_err e enters = (claim_leaves may enters leaf_is (leaf_inner leaf), enters_sound enters may.amid.tells may.amid.only.maps may.amid.counts)
@@ -42,15 +42,15 @@ module _ {D : Type 0} {g : Ghosts D} {r : ℕ} {w : Way g r} {offset : ℕ} {byt
     frees_more : FreesNone (g.content d0) (g.content d1)
     frees_more = subst (FreesNone (g.content d0)) (sym claim1.2) (entry_frees (g.content d0) x.0 (Leaf leaf) r claim1.1.free leaf_is)
 
-    pub node_err : {held : Bool} {block : ℕ} {d2 : D} {k2 : Kept} (e : Refused) → GetsNode g (leaf / 128) r held block d1 d2 k1 k2 (Err e) → Leaves g w.start d2 (MayLeave w offset bytes) × (is_damaged (after_try e) ≡ false)
+    pub node_err : {held : Bool} {block : ℕ} {d2 : D} {k2 : Kept} (e : Refused) → GetsNode g (leaf / leaf_pointers.count) r held block d1 d2 k1 k2 (Err e) → Leaves g w.start d2 (MayLeave w offset bytes) × (is_damaged (after_try e) ≡ false)
     node_err e (Had h same kept is) = cc
-    node_err e (Claims h gets) = (claim_leaves claim1.0 gets node_is (node_inner (leaf / 128)), still_sound true e (enters_sound gets claim1.0.amid.tells claim1.0.amid.only.maps claim1.0.amid.counts))
+    node_err e (Claims h gets) = (claim_leaves claim1.0 gets node_is (node_inner (leaf / leaf_pointers.count)), still_sound true e (enters_sound gets claim1.0.amid.tells claim1.0.amid.only.maps claim1.0.amid.counts))
 
-    module _ {held : Bool} {block : ℕ} {d2 : D} {k2 : Kept} (y : BlockNo) (gets : GetsNode g (leaf / 128) r held block d1 d2 k1 k2 (Ok y)) where
-      got : MayTake w offset bytes d2 k2 × GotNode (g.content d1) (g.content d2) r (leaf / 128) held block y.0
+    module _ {held : Bool} {block : ℕ} {d2 : D} {k2 : Kept} (y : BlockNo) (gets : GetsNode g (leaf / leaf_pointers.count) r held block d1 d2 k1 k2 (Ok y)) where
+      got : MayTake w offset bytes d2 k2 × GotNode (g.content d1) (g.content d2) r (leaf / leaf_pointers.count) held block y.0
       got = by gets
         where
-          by : GetsNode g (leaf / 128) r held block d1 d2 k1 k2 (Ok y) → MayTake w offset bytes d2 k2 × GotNode (g.content d1) (g.content d2) r (leaf / 128) held block y.0
+          by : GetsNode g (leaf / leaf_pointers.count) r held block d1 d2 k1 k2 (Ok y) → MayTake w offset bytes d2 k2 × GotNode (g.content d1) (g.content d2) r (leaf / leaf_pointers.count) held block y.0
           by (Had held_is same kept is) = (
             subst (λ (d : D). MayTake w offset bytes d k2) (sym same) (subst (MayTake w offset bytes d1) (sym kept) claim1.0),
             record {
@@ -63,9 +63,9 @@ module _ {D : Type 0} {g : Ghosts D} {r : ℕ} {w : Way g r} {offset : ℕ} {byt
             },
           )
           by (Claims none enters2) =
-              let claim2 = claimed claim1.0 enters2 node_is (node_inner (leaf / 128)) y refl in
+              let claim2 = claimed claim1.0 enters2 node_is (node_inner (leaf / leaf_pointers.count)) y refl in
               let was = free_is (g.content d1) y.0 claim2.1.free in
-              let e = allocated (Node (leaf / 128)) r in (
+              let e = allocated (Node (leaf / leaf_pointers.count)) r in (
                 claim2.0,
                 record {
                   size = ap (length {A = List ℕ}) claim2.2 ∙ length-with_entry (g.content d1) y.0 e;

@@ -19,13 +19,13 @@ use Rattle.cfs_base.specs.declared.refusal.Trouble.TheVariants as trouble
 
 -- ---- one leaf
 
-pub at_leaf : {size : ℕ} {part : Part} → IsReadPart size part → (leaf : ℕ) → part.leaves.from ≤ leaf → leaf < part.leaves.to → 128 * part.number + leaf % 128 ≡ leaf
+pub at_leaf : {size : ℕ} {part : Part} → IsReadPart size part → (leaf : ℕ) → part.leaves.from ≤ leaf → leaf < part.leaves.to → leaf_pointers.count * part.number + leaf % leaf_pointers.count ≡ leaf
 at_leaf read leaf from to = omega (arith, from, to, read.from, read.to)
 
-pub one_taken : {a c d : Image} {owner fill offset : ℕ} {bytes : List ℕ} {part : Part} {had leaf size : ℕ} {next : Next} → HasTaken a c owner fill offset bytes part had leaf next → IsReadPart size part → part.leaves.from ≤ leaf → leaf < part.leaves.to → get_or part.own.leaves (leaf % 128) 0 ≡ 0
-    → {held : Bool} {x y : ℕ} {content : List ℕ} → TakesLeaf c d owner leaf held next.block x y content → held ≡ is_held had next → content ≡ fresh_content fill leaf offset bytes → {more : Next} → more ≡ with_taken next (leaf % 128) x y → HasTaken a d owner fill offset bytes part had (leaf + 1) more
+pub one_taken : {a c d : Image} {owner fill offset : ℕ} {bytes : List ℕ} {part : Part} {had leaf size : ℕ} {next : Next} → HasTaken a c owner fill offset bytes part had leaf next → IsReadPart size part → part.leaves.from ≤ leaf → leaf < part.leaves.to → get_or part.own.leaves (leaf % leaf_pointers.count) 0 ≡ 0
+    → {held : Bool} {x y : ℕ} {content : List ℕ} → TakesLeaf c d owner leaf held next.block x y content → held ≡ is_held had next → content ≡ fresh_content fill leaf offset bytes → {more : Next} → more ≡ with_taken next (leaf % leaf_pointers.count) x y → HasTaken a d owner fill offset bytes part had (leaf + 1) more
 one_taken {a} {c} {d} {owner} {fill} {offset} {bytes} {part} {had} {leaf} {size} {next} has read from to absent {held} {x} {y} {content} takes held_is is more_is =
-    subst (HasTaken a d owner fill offset bytes part had (leaf + 1)) (sym more_is) (leaf_passed has (leaf % 128) (at_leaf read leaf from to) (omega arith) from absent
+    subst (HasTaken a d owner fill offset bytes part had (leaf + 1)) (sym more_is) (leaf_passed has (leaf % leaf_pointers.count) (at_leaf read leaf from to) (omega arith) from absent
     (subst (TakesLeaf c d owner leaf (is_held had next) next.block x y) is (subst (λ (h : Bool). TakesLeaf c d owner leaf h next.block x y content) held_is takes)))
 
 -- ---- how many blocks
@@ -42,7 +42,7 @@ takes_sum had next = by had next.grown
 
 -- ---- before the first leaf
 
-pub taken_begins : (a : Image) (owner fill offset : ℕ) (bytes : List ℕ) (part : Part) (had : ℕ) → length part.own.leaves ≡ 128 → HasTaken a a owner fill offset bytes part had part.leaves.from (record { block = had; node = part.own; grown = false })
+pub taken_begins : (a : Image) (owner fill offset : ℕ) (bytes : List ℕ) (part : Part) (had : ℕ) → length part.own.leaves ≡ leaf_pointers.count → HasTaken a a owner fill offset bytes part had part.leaves.from (record { block = had; node = part.own; grown = false })
 taken_begins a owner fill offset bytes part had count = record {
   count = count;
   others = λ k not. refl;

@@ -1,6 +1,5 @@
 -- The absent leaves of one node, taken one after another.
-use Rattle.normal_files.proofs.Words.{◌≡◌, ◌≢◌, ◌⊎◌, inl, inr, ℕ, zero, suc, ◌+◌, ◌*◌, ◌/◌, ◌%◌, ◌<◌, ◌≤◌, Bool, true, false, List, [], ◌∷◌, set, get_or, refl, sym, ◌∙◌, ap, subst, get_or-set_other, get_or-set_same, arith, ◌==◌, both_ways, cases_Bool, cases_eq, ne_eqb, length-set, Image, block_at, Place, Leaf, Node, leaf_pointers, pointers_of, AreClaimed, claims_then, MapEntry, entry_in, is_free_entry, is_free_in, entry_in-set, same_Some, has_number}
-use Rattle.normal_files.specs.Nodes.{leaves_at}
+use Rattle.normal_files.proofs.Words.{◌≡◌, ◌≢◌, ◌⊎◌, inl, inr, ℕ, zero, suc, ◌+◌, ◌*◌, ◌/◌, ◌%◌, ◌<◌, ◌≤◌, Bool, true, false, List, [], ◌∷◌, set, get_or, refl, sym, ◌∙◌, ap, subst, get_or-set_other, get_or-set_same, arith, ◌==◌, both_ways, cases_Bool, cases_eq, ne_eqb, length-set, Image, block_at, Place, Leaf, Node, leaf_pointers, pointers_of, AreClaimed, claims_then, MapEntry, entry_in, is_free_entry, is_free_in, entry_in-set, same_Some, has_number, leaves_at}
 use Rattle.normal_files.specs.Order.{TellsHeld, claims_from, nodes_now}
 use Rattle.normal_files.specs.Takes.{FreesNone, HasTaken, IsNew, IsOneOf, IsTakenTo, IsWhole, KeepsTaken, TakesLeaf, fresh_content, is_held}
 use Rattle.normal_files.specs.declared.next.Next.{Next}
@@ -48,7 +47,7 @@ module _ {a c : Image} {owner fill offset : ℕ} {bytes : List ℕ} {part : Part
   taken_frees m free = elim (has.rest m) [ inl same ↦ sym (ap is_free_entry same) ∙ free | inr one ↦ absurd (both_ways _ (one_taken m one) free) ]
 
   -- the next leaf is held already
-  module _ (l : ℕ) (at : 128 * part.number + l ≡ upto) (small : l < 128) (held : get_or part.own.leaves l 0 ≢ 0) where
+  module _ (l : ℕ) (at : leaf_pointers.count * part.number + l ≡ upto) (small : l < leaf_pointers.count) (held : get_or part.own.leaves l 0 ≢ 0) where
     back : (k : ℕ) → IsTakenTo part (upto + 1) k → IsTakenTo part upto k
     back k t = record {
       small = t.small;
@@ -77,7 +76,7 @@ module _ {a c : Image} {owner fill offset : ℕ} {bytes : List ℕ} {part : Part
     }
 
   -- it is absent, and taken
-  module _ {d : Image} (l : ℕ) {x y : ℕ} (at : 128 * part.number + l ≡ upto) (small : l < 128) (from : part.leaves.from ≤ upto) (absent : get_or part.own.leaves l 0 ≡ 0)
+  module _ {d : Image} (l : ℕ) {x y : ℕ} (at : leaf_pointers.count * part.number + l ≡ upto) (small : l < leaf_pointers.count) (from : part.leaves.from ≤ upto) (absent : get_or part.own.leaves l 0 ≡ 0)
       (takes : TakesLeaf c d owner upto (is_held had next) next.block x y (fresh_content fill upto offset bytes)) where
     abbrev more : Next
     more = record { block = y; node = record { leaves = set next.node.leaves l x }; grown = true }
@@ -114,8 +113,8 @@ module _ {a c : Image} {owner fill offset : ℕ} {bytes : List ℕ} {part : Part
     node_now none true grown =
         subst (IsNew a d owner (Node part.number)) (sym (takes.y_kept (held_grown none ∙ grown))) (new_stays (has.node_new none grown) takes.keeps)
     node_now none false grown =
-        let number : upto / 128 ≡ part.number = omega (arith, at, small) in
-        subst (λ (n : ℕ). IsNew a d owner (Node n) y) number (from_a (Node (upto / 128)) y (takes.y_new (held_grown none ∙ grown)))
+        let number : upto / leaf_pointers.count ≡ part.number = omega (arith, at, small) in
+        subst (λ (n : ℕ). IsNew a d owner (Node n) y) number (from_a (Node (upto / leaf_pointers.count)) y (takes.y_new (held_grown none ∙ grown)))
 
     had_none : is_held had next ≡ false → had ≡ 0
     had_none not = elim (cases_eq had 0) [ inl is ↦ is | inr some ↦ absurd (both_ways _ not (held_some some)) ]
@@ -131,7 +130,7 @@ module _ {a c : Image} {owner fill offset : ℕ} {bytes : List ℕ} {part : Part
         → AreClaimed (claims_from owner leaves (nodes_now (had == 0) true part.number nodes) (upto + 1) n) d e → AreClaimed (claims_from owner leaves nodes part.leaves.from m) a e
     order_passed leaves nodes tells n m e eq more =
         let N = nodes_now (had == 0) next.grown part.number nodes in
-        let number : upto / 128 ≡ part.number = omega (arith, at, small) in
+        let number : upto / leaf_pointers.count ≡ part.number = omega (arith, at, small) in
         has.order leaves nodes tells (suc n) m e (omega (arith, eq))
         (leaf_claimed owner leaves N (nodes_now (had == 0) true part.number nodes) upto n c d e (is_held had next) next.block x y (fresh_content fill upto offset bytes) (told_absent part had leaves nodes tells upto l at small absent)
         (ap (λ (k : ℕ). has_number k N) number ∙ now_has (had == 0) next.grown part.number nodes tells.node) (now_same (had == 0) next.grown part.number nodes)
@@ -145,12 +144,12 @@ module _ {a c : Image} {owner fill offset : ℕ} {bytes : List ℕ} {part : Part
         | inr apart ↦ other k apart ∙ has.others k (λ t. not (up k t))
       ];
       leaves = λ k t. elim (cases_eq k l) [
-        | inl same ↦ subst (λ (j : ℕ). IsNew a d owner (Leaf (128 * part.number + j)) (get_or more.node.leaves j 0)) (sym same)
-            (subst (IsNew a d owner (Leaf (128 * part.number + l))) (sym here) (subst (λ (n : ℕ). IsNew a d owner (Leaf n) x) (sym at) (from_a (Leaf upto) x takes.x_new)))
-        | inr apart ↦ subst (IsNew a d owner (Leaf (128 * part.number + k))) (sym (other k apart)) (new_stays (has.leaves k (down k apart t)) takes.keeps)
+        | inl same ↦ subst (λ (j : ℕ). IsNew a d owner (Leaf (leaf_pointers.count * part.number + j)) (get_or more.node.leaves j 0)) (sym same)
+            (subst (IsNew a d owner (Leaf (leaf_pointers.count * part.number + l))) (sym here) (subst (λ (n : ℕ). IsNew a d owner (Leaf n) x) (sym at) (from_a (Leaf upto) x takes.x_new)))
+        | inr apart ↦ subst (IsNew a d owner (Leaf (leaf_pointers.count * part.number + k))) (sym (other k apart)) (new_stays (has.leaves k (down k apart t)) takes.keeps)
       ];
       contents = λ k t. elim (cases_eq k l) [
-        | inl same ↦ ap (block_at d) (ap (λ (j : ℕ). get_or more.node.leaves j 0) same ∙ here) ∙ takes.x_content ∙ ap (λ (n : ℕ). fresh_content fill n offset bytes) (sym at ∙ ap (λ (j : ℕ). 128 * part.number + j) (sym same))
+        | inl same ↦ ap (block_at d) (ap (λ (j : ℕ). get_or more.node.leaves j 0) same ∙ here) ∙ takes.x_content ∙ ap (λ (n : ℕ). fresh_content fill n offset bytes) (sym at ∙ ap (λ (j : ℕ). leaf_pointers.count * part.number + j) (sym same))
         | inr apart ↦ ap (block_at d) (other k apart) ∙ content_stays (has.leaves k (down k apart t)) takes.keeps ∙ has.contents k (down k apart t)
       ];
       node_had = λ some. takes.y_kept (held_some some) ∙ has.node_had some;
@@ -192,7 +191,7 @@ module _ {a c : Image} {owner fill offset : ℕ} {bytes : List ℕ} {part : Part
     node_written = record {
       count = has.count;
       others = has.others;
-      leaves = λ k t. stays (Leaf (128 * part.number + k)) (get_or next.node.leaves k 0) (has.leaves k t);
+      leaves = λ k t. stays (Leaf (leaf_pointers.count * part.number + k)) (get_or next.node.leaves k 0) (has.leaves k t);
       contents = λ k t. get_or-set_other c next.block (get_or next.node.leaves k 0) v [] (not_leaf k t) ∙ has.contents k t;
       node_had = has.node_had;
       node_new = λ no yes. stays (Node part.number) next.block (has.node_new no yes);

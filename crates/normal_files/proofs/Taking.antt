@@ -1,5 +1,5 @@
 -- A disk on the way through a write takes blocks and writes them: nothing leads to them yet.
-use Rattle.normal_files.proofs.Words.{◌≡◌, ◌≢◌, inl, inr, ⊎_elim, ℕ, ◌+◌, ◌*◌, true, false, IsTrue, List, [], set, Option, Ok, Some, None, refl, sym, ◌∙◌, ap, subst, get_or-set_same, arith, length, IfOk, OnOk, Result, Image, IsSameDisk, Written, block_at, Leaves, left_now, Ghosts, BlockNo, Puid, Place, Leaf, Node, Root, Refused, still_tells, then, wider, Enters, EntryWritten, AreCounts, IsLeastFree, Kept, allocated, IsEntry, MapEntry, BlockState, Allocated, Free, IntendAllocate, IntendDeallocate, entry_in, is_free_entry, is_free_in, map_of, map_with, with_entry, block_at-with_entry, entry_in-with_entry_other, map_in_image, entry_in-set, File, Graph, here, IsBlockOf, IsLoose, BelongsTo, part_of, stands_for, hold_others, other_is, others, free_stands_for_none, loose_entry, free_is_loose, not_map, ChangesOnly, IsOpenTo, of_owner, changes_content, changes_entry, changes_then, cases_eq, leaves_in}
+use Rattle.normal_files.proofs.Words.{◌≡◌, ◌≢◌, inl, inr, ⊎_elim, ℕ, ◌+◌, ◌*◌, true, false, IsTrue, List, [], set, Option, Ok, Some, None, refl, sym, ◌∙◌, ap, subst, get_or-set_same, arith, length, IfOk, OnOk, Result, Image, IsSameDisk, Written, block_at, Leaves, left_now, Ghosts, BlockNo, Puid, Place, Leaf, Node, Root, Refused, still_tells, then, wider, Enters, EntryWritten, AreCounts, IsLeastFree, Kept, allocated, IsEntry, MapEntry, BlockState, Allocated, Free, IntendAllocate, IntendDeallocate, entry_in, is_free_entry, is_free_in, map_of, map_with, with_entry, block_at-with_entry, entry_in-with_entry_other, map_in_image, entry_in-set, File, Graph, here, IsBlockOf, IsLoose, BelongsTo, part_of, stands_for, hold_others, other_is, others, free_stands_for_none, loose_entry, free_is_loose, not_map, ChangesOnly, IsOpenTo, of_owner, changes_content, changes_entry, changes_then, cases_eq, leaves_in, leaf_pointers}
 use Rattle.normal_files.specs.Among.{IsAmong, IsEither}
 use Rattle.normal_files.specs.Laid.{leaf_of, node_of}
 use Rattle.normal_files.specs.Steps.{IsWrittenTo, MayLeave}
@@ -91,7 +91,7 @@ module _ {D : Type 0} {g : Ghosts D} {r : ℕ} {w : Way g r} {offset : ℕ} {byt
             content = content (node_of w.root m) (Node m) (w.has.rooted.laid.nodes m real).part ∙ (among.nodes m real).content;
           };
           parts = λ m k small real. part (leaf_of a w.root m k) (leaf_block a (id_at r w.word) w.root w.has.rooted m k small real) ∙ among.parts m k small real;
-          bytes = λ m k small real. subst (Now (128 * m + k)) (sym (content (leaf_of a w.root m k) (Leaf (128 * m + k)) (w.has.rooted.laid.leaves m k small real).part)) (among.bytes m k small real);
+          bytes = λ m k small real. subst (Now (leaf_pointers.count * m + k)) (sym (content (leaf_of a w.root m k) (Leaf (leaf_pointers.count * m + k)) (w.has.rooted.laid.leaves m k small real).part)) (among.bytes m k small real);
         }
 
     map_there : (n : ℕ) → is_free_in c n ≡ true → block_at (with_entry c n e) (map_of n) ≡ map_with c n e

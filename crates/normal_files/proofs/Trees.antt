@@ -1,34 +1,20 @@
 -- A tree of nodes and leaves: what stands at each path, as the pointers say.
-use Rattle.normal_files.proofs.Words.{◌≡◌, ◌≢◌, inl, inr, ℕ, zero, suc, ◌+◌, ◌*◌, ◌/◌, ◌%◌, ◌<◌, ◌≤◌, List, [], ◌∷◌, get_or, refl, sym, ◌∙◌, ap, subst, arith, replicate, slice_index, cases_eq, cases_lt, get_or-replicate, get_or_past, length-replicate, length-map-range_with_len, Image, block_at, leaf_pointers, node_pointers, number_at, numbers_from, pointers_of, IsGoodRoot, IsRootBlock, root_spelling, end_of, pointer, tree_of, nodes_of, leaf_is, node_block, path_is, Object, IsTree, leaf_in, held_at, tree_in, held_there, held}
+use Rattle.normal_files.proofs.Words.{◌≡◌, ◌≢◌, inl, inr, ℕ, zero, suc, ◌+◌, ◌*◌, ◌/◌, ◌%◌, ◌<◌, ◌≤◌, List, [], ◌∷◌, get_or, refl, sym, ◌∙◌, ap, subst, arith, slice_index, cases_eq, cases_lt, get_or_past, Image, block_at, leaf_pointers, node_pointers, pointers_of, IsGoodRoot, IsRootBlock, root_spelling, end_of, pointer, tree_of, nodes_of, leaf_is, node_block, path_is, Object, IsTree, leaf_in, held_at, tree_in, held_there, held, IsNear, leaves_at, length-leaves, pointed, zeros}
 use Rattle.normal_files.specs.Laid.{leaf_of, leaves_of}
-use Rattle.normal_files.specs.Nodes.{IsNear, LeadTo, leaves_at}
+use Rattle.normal_files.specs.Nodes.{LeadTo}
 use Rattle.block_tree.specs.declared.root.Root as roots
-
-pub zeros : (n k : ℕ) → get_or (replicate {A = ℕ} n 0) k 0 ≡ 0
-zeros n k = elim (cases_lt k n) [ inl below ↦ get_or-replicate n k 0 0 below | inr past ↦ get_or_past (replicate n 0) k 0 (omega (arith, past, length-replicate {A = ℕ} n 0)) ]
-
-pub leaves_there : (image : Image) (block : ℕ) → block ≢ 0 → leaves_at image block ≡ pointers_of leaf_pointers (block_at image block)
-leaves_there image zero some = absurd (some refl)
-leaves_there image (suc n) some = refl
 
 pub same_leaves : (i j : Image) (m : ℕ) → (m ≢ 0 → block_at i m ≡ block_at j m) → leaves_at i m ≡ leaves_at j m
 same_leaves i j zero same = refl
 same_leaves i j (suc m) same = ap (pointers_of leaf_pointers) (same (λ none. cc))
 
 -- what is so of each place of each node is so of each leaf
-pub each_leaf : (P : ℕ → Type 0) → ((n k : ℕ) → k < 128 → P (128 * n + k)) → (l : ℕ) → P l
-each_leaf P each l = let is : 128 * (l / 128) + l % 128 ≡ l = omega arith in subst P is (each (l / 128) (l % 128) (omega arith))
+pub each_leaf : (P : ℕ → Type 0) → ((n k : ℕ) → k < leaf_pointers.count → P (leaf_pointers.count * n + k)) → (l : ℕ) → P l
+each_leaf P each l = let is : leaf_pointers.count * (l / leaf_pointers.count) + l % leaf_pointers.count ≡ l = omega arith in subst P is (each (l / leaf_pointers.count) (l % leaf_pointers.count) (omega arith))
 
--- the leaf pointers of a node are those of the tree; an absent node has none
-pub pointed : (image : Image) (p k : ℕ) → end_of image (leaf_pointers ∷ []) p (k ∷ []) ≡ get_or (leaves_at image p) k 0
-pointed image zero k = sym (zeros 128 k)
-pointed image (suc p) k = refl
-
--- a node has 128 pointers
-pub none_past : (image : Image) (p k : ℕ) → 128 ≤ k → get_or (leaves_at image p) k 0 ≡ 0
-unfolding pointers_of
-none_past image zero k past = zeros 128 k
-none_past image (suc p) k past = get_or_past (numbers_from (block_at image (suc p)) 0 128) k 0 (omega (arith, past, length-map-range_with_len (λ (j : ℕ). number_at (block_at image (suc p)) (0 + j)) 0 128))
+-- a node has no pointer past its last
+pub none_past : (image : Image) (p k : ℕ) → leaf_pointers.count ≤ k → get_or (leaves_at image p) k 0 ≡ 0
+none_past image p k past = get_or_past (leaves_at image p) k 0 (omega (arith, past, length-leaves image p))
 
 module _ (image : Image) (content : List ℕ) (root : roots.Root) (is : IsRootBlock content root) where
   pub node_pointer : (n : ℕ) → pointer node_pointers content n ≡ slice_index root.nodes n
@@ -37,24 +23,24 @@ module _ (image : Image) (content : List ℕ) (root : roots.Root) (is : IsRootBl
   pub node_at : (n : ℕ) → tree_of image content (n ∷ []) ≡ slice_index root.nodes n
   node_at n = node_block image content n ∙ node_pointer n
 
-  pub leaf_at : (n k : ℕ) → k < 128 → tree_of image content (n ∷ k ∷ []) ≡ get_or (leaves_at image (slice_index root.nodes n)) k 0
+  pub leaf_at : (n k : ℕ) → k < leaf_pointers.count → tree_of image content (n ∷ k ∷ []) ≡ get_or (leaves_at image (slice_index root.nodes n)) k 0
   leaf_at n k small =
-      let l = 128 * n + k in
-      let high : n ≡ l / 128 = omega arith in
-      let low : k ≡ l % 128 = omega arith in
-      ap (λ (m : ℕ). tree_of image content (m ∷ k ∷ [])) high ∙ ap (λ (m : ℕ). tree_of image content (l / 128 ∷ m ∷ [])) low
+      let l = leaf_pointers.count * n + k in
+      let high : n ≡ l / leaf_pointers.count = omega arith in
+      let low : k ≡ l % leaf_pointers.count = omega arith in
+      ap (λ (m : ℕ). tree_of image content (m ∷ k ∷ [])) high ∙ ap (λ (m : ℕ). tree_of image content (l / leaf_pointers.count ∷ m ∷ [])) low
       ∙ ap (tree_of image content) (sym (path_is content l)) ∙ leaf_is image content l
-      ∙ ap (λ (p : ℕ). end_of image (leaf_pointers ∷ []) p (l % 128 ∷ [])) (ap (pointer node_pointers content) (sym high) ∙ node_pointer n)
+      ∙ ap (λ (p : ℕ). end_of image (leaf_pointers ∷ []) p (l % leaf_pointers.count ∷ [])) (ap (pointer node_pointers content) (sym high) ∙ node_pointer n)
       ∙ ap (λ (m : ℕ). end_of image (leaf_pointers ∷ []) (slice_index root.nodes n) (m ∷ [])) (sym low) ∙ pointed image (slice_index root.nodes n) k
 
   -- a leaf stands where its node points
-  pub leaf_stands : (n k : ℕ) → k < 128 → leaf_in (tree_in image content) (128 * n + k) ≡ held_at image (get_or (leaves_at image (slice_index root.nodes n)) k 0)
+  pub leaf_stands : (n k : ℕ) → k < leaf_pointers.count → leaf_in (tree_in image content) (leaf_pointers.count * n + k) ≡ held_at image (get_or (leaves_at image (slice_index root.nodes n)) k 0)
   leaf_stands n k small =
-      let l = 128 * n + k in
-      let high : l / 128 ≡ n = omega arith in
-      let low : l % 128 ≡ k = omega arith in
+      let l = leaf_pointers.count * n + k in
+      let high : l / leaf_pointers.count ≡ n = omega arith in
+      let low : l % leaf_pointers.count ≡ k = omega arith in
       ap (λ (p : List ℕ). held_at image (tree_of image content p)) (path_is content l)
-      ∙ ap (λ (m : ℕ). held_at image (tree_of image content (m ∷ l % 128 ∷ []))) high ∙ ap (λ (m : ℕ). held_at image (tree_of image content (n ∷ m ∷ []))) low
+      ∙ ap (λ (m : ℕ). held_at image (tree_of image content (m ∷ l % leaf_pointers.count ∷ []))) high ∙ ap (λ (m : ℕ). held_at image (tree_of image content (n ∷ m ∷ []))) low
       ∙ ap (held_at image) (leaf_at n k small)
 
   pub leads : (n : ℕ) (leaves : List ℕ) → leaves ≡ leaves_at image (slice_index root.nodes n) → LeadTo image leaves n (leaf_in (tree_in image content))
@@ -71,7 +57,7 @@ module _ (image : Image) (content : List ℕ) (root : roots.Root) (is : IsRootBl
     pub near : (n : ℕ) → IsNear size image (slice_index root.nodes n)
     near n = record {
       here = subst (λ (b : ℕ). b < size) (node_at n) (on_disk (n ∷ []));
-      leaves = λ k. elim (cases_lt k 128) [
+      leaves = λ k. elim (cases_lt k leaf_pointers.count) [
         | inl small ↦ subst (λ (b : ℕ). b < size) (leaf_at n k small) (on_disk (n ∷ k ∷ []))
         | inr past ↦ omega (arith, none_past image (slice_index root.nodes n) k past, some)
       ];
@@ -79,8 +65,8 @@ module _ (image : Image) (content : List ℕ) (root : roots.Root) (is : IsRootBl
 
 -- a node that is absent leads nowhere
 pub near_none : (size : ℕ) (image : Image) → 0 < size → IsNear size image 0
-near_none size image some = record { here = some; leaves = λ k. omega (arith, zeros 128 k, some) }
+near_none size image some = record { here = some; leaves = λ k. omega (arith, zeros leaf_pointers.count k, some) }
 
 -- each leaf of a file, by its root
-pub stands_at : (image : Image) (r : roots.Root) → IsGoodRoot r → (n k : ℕ) → k < 128 → leaves_of image r (128 * n + k) ≡ held_at image (leaf_of image r n k)
+pub stands_at : (image : Image) (r : roots.Root) → IsGoodRoot r → (n k : ℕ) → k < leaf_pointers.count → leaves_of image r (leaf_pointers.count * n + k) ≡ held_at image (leaf_of image r n k)
 stands_at image r good n k small = leaf_stands image (root_spelling r) r (record { good = good; spelled = refl }) n k small

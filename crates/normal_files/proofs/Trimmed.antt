@@ -1,7 +1,6 @@
 -- A file on its way to a smaller size: its leaves in each image, and the file that they give.
-use Rattle.normal_files.proofs.Words.{◌≡◌, ◌≢◌, ◌⊎◌, inl, inr, ℕ, ◌+◌, ◌*◌, ◌/◌, ◌%◌, ◌<◌, ◌≤◌, List, [], length, set, get_or, Option, Some, None, refl, sym, ◌∙◌, ap, subst, get_or-set_other, get_or-set_same, arith, cases_eq, cases_lt, Image, block_at, Puid, Place, Leaf, Node, Root, IsGoodRoot, root_spelling, entry_in-set, cut, SetsSize, GivesFile, LeavesFit, Shrinks, bytes_held, cut_held, mixed_fit, content_is, same_fit, same_object, file_to_leaves, cut_fit, cut_object, SetSize, File, Graph, with_object, changed_object, leaves_in, resized, Frames, IsLoose, BelongsTo, SameAt, is_committed, part_at, part_of, object_with, Held, held_at, sight, Holds, ReadsAs, object_put, other_is, others, in_image, placed, held_there, frames_content, frames_fewer, not_map, held, AreCounts, Kept, entry_in, ChangesOnly, of_owner, changes_begin, changes_content, changes_then}
+use Rattle.normal_files.proofs.Words.{◌≡◌, ◌≢◌, ◌⊎◌, inl, inr, ℕ, ◌+◌, ◌*◌, ◌/◌, ◌%◌, ◌<◌, ◌≤◌, List, [], length, set, get_or, Option, Some, None, refl, sym, ◌∙◌, ap, subst, get_or-set_other, get_or-set_same, arith, cases_eq, cases_lt, Image, block_at, Puid, Place, Leaf, Node, Root, IsGoodRoot, root_spelling, entry_in-set, cut, SetsSize, GivesFile, LeavesFit, Shrinks, bytes_held, cut_held, mixed_fit, content_is, same_fit, same_object, file_to_leaves, cut_fit, cut_object, SetSize, File, Graph, with_object, changed_object, leaves_in, resized, Frames, IsLoose, BelongsTo, SameAt, is_committed, part_at, part_of, object_with, Held, held_at, sight, Holds, ReadsAs, object_put, other_is, others, in_image, placed, held_there, frames_content, frames_fewer, not_map, held, AreCounts, Kept, entry_in, ChangesOnly, of_owner, changes_begin, changes_content, changes_then, leaf_pointers, leaves_at}
 use Rattle.normal_files.specs.Laid.{IsAt, IsRooted, leaf_of, leaves_of, node_of}
-use Rattle.normal_files.specs.Nodes.{leaves_at}
 use Rattle.normal_files.specs.Standing.{IsPartly}
 use Rattle.normal_files.proofs.Among.{own_loose, places_differ}
 use Rattle.normal_files.proofs.Laid.{rooted_reads}
@@ -33,8 +32,8 @@ pub record IsLed (a e : Image) (root next : roots.Root) (size : ℕ) (to : File)
   pub head : SetsSize size root next
   pub word : next.word ≡ root.word
   pub nodes : (n : ℕ) → node_of next n ≢ 0 → node_of next n ≡ node_of root n
-  pub pointers : (n k : ℕ) → k < 128 → leaf_of e next n k ≢ 0 → leaf_of e next n k ≡ leaf_of a root n k
-  pub leads : (n : ℕ) → node_of root n ≢ 0 → (k : ℕ) × (k < 128) × (leaf_of e root n k ≢ 0)
+  pub pointers : (n k : ℕ) → k < leaf_pointers.count → leaf_of e next n k ≢ 0 → leaf_of e next n k ≡ leaf_of a root n k
+  pub leads : (n : ℕ) → node_of root n ≢ 0 → (k : ℕ) × (k < leaf_pointers.count) × (leaf_of e root n k ≢ 0)
   pub fits : (p : ℕ → Option Held) → ((l : ℕ) → bytes_held (p l) ≡ bytes_held (leaves_of e next l)) → LeavesFit next p
   pub object : (p : ℕ → Option Held) → ((l : ℕ) → bytes_held (p l) ≡ bytes_held (leaves_of e next l)) → object_with next p ≡ objects.File to
 
@@ -48,14 +47,14 @@ pub record IsTrimmed (a : Image) (id : Puid) (root next : roots.Root) (size : �
   pub word : next.word ≡ root.word
   pub long : length e ≡ length a
   pub root_kept : block_at e id.block ≡ block_at a id.block
-  pub early : (n k : ℕ) → k < 128 → 128 * n + k < leaves_in size → leaf_of e root n k ≡ leaf_of a root n k
-  pub late : (n k : ℕ) → k < 128 → leaves_in size ≤ 128 * n + k → (leaf_of e root n k ≡ leaf_of a root n k) ⊎ (leaf_of e root n k ≡ 0)
-  pub leads : (n : ℕ) → node_of root n ≢ 0 → (k : ℕ) × (k < 128) × (leaf_of e root n k ≢ 0)
-  pub bytes : (n k : ℕ) → k < 128 → leaf_of a root n k ≢ 0 → (128 * n + k ≡ size / 512 → size % 512 ≡ 0) → block_at e (leaf_of a root n k) ≡ block_at a (leaf_of a root n k)
-  pub cut_bytes : (n k : ℕ) → k < 128 → leaf_of a root n k ≢ 0 → 128 * n + k ≡ size / 512 → size % 512 ≢ 0 → block_at e (leaf_of a root n k) ≡ cut size root.fill (block_at a (leaf_of a root n k))
+  pub early : (n k : ℕ) → k < leaf_pointers.count → leaf_pointers.count * n + k < leaves_in size → leaf_of e root n k ≡ leaf_of a root n k
+  pub late : (n k : ℕ) → k < leaf_pointers.count → leaves_in size ≤ leaf_pointers.count * n + k → (leaf_of e root n k ≡ leaf_of a root n k) ⊎ (leaf_of e root n k ≡ 0)
+  pub leads : (n : ℕ) → node_of root n ≢ 0 → (k : ℕ) × (k < leaf_pointers.count) × (leaf_of e root n k ≢ 0)
+  pub bytes : (n k : ℕ) → k < leaf_pointers.count → leaf_of a root n k ≢ 0 → (leaf_pointers.count * n + k ≡ size / 512 → size % 512 ≡ 0) → block_at e (leaf_of a root n k) ≡ block_at a (leaf_of a root n k)
+  pub cut_bytes : (n k : ℕ) → k < leaf_pointers.count → leaf_of a root n k ≢ 0 → leaf_pointers.count * n + k ≡ size / 512 → size % 512 ≢ 0 → block_at e (leaf_of a root n k) ≡ cut size root.fill (block_at a (leaf_of a root n k))
   pub nodes : (n : ℕ) → node_of next n ≢ 0 → node_of next n ≡ node_of root n
-  pub next_early : (n k : ℕ) → k < 128 → 128 * n + k < leaves_in size → leaf_of e next n k ≡ leaf_of a root n k
-  pub next_late : (n k : ℕ) → k < 128 → leaves_in size ≤ 128 * n + k → leaf_of e next n k ≡ 0
+  pub next_early : (n k : ℕ) → k < leaf_pointers.count → leaf_pointers.count * n + k < leaves_in size → leaf_of e next n k ≡ leaf_of a root n k
+  pub next_late : (n k : ℕ) → k < leaf_pointers.count → leaves_in size ≤ leaf_pointers.count * n + k → leaf_of e next n k ≡ 0
 
 module _ {a : Image} {graph : Graph} {id : Puid} {f : File} {root : roots.Root} (s : HasFile a graph id f root) where
   pub gives : GivesFile root (leaves_of a root) f
@@ -69,7 +68,7 @@ module _ {a : Image} {graph : Graph} {id : Puid} {f : File} {root : roots.Root} 
   pub belongs : (m : ℕ) → IsOwn a id root m → (p : Place) × BelongsTo id.block p (part_at a m)
   belongs m (inl is) = (Root, subst (λ (x : ℕ). BelongsTo id.block Root (part_at a x)) (sym is) s.rooted.part)
   belongs m (inr (inl (n, real, is))) = (Node n, subst (λ (x : ℕ). BelongsTo id.block (Node n) (part_at a x)) (sym is) (s.rooted.laid.nodes n real).part)
-  belongs m (inr (inr (n, k, small, real, is))) = (Leaf (128 * n + k), subst (λ (x : ℕ). BelongsTo id.block (Leaf (128 * n + k)) (part_at a x)) (sym is) (s.rooted.laid.leaves n k small real).part)
+  belongs m (inr (inr (n, k, small, real, is))) = (Leaf (leaf_pointers.count * n + k), subst (λ (x : ℕ). BelongsTo id.block (Leaf (leaf_pointers.count * n + k)) (part_at a x)) (sym is) (s.rooted.laid.leaves n k small real).part)
 
   pub own_is_loose : (m : ℕ) → IsOwn a id root m → IsLoose a (others graph id) m
   own_is_loose m own = let two = belongs m own in own_loose s m two.0 two.1
@@ -150,8 +149,8 @@ module _ {a : Image} {graph : Graph} {id : Puid} {f : File} {root : roots.Root} 
       pub head : SetsSize r.size root r
       pub sized : (r.size ≡ root.size) ⊎ (r.size ≡ size)
       pub nodes : (n : ℕ) → node_of r n ≢ 0 → node_of r n ≡ node_of root n
-      pub pointers : (n k : ℕ) → k < 128 → leaf_of c r n k ≢ 0 → leaf_of c r n k ≡ leaf_of a root n k
-      pub leads : (n : ℕ) → node_of r n ≢ 0 → (k : ℕ) × (k < 128) × (leaf_of c r n k ≢ 0)
+      pub pointers : (n k : ℕ) → k < leaf_pointers.count → leaf_of c r n k ≢ 0 → leaf_of c r n k ≡ leaf_of a root n k
+      pub leads : (n : ℕ) → node_of r n ≢ 0 → (k : ℕ) × (k < leaf_pointers.count) × (leaf_of c r n k ≢ 0)
       pub mixed : (l : ℕ) → (bytes_held (leaves_of c r l) ≡ bytes_held (leaves_of a root l)) ⊎ (bytes_held (leaves_of c r l) ≡ bytes_held (new l))
       pub fit : LeavesFit r (leaves_of c r)
 
@@ -170,7 +169,7 @@ module _ {a : Image} {graph : Graph} {id : Puid} {f : File} {root : roots.Root} 
           leaves = λ n k small real.
               let is = way.pointers n k small real in
               let there : leaf_of a root n k ≢ 0 = λ none. real (is ∙ none) in
-              subst (IsAt c id.block (Leaf (128 * n + k))) (sym is) (still_at (leaf_of a root n k) (Leaf (128 * n + k)) (inr (inr (n, k, small, there, refl))) (s.rooted.laid.leaves n k small there));
+              subst (IsAt c id.block (Leaf (leaf_pointers.count * n + k))) (sym is) (still_at (leaf_of a root n k) (Leaf (leaf_pointers.count * n + k)) (inr (inr (n, k, small, there, refl))) (s.rooted.laid.leaves n k small there));
           leads = way.leads;
           fit = way.fit;
         };
@@ -217,7 +216,7 @@ module _ {a : Image} {graph : Graph} {id : Puid} {f : File} {root : roots.Root} 
           ∙ alike shrunk e (leaf_of shrunk next n k) q (pointer_stays n k) (λ real.
           let is = led.pointers n k small real in
           let there : leaf_of a root n k ≢ 0 = λ none. real (is ∙ none) in
-          ap (block_at shrunk) is ∙ content_stays (leaf_of a root n k) (Leaf (128 * n + k)) (inr (inr (n, k, small, there, refl))) (s.rooted.laid.leaves n k small there).part (leaf_no_root (128 * n + k)) ∙ ap (block_at e) (sym is))
+          ap (block_at shrunk) is ∙ content_stays (leaf_of a root n k) (Leaf (leaf_pointers.count * n + k)) (inr (inr (n, k, small, there, refl))) (s.rooted.laid.leaves n k small there).part (leaf_no_root (leaf_pointers.count * n + k)) ∙ ap (block_at e) (sym is))
           ∙ sym (ap bytes_held (stands_at e next led.good n k small)))
 
       on_shrunk : IsOnWay shrunk next
@@ -317,7 +316,7 @@ module _ {a : Image} {graph : Graph} {id : Puid} {f : File} {root : roots.Root} 
       head = t.head;
       word = t.word;
       nodes = t.nodes;
-      pointers = λ n k small real. elim (cases_lt (128 * n + k) (leaves_in size)) [ inl early ↦ t.next_early n k small early | inr late ↦ absurd (real (t.next_late n k small late)) ];
+      pointers = λ n k small real. elim (cases_lt (leaf_pointers.count * n + k) (leaves_in size)) [ inl early ↦ t.next_early n k small early | inr late ↦ absurd (real (t.next_late n k small late)) ];
       leads = t.leads;
       fits = fit_as;
       object = object_as;
@@ -338,25 +337,25 @@ module _ {a : Image} {graph : Graph} {id : Puid} {f : File} {root : roots.Root} 
       pointer : (n k : ℕ) → (leaf_of c root n k ≡ leaf_of a root n k) ⊎ (leaf_of c root n k ≡ leaf_of e root n k)
       pointer n k = elim (node_either n) [ inl was ↦ inl (ap (λ (ls : List ℕ). get_or ls k 0) was) | inr now ↦ inr (ap (λ (ls : List ℕ). get_or ls k 0) now) ]
 
-      way_early : (n k : ℕ) → k < 128 → 128 * n + k < leaves_in size → leaf_of c root n k ≡ leaf_of a root n k
+      way_early : (n k : ℕ) → k < leaf_pointers.count → leaf_pointers.count * n + k < leaves_in size → leaf_of c root n k ≡ leaf_of a root n k
       way_early n k small early = elim (pointer n k) [ inl was ↦ was | inr now ↦ now ∙ t.early n k small early ]
 
-      way_late : (n k : ℕ) → k < 128 → leaves_in size ≤ 128 * n + k → (leaf_of c root n k ≡ leaf_of a root n k) ⊎ (leaf_of c root n k ≡ 0)
+      way_late : (n k : ℕ) → k < leaf_pointers.count → leaves_in size ≤ leaf_pointers.count * n + k → (leaf_of c root n k ≡ leaf_of a root n k) ⊎ (leaf_of c root n k ≡ 0)
       way_late n k small late = elim (pointer n k) [ inl was ↦ inl was | inr now ↦ elim (t.late n k small late) [ inl same ↦ inl (now ∙ same) | inr none ↦ inr (now ∙ none) ] ]
 
-      real_own : (n k : ℕ) → k < 128 → leaf_of a root n k ≢ 0 → IsOwn a id root (leaf_of a root n k)
+      real_own : (n k : ℕ) → k < leaf_pointers.count → leaf_of a root n k ≢ 0 → IsOwn a id root (leaf_of a root n k)
       real_own n k small some = inr (inr (n, k, small, some, refl))
 
-      late_bytes : (n k : ℕ) → k < 128 → leaves_in size ≤ 128 * n + k → leaf_of a root n k ≢ 0 → block_at c (leaf_of a root n k) ≡ block_at a (leaf_of a root n k)
+      late_bytes : (n k : ℕ) → k < leaf_pointers.count → leaves_in size ≤ leaf_pointers.count * n + k → leaf_of a root n k ≢ 0 → block_at c (leaf_of a root n k) ≡ block_at a (leaf_of a root n k)
       late_bytes n k small late some = elim (way.blocks (leaf_of a root n k) (real_own n k small some)) [ inl was ↦ was | inr now ↦ now ∙ t.bytes n k small some (λ is. omega (arith, is, late)) ]
 
-      mixed_at : (n k : ℕ) → k < 128 → (bytes_held (leaves_of c root (128 * n + k)) ≡ bytes_held (leaves_of a root (128 * n + k))) ⊎ (bytes_held (leaves_of c root (128 * n + k)) ≡ bytes_held (wanted (128 * n + k)))
+      mixed_at : (n k : ℕ) → k < leaf_pointers.count → (bytes_held (leaves_of c root (leaf_pointers.count * n + k)) ≡ bytes_held (leaves_of a root (leaf_pointers.count * n + k))) ⊎ (bytes_held (leaves_of c root (leaf_pointers.count * n + k)) ≡ bytes_held (wanted (leaf_pointers.count * n + k)))
       mixed_at n k small =
           let p = leaf_of a root n k in
           let here = ap bytes_held (stands_at c root s.rooted.laid.good n k small) in
           let old = sym (ap bytes_held (stands_at a root s.rooted.laid.good n k small)) in
           let now = sym (ap bytes_held (stands_at e next t.good n k small)) in
-          elim (cases_lt (128 * n + k) (leaves_in size)) [
+          elim (cases_lt (leaf_pointers.count * n + k) (leaves_in size)) [
             | inl early ↦ elim (cases_eq p 0) [
               | inl none ↦ inl (here ∙ alike c a (leaf_of c root n k) p (way_early n k small early) (λ some. absurd (some none)) ∙ old)
               | inr some ↦ elim (way.blocks p (real_own n k small some)) [
@@ -383,7 +382,7 @@ module _ {a : Image} {graph : Graph} {id : Puid} {f : File} {root : roots.Root} 
         head = record { kind = refl; fill = refl; size = refl };
         sized = inl refl;
         nodes = λ n real. refl;
-        pointers = λ n k small real. elim (cases_lt (128 * n + k) (leaves_in size)) [
+        pointers = λ n k small real. elim (cases_lt (leaf_pointers.count * n + k) (leaves_in size)) [
           | inl early ↦ way_early n k small early
           | inr late ↦ elim (way_late n k small late) [ inl same ↦ same | inr none ↦ absurd (real none) ]
         ];

@@ -1,9 +1,11 @@
 -- The words of the crates below that most proofs cite, passed on from one place. Declares nothing.
 pub use Rattle.block_tree.proofs.Spellings.{leaves_of as node_leaves, nodes_of, one_root, leaves_of as spells_leaves}
+pub use Rattle.block_tree.proofs.Nodes.{leaves_there, length-leaves, nothing_below, pointed, two_levels, zeros}
 pub use Rattle.block_tree.proofs.Trees.{leaf_is, node_block, path_is}
 pub use Rattle.block_tree.specs.Node.{IsNode, node_spelling}
-pub use Rattle.block_tree.specs.Pointers.{leaf_pointers, node_pointers, number_at, numbers_from}
+pub use Rattle.block_tree.specs.Pointers.{leaf_limit, leaf_pointers, node_pointers, number_at, numbers_from, size_limit}
 unfoldable pub use Rattle.block_tree.specs.Pointers.{pointers_of}
+pub use Rattle.block_tree.specs.Reads.{HasStoppedBy, Far, FarLeaf, IsNear, IsNodeTrouble, IsRootTrouble, is_damage, leaves_at}
 pub use Rattle.block_tree.specs.Root.{IsGoodRoot, IsRoot, IsRootBlock, root_spelling}
 pub use Rattle.block_tree.specs.Tree.{bytes_in, end_of, path_to, pointer, tree_of}
 unfoldable pub use Rattle.block_tree.specs.Tree.{levels_of}
@@ -79,6 +81,7 @@ pub use Rattle.vol_image.proofs.Changes.{hold_others, object_put, other_at, othe
 pub use Rattle.vol_image.proofs.Claims.{free_stands_for_none, loose_entry}
 pub use Rattle.vol_image.proofs.Law.{framed_sight, frames_hold, same_blocks}
 pub use Rattle.vol_image.proofs.Parts.{IsPlaced, free_is_loose, in_image, placed, shadow_entry, taken_apart}
+pub use Rattle.vol_image.proofs.Places.{leaf_place, node_place}
 pub use Rattle.vol_image.proofs.Paths.{held_some, held_there, some_held}
 pub use Rattle.vol_image.proofs.Runs.{begins, stays, tried, wrote}
 pub use Rattle.vol_image.proofs.Steps.{entry_mixed, frames_begin, frames_content, frames_entry, frames_fewer, frames_mix, not_map}

@@ -1,10 +1,10 @@
 -- A write of two parts, call by call.
-use Rattle.normal_files.proofs.Words.{◌≡◌, ◌⊎◌, ⊎_elim, ℕ, ◌+◌, ◌/◌, true, false, List, length, refl, sym, ◌∙◌, ap, subst, Err, Ok, Image, IsSettled, Leaves, Ghosts, Refused, Trouble, then, wider, Kept, entry_in, is_free_entry, leaves_in, written, AreClaimed}
+use Rattle.normal_files.proofs.Words.{◌≡◌, ◌⊎◌, ⊎_elim, ℕ, ◌+◌, ◌/◌, true, false, List, length, refl, sym, ◌∙◌, ap, subst, Err, Ok, Image, IsSettled, Leaves, Ghosts, Refused, Trouble, then, wider, Kept, entry_in, is_free_entry, leaves_in, written, AreClaimed, HasStoppedBy}
 use Rattle.normal_files.specs.Laid.{node_of}
 use Rattle.normal_files.specs.Links.{linked_image, linked_root}
 use Rattle.normal_files.specs.Order.{claims_of}
 use Rattle.normal_files.specs.Standing.{IsPartly}
-use Rattle.normal_files.specs.Steps.{HasStoppedBy, IsAmid, told_after, MayLeave}
+use Rattle.normal_files.specs.Steps.{IsAmid, told_after, MayLeave}
 use Rattle.normal_files.specs.Takes.{MayTake, TakesBoth}
 use Rattle.normal_files.specs.declared.next.Next.{Next}
 use Rattle.normal_files.specs.declared.part.Part.{Part}

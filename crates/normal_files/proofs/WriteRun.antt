@@ -1,9 +1,8 @@
 -- A write, from the first leaf to the last pointer.
-use Rattle.normal_files.proofs.Words.{◌≡◌, ◌≢◌, ◌⊎◌, inl, inr, ℕ, zero, suc, ◌+◌, ◌-◌, ◌*◌, ◌/◌, ◌%◌, ◌<◌, ◌≤◌, Bool, true, false, List, [], length, get_or, Option, Some, None, refl, sym, ◌∙◌, ap, subst, arith, ◌&&◌, ◌==◌, is_some, not, both_ways, cases_eq, cases_lt, Image, block_at, IsSettled, Ghosts, Puid, Place, Leaf, Node, Root, root_spelling, AreClaimed, claims_then, AreCounts, Kept, allocated, BlockState, Allocated, Free, IntendAllocate, IntendDeallocate, MapEntry, entry_in, LeavesFit, bytes_held, Graph, with_object, has_number, parents, leaves_in, written, rises-with_object, BelongsTo, part_at, part_of, Held, held_at, sight, Holds, ReadsAs, carries_settled, object_put, placed, taken_apart, held_there, held, not_map, Accounts, HasDrafts, HasItsBlocks, is_meant_for, ChangesOnly, of_owner, is_had, is_leaving, is_meant, is_of, is_taken, taken_of, object_changes_on}
+use Rattle.normal_files.proofs.Words.{◌≡◌, ◌≢◌, ◌⊎◌, inl, inr, ℕ, zero, suc, ◌+◌, ◌-◌, ◌*◌, ◌/◌, ◌%◌, ◌<◌, ◌≤◌, Bool, true, false, List, [], length, get_or, Option, Some, None, refl, sym, ◌∙◌, ap, subst, arith, ◌&&◌, ◌==◌, is_some, not, both_ways, cases_eq, cases_lt, Image, block_at, IsSettled, Ghosts, Puid, Place, Leaf, Node, Root, root_spelling, AreClaimed, claims_then, AreCounts, Kept, allocated, BlockState, Allocated, Free, IntendAllocate, IntendDeallocate, MapEntry, entry_in, LeavesFit, bytes_held, Graph, with_object, has_number, parents, leaves_in, written, rises-with_object, BelongsTo, part_at, part_of, Held, held_at, sight, Holds, ReadsAs, carries_settled, object_put, placed, taken_apart, held_there, held, not_map, Accounts, HasDrafts, HasItsBlocks, is_meant_for, ChangesOnly, of_owner, is_had, is_leaving, is_meant, is_of, is_taken, taken_of, object_changes_on, leaf_pointers, leaves_at}
 use Rattle.normal_files.specs.Among.{leaf_after}
 use Rattle.normal_files.specs.Laid.{IsAt, IsRooted, leaf_of, leaves_of, node_of}
 use Rattle.normal_files.specs.Links.{linked_image, linked_root}
-use Rattle.normal_files.specs.Nodes.{leaves_at}
 use Rattle.normal_files.specs.Order.{TellsHeld, claims_from, claims_of, nodes_now}
 use Rattle.normal_files.specs.Parts.{IsPart, IsReadPart, AreParts}
 use Rattle.normal_files.specs.Standing.{BecomesFile, IsPartly}
@@ -137,7 +136,7 @@ module _ {D : Type 0} {g : Ghosts D} {r : ℕ} {root : roots.Root} {start : D} {
         own = is.own some ∙ sym (same_node v.has P c may.amid.content part.number);
         others = has.others;
         leaves = λ k taken. (
-          new_at b (Leaf (128 * part.number + k)) (get_or next.node.leaves k 0) (new_stays (has.leaves k taken) keeps),
+          new_at b (Leaf (leaf_pointers.count * part.number + k)) (get_or next.node.leaves k 0) (new_stays (has.leaves k taken) keeps),
           some_block (has.leaves k taken),
         );
         contents = λ k taken. content_stays (has.leaves k taken) keeps ∙ has.contents k taken;
@@ -159,10 +158,10 @@ module _ {D : Type 0} {g : Ghosts D} {r : ℕ} {root : roots.Root} {start : D} {
       limit : length c ≤ 4194304
       limit = small_image c _ (among_holds v.has P c may.amid.content fit0)
 
-  touched_low : (k : ℕ) → IsTakenTo low low.leaves.to k → (offset / 512 ≤ 128 * low.number + k) × (128 * low.number + k < upto)
+  touched_low : (k : ℕ) → IsTakenTo low low.leaves.to k → (offset / 512 ≤ leaf_pointers.count * low.number + k) × (leaf_pointers.count * low.number + k < upto)
   touched_low k t = (omega (arith, t.from, parts.first), omega (arith, t.to, parts.next, parts.last, parts.high_read.some))
 
-  touched_high : (k : ℕ) → IsTakenTo high high.leaves.to k → (offset / 512 ≤ 128 * high.number + k) × (128 * high.number + k < upto)
+  touched_high : (k : ℕ) → IsTakenTo high high.leaves.to k → (offset / 512 ≤ leaf_pointers.count * high.number + k) × (leaf_pointers.count * high.number + k < upto)
   touched_high k t = (omega (arith, t.from, parts.first, parts.next, parts.low_read.some), omega (arith, t.to, parts.last))
 
   own_of : (part : Part) → IsPart a root part → (grown_some : (k : ℕ) × IsTakenTo part part.leaves.to k) → part.own.leaves ≡ leaves_at a (node_of root part.number)
@@ -209,19 +208,19 @@ module _ {D : Type 0} {g : Ghosts D} {r : ℕ} {root : roots.Root} {start : D} {
   low_not_high : (k : ℕ) → IsTakenTo low low.leaves.to k → low.number ≡ high.number → IsTakenTo high high.leaves.to k → ⊥
   low_not_high k t same u = omega (arith, t.to, u.from, parts.next, same)
 
-  absent_in_part : (part : Part) → IsPart a root part → (l : ℕ) → 128 * part.number ≤ l → l < 128 * part.number + 128 → part.leaves.from ≤ l → l < part.leaves.to → leaves_of a root l ≡ None → IsTakenTo part part.leaves.to (l % 128)
+  absent_in_part : (part : Part) → IsPart a root part → (l : ℕ) → leaf_pointers.count * part.number ≤ l → l < leaf_pointers.count * part.number + leaf_pointers.count → part.leaves.from ≤ l → l < part.leaves.to → leaves_of a root l ≡ None → IsTakenTo part part.leaves.to (l % leaf_pointers.count)
   absent_in_part part is l low_l high_l from to none =
-      let at : 128 * part.number + l % 128 ≡ l = omega (arith, low_l, high_l) in
+      let at : leaf_pointers.count * part.number + l % leaf_pointers.count ≡ l = omega (arith, low_l, high_l) in
       record {
         small = omega arith;
         from = omega (arith, at, from);
         to = omega (arith, at, to);
-        absent = ap (λ (ls : List ℕ). get_or ls (l % 128) 0) (is.own (omega (arith, from, to))) ∙ absent_pointer (leaf_of a root part.number (l % 128)) refl (sym (leaf_stands a (root_spelling root) root (record { good = v.has.rooted.laid.good; spelled = refl }) part.number (l % 128) (omega arith)) ∙ ap (leaves_of a root) at ∙ none);
+        absent = ap (λ (ls : List ℕ). get_or ls (l % leaf_pointers.count) 0) (is.own (omega (arith, from, to))) ∙ absent_pointer (leaf_of a root part.number (l % leaf_pointers.count)) refl (sym (leaf_stands a (root_spelling root) root (record { good = v.has.rooted.laid.good; spelled = refl }) part.number (l % leaf_pointers.count) (omega arith)) ∙ ap (leaves_of a root) at ∙ none);
       }
     where
-      absent_pointer : (z : ℕ) → leaf_of a root part.number (l % 128) ≡ z → held_at a (leaf_of a root part.number (l % 128)) ≡ None → leaf_of a root part.number (l % 128) ≡ 0
+      absent_pointer : (z : ℕ) → leaf_of a root part.number (l % leaf_pointers.count) ≡ z → held_at a (leaf_of a root part.number (l % leaf_pointers.count)) ≡ None → leaf_of a root part.number (l % leaf_pointers.count) ≡ 0
       absent_pointer zero same held = same
-      absent_pointer (suc z) same held = (let clash = sym (held_there a (leaf_of a root part.number (l % 128)) (λ zero_is. (let e = sym same ∙ zero_is in cc))) ∙ held in cc)
+      absent_pointer (suc z) same held = (let clash = sym (held_there a (leaf_of a root part.number (l % leaf_pointers.count)) (λ zero_is. (let e = sym same ∙ zero_is in cc))) ∙ held in cc)
 
   all_end : (l : ℕ) → bytes_held (leaves_of c2 r2 l) ≡ End l
   all_end l = by (leaves_of a root l) refl
@@ -233,14 +232,14 @@ module _ {D : Type 0} {g : Ghosts D} {r : ℕ} {root : roots.Root} {start : D} {
         | inr from ↦ elim (cases_lt l low.leaves.to) [
           | inl in_low ↦
               let t = absent_in_part low can.low_is l (omega (arith, parts.low_read.from, parts.first, from)) (omega (arith, parts.low_read.to, in_low)) (omega (arith, parts.first, from)) in_low is in
-              let at : 128 * low.number + l % 128 ≡ l = omega (arith, parts.low_read.from, parts.first, from, parts.low_read.to, in_low) in
-              subst (λ (q : ℕ). bytes_held (leaves_of c2 r2 q) ≡ End q) at (comes2.other_bytes low.number (l % 128) (omega arith) (low_not_high (l % 128) t) ∙ (comes1.done (l % 128) t).0)
+              let at : leaf_pointers.count * low.number + l % leaf_pointers.count ≡ l = omega (arith, parts.low_read.from, parts.first, from, parts.low_read.to, in_low) in
+              subst (λ (q : ℕ). bytes_held (leaves_of c2 r2 q) ≡ End q) at (comes2.other_bytes low.number (l % leaf_pointers.count) (omega arith) (low_not_high (l % leaf_pointers.count) t) ∙ (comes1.done (l % leaf_pointers.count) t).0)
           | inr past ↦ elim (cases_lt l upto) [
             | inr late ↦ out (inr late)
             | inl in_high ↦
                 let t = absent_in_part high can.high_is l (omega (arith, parts.high_read.from, parts.next, past)) (omega (arith, parts.high_read.to, in_high, parts.last)) (omega (arith, parts.next, past)) (omega (arith, parts.last, in_high)) is in
-                let at : 128 * high.number + l % 128 ≡ l = omega (arith, parts.high_read.from, parts.next, past, parts.high_read.to, in_high, parts.last) in
-                subst (λ (q : ℕ). bytes_held (leaves_of c2 r2 q) ≡ End q) at (comes2.done (l % 128) t).0
+                let at : leaf_pointers.count * high.number + l % leaf_pointers.count ≡ l = omega (arith, parts.high_read.from, parts.next, past, parts.high_read.to, in_high, parts.last) in
+                subst (λ (q : ℕ). bytes_held (leaves_of c2 r2 q) ≡ End q) at (comes2.done (l % leaf_pointers.count) t).0
           ]
         ]
       ]
@@ -266,10 +265,10 @@ module _ {D : Type 0} {g : Ghosts D} {r : ℕ} {root : roots.Root} {start : D} {
 
     new_entry : (m : ℕ) → New m → (q : Place) × (entry_in c2 m ≡ Some (allocated q r))
     new_entry m (inl (inl (k, t, is))) =
-        (Leaf (128 * low.number + k), comes2.stage.entries m ∙ ap (entry_in c) is ∙ (new_stays (both.low_has.leaves k t) both.high_has.keeps).entry)
+        (Leaf (leaf_pointers.count * low.number + k), comes2.stage.entries m ∙ ap (entry_in c) is ∙ (new_stays (both.low_has.leaves k t) both.high_has.keeps).entry)
     new_entry m (inl (inr (zero_had, grown, is))) =
         (Node low.number, comes2.stage.entries m ∙ ap (entry_in c) is ∙ (new_stays (both.low_has.node_new zero_had grown) both.high_has.keeps).entry)
-    new_entry m (inr (inl (k, t, is))) = (Leaf (128 * high.number + k), comes2.stage.entries m ∙ ap (entry_in c) is ∙ (both.high_has.leaves k t).entry)
+    new_entry m (inr (inl (k, t, is))) = (Leaf (leaf_pointers.count * high.number + k), comes2.stage.entries m ∙ ap (entry_in c) is ∙ (both.high_has.leaves k t).entry)
     new_entry m (inr (inr (zero_had, grown, is))) = (Node high.number, comes2.stage.entries m ∙ ap (entry_in c) is ∙ (both.high_has.node_new zero_had grown).entry)
 
     none_leaves : (m : ℕ) → is_of is_leaving r (entry_in c2 m) ≡ false
@@ -285,7 +284,7 @@ module _ {D : Type 0} {g : Ghosts D} {r : ℕ} {root : roots.Root} {start : D} {
     each_had : (m : ℕ) → IsOwn c2 id r2 m → is_of is_had r (entry_in c2 m) ≡ true
     each_had m (inl is) = had_at m Root (subst (λ (z : ℕ). BelongsTo r Root (part_at c2 z)) (sym is) now_rooted.part)
     each_had m (inr (inl (n, real, is))) = had_at m (Node n) (subst (λ (z : ℕ). BelongsTo r (Node n) (part_at c2 z)) (sym is) (now_rooted.laid.nodes n real).part)
-    each_had m (inr (inr (n, k, small, real, is))) = had_at m (Leaf (128 * n + k)) (subst (λ (z : ℕ). BelongsTo r (Leaf (128 * n + k)) (part_at c2 z)) (sym is) (now_rooted.laid.leaves n k small real).part)
+    each_had m (inr (inr (n, k, small, real, is))) = had_at m (Leaf (leaf_pointers.count * n + k)) (subst (λ (z : ℕ). BelongsTo r (Leaf (leaf_pointers.count * n + k)) (part_at c2 z)) (sym is) (now_rooted.laid.leaves n k small real).part)
 
     -- and no other is
     old_own : (m : ℕ) → IsOwn a id root m → IsOwn c2 id r2 m

@@ -1,5 +1,6 @@
 -- Images that a change of a file in place may leave: all other objects stay, and so do the file's root and nodes.
 use Rattle.std.specs.Prelude.{◌≡◌, ◌≢◌, ◌⊎◌, ℕ, ◌+◌, ◌*◌, ◌<◌, List, [], ◌∷◌}
+use Rattle.block_tree.specs.Pointers.{leaf_pointers}
 use Rattle.cfs_base.specs.Disk.{Image, block_at}
 use Rattle.cfs_base.specs.declared.identifier.Puid.{Puid}
 use Rattle.leaf_changes.specs.Bytes.{patched}
@@ -16,9 +17,10 @@ pub record IsAmong (a : Image) (graph : Graph) (id : Puid) (root : roots.Root) (
   pub frames : Frames a (without graph (id ∷ [])) c
   pub root_kept : SameAt a c id.block
   pub nodes : (n : ℕ) → node_of root n ≢ 0 → SameAt a c (node_of root n)
-  pub parts : (n k : ℕ) → k < 128 → leaf_of a root n k ≢ 0
+  pub parts : (n k : ℕ) → k < leaf_pointers.count → leaf_of a root n k ≢ 0
       → part_at c (leaf_of a root n k) ≡ part_at a (leaf_of a root n k)
-  pub bytes : (n k : ℕ) → k < 128 → leaf_of a root n k ≢ 0 → P (128 * n + k) (block_at c (leaf_of a root n k))
+  pub bytes : (n k : ℕ) → k < leaf_pointers.count → leaf_of a root n k ≢ 0
+      → P (leaf_pointers.count * n + k) (block_at c (leaf_of a root n k))
 
 -- what a leaf reads as before bytes are written at an offset, and after
 abbrev pub leaf_before : Image → roots.Root → ℕ → List ℕ

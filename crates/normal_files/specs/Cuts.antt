@@ -3,36 +3,38 @@
 use Rattle.std.specs.Prelude.{◌≡◌, ◌≢◌, ◌⊎◌, ℕ, ◌+◌, ◌-◌, ◌*◌, ◌/◌, ◌%◌, ◌<◌, ◌≤◌, ◌==◌, if◌then◌else◌, List, length}
 use Rattle.std.specs.Prelude.{get_or, set}
 use Rattle.std.specs.List.{All}
+use Rattle.block_tree.specs.Reads.{leaves_at}
+use Rattle.block_tree.specs.Pointers.{leaf_pointers, node_pointers}
 use Rattle.cfs_base.specs.Disk.{Image, Written}
 use Rattle.block_tree.specs.Node.{node_spelling}
 use Rattle.block_tree.specs.Tree.{bytes_in}
+use Rattle.block_tree.specs.Way.{NoLeaf, SomeLeaf}
 use Rattle.leaf_changes.specs.Bytes.{cut}
 use Rattle.leaf_changes.specs.Changes.{SetsSize}
 use Rattle.ufs_model.specs.Object.{leaves_in}
 use Rattle.normal_files.specs.Laid.{node_of}
-use Rattle.normal_files.specs.Nodes.{leaves_at}
 use Rattle.normal_files.specs.declared.cut.End.{End}
 use Rattle.block_tree.specs.declared.root.Root as roots
 
 -- the last node of which a file of this size may keep a leaf
 abbrev pub last_node : ℕ → ℕ
-last_node size = (leaves_in size - 1) / 128
+last_node size = (leaves_in size - 1) / leaf_pointers.count
 
 -- the block of the leaf within which it ends, in this node; 0 where it ends between leaves, or the leaf is absent
 abbrev pub cut_block : ℕ → List ℕ → ℕ
-cut_block size leaves = if size % 512 == 0 then 0 else get_or leaves (size / 512 % 128) 0
+cut_block size leaves = if size % 512 == 0 then 0 else get_or leaves (size / 512 % leaf_pointers.count) 0
 
 -- all that is known of the end on any disk
 pub record IsReadEnd (blocks : ℕ) (root : roots.Root) (size : ℕ) (end : End) : Type 0 where
   pub own : All (λ leaf. leaf < blocks) end.own.leaves
-  pub count : length end.own.leaves ≡ 128
+  pub count : length end.own.leaves ≡ leaf_pointers.count
   pub cut : end.cut ≡ cut_block size end.own.leaves
   pub near : end.cut < blocks
-  pub before : (k : ℕ) → 128 * last_node size + k < leaves_in size
+  pub before : (k : ℕ) → leaf_pointers.count * last_node size + k < leaves_in size
       → get_or end.node.leaves k 0 ≡ get_or end.own.leaves k 0
-  pub past : (k : ℕ) → k < 128 → leaves_in size ≤ 128 * last_node size + k → get_or end.node.leaves k 0 ≡ 0
-  pub kept : ((end.kept ≡ node_of root (last_node size)) × ((k : ℕ) × (k < 128) × (get_or end.node.leaves k 0 ≢ 0)))
-      ⊎ ((end.kept ≡ 0) × ((k : ℕ) → k < 128 → get_or end.node.leaves k 0 ≡ 0))
+  pub past : (k : ℕ) → k < leaf_pointers.count → leaves_in size ≤ leaf_pointers.count * last_node size + k
+      → get_or end.node.leaves k 0 ≡ 0
+  pub kept : ((end.kept ≡ node_of root (last_node size)) × SomeLeaf end.node) ⊎ ((end.kept ≡ 0) × NoLeaf end.node)
   pub there : node_of root (last_node size) < blocks
 
 -- it is that of the file with this root
@@ -66,4 +68,4 @@ pub record IsCutRoot (root : roots.Root) (size from : ℕ) (next : roots.Root) :
   pub head : SetsSize size root next
   pub word : next.word ≡ root.word
   pub before : (n : ℕ) → n < from → node_of next n ≡ node_of root n
-  pub past : (n : ℕ) → from ≤ n → n < 120 → node_of next n ≡ 0
+  pub past : (n : ℕ) → from ≤ n → n < node_pointers.count → node_of next n ≡ 0

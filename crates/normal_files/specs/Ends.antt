@@ -41,6 +41,7 @@ pub record HasGone {D : Type 0} (g : Ghosts D) (n t k : ℕ) (tried : Bool) (sta
   pub come : HasCome g n t tried start now
   pub kept : tried ≡ false → after ≡ before
   pub cylinders : length after.free ≡ length before.free
+  pub left : after.left ≡ before.left
   pub takes : sum before.free ≤ sum after.free + k
 
 -- a call is refused, after so many at most: where so many blocks were Free, for no want of them
@@ -49,6 +50,7 @@ pub record Halts {D : Type 0} (g : Ghosts D) (n t k : ℕ) (old new : D) (before
   pub refused : k ≤ sum before.free → IsStop g old new after e
   pub untried : e ≡ refusals.Disk false → (after ≡ before) × OnlyReads g n old new
   pub cylinders : length after.free ≡ length before.free
+  pub left : after.left ≡ before.left
   pub calls : MakesAtMost g n t old new
 
 -- how a call ends; what it gives tells whether a write was tried

@@ -1,6 +1,8 @@
 -- Blocks that a file had and that become Free, once its root no longer leads to them.
 use Rattle.std.specs.Prelude.{◌≡◌, ◌≢◌, ◌⊎◌, ℕ, ◌+◌, ◌*◌, ◌%◌, ◌<◌, ◌≤◌, true, false, IsTrue, List, length, Result}
 use Rattle.std.specs.Prelude.{IfErr, OnOk}
+use Rattle.block_tree.specs.Reads.{IsNear, leaves_at, is_damage}
+use Rattle.block_tree.specs.Pointers.{leaf_pointers, node_pointers}
 use Rattle.cfs_base.specs.Calls.{HasStopped, HasTried, MakesAtMost}
 use Rattle.cfs_base.specs.Codes.{no_entry}
 use Rattle.cfs_base.specs.Disk.{Image, Written, block_at}
@@ -22,8 +24,7 @@ use Rattle.vol_image.specs.Sound.{Holds}
 use Rattle.vol_owners.specs.Change.{ChangesOnly, of_owner}
 use Rattle.normal_files.specs.Cuts.{IsCutRoot, first_gone, last_node}
 use Rattle.normal_files.specs.Laid.{leaf_of, node_of}
-use Rattle.normal_files.specs.Nodes.{IsNear, leaves_at}
-use Rattle.normal_files.specs.Refusal.{IsDamage, IsRefusal, is_damage}
+use Rattle.normal_files.specs.Refusal.{IsDamage, IsRefusal}
 use Rattle.normal_files.specs.declared.cut.End.{End}
 use Rattle.ufs_model.specs.Object.{leaves_in}
 use Rattle.cfs_base.specs.declared.refusal.Trouble.TheVariants as trouble
@@ -63,6 +64,7 @@ pub record Follows {D : Type 0} (g : Ghosts D) (at n t : ℕ) (old new : D) (bef
   pub stopped : (start : D) → HasBegun g start old → IfErr result (IsDropTrouble g at start new)
   pub tried : IfErr result (λ t. t ≢ trouble.Disk false)
   pub cylinders : length after.free ≡ length before.free
+  pub left : after.left ≡ before.left
   pub calls : MakesAtMost g n t old new
 
 -- one block becomes Free; 0 is none
@@ -87,8 +89,8 @@ pub record IsDropped (b : Image) (graph : Graph) (owner : ℕ) (place : Place) (
 pub record Drops (a b : Image) (graph : Graph) (id : Puid) (root next : roots.Root) (keep : ℕ) : Type 0 where
   pub holds : Holds b graph
   pub size : length b ≡ length a
-  pub leaves : (q k : ℕ) → k < 128 → keep ≤ 128 * q + k → leaf_of a root q k ≢ 0
-      → IsDropped b graph id.block (Leaf (128 * q + k)) (leaf_of a root q k)
+  pub leaves : (q k : ℕ) → k < leaf_pointers.count → keep ≤ leaf_pointers.count * q + k → leaf_of a root q k ≢ 0
+      → IsDropped b graph id.block (Leaf (leaf_pointers.count * q + k)) (leaf_of a root q k)
   pub nodes : (q : ℕ) → node_of root q ≢ 0 → node_of next q ≡ 0 → IsDropped b graph id.block (Node q) (node_of root q)
   pub same : (q : ℕ) → node_of root q ≢ 0 → node_of next q ≡ 0
       → leaves_at b (node_of root q) ≡ leaves_at a (node_of root q)
@@ -96,7 +98,8 @@ pub record Drops (a b : Image) (graph : Graph) (id : Puid) (root next : roots.Ro
 
 -- the leaves from `keep` on that lie before one, and the nodes before one to which the new root doesn't lead
 pub data IsFreed (a : Image) (root next : roots.Root) (keep leaf node block : ℕ) : Type 0 where
-  FreedLeaf : (q k : ℕ) → k < 128 → keep ≤ 128 * q + k → 128 * q + k < leaf → leaf_of a root q k ≢ 0
+  FreedLeaf : (q k : ℕ) → k < leaf_pointers.count → keep ≤ leaf_pointers.count * q + k
+      → leaf_pointers.count * q + k < leaf → leaf_of a root q k ≢ 0
       → block ≡ leaf_of a root q k → IsFreed a root next keep leaf node block
   FreedNode : (q : ℕ) → q < node → node_of root q ≢ 0 → node_of next q ≡ 0 → block ≡ node_of root q
       → IsFreed a root next keep leaf node block
@@ -133,15 +136,16 @@ pub record FreesTo {D : Type 0} (g : Ghosts D) (root : roots.Root) (Given : Imag
 -- a list has the leaf pointers of a node, of which those from a place on are dropped
 abbrev pub GivesLeaves : roots.Root → List ℕ → (number from : ℕ) → Image → roots.Root → ℕ → Type 0
 GivesLeaves root leaves number from a next keep =
-    (leaves ≡ leaves_at a (node_of root number)) × (keep ≤ 128 * number + from)
+    (leaves ≡ leaves_at a (node_of root number)) × (keep ≤ leaf_pointers.count * number + from)
 
 -- the node with this number is dropped, and all its leaves
 abbrev pub GivesNode : (number : ℕ) → Image → roots.Root → ℕ → Type 0
-GivesNode number a next keep = (node_of next number ≡ 0) × (keep ≤ 128 * number)
+GivesNode number a next keep = (node_of next number ≡ 0) × (keep ≤ leaf_pointers.count * number)
 
 -- so are all from this one on
 abbrev pub GivesNodes : (from : ℕ) → Image → roots.Root → ℕ → Type 0
-GivesNodes from a next keep = ((q : ℕ) → from ≤ q → q < 120 → node_of next q ≡ 0) × (keep ≤ 128 * from)
+GivesNodes from a next keep =
+    ((q : ℕ) → from ≤ q → q < node_pointers.count → node_of next q ≡ 0) × (keep ≤ leaf_pointers.count * from)
 
 -- the last node is as it was read, and the root leads to none from one on
 abbrev pub GivesEnd : roots.Root → (size : ℕ) → End → Image → roots.Root → ℕ → Type 0

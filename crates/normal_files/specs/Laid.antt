@@ -1,5 +1,7 @@
 -- A file as its blocks lie on a disk: its root, the nodes to which that points, and the leaves to which these point.
 use Rattle.std.specs.Prelude.{◌≡◌, ◌≢◌, ℕ, ◌+◌, ◌*◌, ◌<◌, false, length, get_or, slice_index, Option}
+use Rattle.block_tree.specs.Reads.{leaves_at}
+use Rattle.block_tree.specs.Pointers.{leaf_pointers}
 use Rattle.cfs_base.specs.Disk.{Image, block_at}
 use Rattle.cfs_base.specs.declared.identifier.Puid.{Puid}
 use Rattle.cfs_base.specs.declared.kind.Place.{Place}
@@ -10,7 +12,6 @@ use Rattle.ufs_model.specs.declared.object.Object.{Object}
 use Rattle.vol_image.specs.Part.{BelongsTo, is_committed, part_at}
 use Rattle.vol_image.specs.Reading.{leaf_in, object_with}
 use Rattle.vol_image.specs.Seen.{Held, tree_in}
-use Rattle.normal_files.specs.Nodes.{leaves_at}
 use Rattle.block_tree.specs.declared.root.Root as roots
 
 -- the block of a node, and of a leaf of it; 0 where it is absent
@@ -35,10 +36,10 @@ pub record IsAt (image : Image) (owner : ℕ) (place : Place) (block : ℕ) : Ty
 pub record IsLaid (image : Image) (owner : ℕ) (root : roots.Root) : Type 0 where
   pub good : IsGoodRoot root
   pub nodes : (n : ℕ) → node_of root n ≢ 0 → IsAt image owner (Node n) (node_of root n)
-  pub leaves : (n k : ℕ) → k < 128 → leaf_of image root n k ≢ 0
-      → IsAt image owner (Leaf (128 * n + k)) (leaf_of image root n k)
+  pub leaves : (n k : ℕ) → k < leaf_pointers.count → leaf_of image root n k ≢ 0
+      → IsAt image owner (Leaf (leaf_pointers.count * n + k)) (leaf_of image root n k)
   -- a node leads to a leaf
-  pub leads : (n : ℕ) → node_of root n ≢ 0 → (k : ℕ) × (k < 128) × (leaf_of image root n k ≢ 0)
+  pub leads : (n : ℕ) → node_of root n ≢ 0 → (k : ℕ) × (k < leaf_pointers.count) × (leaf_of image root n k ≢ 0)
   pub fit : LeavesFit root (leaves_of image root)
 
 -- the file with this identifier has this root, and is read by it

@@ -1,4 +1,5 @@
 pub mod Among
+pub mod Calls
 pub mod Cuts
 pub mod Ends
 pub mod Frees

@@ -3,13 +3,10 @@ use Rattle.std.specs.Prelude.{ℕ, ◌==◌, if◌then◌else◌, set}
 use Rattle.cfs_base.specs.Disk.{Image}
 use Rattle.block_tree.specs.Node.{node_spelling}
 use Rattle.block_tree.specs.Root.{root_spelling}
+use Rattle.block_tree.specs.Way.{with_node}
 use Rattle.normal_files.specs.Laid.{node_of}
 use Rattle.normal_files.specs.declared.next.Next.{Next}
 use Rattle.block_tree.specs.declared.root.Root as roots
-
--- the root with this block as its n-th node
-abbrev pub with_node : roots.Root → ℕ → ℕ → roots.Root
-with_node root n y = record root { nodes = set root.nodes n y }
 
 -- the root, once it leads to node n as it is to be
 abbrev pub linked_root : roots.Root → ℕ → Next → roots.Root

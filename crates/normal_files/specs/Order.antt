@@ -1,5 +1,6 @@
 -- Which leaves and nodes of a file take blocks where they are written, and in what order.
 use Rattle.std.specs.Prelude.{◌≡◌, ℕ, zero, suc, ◌+◌, ◌-◌, ◌/◌, Bool, not, ◌==◌, List, [], ◌∷◌, if◌then◌else◌}
+use Rattle.block_tree.specs.Pointers.{leaf_pointers}
 use Rattle.cfs_base.specs.declared.kind.Place.TheVariants.{Leaf, Node}
 use Rattle.cyl_alloc.specs.Space.{allocated}
 use Rattle.cyl_map.specs.declared.entry.MapEntry.{MapEntry}
@@ -15,9 +16,9 @@ abbrev pub claims_from : (owner : ℕ) → (leaves nodes : List ℕ) → (leaf c
 claims_from owner leaves nodes leaf zero = []
 claims_from owner leaves nodes leaf (suc n) =
     if has_number leaf leaves then claims_from owner leaves nodes (leaf + 1) n else allocated (Leaf leaf) owner
-    ∷ (if has_number (leaf / 128) nodes then claims_from owner leaves nodes (leaf + 1) n
-    else allocated (Node (leaf / 128)) owner
-    ∷ claims_from owner leaves (leaf / 128 ∷ nodes) (leaf + 1) n)
+    ∷ (if has_number (leaf / leaf_pointers.count) nodes then claims_from owner leaves nodes (leaf + 1) n
+    else allocated (Node (leaf / leaf_pointers.count)) owner
+    ∷ claims_from owner leaves (leaf / leaf_pointers.count ∷ nodes) (leaf + 1) n)
 
 -- the leaves that so many bytes at an offset touch
 abbrev pub claims_of : (owner : ℕ) → File → (offset count : ℕ) → List MapEntry
@@ -28,7 +29,7 @@ claims_of owner f offset count = claims_from owner f.held (parents f.held) (offs
 
 -- what was read tells which of them are held, and whether the node is
 pub record TellsHeld (part : Part) (had : ℕ) (leaves nodes : List ℕ) : Type 0 where
-  pub leaf : (l : ℕ) → l / 128 ≡ part.number → has_number l leaves ≡ not (absent_in part.own.leaves l)
+  pub leaf : (l : ℕ) → l / leaf_pointers.count ≡ part.number → has_number l leaves ≡ not (absent_in part.own.leaves l)
   pub node : has_number part.number nodes ≡ not (had == 0)
 
 -- the nodes that are held, once a leaf was taken below one that wasn't

@@ -2,21 +2,22 @@
 use Rattle.std.specs.Prelude.{◌≡◌, ◌≢◌, ℕ, ◌/◌, ◌+◌, ◌-◌, ◌*◌, ◌%◌, ◌<◌, ◌≤◌, Bool, ◌==◌, ◌&&◌, nat_lt, if◌then◌else◌}
 use Rattle.std.specs.Prelude.{List, length, get_or, filter}
 use Rattle.std.specs.List.{All, range_with_len}
+use Rattle.block_tree.specs.Reads.{leaves_at}
+use Rattle.block_tree.specs.Pointers.{leaf_pointers, node_pointers}
 use Rattle.cfs_base.specs.Disk.{Image}
 use Rattle.ufs_model.specs.Object.{leaves_in}
 use Rattle.normal_files.specs.Laid.{node_of}
-use Rattle.normal_files.specs.Nodes.{leaves_at}
 use Rattle.normal_files.specs.declared.part.Part.{Part}
 use Rattle.block_tree.specs.declared.root.Root as roots
 
 -- all that is known of them on any disk
 pub record IsReadPart (size : ℕ) (part : Part) : Type 0 where
-  pub number : part.number < 120
-  pub from : 128 * part.number ≤ part.leaves.from
-  pub to : part.leaves.to ≤ 128 * part.number + 128
+  pub number : part.number < node_pointers.count
+  pub from : leaf_pointers.count * part.number ≤ part.leaves.from
+  pub to : part.leaves.to ≤ leaf_pointers.count * part.number + leaf_pointers.count
   pub some : part.leaves.from ≤ part.leaves.to
   pub own : All (λ leaf. leaf < size) part.own.leaves
-  pub count : length part.own.leaves ≡ 128
+  pub count : length part.own.leaves ≡ leaf_pointers.count
 
 -- the node that was read is the root's, where any of its leaves is touched
 pub record IsPart (image : Image) (root : roots.Root) (part : Part) : Type 0 where
@@ -34,7 +35,7 @@ pub record AreParts (size offset count : ℕ) (low high : Part) : Type 0 where
 
 -- of these leaves those whose pointers lead nowhere
 abbrev pub absent_in : (leaves : List ℕ) → ℕ → Bool
-absent_in leaves l = get_or leaves (l % 128) 0 == 0
+absent_in leaves l = get_or leaves (l % leaf_pointers.count) 0 == 0
 
 abbrev pub lacking_to : (leaves : List ℕ) → (from to : ℕ) → ℕ
 lacking_to leaves from to = length (filter (absent_in leaves) (range_with_len from (to - from)))

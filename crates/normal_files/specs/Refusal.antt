@@ -1,5 +1,5 @@
 -- Why a call on a file is refused.
-use Rattle.std.specs.Prelude.{◌≡◌, ℕ, ◌+◌, ◌<◌, ◌≤◌, Bool, true, false, get_or, sum}
+use Rattle.std.specs.Prelude.{◌≡◌, ℕ, ◌+◌, ◌<◌, ◌≤◌, get_or, sum}
 use Rattle.cfs_base.specs.Calls.{HasStopped}
 use Rattle.cfs_base.specs.Codes.{no_root, past_disk}
 use Rattle.cfs_base.specs.Disk.{Image, block_at}
@@ -33,10 +33,6 @@ pub data IsDamage {D : Type 0} (g : Ghosts D) (at : ℕ) (old : D) (damage : Dam
 abbrev pub IsTrouble : {D : Type 0} → Ghosts D → ℕ → D → D → Trouble → Type 0
 IsTrouble g at old new (trouble.Disk tried) = HasStopped g tried old new
 IsTrouble g at old new (trouble.Damaged damage) = IsDamage g at old damage
-
-abbrev pub is_damage : Trouble → Bool
-is_damage (trouble.Disk tried) = false
-is_damage (trouble.Damaged damage) = true
 
 -- fewer blocks are Free than are needed beside the floor, a device call failed, or a block that was read is damaged, so
 abbrev pub IsRefusal : {D : Type 0} → Ghosts D → (Damage → Type 0) → (floor : ℕ) → D → D → Kept → Refused → Type 0

@@ -1,7 +1,8 @@
 -- A change of a file in place, on its way.
 use Rattle.std.specs.Prelude.{◌≡◌, ℕ, ◌<◌, ◌≤◌, Bool, true, false, if◌then◌else◌, IsTrue, List, Result, Ok, Err, IfErr}
 use Rattle.std.specs.Prelude.{OnOk, set}
-use Rattle.cfs_base.specs.Calls.{HasStopped, HasTried, MakesAtMost, OnlyReads}
+use Rattle.block_tree.specs.Reads.{HasStoppedBy}
+use Rattle.cfs_base.specs.Calls.{HasTried, MakesAtMost, OnlyReads}
 use Rattle.cfs_base.specs.Disk.{Image, Written}
 use Rattle.cfs_base.specs.Refusals.{trouble_after_try}
 use Rattle.cfs_base.specs.Run.{Leaves, Tells, left_now}
@@ -17,12 +18,7 @@ use Rattle.block_tree.specs.declared.root.Root as roots
 
 -- ---- single calls
 
--- a device call failed
-abbrev pub HasStoppedBy : {D : Type 0} → Ghosts D → D → D → Trouble → Type 0
-HasStoppedBy g old new (trouble.Disk tried) = HasStopped g tried old new
-HasStoppedBy g old new (trouble.Damaged damage) = ⊥
-
--- the same of a call that had tried a write before, or hadn't
+-- a trouble of a call that had tried a write before, or hadn't
 abbrev pub told_after : Bool → Trouble → Trouble
 told_after tried t = if tried then trouble_after_try t else t
 

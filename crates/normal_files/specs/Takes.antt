@@ -1,6 +1,9 @@
 -- Blocks that a write takes for leaves which were absent, and for their node.
 use Rattle.std.specs.Prelude.{◌≡◌, ◌≢◌, ◌⊎◌, ◌==◌, ◌&&◌, if◌then◌else◌, ℕ, ◌+◌, ◌*◌, ◌/◌, ◌%◌, ◌<◌, ◌≤◌, Bool, true}
-use Rattle.std.specs.Prelude.{false, List, length, get_or, replicate, set, Some, Result, Ok, Err}
+use Rattle.std.specs.Prelude.{false, List, length, get_or, replicate, Some, Result, Ok, Err}
+use Rattle.block_tree.specs.Reads.{leaves_at}
+use Rattle.block_tree.specs.Pointers.{leaf_pointers}
+use Rattle.block_tree.specs.Way.{with_leaf}
 use Rattle.cfs_base.specs.Disk.{Image, block_at}
 use Rattle.cfs_base.specs.Run.{Leaves}
 use Rattle.cfs_base.specs.declared.disk.Disk.{Ghosts}
@@ -15,7 +18,6 @@ use Rattle.cyl_map.specs.Volume.{entry_in, is_free_in, with_entry}
 use Rattle.leaf_changes.specs.Bytes.{patched}
 use Rattle.ufs_model.specs.Object.{leaves_in}
 use Rattle.normal_files.specs.Ends.{Halts, HasGone, is_damaged}
-use Rattle.normal_files.specs.Nodes.{leaves_at}
 use Rattle.normal_files.specs.Parts.{absent_in}
 use Rattle.normal_files.specs.Order.{TellsHeld, claims_from, nodes_now}
 use Rattle.normal_files.specs.Steps.{IsAmid, MayLeave}
@@ -57,7 +59,7 @@ pub record TakesLeaf (a c : Image) (owner leaf : ℕ) (held : Bool) (block x y :
   pub least_y : held ≡ false → IsLeastFree (with_entry a x (allocated (Leaf leaf) owner)) y
   pub x_new : IsNew a c owner (Leaf leaf) x
   pub x_content : block_at c x ≡ content
-  pub y_new : held ≡ false → IsNew a c owner (Node (leaf / 128)) y
+  pub y_new : held ≡ false → IsNew a c owner (Node (leaf / leaf_pointers.count)) y
   pub y_kept : held ≡ true → y ≡ block
   pub keeps : KeepsTaken a c
   pub rest : (m : ℕ) → m ≢ x → (held ≡ false → m ≢ y) → entry_in c m ≡ entry_in a m
@@ -70,9 +72,9 @@ fresh_content fill leaf offset bytes = patched leaf offset bytes (replicate 512 
 
 -- the k-th leaf of a part was absent, and is one of those that are taken up to one
 pub record IsTakenTo (part : Part) (upto k : ℕ) : Type 0 where
-  pub small : k < 128
-  pub from : part.leaves.from ≤ 128 * part.number + k
-  pub to : 128 * part.number + k < upto
+  pub small : k < leaf_pointers.count
+  pub from : part.leaves.from ≤ leaf_pointers.count * part.number + k
+  pub to : leaf_pointers.count * part.number + k < upto
   pub absent : get_or part.own.leaves k 0 ≡ 0
 
 -- whether the node has a block: it had one, or one was taken
@@ -81,7 +83,7 @@ is_held had next = if had == 0 then next.grown else true
 
 -- with one leaf more
 abbrev pub with_taken : Next → (k x y : ℕ) → Next
-with_taken next k x y = record { block = y; node = record { leaves = set next.node.leaves k x }; grown = true }
+with_taken next k x y = record { block = y; node = with_leaf next.node k x; grown = true }
 
 -- a block is a leaf's that was taken, or the node's
 abbrev pub IsOneOf : Part → (had upto : ℕ) → Next → ℕ → Type 0
@@ -93,12 +95,13 @@ IsOneOf part had upto next m =
 -- block.
 pub record HasTaken (a c : Image) (owner fill offset : ℕ) (bytes : List ℕ) (part : Part) (had upto : ℕ)
     (next : Next) : Type 0 where
-  pub count : length next.node.leaves ≡ 128
+  pub count : length next.node.leaves ≡ leaf_pointers.count
   pub others : (k : ℕ) → (IsTakenTo part upto k → ⊥) → get_or next.node.leaves k 0 ≡ get_or part.own.leaves k 0
   pub leaves : (k : ℕ) → IsTakenTo part upto k
-      → IsNew a c owner (Leaf (128 * part.number + k)) (get_or next.node.leaves k 0)
+      → IsNew a c owner (Leaf (leaf_pointers.count * part.number + k)) (get_or next.node.leaves k 0)
   pub contents : (k : ℕ) → IsTakenTo part upto k
-      → block_at c (get_or next.node.leaves k 0) ≡ fresh_content fill (128 * part.number + k) offset bytes
+      → block_at c (get_or next.node.leaves k 0)
+      ≡ fresh_content fill (leaf_pointers.count * part.number + k) offset bytes
   pub node_had : had ≢ 0 → next.block ≡ had
   pub node_new : had ≡ 0 → next.grown ≡ true → IsNew a c owner (Node part.number) next.block
   pub none : next.grown ≡ false → (k : ℕ) → IsTakenTo part upto k → ⊥

@@ -1,5 +1,6 @@
 //! The two nodes that bytes touch at most.
 ghost use Rattle.std.specs.Prelude.{◌≡◌, ◌≢◌, ◌⊎◌, ◌||◌, ◌+◌, ◌-◌, ◌*◌, ◌<◌, true, length, IfOk, OnOk};
+ghost use Rattle.block_tree.specs.Pointers.{node_pointers};
 ghost use Rattle.cfs_base.specs.Run.{IsSettled, Leaves as LeavesOf};
 ghost use Rattle.normal_files.specs.Ends.{Finishes};
 ghost use Rattle.normal_files.specs.Laid.{node_of};
@@ -54,6 +55,7 @@ pub(crate) fn take_both<D: Disk>(
         disk.old disk.new space.old space.new result (λ both. both.low.grown || both.high.grown) }
     ensures size { D.blocks disk.new ≡ D.blocks disk.old }
     ensures cylinders { length space.new.free ≡ length space.old.free }
+    ensures left { space.new.left ≡ space.old.left }
 {
     let first = match low.take(disk, space, at, root, offset, bytes) {
         Ok(next) => next,
@@ -78,8 +80,8 @@ pub(crate) fn link_both<D: Disk>(
     both: &Both,
 ) -> Result<(), Trouble>
     requires at { at.0 < D.blocks disk.old }
-    requires low { low < 120 }
-    requires high { high < 120 }
+    requires low { low < node_pointers.count }
+    requires high { high < node_pointers.count }
     requires low_near { both.now.low.grown ≡ true → both.now.low.block < D.blocks disk.old }
     requires high_near { both.now.high.grown ≡ true → both.now.high.block < D.blocks disk.old }
     ensures done { IsSettled D.Disk disk.old → OnOk result ((D.content disk.new ≡ linked_image

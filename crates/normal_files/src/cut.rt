@@ -2,8 +2,10 @@
 ghost use Rattle.std.specs.Prelude.{◌≡◌, ◌≢◌, ◌⊎◌, ◌+◌, ◌-◌, ◌*◌, ◌/◌, ◌<◌, ◌≤◌, ℕ, true, false, length, get_or};
 ghost use Rattle.std.specs.Prelude.{slice_index, IsTrue, IfErr, IfOk, OnOk};
 ghost use Rattle.std.specs.List.{All};
+ghost use Rattle.block_tree.specs.Pointers.{leaf_pointers, node_pointers, size_limit};
 ghost use Rattle.block_tree.specs.Node.{IsNode};
 ghost use Rattle.block_tree.specs.Tree.{bytes_in};
+ghost use Rattle.block_tree.specs.Way.{NoLeaf, SomeLeaf};
 ghost use Rattle.cfs_base.specs.Calls.{HasTried, MakesAtMost, OnlyReads};
 ghost use Rattle.cfs_base.specs.Refusals.{trouble_had_tried};
 ghost use Rattle.cfs_base.specs.Run.{IsSettled, Leaves as LeavesOf, Tells, left_now};
@@ -11,24 +13,22 @@ ghost use Rattle.cfs_base.specs.declared.refusal.Trouble.TheVariants as troubles
 ghost use Rattle.leaf_changes.specs.Bytes.{cut};
 ghost use Rattle.normal_files.specs.Cuts as spec;
 ghost use Rattle.normal_files.specs.Laid.{node_of};
-ghost use Rattle.normal_files.specs.Nodes.{IsNear};
-ghost use Rattle.normal_files.specs.Refusal.{IsTrouble, is_damage};
-ghost use Rattle.normal_files.specs.Steps.{HasStoppedBy};
+ghost use Rattle.block_tree.specs.Reads.{IsNear, is_damage};
+ghost use Rattle.normal_files.specs.Refusal.{IsTrouble};
+ghost use Rattle.block_tree.specs.Reads.{HasStoppedBy};
 ghost use Rattle.ufs_model.specs.Object.{leaves_in as leaves_of};
 
-use crate::nodes::{read_leaf, read_node};
-use crate::range::leaves_in;
-use block_tree::{Node, Root};
+use block_tree::{LEAVES, Node, Root, node_of, read_block, read_node};
 use cfs_base::{Block, BlockNo, Disk, Trouble};
-use leaf_changes::cut_leaf;
+use leaf_changes::{cut_leaf, leaves_in};
 
 /// The last node of which a file of this size may keep a leaf.
 pub(crate) fn last_node(size: u64) -> u32
-    requires { size ≤ 7864320 }
+    requires { size ≤ size_limit }
     ensures node { result ≡ spec.last_node size }
-    ensures few { result < 120 }
+    ensures few { result < node_pointers.count }
 {
-    leaves_in(size).saturating_sub(1) / 128
+    node_of(leaves_in(size).saturating_sub(1))
 }
 
 /// How a file is to end.
@@ -44,37 +44,11 @@ pub(crate) struct End {
     pub content: Block,
 }
 
-/// A node without its leaves from a place on.
-fn shortened(node: &Node, from: u32) -> Node
-    ensures before { (k : ℕ) → k < from → slice_index result.leaves k ≡ slice_index node.now.leaves k }
-    ensures past { (k : ℕ) → from ≤ k → k < 128 → slice_index result.leaves k ≡ 0 }
-{
-    let mut kept = *node;
-    for place in from..128 {
-        kept.leaves[place as usize] = 0;
-    }
-    kept
-}
-
-/// Whether a node has a leaf.
-fn leads(node: &Node) -> bool
-    ensures some { result ≡ true → (k : ℕ) × (k < 128) × (slice_index node.now.leaves k ≢ 0) }
-    ensures none { result ≡ false → (k : ℕ) → k < 128 → slice_index node.now.leaves k ≡ 0 }
-{
-    for place in 0..128u32 {
-        if node.leaves[place as usize] != 0 {
-            return true;
-        }
-    }
-    false
-}
-
 /// The block of a node, if it is kept with these leaves.
 fn kept_block(node: &Node, block: u32) -> u32
-    ensures { ((result ≡ block) × ((k : ℕ) × (k < 128) × (slice_index node.now.leaves k ≢ 0)))
-        ⊎ ((result ≡ 0) × ((k : ℕ) → k < 128 → slice_index node.now.leaves k ≡ 0)) }
+    ensures { ((result ≡ block) × SomeLeaf node.now) ⊎ ((result ≡ 0) × NoLeaf node.now) }
 {
-    if leads(node) {
+    if node.leads() {
         return block;
     }
     0
@@ -88,7 +62,7 @@ fn cut_block(own: &Node, size: u64) -> u32
     if size % 512 == 0 {
         return 0;
     }
-    own.leaves[(size / 512 % 128) as usize]
+    own.leaves[(size / 512) as usize % LEAVES]
 }
 
 /// What that leaf is to hold.
@@ -100,7 +74,7 @@ fn cut_content<D: Disk>(disk: &mut D, block: u32, size: u64, fill: u8) -> Result
     ensures untried { IfErr result (λ trouble. trouble_had_tried trouble ≡ false) }
     ensures reads { OnlyReads D.Disk 1 disk.old disk.new }
 {
-    let mut content = match read_leaf(disk, block, fill) {
+    let mut content = match read_block(disk, block, fill) {
         Ok(content) => content,
         Err(trouble) => return Err(trouble),
     };
@@ -116,7 +90,7 @@ pub(crate) fn read_end<D: Disk>(
     size: u64,
 ) -> Result<End, Trouble>
     requires some { 0 < D.blocks disk.old }
-    requires size { size ≤ 7864320 }
+    requires size { size ≤ size_limit }
     ensures read { IfOk result (spec.IsReadEnd (D.blocks disk.old) root.now size) }
     ensures end { Tells D.Disk disk.old → IfOk result (spec.IsEnd (D.content disk.old) root.now size) }
     ensures refused { IfErr result (IsTrouble D.Disk at.0 disk.old disk.new) }
@@ -138,7 +112,7 @@ pub(crate) fn read_end<D: Disk>(
         Ok(content) => content,
         Err(trouble) => return Err(trouble),
     };
-    let node = shortened(&own, keep - 128 * last);
+    let node = own.cut(keep - LEAVES as u32 * last);
     let kept = kept_block(&node, block);
     Ok(End {
         own,
@@ -201,10 +175,7 @@ pub(crate) fn trim<D: Disk>(disk: &mut D, end: &End) -> Result<(), Trouble>
 pub(crate) fn cut_root(root: &Root, size: u64, from: u32) -> Root
     ensures { spec.IsCutRoot root.now size from result }
 {
-    let mut next = *root;
+    let mut next = root.cut(from);
     next.size = size;
-    for number in from..120 {
-        next.nodes[number as usize] = 0;
-    }
     next
 }

@@ -1,16 +1,16 @@
 //! Blocks that a file no longer has, given back.
 ghost use Rattle.std.specs.Prelude.{◌≡◌, ◌+◌, ◌*◌, ◌<◌, ◌≤◌, ◌==◌, if◌then◌else◌, length};
 ghost use Rattle.std.specs.List.{All};
+ghost use Rattle.block_tree.specs.Pointers.{leaf_limit, leaf_pointers, node_pointers, size_limit};
 ghost use Rattle.normal_files.specs.Cuts.{IsReadEnd, last_node as node_at};
 ghost use Rattle.normal_files.specs.Frees as spec;
 ghost use Rattle.ufs_model.specs.Object.{leaves_in as leaves_of};
 
 use crate::cut::{End, last_node};
-use crate::nodes::read_node;
-use crate::range::leaves_in;
-use block_tree::{Node, Root};
+use block_tree::{LEAVES, NODES, Node, Root, read_node};
 use cfs_base::{BlockNo, Disk, Trouble};
 use cyl_alloc::Space;
+use leaf_changes::leaves_in;
 
 /// Frees a block, unless it is 0.
 fn free<D: Disk>(disk: &mut D, space: &mut Space, at: BlockNo, block: u32) -> Result<(), Trouble>
@@ -40,12 +40,13 @@ fn free_leaves<D: Disk>(
 ) -> Result<(), Trouble>
     requires size { D.blocks disk.old ≡ 64 * length space.old.free }
     requires near { All (λ leaf. leaf < D.blocks disk.old) node.now.leaves }
-    requires from { from ≤ 128 }
+    requires from { from ≤ leaf_pointers.count }
     ensures frees { spec.FreesTo D.Disk root.now (spec.GivesLeaves root.now node.now.leaves number from)
-        (128 * number + from) number (128 * number + 128) number disk.old disk.new space.old space.new result }
-    ensures follows { spec.Follows D.Disk at.0 256 128 disk.old disk.new space.old space.new result }
+        (leaf_pointers.count * number + from) number
+        (leaf_pointers.count * number + leaf_pointers.count) number disk.old disk.new space.old space.new result }
+    ensures follows { spec.Follows D.Disk at.0 256 leaf_pointers.count disk.old disk.new space.old space.new result }
 {
-    for place in from..128 {
+    for place in from..LEAVES as u32 {
         match free(disk, space, at, node.leaves[place as usize]) {
             Ok(()) => {}
             Err(trouble) => return Err(trouble),
@@ -64,9 +65,10 @@ fn free_node<D: Disk>(
 ) -> Result<(), Trouble>
     requires size { D.blocks disk.old ≡ 64 * length space.old.free }
     requires some { 0 < D.blocks disk.old }
-    requires number { number < 120 }
+    requires number { number < node_pointers.count }
     ensures frees { spec.FreesTo D.Disk root.now (spec.GivesNode number)
-        (128 * number) number (128 * number + 128) (number + 1) disk.old disk.new space.old space.new result }
+        (leaf_pointers.count * number) number
+        (leaf_pointers.count * number + leaf_pointers.count) (number + 1) disk.old disk.new space.old space.new result }
     ensures follows { spec.Follows D.Disk at.0 259 129 disk.old disk.new space.old space.new result }
 {
     let block = root.nodes[number as usize];
@@ -91,12 +93,12 @@ fn free_nodes<D: Disk>(
 ) -> Result<(), Trouble>
     requires size { D.blocks disk.old ≡ 64 * length space.old.free }
     requires some { 0 < D.blocks disk.old }
-    requires from { from ≤ 120 }
+    requires from { from ≤ node_pointers.count }
     ensures frees { spec.FreesTo D.Disk root.now (spec.GivesNodes from)
-        (128 * from) from 15360 120 disk.old disk.new space.old space.new result }
+        (leaf_pointers.count * from) from leaf_limit node_pointers.count disk.old disk.new space.old space.new result }
     ensures follows { spec.Follows D.Disk at.0 31080 15480 disk.old disk.new space.old space.new result }
 {
-    for number in from..120 {
+    for number in from..NODES as u32 {
         match free_node(disk, space, at, root, number) {
             Ok(()) => {}
             Err(trouble) => return Err(trouble),
@@ -126,15 +128,23 @@ pub(crate) fn free_past<D: Disk>(
 ) -> Result<(), Trouble>
     requires size { D.blocks disk.old ≡ 64 * length space.old.free }
     requires some { 0 < D.blocks disk.old }
-    requires allowed { size ≤ 7864320 }
+    requires allowed { size ≤ size_limit }
     requires read { IsReadEnd (D.blocks disk.old) root.now size end.now }
     ensures frees { spec.FreesTo D.Disk root.now (spec.GivesEnd root.now size end.now)
-        (leaves_of size) (node_at size) 15360 120 disk.old disk.new space.old space.new result }
+        (leaves_of size) (node_at size) leaf_limit node_pointers.count disk.old disk.new space.old space.new result }
     ensures follows { spec.Follows D.Disk at.0 31338 15609 disk.old disk.new space.old space.new result }
 {
     let keep = leaves_in(size);
     let last = last_node(size);
-    match free_leaves(disk, space, at, root, &end.own, last, keep - 128 * last) {
+    match free_leaves(
+        disk,
+        space,
+        at,
+        root,
+        &end.own,
+        last,
+        keep - LEAVES as u32 * last,
+    ) {
         Ok(()) => {}
         Err(trouble) => return Err(trouble),
     }

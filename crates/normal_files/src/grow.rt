@@ -1,5 +1,6 @@
 //! A greater size, set.
 ghost use Rattle.std.specs.Prelude.{◌≡◌, ◌<◌, ◌≤◌, true, length, OnOk};
+ghost use Rattle.block_tree.specs.Pointers.{size_limit};
 ghost use Rattle.cfs_base.specs.Run.{IsSettled};
 ghost use Rattle.cyl_alloc.specs.Space.{Kept};
 ghost use Rattle.normal_files.specs.Frees.{TakesNone};
@@ -21,7 +22,7 @@ pub(crate) fn grow<D: Disk>(
     size: u64,
 ) -> Result<(), Trouble>
     requires at { at.0 < D.blocks disk.old }
-    requires allowed { size ≤ 7864320 }
+    requires allowed { size ≤ size_limit }
     ensures grown { (kept : Kept) (v : View D.Disk at.0 root.now disk.old kept) → length v.file.bytes ≤ size
         → Becomes v (resized v.file size) disk.new kept result
         × OnOk result (IsSettled D.Disk disk.new × TakesNone (D.content disk.old) (D.content disk.new)) }

@@ -12,7 +12,6 @@ mod laws;
 mod link;
 mod need;
 mod next;
-mod nodes;
 mod part;
 mod put;
 mod range;
@@ -24,7 +23,6 @@ mod touched;
 mod writing;
 
 pub use laws::files_are_read_by_their_roots;
-pub use nodes::read_root;
 pub use reading::read;
 pub use resizing::resize;
 pub use writing::write;

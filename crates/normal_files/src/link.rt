@@ -1,5 +1,6 @@
 //! Pointers to the leaves that were taken.
 ghost use Rattle.std.specs.Prelude.{◌≡◌, ◌<◌, true, set, IfOk, OnOk};
+ghost use Rattle.block_tree.specs.Pointers.{node_pointers};
 ghost use Rattle.cfs_base.specs.Run.{IsSettled, Leaves as LeavesOf};
 ghost use Rattle.normal_files.specs.Links.{linked_image, linked_root};
 ghost use Rattle.normal_files.specs.Steps.{Comes};
@@ -44,7 +45,7 @@ pub(crate) fn link<D: Disk>(
     next: &Next,
 ) -> Result<Root, Trouble>
     requires at { at.0 < D.blocks disk.old }
-    requires number { number < 120 }
+    requires number { number < node_pointers.count }
     requires near { next.now.grown ≡ true → next.now.block < D.blocks disk.old }
     ensures root { IfOk result (λ r. r ≡ linked_root root.now number next.now) }
     ensures done { IsSettled D.Disk disk.old
@@ -63,8 +64,7 @@ pub(crate) fn link<D: Disk>(
             Err(trouble) => Err(trouble),
         };
     }
-    let mut led = *root;
-    led.nodes[number as usize] = next.block;
+    let led = root.with_node(number, next.block);
     match write_through(disk, at.0, &led.encode()) {
         Ok(()) => Ok(led),
         Err(trouble) => Err(trouble),

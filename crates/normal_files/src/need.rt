@@ -1,9 +1,10 @@
 //! How many blocks a write takes.
 ghost use Rattle.std.specs.Prelude.{◌≡◌, ◌+◌, ◌<◌, ◌≤◌, ◌-◌};
+ghost use Rattle.block_tree.specs.Pointers.{leaf_limit, node_pointers};
 ghost use Rattle.normal_files.specs.Parts as spec;
 
 use crate::part::Part;
-use block_tree::Root;
+use block_tree::{LEAVES, Root};
 
 impl Part {
     /// How many of the leaves are not held.
@@ -14,7 +15,7 @@ impl Part {
     {
         let mut count = 0;
         for leaf in self.leaves.from..self.leaves.to {
-            if self.own.leaves[(leaf % 128) as usize] == 0 {
+            if self.own.leaves[leaf as usize % LEAVES] == 0 {
                 count += 1;
             }
         }
@@ -23,9 +24,9 @@ impl Part {
 
     /// How many blocks they take: one for each leaf that is not held, and one for the node where it isn't.
     pub fn need(&self, root: &Root) -> u32
-        requires number { self.now.number < 120 }
+        requires number { self.now.number < node_pointers.count }
         requires some { self.now.leaves.from ≤ self.now.leaves.to }
-        requires to { self.now.leaves.to ≤ 15360 }
+        requires to { self.now.leaves.to ≤ leaf_limit }
         ensures count { result ≡ spec.part_need root.now self.now }
         ensures most { result ≤ self.now.leaves.to - self.now.leaves.from + 1 }
     {

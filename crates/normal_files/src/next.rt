@@ -1,5 +1,6 @@
 //! A node as it is to be.
 ghost use Rattle.std.specs.Prelude.{◌≡◌, ◌==◌, ◌<◌, ◌&&◌};
+ghost use Rattle.block_tree.specs.Pointers.{leaf_pointers};
 ghost use Rattle.normal_files.specs.Takes.{is_held, with_taken};
 
 use crate::take::Taken;
@@ -31,15 +32,13 @@ impl Next {
     }
 
     /// The same with a leaf that was taken.
-    pub fn with(self, place: usize, taken: Taken) -> Next
-        requires { place < 128 }
+    pub fn with(self, place: u32, taken: Taken) -> Next
+        requires { place < leaf_pointers.count }
         ensures { result ≡ with_taken self place taken.leaf taken.node }
     {
-        let mut node = self.node;
-        node.leaves[place] = taken.leaf;
         Next {
             block: taken.node,
-            node,
+            node: self.node.with_leaf(place, taken.leaf),
             grown: true,
         }
     }

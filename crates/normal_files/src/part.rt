@@ -1,16 +1,16 @@
 //! The leaves of one node that are to be written.
 ghost use Rattle.std.specs.Prelude.{◌≡◌, ◌⊎◌, ◌+◌, ◌*◌, ◌<◌, ◌≤◌, false, max, min, slice_index, IfErr, IfOk};
+ghost use Rattle.block_tree.specs.Pointers.{leaf_pointers, node_pointers};
 ghost use Rattle.cfs_base.specs.Calls.{OnlyReads};
 ghost use Rattle.cfs_base.specs.Refusals.{trouble_had_tried};
 ghost use Rattle.cfs_base.specs.Run.{Tells};
 ghost use Rattle.normal_files.specs.Laid.{node_of};
-ghost use Rattle.normal_files.specs.Nodes.{IsNear};
+ghost use Rattle.block_tree.specs.Reads.{IsNear, is_damage};
 ghost use Rattle.normal_files.specs.Parts as spec;
-ghost use Rattle.normal_files.specs.Refusal.{IsTrouble, is_damage};
+ghost use Rattle.normal_files.specs.Refusal.{IsTrouble};
 
-use crate::nodes::read_node;
 use crate::range::Leaves;
-use block_tree::{Node, Root};
+use block_tree::{Node, Root, read_node};
 use cfs_base::{BlockNo, Disk, Trouble};
 
 /// The leaves that bytes touch in one node.
@@ -24,7 +24,7 @@ pub(crate) struct Part {
 
 /// The block of a node of which leaves are touched, and 0 where none is.
 fn touched_node(root: &Root, leaves: Leaves, number: u32) -> u32
-    requires { number < 120 }
+    requires { number < node_pointers.count }
     ensures node { leaves.from < leaves.to → result ≡ node_of root.now number }
     ensures none { (result ≡ 0) ⊎ (result ≡ node_of root.now number) }
 {
@@ -44,14 +44,14 @@ impl Part {
         number: u32,
     ) -> Result<Part, Trouble>
         requires some { 0 < D.blocks disk.old }
-        requires number { number < 120 }
+        requires number { number < node_pointers.count }
         requires order { touched.from ≤ touched.to }
-        requires from { touched.from ≤ 128 * number + 128 }
-        requires to { 128 * number ≤ touched.to }
+        requires from { touched.from ≤ leaf_pointers.count * number + leaf_pointers.count }
+        requires to { leaf_pointers.count * number ≤ touched.to }
         ensures read { IfOk result (spec.IsReadPart (D.blocks disk.old)) }
         ensures part { Tells D.Disk disk.old → IfOk result (spec.IsPart (D.content disk.old) root.now) }
-        ensures leaves { IfOk result (λ part. (part.leaves.from ≡ max touched.from (128 * number))
-            × (part.leaves.to ≡ min touched.to (128 * number + 128))) }
+        ensures leaves { IfOk result (λ part. (part.leaves.from ≡ max touched.from (leaf_pointers.count * number))
+            × (part.leaves.to ≡ min touched.to (leaf_pointers.count * number + leaf_pointers.count))) }
         ensures there { IfOk result (λ part. part.leaves.from < part.leaves.to
             → node_of root.now number < D.blocks disk.old) }
         ensures refused { IfErr result (IsTrouble D.Disk at.0 disk.old disk.new) }

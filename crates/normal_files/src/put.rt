@@ -1,6 +1,7 @@
 //! Leaves that are held, written in place.
 ghost use Rattle.std.specs.Prelude.{◌≡◌, ◌≢◌, ◌||◌, ◌<◌, ◌≤◌, ◌+◌, ◌*◌, ◌/◌, ◌-◌, ℕ, false, true, length, IsTrue};
 ghost use Rattle.std.specs.Prelude.{IfErr, IfOk, OnOk};
+ghost use Rattle.block_tree.specs.Pointers.{leaf_limit, size_limit};
 ghost use Rattle.cfs_base.specs.Calls.{HasTried, MakesAtMost, OnlyReads};
 ghost use Rattle.cfs_base.specs.Disk.{block_at};
 ghost use Rattle.cfs_base.specs.Refusals.{trouble_had_tried};
@@ -10,11 +11,12 @@ ghost use Rattle.cyl_alloc.specs.Space.{Kept};
 ghost use Rattle.leaf_changes.specs.Bytes.{patched as patched_with};
 ghost use Rattle.normal_files.specs.Parts.{IsPart, IsReadPart};
 ghost use Rattle.ufs_model.specs.Object.{leaves_in};
-ghost use Rattle.normal_files.specs.Steps.{Comes, HasStoppedBy, IsAmid, Puts, WritesBlock, told_after};
+ghost use Rattle.block_tree.specs.Reads.{HasStoppedBy};
+ghost use Rattle.normal_files.specs.Steps.{Comes, IsAmid, Puts, WritesBlock, told_after};
 ghost use Rattle.normal_files.specs.View.{Way};
 
-use crate::nodes::read_leaf;
 use crate::part::Part;
+use block_tree::{LEAVES, read_block};
 use cfs_base::{Block, BlockNo, Disk, Trouble};
 use leaf_changes::patch_leaf;
 
@@ -40,8 +42,8 @@ fn patched<D: Disk>(
 ) -> Result<Block, Trouble>
     requires on_disk { block < D.blocks disk.old }
     requires some { block ≢ 0 }
-    requires leaf { leaf < 15360 }
-    requires inside { offset + length bytes.now ≤ 7864320 }
+    requires leaf { leaf < leaf_limit }
+    requires inside { offset + length bytes.now ≤ size_limit }
     requires first { offset / 512 ≤ leaf }
     requires last { leaf < leaves_in (offset + length bytes.now) }
     ensures content { Tells D.Disk disk.old → length (block_at (D.content disk.old) block) ≡ 512
@@ -56,7 +58,7 @@ fn patched<D: Disk>(
         patch_leaf(&mut content, leaf, offset, bytes);
         return Ok(content);
     }
-    let mut content = read_leaf(disk, block, 0)?;
+    let mut content = read_block(disk, block, 0)?;
     patch_leaf(&mut content, leaf, offset, bytes);
     Ok(content)
 }
@@ -71,8 +73,8 @@ fn put_leaf<D: Disk>(
 ) -> Result<(), Trouble>
     requires on_disk { block < D.blocks disk.old }
     requires some { block ≢ 0 }
-    requires leaf { leaf < 15360 }
-    requires inside { offset + length bytes.now ≤ 7864320 }
+    requires leaf { leaf < leaf_limit }
+    requires inside { offset + length bytes.now ≤ size_limit }
     requires first { offset / 512 ≤ leaf }
     requires last { leaf < leaves_in (offset + length bytes.now) }
     ensures put { Tells D.Disk disk.old → length (block_at (D.content disk.old) block) ≡ 512
@@ -114,7 +116,7 @@ impl Part {
         requires read { IsReadPart (D.blocks disk.old) self.now }
         requires from { self.now.leaves.from ≤ leaf }
         requires to { leaf < self.now.leaves.to }
-        requires inside { offset + length bytes.now ≤ 7864320 }
+        requires inside { offset + length bytes.now ≤ size_limit }
         requires first { offset / 512 ≤ self.now.leaves.from }
         requires last { self.now.leaves.to ≤ leaves_in (offset + length bytes.now) }
         ensures puts { (block : ℕ) (w : Way D.Disk block) (kept : Kept) → IsPart (D.content w.start) w.root self.now
@@ -123,7 +125,7 @@ impl Part {
         ensures ends { Comes D.Disk 2 1 disk.old disk.new result (λ tried. tried) }
         ensures size { D.blocks disk.new ≡ D.blocks disk.old }
     {
-        let block = self.own.leaves[(leaf % 128) as usize];
+        let block = self.own.leaves[leaf as usize % LEAVES];
         if block == 0 {
             return Ok(false);
         }
@@ -136,7 +138,7 @@ impl Part {
     /// Writes bytes into each of the leaves that is held. Gives whether a write was tried.
     pub fn put<D: Disk>(&self, disk: &mut D, offset: u64, bytes: &[u8]) -> Result<bool, Trouble>
         requires read { IsReadPart (D.blocks disk.old) self.now }
-        requires inside { offset + length bytes.now ≤ 7864320 }
+        requires inside { offset + length bytes.now ≤ size_limit }
         requires first { offset / 512 ≤ self.now.leaves.from }
         requires last { self.now.leaves.to ≤ leaves_in (offset + length bytes.now) }
         ensures puts { (block : ℕ) (w : Way D.Disk block) (kept : Kept) → IsPart (D.content w.start) w.root self.now

@@ -1,14 +1,10 @@
 //! Which leaves bytes touch.
 ghost use Rattle.std.specs.Prelude.{◌≡◌, ◌+◌, ◌/◌, ◌<◌, ◌≤◌, ◌*◌, min, max, length};
+ghost use Rattle.block_tree.specs.Pointers.{leaf_pointers, node_pointers, size_limit};
 ghost use Rattle.ufs_model.specs.Object.{leaves_in as leaves_of};
 
-/// How many leaves so many bytes take.
-pub(crate) fn leaves_in(size: u64) -> u32
-    requires { size ≤ 7864320 }
-    ensures { result ≡ leaves_of size }
-{
-    ((size + 511) / 512) as u32
-}
+use block_tree::LEAVES;
+use leaf_changes::leaves_in;
 
 /// Leaves from one on, up to another.
 #[derive(Clone, Copy)]
@@ -20,7 +16,7 @@ pub(crate) struct Leaves {
 impl Leaves {
     /// Those that bytes at an offset touch.
     pub fn touched(offset: u64, count: u64) -> Leaves
-        requires { offset + count ≤ 7864320 }
+        requires { offset + count ≤ size_limit }
         ensures from { result.from ≡ offset / 512 }
         ensures to { result.to ≡ leaves_of (offset + count) }
     {
@@ -32,13 +28,13 @@ impl Leaves {
 
     /// Those of them that lie in a node.
     pub fn of_node(self, number: u32) -> Leaves
-        requires { number < 120 }
-        ensures from { result.from ≡ max self.from (128 * number) }
-        ensures to { result.to ≡ min self.to (128 * number + 128) }
+        requires { number < node_pointers.count }
+        ensures from { result.from ≡ max self.from (leaf_pointers.count * number) }
+        ensures to { result.to ≡ min self.to (leaf_pointers.count * number + leaf_pointers.count) }
     {
         Leaves {
-            from: self.from.max(128 * number),
-            to: self.to.min(128 * number + 128),
+            from: self.from.max(LEAVES as u32 * number),
+            to: self.to.min(LEAVES as u32 * number + LEAVES as u32),
         }
     }
 }

@@ -2,21 +2,22 @@
 ghost use Rattle.std.specs.Prelude.{◌≡◌, ◌+◌, ◌*◌, ◌/◌, ◌<◌, ◌≤◌, ◌-◌, ℕ, false, length, slice_range, Option, IfErr};
 ghost use Rattle.std.specs.Prelude.{IfOk, OnOk};
 ghost use Rattle.std.specs.List.{All};
+ghost use Rattle.block_tree.specs.Pointers.{leaf_pointers, node_pointers, size_limit};
 ghost use Rattle.cfs_base.specs.Calls.{OnlyReads};
 ghost use Rattle.cfs_base.specs.Refusals.{trouble_had_tried};
 ghost use Rattle.cfs_base.specs.Run.{Tells};
 ghost use Rattle.leaf_changes.specs.Leaves.{IsReadTo};
 ghost use Rattle.normal_files.specs.Nodes.{LeadTo};
-ghost use Rattle.normal_files.specs.Steps.{HasStoppedBy};
-ghost use Rattle.normal_files.specs.Refusal.{IsTrouble, is_damage};
+ghost use Rattle.block_tree.specs.Reads.{HasStoppedBy};
+ghost use Rattle.block_tree.specs.Reads.{is_damage};
+ghost use Rattle.normal_files.specs.Refusal.{IsTrouble};
 ghost use Rattle.normal_files.specs.Standing.{IsFileAt, IsRootAt};
 ghost use Rattle.normal_files.specs.Touched.{leaves_touched, nodes_touched, touched_below};
 ghost use Rattle.ufs_model.specs.declared.object.File as files;
 ghost use Rattle.vol_image.specs.Seen.{Held};
 
-use crate::nodes::{read_leaf, read_node};
 use crate::range::Leaves;
-use block_tree::{Node, Root};
+use block_tree::{LEAVES, Node, Root, node_of, read_block, read_node};
 use cfs_base::{BlockNo, Disk, Trouble};
 use leaf_changes::read_part;
 
@@ -29,13 +30,13 @@ fn read_below<D: Disk>(
     offset: u64,
     into: &mut [u8],
 ) -> Result<(), Trouble>
-    requires below { number < 120 }
-    requires inside { offset + length into.old ≤ 7864320 }
+    requires below { number < node_pointers.count }
+    requires inside { offset + length into.old ≤ size_limit }
     requires leaves { All (λ leaf. leaf < D.blocks disk.old) node.now.leaves }
     ensures read { (leaf : ℕ → Option Held) → Tells D.Disk disk.old
         → LeadTo (D.content disk.old) node.now.leaves number leaf
-        → IsReadTo (128 * number) fill leaf offset into.old
-        → OnOk result (IsReadTo (128 * number + 128) fill leaf offset into.new) }
+        → IsReadTo (leaf_pointers.count * number) fill leaf offset into.old
+        → OnOk result (IsReadTo (leaf_pointers.count * number + leaf_pointers.count) fill leaf offset into.new) }
     ensures long { length into.new ≡ length into.old }
     ensures refused { IfErr result (HasStoppedBy D.Disk disk.old disk.new) }
     ensures untried { IfErr result (λ trouble. trouble_had_tried trouble ≡ false) }
@@ -43,8 +44,8 @@ fn read_below<D: Disk>(
 {
     let leaves = Leaves::touched(offset, into.len() as u64).of_node(number);
     for leaf in leaves.from..leaves.to {
-        let block = node.leaves[(leaf % 128) as usize];
-        let content = read_leaf(disk, block, fill)?;
+        let block = node.leaves[leaf as usize % LEAVES];
+        let content = read_block(disk, block, fill)?;
         read_part(&content, leaf, offset, into);
     }
     Ok(())
@@ -60,7 +61,7 @@ pub fn read<D: Disk>(
     into: &mut [u8],
 ) -> Result<(), Trouble>
     requires on_disk { at.0 < D.blocks disk.old }
-    requires inside { offset + length into.old ≤ 7864320 }
+    requires inside { offset + length into.old ≤ size_limit }
     ensures read { (f : files.File) → Tells D.Disk disk.old → IsFileAt (D.content disk.old) at.0 f
         → IsRootAt (D.content disk.old) at.0 root.now → offset + length into.old ≤ length f.bytes
         → OnOk result (into.new ≡ slice_range f.bytes offset (offset + length into.old)) }
@@ -74,7 +75,7 @@ pub fn read<D: Disk>(
         disk.old disk.new }
 {
     let leaves = Leaves::touched(offset, into.len() as u64);
-    for number in leaves.from / 128..(leaves.to + 127) / 128 {
+    for number in node_of(leaves.from)..leaves.to.div_ceil(LEAVES as u32) {
         let node = read_node(disk, root.nodes[number as usize], at)?;
         read_below(disk, &node, number, root.fill, offset, into)?;
     }

@@ -1,24 +1,15 @@
 //! The size of a file, set.
-ghost use Rattle.std.specs.Prelude.{◌≡◌, ◌+◌, ◌*◌, ◌<◌, ◌≤◌, true, false, List, [], Some, length, sum, IfErr, OnOk};
+ghost use Rattle.std.specs.Prelude.{◌≡◌, ◌+◌, ◌*◌, ◌<◌, ◌≤◌, true, length, sum, IfErr, OnOk};
+ghost use Rattle.block_tree.specs.Pointers.{size_limit};
 ghost use Rattle.cfs_base.specs.Calls.{MakesAtMost, OnlyReads};
-ghost use Rattle.cfs_base.specs.Run.{IsSettled, Leaves as LeavesOf};
-ghost use Rattle.cfs_base.specs.declared.identifier.Puid.{Puid};
 ghost use Rattle.cfs_base.specs.declared.refusal.Refused.TheVariants as refusals;
-ghost use Rattle.intentions.specs.Store.{StoreHas};
-ghost use Rattle.normal_files.specs.Ends.{is_damaged};
-ghost use Rattle.normal_files.specs.Frees.{IsResizeRefusal, TakesNone};
-ghost use Rattle.normal_files.specs.Standing.{BecomesFile, IsPartly};
+ghost use Rattle.normal_files.specs.Calls.{Handed, ResizesFile};
+ghost use Rattle.normal_files.specs.Frees.{IsResizeRefusal};
 ghost use Rattle.normal_files.specs.WriteRefusal.{TellsNeed, is_untried};
-ghost use Rattle.ufs_model.specs.Graph.{Graph, object_at, with_object};
-ghost use Rattle.ufs_model.specs.Object.{resized};
-ghost use Rattle.ufs_model.specs.declared.object.File as files;
-ghost use Rattle.ufs_model.specs.declared.object.Object.TheVariants as objects;
-ghost use Rattle.vol_owners.specs.Account.{Opened, drafts_of};
 
 use crate::grow::grow;
-use crate::nodes::read_root;
 use crate::shrink::shrink;
-use crate::writing::has_room;
+use block_tree::read_root;
 use cfs_base::{BlockNo, Disk, Refused};
 use cyl_alloc::Space;
 
@@ -36,26 +27,9 @@ pub fn resize<D: Disk>(
 ) -> Result<(), Refused>
     requires size { D.blocks disk.old ≡ 64 * length space.old.free }
     requires on_disk { at.0 < D.blocks disk.old }
-    requires allowed { size ≤ 7864320 }
-    ensures resized { (graph : Graph) (ds : List Opened) (id : Puid) (f : files.File)
-        → StoreHas D.Disk graph ds disk.old space.old
-        → object_at graph id ≡ Some (objects.File f) → drafts_of ds id ≡ [] → id.block ≡ at.0
-        → OnOk result (BecomesFile D.Disk graph ds id (resized f size) disk.old disk.new space.new
-        × TakesNone (D.content disk.old) (D.content disk.new)) }
-    // A resize to less ends in writes of maps that no barrier follows: they free what the file had.
-    ensures settled { (graph : Graph) (ds : List Opened) (id : Puid) (f : files.File)
-        → StoreHas D.Disk graph ds disk.old space.old
-        → object_at graph id ≡ Some (objects.File f) → drafts_of ds id ≡ [] → id.block ≡ at.0 → length f.bytes ≤ size
-        → OnOk result (IsSettled D.Disk disk.new) }
-    // Done or not, each image that is left has the size and each leaf old or new.
-    ensures images { (graph : Graph) (ds : List Opened) (id : Puid) (f : files.File)
-        → StoreHas D.Disk graph ds disk.old space.old
-        → object_at graph id ≡ Some (objects.File f) → drafts_of ds id ≡ [] → id.block ≡ at.0
-        → LeavesOf D.Disk disk.old disk.new (λ c. IsPartly c graph id f (resized f size)) }
-    ensures sound { (graph : Graph) (ds : List Opened) (id : Puid) (f : files.File)
-        → StoreHas D.Disk graph ds disk.old space.old
-        → object_at graph id ≡ Some (objects.File f) → drafts_of ds id ≡ [] → id.block ≡ at.0
-        → IfErr result (λ e. is_damaged e ≡ false) }
+    requires allowed { size ≤ size_limit }
+    ensures resizes { (h : Handed D.Disk at.0 disk.old space.old)
+        → ResizesFile h size disk.new space.new result }
     // Full exactly where fewer blocks are Free than the floor: a resize needs none.
     ensures room { OnOk result (floor ≤ sum space.old.free) }
     ensures full { IfErr result (TellsNeed 0) }
@@ -66,9 +40,10 @@ pub fn resize<D: Disk>(
     ensures untried { IfErr result (λ e. is_untried e ≡ true → (space.new ≡ space.old)
         × OnlyReads D.Disk 3 disk.old disk.new) }
     ensures cylinders { length space.new.free ≡ length space.old.free }
+    ensures left { space.new.left ≡ space.old.left }
     ensures calls { MakesAtMost D.Disk 31346 15614 disk.old disk.new }
 {
-    match has_room(space, 0, floor) {
+    match space.has_room(0, floor) {
         Ok(()) => {}
         Err(error) => return Err(error),
     }

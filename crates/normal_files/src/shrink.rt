@@ -1,10 +1,11 @@
 //! A smaller size, set.
 ghost use Rattle.std.specs.Prelude.{◌≡◌, ◌*◌, ◌+◌, ◌<◌, ◌≤◌, false, length, IfErr, OnOk};
+ghost use Rattle.block_tree.specs.Pointers.{size_limit};
 ghost use Rattle.cfs_base.specs.Calls.{MakesAtMost, OnlyReads};
 ghost use Rattle.cfs_base.specs.declared.refusal.Trouble.TheVariants as troubles;
 ghost use Rattle.normal_files.specs.Cuts as spec;
 ghost use Rattle.normal_files.specs.Frees.{IsShrinkTrouble, TakesNone};
-ghost use Rattle.normal_files.specs.Refusal.{is_damage};
+ghost use Rattle.block_tree.specs.Reads.{is_damage};
 ghost use Rattle.normal_files.specs.Standing.{Becomes};
 ghost use Rattle.normal_files.specs.View.{View};
 ghost use Rattle.ufs_model.specs.Object.{resized};
@@ -19,7 +20,7 @@ use cyl_alloc::Space;
 
 /// The node from which on a file of this size has none.
 fn first_gone(end: &End, size: u64) -> u32
-    requires { size ≤ 7864320 }
+    requires { size ≤ size_limit }
     ensures { result ≡ spec.first_gone size end.now.kept }
 {
     let last = last_node(size);
@@ -38,7 +39,7 @@ pub(crate) fn shrink<D: Disk>(
 ) -> Result<(), Trouble>
     requires size { D.blocks disk.old ≡ 64 * length space.old.free }
     requires on_disk { at.0 < D.blocks disk.old }
-    requires allowed { size ≤ 7864320 }
+    requires allowed { size ≤ size_limit }
     ensures shrunk { (v : View D.Disk at.0 root.now disk.old space.old) → size < length v.file.bytes
         → Becomes v (resized v.file size) disk.new space.new result
         × OnOk result (TakesNone (D.content disk.old) (D.content disk.new))
@@ -47,6 +48,7 @@ pub(crate) fn shrink<D: Disk>(
     ensures untried { IfErr result (λ t. t ≡ troubles.Disk false → (space.new ≡ space.old)
         × OnlyReads D.Disk 2 disk.old disk.new) }
     ensures cylinders { length space.new.free ≡ length space.old.free }
+    ensures left { space.new.left ≡ space.old.left }
     ensures calls { MakesAtMost D.Disk 31345 15614 disk.old disk.new }
 {
     let end = match read_end(disk, at, root, size) {

@@ -1,5 +1,6 @@
 //! Blocks taken for leaves that are absent, and for their node.
 ghost use Rattle.std.specs.Prelude.{◌≡◌, ◌≢◌, ℕ, ◌+◌, ◌-◌, ◌*◌, ◌<◌, ◌≤◌, true, false, List, length, Ok, IfOk};
+ghost use Rattle.block_tree.specs.Pointers.{leaf_limit, node_pointers};
 ghost use Rattle.cyl_alloc.specs.Space.{Kept};
 ghost use Rattle.normal_files.specs.Ends.{Finishes, refused_after};
 ghost use Rattle.normal_files.specs.Laid.{node_of};
@@ -9,7 +10,7 @@ ghost use Rattle.normal_files.specs.Takes as spec;
 use crate::next::Next;
 use crate::part::Part;
 use crate::put::write_block;
-use block_tree::Root;
+use block_tree::{LEAVES, Root};
 use cfs_base::{Block, BlockNo, Disk, Place, Refused};
 use cyl_alloc::Space;
 use leaf_changes::patch_leaf;
@@ -39,7 +40,7 @@ fn take_node<D: Disk>(
 ) -> Result<BlockNo, Refused>
     requires size { D.blocks disk.old ≡ 64 * length space.old.free }
     requires some { at.0 ≢ 0 }
-    requires below { number < 120 }
+    requires below { number < node_pointers.count }
     ensures { spec.GetsNode D.Disk number at.0 held block disk.old disk.new space.old space.new result }
 {
     if held {
@@ -60,7 +61,7 @@ fn take_leaf<D: Disk>(
 ) -> Result<Taken, Refused>
     requires size { D.blocks disk.old ≡ 64 * length space.old.free }
     requires some { at.0 ≢ 0 }
-    requires below { leaf < 15360 }
+    requires below { leaf < leaf_limit }
     ensures takes { (offset : ℕ) (bytes : List ℕ)
         → spec.Takes D.Disk at.0 offset bytes disk.old disk.new space.old space.new
         result (λ a c taken. spec.TakesLeaf a c at.0 leaf held block taken.leaf taken.node content.now) }
@@ -72,7 +73,7 @@ fn take_leaf<D: Disk>(
         Ok(block) => block,
         Err(error) => return Err(error),
     };
-    let node = match take_node(disk, space, at, leaf / 128, held, block) {
+    let node = match take_node(disk, space, at, leaf / LEAVES as u32, held, block) {
         Ok(node) => node,
         Err(error) => return Err(error.after_try()),
     };
@@ -114,9 +115,10 @@ impl Part {
             result }
         ensures size { D.blocks disk.new ≡ D.blocks disk.old }
         ensures cylinders { length space.new.free ≡ length space.old.free }
+        ensures left { space.new.left ≡ space.old.left }
     {
-        let place = (leaf % 128) as usize;
-        let block = self.own.leaves[place];
+        let place = leaf % LEAVES as u32;
+        let block = self.own.leaves[place as usize];
         if block != 0 {
             return Ok(next);
         }
@@ -161,6 +163,7 @@ impl Part {
             disk.old disk.new space.old space.new result (λ next. next.grown) }
         ensures size { D.blocks disk.new ≡ D.blocks disk.old }
         ensures cylinders { length space.new.free ≡ length space.old.free }
+        ensures left { space.new.left ≡ space.old.left }
     {
         let had = root.nodes[self.number as usize];
         let mut next = Next {
@@ -202,6 +205,7 @@ impl Part {
             disk.old disk.new space.old space.new result (λ next. next.grown) }
         ensures size { D.blocks disk.new ≡ D.blocks disk.old }
         ensures cylinders { length space.new.free ≡ length space.old.free }
+        ensures left { space.new.left ≡ space.old.left }
     {
         let next = match self.take_leaves(disk, space, at, root, offset, bytes) {
             Ok(next) => next,

@@ -1,17 +1,19 @@
 //! A file that is to be written, read as far as that needs.
 ghost use Rattle.std.specs.Prelude.{◌≡◌, ◌+◌, ◌<◌, ◌≤◌, false, IfErr, IfOk};
+ghost use Rattle.block_tree.specs.Pointers.{size_limit};
 ghost use Rattle.cfs_base.specs.Calls.{OnlyReads};
 ghost use Rattle.cfs_base.specs.Refusals.{trouble_had_tried};
 ghost use Rattle.cfs_base.specs.Run.{Tells};
 ghost use Rattle.normal_files.specs.Laid.{node_of};
 ghost use Rattle.normal_files.specs.Parts.{AreParts, IsPart};
-ghost use Rattle.normal_files.specs.Refusal.{IsTrouble, is_damage};
+ghost use Rattle.block_tree.specs.Reads.{is_damage};
+ghost use Rattle.normal_files.specs.Refusal.{IsTrouble};
 ghost use Rattle.normal_files.specs.Standing.{IsFileAt, IsRootAt};
 ghost use Rattle.ufs_model.specs.declared.object.File as files;
 
 use crate::part::Part;
 use crate::range::Leaves;
-use block_tree::Root;
+use block_tree::{Root, node_of};
 use cfs_base::{BlockNo, Disk, Trouble};
 
 /// The two nodes of a file that bytes touch at most.
@@ -33,7 +35,7 @@ impl Touched {
         requires on_disk { at.0 < D.blocks disk.old }
         requires some { 1 ≤ count }
         requires most { count ≤ 4096 }
-        requires inside { offset + count ≤ 7864320 }
+        requires inside { offset + count ≤ size_limit }
         ensures parts { IfOk result (λ t. AreParts (D.blocks disk.old) offset count t.low t.high) }
         ensures low_is { Tells D.Disk disk.old → IfOk result (λ t. IsPart (D.content disk.old) root.now t.low) }
         ensures high_is { Tells D.Disk disk.old → IfOk result (λ t. IsPart (D.content disk.old) root.now t.high) }
@@ -49,7 +51,7 @@ impl Touched {
         ensures reads { OnlyReads D.Disk 2 disk.old disk.new }
     {
         let touched = Leaves::touched(offset, count);
-        let low = match Part::read(disk, at, root, touched, touched.from / 128) {
+        let low = match Part::read(disk, at, root, touched, node_of(touched.from)) {
             Ok(low) => low,
             Err(trouble) => return Err(trouble),
         };
@@ -57,7 +59,7 @@ impl Touched {
             from: low.leaves.to,
             to: touched.to,
         };
-        match Part::read(disk, at, root, rest, (touched.to - 1) / 128) {
+        match Part::read(disk, at, root, rest, node_of(touched.to - 1)) {
             Ok(high) => Ok(Touched { low, high }),
             Err(trouble) => Err(trouble),
         }

@@ -1,29 +1,22 @@
 //! Bytes of a file, written.
 ghost use Rattle.std.specs.Prelude.{◌≡◌, ◌≢◌, ◌⊎◌, ◌||◌, ℕ, ◌+◌, ◌-◌, ◌*◌, ◌/◌, ◌<◌, ◌≤◌, true, false, List, [], Some};
 ghost use Rattle.std.specs.Prelude.{IsTrue, length, sum, IfErr, IfOk, OnOk};
+ghost use Rattle.block_tree.specs.Pointers.{node_pointers, size_limit};
 ghost use Rattle.cfs_base.specs.Calls.{MakesAtMost, OnlyReads};
 ghost use Rattle.cfs_base.specs.Run.{IsSettled, Leaves as LeavesOf, Tells};
-ghost use Rattle.cfs_base.specs.declared.identifier.Puid.{Puid};
-ghost use Rattle.cfs_base.specs.declared.refusal.Refused.TheVariants as refusals;
 ghost use Rattle.cfs_base.specs.declared.refusal.Trouble.TheVariants as troubles;
-ghost use Rattle.claims.specs.Claims.{AreClaimed};
 ghost use Rattle.cyl_alloc.specs.Space.{Kept};
-ghost use Rattle.intentions.specs.Store.{StoreHas};
-ghost use Rattle.normal_files.specs.Ends.{Finishes, is_damaged};
+ghost use Rattle.normal_files.specs.Calls.{Handed, WritesFile};
+ghost use Rattle.normal_files.specs.Ends.{Finishes};
 ghost use Rattle.normal_files.specs.Laid.{node_of};
 ghost use Rattle.normal_files.specs.Links.{linked_image, linked_root};
-ghost use Rattle.normal_files.specs.Order.{claims_of};
 ghost use Rattle.normal_files.specs.Parts.{AreParts, IsPart, part_need};
-ghost use Rattle.normal_files.specs.Standing.{BecomesFile, IsPartly, IsRootAt};
+ghost use Rattle.normal_files.specs.Standing.{IsRootAt};
 ghost use Rattle.normal_files.specs.Steps.{Comes, IsAmid, Puts};
-ghost use Rattle.normal_files.specs.WriteRefusal.{IsWriteRefusal, TellsNeed, is_untried, needs};
+ghost use Rattle.normal_files.specs.WriteRefusal.{IsWriteRefusal, is_untried};
 ghost use Rattle.normal_files.specs.View.{View, Way};
 ghost use Rattle.normal_files.specs.Writes.{IsWritable, Wrote};
-ghost use Rattle.ufs_model.specs.Graph.{Graph, object_at, with_object};
-ghost use Rattle.ufs_model.specs.Object.{leaves_in, written as written_file};
-ghost use Rattle.ufs_model.specs.declared.object.File as files;
-ghost use Rattle.ufs_model.specs.declared.object.Object.TheVariants as objects;
-ghost use Rattle.vol_owners.specs.Account.{Opened, drafts_of};
+ghost use Rattle.ufs_model.specs.Object.{leaves_in};
 
 use crate::both::{Both, link_both, take_both};
 use crate::flush::flush;
@@ -32,21 +25,8 @@ use crate::put::{after, either};
 use crate::take::refused;
 use crate::touched::Touched;
 use block_tree::Root;
-use cfs_base::{BlockNo, Disk, Need, Refused, Trouble};
+use cfs_base::{BlockNo, Disk, Refused, Trouble};
 use cyl_alloc::Space;
-
-/// `Full` where fewer blocks are Free than these.
-pub(crate) fn has_room(space: &Space, need: u32, floor: u32) -> Result<(), Refused>
-    ensures room { OnOk result (need + floor ≤ sum space.now.free) }
-    ensures full { IfErr result (λ e. (e ≡ refusals.Full (record { free = sum space.now.free; need = need }))
-        × (sum space.now.free < need + floor)) }
-{
-    let free = space.free();
-    if (free as u64) < need as u64 + floor as u64 {
-        return Err(Refused::Full(Need { free, need }));
-    }
-    Ok(())
-}
 
 /// Writes bytes into the leaves of two nodes that are held. Gives whether a write was tried.
 fn put_both<D: Disk>(
@@ -56,7 +36,7 @@ fn put_both<D: Disk>(
     offset: u64,
     bytes: &[u8],
 ) -> Result<bool, Trouble>
-    requires inside { offset + length bytes.now ≤ 7864320 }
+    requires inside { offset + length bytes.now ≤ size_limit }
     requires parts { AreParts (D.blocks disk.old) offset (length bytes.now) low.now high.now }
     ensures puts { (block : ℕ) (w : Way D.Disk block) (kept : Kept)
         → IsAmid w offset bytes.now (offset / 512) disk.old kept
@@ -86,8 +66,8 @@ fn end_write<D: Disk>(
     both: &Both,
 ) -> Result<(), Trouble>
     requires at { at.0 < D.blocks disk.old }
-    requires low { low < 120 }
-    requires high { high < 120 }
+    requires low { low < node_pointers.count }
+    requires high { high < node_pointers.count }
     requires low_near { both.now.low.grown ≡ true → both.now.low.block < D.blocks disk.old }
     requires high_near { both.now.high.grown ≡ true → both.now.high.block < D.blocks disk.old }
     ensures done { Tells D.Disk disk.old → OnOk result ((D.content disk.new ≡ linked_image
@@ -126,7 +106,7 @@ pub(crate) fn write_parts<D: Disk>(
     requires size { D.blocks disk.old ≡ 64 * length space.old.free }
     requires some { at.0 ≢ 0 }
     requires on_disk { at.0 < D.blocks disk.old }
-    requires inside { offset + length bytes.now ≤ 7864320 }
+    requires inside { offset + length bytes.now ≤ size_limit }
     requires parts { AreParts (D.blocks disk.old) offset (length bytes.now) low.now high.now }
     requires low_near { low.now.leaves.from < low.now.leaves.to → node_of root.now low.now.number < D.blocks disk.old }
     requires high_near { high.now.leaves.from < high.now.leaves.to
@@ -171,52 +151,16 @@ pub fn write<D: Disk>(
     requires on_disk { at.0 < D.blocks disk.old }
     requires least { 1 ≤ length bytes.now }
     requires most { length bytes.now ≤ 4096 }
-    requires inside { offset + length bytes.now ≤ 7864320 }
-    ensures written { (graph : Graph) (ds : List Opened) (id : Puid) (f : files.File)
-        → StoreHas D.Disk graph ds disk.old space.old
-        → object_at graph id ≡ Some (objects.File f) → drafts_of ds id ≡ [] → id.block ≡ at.0
-        → IsRootAt (D.content disk.old) at.0 root.now → offset + length bytes.now ≤ length f.bytes
-        → OnOk result (BecomesFile D.Disk graph ds id (written_file f offset bytes.now) disk.old disk.new space.new
-        × IsSettled D.Disk disk.new) }
-    // Each touched leaf that isn't held takes the least Free block, and after it its node: in increasing order.
-    ensures order { (graph : Graph) (ds : List Opened) (id : Puid) (f : files.File)
-        → StoreHas D.Disk graph ds disk.old space.old
-        → object_at graph id ≡ Some (objects.File f) → drafts_of ds id ≡ [] → id.block ≡ at.0
-        → IsRootAt (D.content disk.old) at.0 root.now → offset + length bytes.now ≤ length f.bytes → OnOk result
-        (AreClaimed (claims_of at.0 f offset (length bytes.now)) (D.content disk.old) (D.content disk.new)) }
-    // Done or not, each image that is left has each leaf old or new.
-    ensures images { (graph : Graph) (ds : List Opened) (id : Puid) (f : files.File)
-        → StoreHas D.Disk graph ds disk.old space.old
-        → object_at graph id ≡ Some (objects.File f) → drafts_of ds id ≡ [] → id.block ≡ at.0
-        → IsRootAt (D.content disk.old) at.0 root.now → offset + length bytes.now ≤ length f.bytes
-        → LeavesOf D.Disk disk.old disk.new (λ c. IsPartly c graph id f (written_file f offset bytes.now)) }
-    ensures sound { (graph : Graph) (ds : List Opened) (id : Puid) (f : files.File)
-        → StoreHas D.Disk graph ds disk.old space.old
-        → object_at graph id ≡ Some (objects.File f) → drafts_of ds id ≡ [] → id.block ≡ at.0
-        → IsRootAt (D.content disk.old) at.0 root.now → offset + length bytes.now ≤ length f.bytes
-        → IfErr result (λ e. is_damaged e ≡ false) }
-    // Full exactly where fewer blocks are Free than the write needs, with the floor.
-    ensures room { (graph : Graph) (ds : List Opened) (id : Puid) (f : files.File)
-        → StoreHas D.Disk graph ds disk.old space.old
-        → object_at graph id ≡ Some (objects.File f) → drafts_of ds id ≡ [] → id.block ≡ at.0
-        → IsRootAt (D.content disk.old) at.0 root.now → offset + length bytes.now ≤ length f.bytes
-        → OnOk result (needs f offset (length bytes.now) + floor ≤ sum space.old.free) }
-    ensures full { (graph : Graph) (ds : List Opened) (id : Puid) (f : files.File)
-        → StoreHas D.Disk graph ds disk.old space.old
-        → object_at graph id ≡ Some (objects.File f) → drafts_of ds id ≡ [] → id.block ≡ at.0
-        → IsRootAt (D.content disk.old) at.0 root.now → offset + length bytes.now ≤ length f.bytes
-        → IfErr result (TellsNeed (needs f offset (length bytes.now))) }
-    // Where a write was tried so many were Free.
-    ensures begun { (graph : Graph) (ds : List Opened) (id : Puid) (f : files.File)
-        → StoreHas D.Disk graph ds disk.old space.old
-        → object_at graph id ≡ Some (objects.File f) → drafts_of ds id ≡ [] → id.block ≡ at.0
-        → IsRootAt (D.content disk.old) at.0 root.now → offset + length bytes.now ≤ length f.bytes
-        → IfErr result (λ e. e ≡ refusals.Disk true → needs f offset (length bytes.now) + floor ≤ sum space.old.free) }
+    requires inside { offset + length bytes.now ≤ size_limit }
+    ensures writes { (h : Handed D.Disk at.0 disk.old space.old) → IsRootAt (D.content disk.old) at.0 root.now
+        → offset + length bytes.now ≤ length h.file.bytes
+        → WritesFile h offset bytes.now floor disk.new space.new result }
     ensures refused { IfErr result (IsWriteRefusal D.Disk at.0 floor disk.old disk.new space.old space.new) }
     // Where nothing was tried, all is as it was.
     ensures untried { IfErr result (λ e. is_untried e ≡ true → (space.new ≡ space.old)
         × OnlyReads D.Disk 72 disk.old disk.new) }
     ensures cylinders { length space.new.free ≡ length space.old.free }
+    ensures left { space.new.left ≡ space.old.left }
     ensures calls { MakesAtMost D.Disk 72 43 disk.old disk.new }
 {
     let file = match Touched::read(disk, at, root, offset, bytes.len() as u64) {
@@ -225,7 +169,7 @@ pub fn write<D: Disk>(
     };
     let low = file.low.need(root);
     let high = file.high.need(root);
-    match has_room(space, low + high, floor) {
+    match space.has_room(low + high, floor) {
         Ok(()) => {}
         Err(error) => return Err(error),
     }

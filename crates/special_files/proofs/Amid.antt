@@ -1,7 +1,8 @@
 -- A disk in the middle of a step of a draft: each object stands in every image, and only blocks of the draft changed.
 use Rattle.std.proofs.Common.{◌≡◌, ◌≢◌, inl, ⊎_elim, ℕ, ◌<◌, IsTrue, true, List, length, set, Ok, Some, sym, subst, arith}
 use Rattle.special_files.proofs.Words.{AreCounts, BlockNo, Carries, ChangesOnly, Enters, EntryWritten, Frames, Ghosts, Graph, Holds, IfOk, Image, IsEntry, IsLeastFree, IsSameDisk, Kept, Leaves, MapEntry, Nothing, Object, OnOk, OnlyReads, Opened, Puid, Refused, Result, Root, StoreHas, Written, carries_on, changes_begin, changes_then, frames_back, frames_hold, frames_then, frames_write, is_free_in, is_meant, is_meant_for, is_of, left_now, map_in_image, map_of, map_with, not_map, object_at, of_draft, still_tells, taken_apart, then, wider, with_entry}
-use Rattle.special_files.proofs.Meant.{claim_changes, claim_framed, counts_content, free_is, meant_changes, meant_is, meant_written}
+use Rattle.special_files.proofs.Meant.{claim_changes, claim_framed, free_is, meant_changes, meant_is, meant_written}
+use Rattle.cyl_alloc.proofs.Counted.{counts_content}
 
 -- ---- writes within the frame of what the disk carries
 

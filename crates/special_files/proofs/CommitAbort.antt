@@ -5,7 +5,8 @@ use Rattle.ufs_model.specs.declared.object.Draft as models
 use Rattle.vol_owners.proofs.Entries.{root_placed}
 use Rattle.special_files.proofs.CommitDraft.{without_created, without_here, without_others, without_stay}
 use Rattle.special_files.proofs.CommitEntries.{meant_not_free, undone_free}
-use Rattle.special_files.proofs.CommitFlips.{counts_given_all, flipped_append, flipped_block, flipped_on, flips_entry, if_at, first_number, may_append, may_flips, more_numbers, option_has, option_is, option_once}
+use Rattle.special_files.proofs.CommitFlips.{counts_given_all}
+use Rattle.intentions.proofs.Flips.{flipped_append, flipped_block, flipped_on, flips_entry, if_at, first_number, may_append, may_flips, more_numbers, option_has, option_is, option_once}
 use Rattle.special_files.proofs.CommitRoles.{one_owner}
 use Rattle.special_files.proofs.Made.{IsNewRoot, made_apart, made_meant, made_root, no_object}
 use Rattle.special_files.proofs.Making.{created_there, without_it}

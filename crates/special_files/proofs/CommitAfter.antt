@@ -3,9 +3,10 @@ use Rattle.std.proofs.Common.{◌≡◌, ◌≢◌, inl, inr, ⊎_elim, ℕ, ◌
 use Rattle.special_files.proofs.Words.{AreCounts, ClearBit, Finish, Frame, Graph, Image, IntendAllocate, IntendDeallocate, IsEntered, IsEntry, IsReady, IsTaken, Kept, MapEntry, Object, Puid, Release, Settles, StandsIn, Undo, after_giving, bit_valid, block_at, block_at-with_entry, both_ways, cases_Bool, counts_same, entry_in, entry_in_table, false_from_ne_true, finished, finished_part, flips, given_all, has_number, is_committed, is_free, is_free_entry, is_had, is_meant, is_meant_for, is_of, is_taken, length-with_entry, not_map, option_to_list, part_at, part_of, released, same_Some, same_or_not, same_tree, stands_meant, taken_apart, taken_of, tree_in, undone, with_bit, with_bit_at, without_bit}
 use Rattle.std.proofs.lemmas.List.{get_or-set_other}
 use Rattle.special_files.proofs.CommitEntries.{bits_same, dropped_free, finished_free, finished_had, meant_not_free, no_bit, released_free, released_not_free, undone_free, with_bit_free}
-use Rattle.special_files.proofs.CommitFlips.{counts_given_all, counts_kept, flipped_block, if_at, length-flipped, first_number, option_has, option_is, option_once}
+use Rattle.special_files.proofs.CommitFlips.{counts_given_all, counts_kept}
+use Rattle.intentions.proofs.Flips.{flipped_block, if_at, length-flipped, first_number, option_has, option_is, option_once}
 use Rattle.special_files.proofs.CommitRoles.{Gone, Made, Now, Role, Same, block_stands, made_alone}
-use Rattle.special_files.proofs.Meant.{counts_content}
+use Rattle.cyl_alloc.proofs.Counted.{counts_content}
 use Rattle.special_files.proofs.CommitWhole.{not_only, only_one, after, root, shadow, new_inner, inner_root, inner_shadow, root_shadow, taken_inner, dropped_inner, taken_not_dropped, dropped_not_taken, a1, release_may, a1_entry, a1_block, real, a1_tree, a1_root, a2, bit, a3, copy, course, a3_entry, a1_dropped, a1_kept, had_entry, meant_state, b1, b2, bm, b3, b4, may1, b1_entry, may2, b2_entry, shadow_not_taken, shadow_not_dropped, root_not_dropped, made_root_at, made_meant_at, made_not_root, made_not_shadow, made_not_inner, made_not_taken, made_not_dropped, no_made, b2_made, may_made, bm_entry, bm_shadow, may3, b3_entry, b3_root, may4, b4_entry, b4_on}
 
 module _ {a : Image} {g : Graph} {id : Puid} {was o : Object} {s : ℕ} {taken dropped : List ℕ} {created : Option ℕ} (ready : IsReady a g id was o s taken dropped created) where

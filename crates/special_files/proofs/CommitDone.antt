@@ -3,9 +3,10 @@ use Rattle.std.proofs.Common.{◌≡◌, inl, inr, ⊎_elim, ℕ, ◌≤◌, tru
 use Rattle.special_files.proofs.Words.{AreCounts, CarriedOut, Carries, ChangesBit, ChangesOnly, ClearBit, Course, Fails, Flip, Flips, Frame, Ghosts, Graph, HasItsBlocks, Holds, IfErr, Image, IsCommitted, IsCourse, IsEntered, IsErrAnd, IsMapTrouble, IsOldOrNew, IsOn, IsReady, IsSettled, Keeps, Kept, Leaves, MakesAtMost, MayFlip, Object, OnOk, Puid, Release, Result, SetBit, Tells, Trouble, bit_set, block_at, carries_ended, carries_framed, entry_in, false_from_ne_true, flipped, flips, frames_hold, given_all, in_image, is_damage, is_fixed, is_meant_for, is_of, is_taken, keeps_frame, keeps_settled, named, not_label, not_map, of_owners, on_holds, option_to_list, reserved, root_placed, same_or_not, settling, taken_apart, the_entry, then, tree_in, trouble_after_try, wider, with_bit, with_entry, with_object}
 use Rattle.cfs_base.specs.Calls.{HasStopped}
 use Rattle.cfs_base.specs.declared.refusal.Trouble.TheVariants as trouble
-use Rattle.special_files.proofs.CommitFlips.{flip_is, flipped_append, flipped_block}
+use Rattle.intentions.proofs.Flips.{flip_is, flipped_append, flipped_block}
 use Rattle.special_files.proofs.CommitRoles.{none_meant, now_has, only_owners}
-use Rattle.special_files.proofs.CommitRuns.{fails_after, no_damage}
+use Rattle.special_files.proofs.CommitRuns.{fails_after}
+use Rattle.intentions.proofs.Flips.{no_damage}
 use Rattle.special_files.proofs.CommitAfter as after_it
 use Rattle.special_files.proofs.CommitWhole as whole
 

@@ -1,15 +1,16 @@
 -- Entries changed by one call after another.
-use Rattle.std.proofs.Common.{◌≡◌, inl, ℕ, ◌+◌, ◌≤◌, false, List, [], ◌∷◌, ◌++◌, length, take, drop, get_or, Ok, Err, Some, refl, sym, ◌∙◌, ap, subst, arith, Option, None, ◌*◌, ◌<◌}
-use Rattle.special_files.proofs.Words.{Change, ChangesBit, ChangesEntry, Course, Fails, Flip, Flips, Ghosts, Image, IsBadMap, IsCourse, IsErrAnd, IsMapTrouble, IsOn, IsSome, Keeps, Kept, Leaves, MakesAtMost, MapEntry, MayFlip, NoMap, OnlyReads, Result, Tells, Trouble, changed, entry_in, flipped, flips, is_damage, makes_then, map_in_image, map_of, on_holds, some_entry, still_tells, take-append-drop, take_more, then, trouble_after_try, trouble_had_tried}
+use Rattle.std.proofs.Common.{◌≡◌, inl, ℕ, ◌+◌, ◌≤◌, false, List, [], ◌∷◌, ◌++◌, length, take, drop, get_or, Ok, Err, refl, sym, ◌∙◌, ap, subst, arith, ◌*◌, ◌<◌}
+use Rattle.special_files.proofs.Words.{Change, ChangesBit, ChangesEntry, Course, Fails, Flip, Flips, Ghosts, Image, IsBadMap, IsCourse, IsErrAnd, IsMapTrouble, IsOn, Keeps, Kept, Leaves, MakesAtMost, MayFlip, NoMap, OnlyReads, Result, Tells, Trouble, changed, entry_in, flipped, flips, makes_then, map_of, some_entry, still_tells, take-append-drop, take_more, then, trouble_after_try, trouble_had_tried}
 use Rattle.cfs_base.specs.declared.refusal.Trouble.TheVariants as trouble
-use Rattle.special_files.proofs.CommitFlips.{flip_is, flipped_append, may_first, may_then}
+use Rattle.cfs_base.proofs.Calls.{failed_since}
+use Rattle.intentions.proofs.Flips.{flip_is, flipped_append, flips_append, may_first, may_then, no_damage}
 use Rattle.special_files.proofs.Refusals.{damage_since}
 
 -- ---- refusals
 
 module _ {D : Type 0} (g : Ghosts D) (at : ℕ) (old mid new : D) (kept : Kept) where
   pub fails_after : (n t m s : ℕ) → MakesAtMost g n t old mid → (Tells g old → Tells g mid) → MakesAtMost g m s mid new → (e : Trouble) → Fails g at mid new kept e → Fails g at old new kept e
-  fails_after n t m s first on second (trouble.Disk tried) is = (is.0, record { cause = omega (arith, is.1.cause, first.faults, second.faults); clock = omega (arith, is.1.clock, first.later, second.later) })
+  fails_after n t m s first on second (trouble.Disk tried) is = (is.0, failed_since g old mid new first.later first.faults is.1)
   fails_after n t m s first on second (trouble.Damaged damage) is = damage_since g at old mid new kept damage on is
 
 -- a call on one map that fails, where something was tried before
@@ -98,35 +99,18 @@ module _ {D : Type 0} (g : Ghosts D) (n : ℕ) (how : Change) (old new : D) wher
     calls = is.calls;
   }
 
-  -- no map is bad where the image holds objects
-  pub no_damage : (w : Course) → IsCourse w → Keeps g w old → (e : MapEntry) → entry_in (g.content old) n ≡ Some e → (t : Trouble) → IsMapTrouble g old new n t → is_damage (trouble_after_try t) ≡ false
-  no_damage w fits keeps e here (trouble.Disk tried) is = refl
-  no_damage w fits keeps e here (trouble.Damaged damage) is =
-      let holds = on_holds w (g.content old) fits keeps.content in
-      let bad = is.bad keeps.tells in
-      let below : map_of n + bad.0 < length (g.content old) = omega (arith, bad.1, holds.label.size_is, map_in_image (g.content old) n e here) in
-      absurd (some_none (entry_in (g.content old) (map_of n + bad.0)) bad.2 (holds.maps (map_of n + bad.0) below))
-    where
-      some_none : (o : Option MapEntry) → o ≡ None → IsSome o → ⊥
-      some_none None none h = cc
-      some_none (Some e) none h = cc
-
   pub one_failed : (A : Type 0) → n < g.blocks old → (t : Trouble) → ChangesEntry {A = A} g n (λ e. changed how e) old new (Err t) → Flips g 2 1 (one n how) old new (Err (trouble_after_try t))
   one_failed A below t is = record {
     put = λ tells. tt;
     tells = λ tells. tt;
     keeps = λ w fits keeps may. tt;
     leaves = λ w fits keeps may. is.leaves w may.0.0 fits keeps may.0.1 may.0.2;
-    sound = λ w fits keeps may. no_damage w fits keeps may.0.0 may.0.1 t is.refused;
+    sound = λ w fits keeps may. no_damage g n how old new w fits keeps may.0.0 may.0.1 t is.refused;
     fails = λ at kept. map_fails g at n old new kept below t is.refused is.unless_tried;
     calls = is.calls;
   }
 
 -- ---- the same change of many blocks
-
-pub flips_append : (how : Change) (xs ys : List ℕ) → flips how (xs ++ ys) ≡ flips how xs ++ flips how ys
-flips_append how [] ys = refl
-flips_append how (x ∷ xs) ys = ap (λ (fs : List Flip). record { block = x; how = how } ∷ fs) (flips_append how xs ys)
 
 module _ {D : Type 0} (g : Ghosts D) (how : Change) (blocks : List ℕ) (i : ℕ) (d0 d1 d2 : D) (below : i < length blocks) (so_far : Flips g (2 * i) i (flips how (take i blocks)) d0 d1 (Ok tt)) where
   pub flips_on : Flips g 2 1 (record { block = get_or blocks i 0; how = how } ∷ []) d1 d2 (Ok tt) → Flips g (2 * (i + 1)) (i + 1) (flips how (take (i + 1) blocks)) d0 d2 (Ok tt)

@@ -5,7 +5,7 @@ use Rattle.block_tree.specs.declared.root.Root as roots
 use Rattle.ufs_model.specs.declared.object.Draft as models
 use Rattle.special_files.proofs.Amid.{IsAmid}
 use Rattle.special_files.proofs.CommitDraft.{there_still, without_created, without_here, without_others, without_there}
-use Rattle.special_files.proofs.CommitFlips.{first_number, option_is}
+use Rattle.intentions.proofs.Flips.{first_number, option_is}
 use Rattle.special_files.proofs.Made.{bare_has, bare_kept, bare_unmeant, content_kept, made_apart, made_kept, made_root, no_object, still_made}
 use Rattle.special_files.proofs.Making.{created_there, without_it}
 

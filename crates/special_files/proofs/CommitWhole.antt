@@ -4,7 +4,7 @@ use Rattle.special_files.proofs.Words.{ClearBit, Commits, Copies, Course, Finish
 use Rattle.block_tree.specs.declared.root.Root as roots
 use Rattle.special_files.proofs.Begun.{own_tree}
 use Rattle.special_files.proofs.CommitEntries.{dropped_state}
-use Rattle.special_files.proofs.CommitFlips.{flipped_append, flipped_block, flipped_on, flips_entry, if_at, length-flipped, may_append, may_flips, option_is, option_once}
+use Rattle.intentions.proofs.Flips.{flipped_append, flipped_block, flipped_on, flips_entry, if_at, length-flipped, may_append, may_flips, option_is, option_once}
 use Rattle.special_files.proofs.CommitRoles.{stands_block}
 use Rattle.special_files.proofs.Made.{IsNewRoot, made_apart, made_meant, made_root}
 use Rattle.special_files.proofs.Meant.{meant_is}

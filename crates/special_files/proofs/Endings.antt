@@ -36,6 +36,7 @@ module _ {D A B : Type 0} (g : Ghosts D) (at floor : ℕ) (d0 d1 d2 : D) (k0 k1 
     refused = refused_after_try g at floor d0 d1 d2 k2 n t first.calls tried first.told e then.refused;
     untried = λ same. absurd (not_untried e same);
     cylinders = then.cylinders ∙ first.cylinders;
+    left = then.left ∙ first.left;
     takes = omega (arith, first.takes, then.takes, lk);
     calls = makes_then g d0 d1 d2 n m most t s tries first.calls then.calls calls lt;
   }
@@ -47,13 +48,14 @@ module _ {D A B : Type 0} (g : Ghosts D) (at floor : ℕ) (d0 d1 d2 : D) (k0 k1 
     refused = tt;
     untried = tt;
     cylinders = then.cylinders ∙ first.cylinders;
+    left = then.left ∙ first.left;
     takes = omega (arith, first.takes, then.takes, lk);
     calls = makes_then g d0 d1 d2 n m most t s tries first.calls then.calls calls lt;
   }
 
 -- a refusal is one of any call
 pub ends_err : {D A B : Type 0} (g : Ghosts D) (at floor n t k : ℕ) (old new : D) (before after : Kept) (e : Refused) → Ends {A = A} g at floor n t k old new before after (Err e) → Ends {A = B} g at floor n t k old new before after (Err e)
-ends_err g at floor n t k old new before after e is = record { told = tt; refused = is.refused; untried = is.untried; cylinders = is.cylinders; takes = is.takes; calls = is.calls }
+ends_err g at floor n t k old new before after e is = record { told = tt; refused = is.refused; untried = is.untried; cylinders = is.cylinders; left = is.left; takes = is.takes; calls = is.calls }
 
 -- ---- the least Free block entered
 
@@ -74,6 +76,7 @@ enters_ends g at floor old new before after e (Ok x) is = record {
   refused = tt;
   untried = tt;
   cylinders = is.cylinders;
+  left = is.left;
   takes = subst (λ (k : Kept). sum before.free ≤ sum k.free + 1) (sym is.taken) (sum_taken before x.0);
   calls = is.calls;
 }
@@ -82,6 +85,7 @@ enters_ends g at floor old new before after e (Err x) is = record {
   refused = why x is.refused is.unless_tried (is.kept refl);
   untried = λ same. (is.kept refl, reads_within g old new 1 2 (omega arith) (is.unless_tried (ap had_tried same)));
   cylinders = is.cylinders;
+  left = is.left;
   takes = omega (arith, ap (λ (k : Kept). sum k.free) (is.kept refl));
   calls = is.calls;
 }
@@ -122,6 +126,7 @@ gets_ends g n floor old new before after drafting result (Had fresh same kept is
   refused = tt;
   untried = tt;
   cylinders = ap (λ (k : Kept). length k.free) kept;
+  left = ap (λ (k : Kept). k.left) kept;
   takes = omega (arith, ap (λ (k : Kept). sum k.free) kept);
   calls = subst (λ (d : _). MakesAtMost g 2 1 old d) (sym same) (makes_none g old 2 1);
 })
@@ -132,11 +137,11 @@ gets_ends g n floor old new before after drafting result (Claims stale enters) =
 
 module _ {D : Type 0} (g : Ghosts D) (at floor : ℕ) (old new : D) (kept : Kept) (n : ℕ) (block : List ℕ) where
   pub write_done : WritesBlock g n block old new (Ok (tt {0})) → Ends {A = Unit {0}} g at floor 1 1 0 old new kept kept (Ok tt)
-  write_done is = record { told = is.told; refused = tt; untried = tt; cylinders = refl; takes = omega arith; calls = is.calls }
+  write_done is = record { told = is.told; refused = tt; untried = tt; cylinders = refl; left = refl; takes = omega arith; calls = is.calls }
 
   pub write_ends : (result : Result (Unit {0}) Refused) → WritesBlock g n block old new result → Ends g at floor 1 1 0 old new kept kept result
   write_ends (Ok x) is = write_done is
-  write_ends (Err e) is = record { told = tt; refused = subst (IsRefusal g at floor old new kept) (sym is.refused) is.stopped; untried = λ same. (let no : refusals.Disk true ≡ refusals.Disk false = sym is.refused ∙ same in cc); cylinders = refl; takes = omega arith; calls = is.calls }
+  write_ends (Err e) is = record { told = tt; refused = subst (IsRefusal g at floor old new kept) (sym is.refused) is.stopped; untried = λ same. (let no : refusals.Disk true ≡ refusals.Disk false = sym is.refused ∙ same in cc); cylinders = refl; left = refl; takes = omega arith; calls = is.calls }
 
 -- ---- what stays
 
@@ -158,13 +163,14 @@ ends_wider {g = g} {at} {n} {t} {d0 = d0} {d1} {k1 = k1} {r} floor most tries bl
   refused = if_err r (λ e why. under_floor g at floor d0 d1 k1 e why) is.refused;
   untried = if_err r (λ e why same. ((why same).0, reads_within g d0 d1 n most le (why same).1)) is.untried;
   cylinders = is.cylinders;
+  left = is.left;
   takes = takes;
   calls = makes_then g d0 d0 d1 0 n most 0 t tries (makes_none g d0 0 0) is.calls (omega (arith, le)) (omega (arith, lt));
 }
 
 -- refused before any call
 pub full_ends : {D A : Type 0} (g : Ghosts D) (at floor n t k : ℕ) (d : D) (kept : Kept) (need : Need) → need.free < need.need + floor → Ends {A = A} g at floor n t k d d kept kept (Err (refusals.Full need))
-full_ends g at floor n t k d kept need less = record { told = tt; refused = less; untried = λ same. cc; cylinders = refl; takes = omega arith; calls = makes_none g d n t }
+full_ends g at floor n t k d kept need less = record { told = tt; refused = less; untried = λ same. cc; cylinders = refl; left = refl; takes = omega arith; calls = makes_none g d n t }
 
 -- ---- refusals told after others
 

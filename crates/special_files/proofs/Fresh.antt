@@ -1,6 +1,6 @@
 -- What is fresh in a draft's tree is meant for the object, and stands below what is fresh.
-use Rattle.std.proofs.Common.{◌≡◌, ◌≢◌, ℕ, zero, suc, ◌+◌, ◌<◌, ◌≤◌, Bool, true, false, List, [], ◌∷◌, length, get_or, inl, inr, Some, refl, sym, ◌∙◌, ap, arith, not, replicate}
-use Rattle.special_files.proofs.Words.{pointed, Fits, Graph, HasDraft, HasItsBlocks, Holds, Image, Object, Opened, Puid, block_at, cases_Bool, cases_lt, content_of, get_or-replicate, get_or_past, held, held_at, is_meant, is_meant_for, is_of, leaf_pointers, leaves_at, length-map-range_with_len, length-replicate, meant_differs, node_of, not_meant_is_own, number_at, object_at, passes, pointers_of, root_spelling, slice_index, tree_in, tree_of}
+use Rattle.std.proofs.Common.{◌≡◌, ◌≢◌, ℕ, zero, suc, ◌<◌, ◌≤◌, Bool, true, false, List, [], ◌∷◌, length, get_or, inl, inr, Some, refl, sym, ◌∙◌, ap, arith, not}
+use Rattle.special_files.proofs.Words.{pointed, Fits, Graph, HasDraft, HasItsBlocks, Holds, Image, Object, Opened, Puid, block_at, cases_Bool, content_of, held, held_at, is_meant, is_meant_for, is_of, leaves_at, meant_differs, node_of, not_meant_is_own, object_at, passes, root_spelling, slice_index, tree_in, tree_of}
 use Rattle.block_tree.specs.declared.root.Root as roots
 use Rattle.special_files.proofs.Trees.{leaf_at, leaf_from, node_at}
 

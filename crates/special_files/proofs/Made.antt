@@ -3,7 +3,7 @@ use Rattle.std.proofs.Common.{◌≡◌, ◌≢◌, inl, inr, ⊎_elim, ℕ, tru
 use Rattle.special_files.proofs.Words.{Accounts, ChangesOnly, Graph, HasItsBlocks, Image, IntendAllocate, IsBareRoot, IsEntered, IsMade, IsOpenTo, IsPlaced, IsRootBlock, Leaf, MapEntry, Node, Opened, Place, Puid, Root, RootsOwnThemselves, SameAt, ShadowRoot, and_from, and_parts, below_none, block_at, both_ways, entry_in, false_from_ne_true, free_unowned, had_not_meant, has_block, ids_of, is_committed, is_fixed, is_had, is_leaving, is_made, is_meant, is_meant_for, is_of, is_placed, is_root_place, is_taken, node_pointers, none-some, object_of_block, of_draft, of_taken, owner_is, owner_of, part_at, pointers_of, rises, root_owner, same_Some}
 use Rattle.block_tree.specs.declared.root.Root as roots
 use Rattle.vol_owners.proofs.Entries.{root_placed}
-use Rattle.special_files.proofs.CommitFlips.{option_is}
+use Rattle.intentions.proofs.Flips.{option_is}
 use Rattle.special_files.proofs.CommitRoles.{block_stands, had_not_leaving}
 use Rattle.special_files.proofs.Meant.{meant_is}
 

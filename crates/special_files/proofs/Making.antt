@@ -3,7 +3,7 @@ use Rattle.std.proofs.Common.{◌≡◌, ℕ, Bool, true, false, cond, List, [],
 use Rattle.special_files.proofs.Words.{Opened, Puid, SameBut, and_parts, both_ways, created_of, drafts_of, has_number, ne_eqb, not-true, numbers_differ, option_to_list, or_right, same_puid, without_draft, ◌==◌, ◌||◌}
 use Rattle.std.proofs.lemmas.Bool.{eq-eqb}
 use Rattle.special_files.proofs.CommitDraft.{without_none}
-use Rattle.special_files.proofs.CommitFlips.{first_number}
+use Rattle.intentions.proofs.Flips.{first_number}
 
 -- a number of one of two lists
 second_number : (n : ℕ) (x : Option ℕ) (ns : List ℕ) → has_number n ns ≡ true → has_number n (option_to_list x ++ ns) ≡ true

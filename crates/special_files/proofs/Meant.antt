@@ -1,8 +1,6 @@
 -- What the entry of a block says that is meant for an object, and what may be written there.
-use Rattle.std.proofs.Common.{◌≡◌, ◌≢◌, inl, inr, ℕ, ◌*◌, ◌%◌, Bool, true, List, [], ◌∷◌, set, Option, Some, None, refl, sym, ◌∙◌, ap, subst}
-use Rattle.special_files.proofs.Words.{Accounts, Allocated, AreCounts, BlockState, ChangesOnly, Frames, Free, Graph, HasItsBlocks, Holds, Image, IntendAllocate, IntendDeallocate, IsEntry, IsLoose, IsOpenTo, IsTaken, Kept, MapEntry, Object, Opened, Place, Puid, Root, StandsForNone, and_from, and_parts, at_rest, blocks_kept, both_ways, changes_content, changes_entry, drafts_miss, entry_in, entry_in-set, eqb-true, frames_begin, frames_content, free_in_cylinder, free_is_loose, fun_ext, has_number, here, is_free_entry, is_free_in, is_had, is_leaving, is_meant, is_meant_for, is_of, is_some, is_taken, loose_entry, object_at, of_draft, range_with_len, rest_loose, taken_apart, the_entry, with_entry, ◌&&◌, ◌==◌}
-use Rattle.std.specs.Prelude.{count_by}
-use Rattle.std.proofs.Math.ListN.{length-set}
+use Rattle.std.proofs.Common.{◌≡◌, ◌≢◌, inl, inr, ℕ, true, List, [], ◌∷◌, set, Option, Some, None, refl, sym, ◌∙◌, ap, subst}
+use Rattle.special_files.proofs.Words.{Accounts, Allocated, BlockState, ChangesOnly, Frames, Free, Graph, HasItsBlocks, Holds, Image, IntendAllocate, IntendDeallocate, IsEntry, IsLoose, IsOpenTo, IsTaken, MapEntry, Object, Opened, Place, Puid, Root, StandsForNone, and_from, and_parts, at_rest, blocks_kept, both_ways, changes_content, changes_entry, drafts_miss, entry_in, eqb-true, frames_begin, frames_content, free_is_loose, has_number, here, is_free_entry, is_free_in, is_had, is_leaving, is_meant, is_meant_for, is_of, is_some, is_taken, loose_entry, object_at, of_draft, rest_loose, taken_apart, the_entry, with_entry, ◌&&◌, ◌==◌}
 
 -- ---- entries
 
@@ -51,14 +49,6 @@ meant_open r (Some e) meant =
     let both = and_parts (is_meant e.state && is_some e.place) (r == e.owner) meant in
     let two = and_parts (is_meant e.state) (is_some e.place) both.0 in
     inr (and_from _ _ (ap is_taken (state_meant e.state two.0)) two.1, and_from _ _ both.0 (subst (λ (n : ℕ). has_number n (r ∷ []) ≡ true) (eqb-true r e.owner both.1) (here r [])))
-
--- ---- contents of blocks that have entries of their own elsewhere
-
-pub counts_content : (image : Image) (kept : Kept) (n : ℕ) (block : List ℕ) → n % 64 ≢ 0 → AreCounts image kept → AreCounts (set image n block) kept
-unfolding free_in_cylinder
-counts_content image kept n block no_map counts =
-    let same : is_free_in (set image n block) ≡ is_free_in image = fun_ext (λ m. ap is_free_entry (entry_in-set image n block m no_map)) in
-    record { size = length-set image n block ∙ counts.size; each = λ j below. counts.each j below ∙ ap (λ (P : ℕ → Bool). count_by P (range_with_len (64 * j) 64)) (sym same) }
 
 -- ---- what may be written while a draft is changed
 

@@ -176,12 +176,12 @@ module _ {D : Type 0} {g : Ghosts D} {d0 d1 : D} {was : Drafting} (reads : OnlyR
 
     pub put_ends : (r : Result BlockNo Refused) → PutsWithin g f leaves was d1 d2 k0 k2 r → Ends g was.at 0 3 2 (sum k0.free) d1 d2 k0 k2 r
     put_ends r (Whole y whole same kept done) = subst (Ends g was.at 0 3 2 (sum k0.free) d1 d2 k0 k2) (sym done) (subst (λ (e : D). Ends g was.at 0 3 2 (sum k0.free) d1 e k0 k2 (Ok y)) (sym same)
-        (subst (λ (k : Kept). Ends g was.at 0 3 2 (sum k0.free) d1 d1 k0 k (Ok y)) (sym kept) (record { told = λ b h. h; refused = tt; untried = tt; cylinders = refl; takes = omega arith; calls = makes_none g d1 3 2 })))
+        (subst (λ (k : Kept). Ends g was.at 0 3 2 (sum k0.free) d1 d1 k0 k (Ok y)) (sym kept) (record { told = λ b h. h; refused = tt; untried = tt; cylinders = refl; left = refl; takes = omega arith; calls = makes_none g d1 3 2 })))
     put_ends r (Within within (NoBlock e gets done)) = subst (Ends g was.at 0 3 2 (sum k0.free) d1 d2 k0 k2) (sym done) (ends_wider 0 3 2 (sum k0.free) (gets_ends g (f / 128) 0 d1 d2 k0 k2 was (Err e) gets) (omega arith) (omega arith) (omega arith))
     put_ends r (Within within (NoWrite mid y block e gets short writes done)) = subst (Ends g was.at 0 3 2 (sum k0.free) d1 d2 k0 k2) (sym done) (no_write mid y block e gets writes)
     put_ends r (Within within (Put mid y block gets short writes done)) = subst (Ends g was.at 0 3 2 (sum k0.free) d1 d2 k0 k2) (sym done)
         (let both = ends_then_ok g was.at 0 d1 mid d2 k0 k2 k2 y (tt {0}) 2 1 (one_unless (is_fresh_node was (f / 128))) 1 1 0 (gets_ends g (f / 128) 0 d1 mid k0 k2 was (Ok y) gets) (write_ends g was.at 0 mid d2 k2 y.0 block (Ok (tt {0})) writes) 3 2 ((one_unless (is_fresh_node was (f / 128))) + 0) (omega arith) (omega arith) (omega arith) in
-        record { told = both.told; refused = tt; untried = tt; cylinders = both.cylinders; takes = omega arith; calls = both.calls })
+        record { told = both.told; refused = tt; untried = tt; cylinders = both.cylinders; left = both.left; takes = omega arith; calls = both.calls })
 
     put_full : (e : Refused) → border_takes was f ≤ sum k0.free → PutsWithin g f leaves was d1 d2 k0 k2 (Err e) → is_full e ≡ false
     put_full e room (Whole y whole same kept done) = cc
@@ -226,6 +226,7 @@ module _ {D : Type 0} {g : Ghosts D} {d0 d1 : D} {was : Drafting} (reads : OnlyR
             refused = refusal_of g was.at 0 d2 d3 k t (why was.at k);
             untried = λ same. (refl, reads_within g d2 d3 1 30960 (omega arith) (only (disk_false t same)));
             cylinders = refl;
+            left = refl;
             takes = omega arith;
             calls = wide;
           }
@@ -239,14 +240,14 @@ module _ {D : Type 0} {g : Ghosts D} {d0 d1 : D} {was : Drafting} (reads : OnlyR
               let here = subst (λ (d : D). Ends {A = Unit {0}} g was.at 0 30960 15480 0 d d3 k2 k2 (Err (refused_by t))) two.0 (undone k2) in
               ends_wider 0 30963 15482 (sum k0.free) (subst (λ (k : Kept). Ends {A = Unit {0}} g was.at 0 30960 15480 0 d1 d3 k k2 (Err (refused_by t))) two.1 here) (omega arith) (omega arith) (omega arith)
 
-      pub drop_ok_call : (k3 : Kept) (now : Drafting) → ((b : ℕ) → IsTrue (g.told d2 b) → IsTrue (g.told d3 b)) → length k3.free ≡ length k2.free → (((n : ℕ) → is_fresh_node was n ≡ false) → k3 ≡ k2) → Forgets f y.0 was now → DropCall g f d0 d3 k0 k3 was now (Ok tt)
-      drop_ok_call k3 now told long same forgets = record {
+      pub drop_ok_call : (k3 : Kept) (now : Drafting) → ((b : ℕ) → IsTrue (g.told d2 b) → IsTrue (g.told d3 b)) → length k3.free ≡ length k2.free → k3.left ≡ k2.left → (((n : ℕ) → is_fresh_node was n ≡ false) → k3 ≡ k2) → Forgets f y.0 was now → DropCall g f d0 d3 k0 k3 was now (Ok tt)
+      drop_ok_call k3 now told long left same forgets = record {
         stays = forgets.stays;
         forgets = (y.0, forgets);
         tried = λ within. tried_then g d0 d2 d3 _ _ (then_tried g d0 d1 d2 120 0 (reads_make g d0 d1 120 reads) (put_tried y within puts)) calls;
         untried = λ whole stale. let all = nothing whole stale in (all.0, same stale ∙ all.1);
         ends =
-            let undone : Ends {A = Unit {0}} g was.at 0 30960 15480 (sum k2.free) d2 d3 k2 k3 (Ok tt) = record { told = told; refused = tt; untried = tt; cylinders = long; takes = omega arith; calls = wide } in
+            let undone : Ends {A = Unit {0}} g was.at 0 30960 15480 (sum k2.free) d2 d3 k2 k3 (Ok tt) = record { told = told; refused = tt; untried = tt; cylinders = long; left = left; takes = omega arith; calls = wide } in
             let both = ends_then_ok g was.at 0 d1 d2 d3 k0 k2 k3 y (tt {0}) 3 2 (sum k0.free) 30960 15480 (sum k2.free) (put_ends (Ok y) puts) undone 30963 15482 (sum k0.free + sum k2.free) (omega arith) (omega arith) (omega arith) in
             ends_since reads 31083 (ends_wider 0 30963 15482 (sum k0.free) both (omega arith) (omega arith) (omega arith)) (omega arith);
         kept = tt;

@@ -4,7 +4,8 @@ use Rattle.special_files.proofs.Words.{node_place, AreClaimed, AreCounts, AreShe
 use Rattle.std.proofs.Math.ListN.{length-set}
 use Rattle.special_files.proofs.Amid.{IsAmid, amid_leaves, claim_leaves, claimed, write_leaves, wrote}
 use Rattle.special_files.proofs.CommitEntries.{meant_not_free, undone_free}
-use Rattle.special_files.proofs.CommitFlips.{counts_given_all, flipped_block, flipped_on, flips_entry, if_at, length-flipped, may_flips}
+use Rattle.special_files.proofs.CommitFlips.{counts_given_all}
+use Rattle.intentions.proofs.Flips.{flipped_block, flipped_on, flips_entry, if_at, length-flipped, may_flips}
 use Rattle.special_files.proofs.CommitWhole.{tree_inner}
 use Rattle.special_files.proofs.Fresh.{fresh_there, read_leaf_is, small_image, unfresh}
 use Rattle.special_files.proofs.Levels.{Tell}

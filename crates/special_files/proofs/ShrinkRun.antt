@@ -90,6 +90,7 @@ cut_done {g = g} {size} {cut} {d1} {d2} {k1} {k2} {was} {mid} {read} {next} (Spa
     refused = tt;
     untried = tt;
     cylinders = ap (λ (k : Kept). length k.free) kept;
+    left = ap (λ (k : Kept). k.left) kept;
     takes = omega (arith, ap (λ (k : Kept). sum k.free) kept);
     calls = subst (λ d. MakesAtMost g 8 4 d1 d) (sym same) (makes_none g d1 8 4);
   };
@@ -222,7 +223,7 @@ grown_call g d0 k0 size floor was now (Ok t) is kept short = record {
   stays = subst (StaysBut (sized was size)) (sym is) (stays_itself (sized was size));
   spared = tt;
   told = λ none. record { tried = λ n fresh. absurd (both_ways _ (ap (λ (w : Drafting). is_fresh_node w n) is ∙ none.nodes n) fresh); untried = λ stale. (refl, no_reads g d0 1) };
-  ends = record { told = λ b h. h; refused = tt; untried = tt; cylinders = refl; takes = omega arith; calls = makes_none g d0 31092 15486 };
+  ends = record { told = λ b h. h; refused = tt; untried = tt; cylinders = refl; left = refl; takes = omega arith; calls = makes_none g d0 31092 15486 };
   kept = tt;
 }
 grown_call g d0 k0 size floor was now (Err e) is kept short = record {

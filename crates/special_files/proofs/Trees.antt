@@ -1,6 +1,6 @@
 -- A tree of nodes and leaves: what stands at each path, as the pointers say.
-use Rattle.std.proofs.Common.{◌≡◌, ℕ, zero, suc, ◌+◌, ◌*◌, ◌<◌, List, [], ◌∷◌, length, get_or, set, refl, sym, ◌∙◌, ap, ◌^◌, arith}
-use Rattle.special_files.proofs.Words.{All-set, Fits, Image, IsGoodRoot, Leaf, Node, block_at, end_of, leaf_pointers, levels_of, node_block, node_pointers, nodes_of, place_at, pointer, root_spelling, slice_index, tree_of}
+use Rattle.std.proofs.Common.{◌≡◌, ℕ, ◌<◌, List, [], ◌∷◌, get_or, set, sym, ◌∙◌, ap, ◌^◌}
+use Rattle.special_files.proofs.Words.{All-set, Fits, Image, IsGoodRoot, end_of, leaf_pointers, levels_of, node_block, node_pointers, nodes_of, pointer, root_spelling, slice_index, tree_of}
 use Rattle.std.proofs.Math.ListN.{length-set}
 use Rattle.block_tree.specs.declared.root.Root as roots
 

@@ -48,6 +48,7 @@ pub use Rattle.intentions.specs.Calls.{ChangesBit, ChangesEntry}
 pub use Rattle.intentions.specs.Commit.{Commits, Copies, IsCommitted, IsToFinish}
 pub use Rattle.intentions.specs.Course.{Course, Frame, IsCourse, IsOn, Keeps, MayPut, Settling}
 pub use Rattle.intentions.specs.Entries.{changed, finished, finished_in, released, released_at, released_in, undone, undone_in, with_bit, with_bit_at, without_bit}
+pub use Rattle.intentions.specs.Flips.{Flip, MayFlip, flip, flip_in, flipped, flips}
 pub use Rattle.intentions.specs.Store.{StoreHas}
 pub use Rattle.intentions.specs.declared.change.Change.{Change}
 pub use Rattle.intentions.specs.declared.change.Change.TheVariants.{ClearBit, Finish, Release, SetBit, Undo}
@@ -70,7 +71,7 @@ pub use Rattle.special_files.specs.Becomes.{Becomes}
 pub use Rattle.special_files.specs.Calls.{Claims, GetsNode, Had, SetsFlags, SetsFresh, WritesBlock}
 pub use Rattle.special_files.specs.Changed.{AreDropped, AreOnDisk, AreTaken, IsChanged, in_node, table, unlike}
 unfoldable pub use Rattle.special_files.specs.Changed.{all_unlike}
-pub use Rattle.special_files.specs.Committing.{AbortEnds, AreParts, CarriedOut, CommitEnds, Committed, Dropped, Fails, Finishes, Flip, Flips, IsEntered, IsOldOrNew, IsReady, Makes, Making, MayFlip, bit_set, far_root, flip, flip_in, flipped, flips, given_all, named, root_of, settling, undoing, with_made}
+pub use Rattle.special_files.specs.Committing.{AbortEnds, AreParts, CarriedOut, CommitEnds, Committed, Dropped, Fails, Finishes, Flips, IsEntered, IsOldOrNew, IsReady, Makes, Making, bit_set, far_root, given_all, named, root_of, settling, undoing, with_made}
 pub use Rattle.special_files.specs.Drafting.{Drafting, HasNoneFresh, IsOpen, begun_at, fresh_of, is_fresh_leaf, is_fresh_node, leaf_takes, leaves_take, need_beside, node_of, number_of, one_unless, opened_as, shadow_count, shadow_need}
 unfoldable pub use Rattle.special_files.specs.Drafting.{none_of, set_in, unset_in}
 pub use Rattle.special_files.specs.Ends.{Ends}

@@ -93,6 +93,7 @@ module _ {D : Type 0} {g : Ghosts D} {d0 d1 : D} {n : ℕ} (reads : OnlyReads g 
     refused = if_err r (λ e why. refusal_after_reads g at d0 d1 d2 k2 floor n e reads why) is.refused;
     untried = if_err r (λ e why same. ((why same).0, reads_then g d0 d1 d2 n m most reads (why same).1 le)) is.untried;
     cylinders = is.cylinders;
+    left = is.left;
     takes = is.takes;
     calls = makes_then g d0 d1 d2 n m most 0 t t (reads_make g d0 d1 n reads) is.calls le (omega arith);
   }
@@ -104,6 +105,7 @@ module _ {D : Type 0} {g : Ghosts D} {d0 d1 : D} {n : ℕ} (reads : OnlyReads g 
     refused = refusal_of g at floor d0 d1 kept trouble is;
     untried = λ same. (refl, reads_within g d0 d1 n most le reads);
     cylinders = refl;
+    left = refl;
     takes = omega arith;
     calls = makes_then g d0 d1 d1 n 0 most 0 0 t (reads_make g d0 d1 n reads) (makes_none g d1 0 0) (omega (arith, le)) (omega arith);
   })
@@ -144,4 +146,4 @@ near_there {g = g} {d0 = d0} {was = was} v size some n = node_near (g.content d0
 
 -- the same, done with another answer
 pub ends_as : {D A B : Type 0} {g : Ghosts D} {at floor n t k : ℕ} {d0 d1 : D} {k0 k1 : Kept} {x : A} (y : B) → Ends g at floor n t k d0 d1 k0 k1 (Ok x) → Ends g at floor n t k d0 d1 k0 k1 (Ok y)
-ends_as y is = record { told = is.told; refused = tt; untried = tt; cylinders = is.cylinders; takes = is.takes; calls = is.calls }
+ends_as y is = record { told = is.told; refused = tt; untried = tt; cylinders = is.cylinders; left = is.left; takes = is.takes; calls = is.calls }

@@ -32,7 +32,7 @@ run_begin g offset bytes to d0 k0 was read order most none leaves nodes room = r
   from = omega arith;
   upto = order;
   most = most;
-  ends = record { told = λ b is. is; refused = tt; untried = tt; cylinders = refl; takes = omega arith; calls = makes_none g d0 (8 * (offset / 512 - offset / 512)) (4 * (offset / 512 - offset / 512)) };
+  ends = record { told = λ b is. is; refused = tt; untried = tt; cylinders = refl; left = refl; takes = omega arith; calls = makes_none g d0 (8 * (offset / 512 - offset / 512)) (4 * (offset / 512 - offset / 512)) };
   stays = stays_itself was;
   safe = λ few. absurd (omega (arith, none, few));
   long_leaves = leaves;

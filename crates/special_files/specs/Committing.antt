@@ -13,11 +13,9 @@ use Rattle.cfs_base.specs.declared.refusal.Trouble.{Trouble}
 use Rattle.cfs_base.specs.declared.refusal.Trouble.TheVariants as trouble
 use Rattle.block_tree.specs.Root.{root_spelling}
 use Rattle.cyl_alloc.specs.Space.{IsLeastFree, AreCounts, Kept, after_giving}
-use Rattle.cyl_map.specs.declared.entry.MapEntry.{MapEntry}
-use Rattle.cyl_map.specs.Volume.{entry_in, is_free_in, with_entry}
-use Rattle.intentions.specs.Course.{Course, IsCourse, IsOn, Keeps, MayPut}
-use Rattle.intentions.specs.Entries.{changed}
-use Rattle.intentions.specs.declared.change.Change.{Change}
+use Rattle.cyl_map.specs.Volume.{entry_in, is_free_in}
+use Rattle.intentions.specs.Flips.{Flip, MayFlip, flipped, flips}
+use Rattle.intentions.specs.Course.{Course, IsCourse, IsOn, Keeps}
 use Rattle.intentions.specs.declared.change.Change.TheVariants.{Finish, Release, SetBit, Undo}
 use Rattle.ufs_model.specs.declared.object.Object.{Object}
 use Rattle.ufs_model.specs.Graph.{Graph, object_at, with_object}
@@ -40,33 +38,6 @@ use Rattle.special_files.specs.Refusal.{IsDamage}
 use Rattle.special_files.specs.Store.{without_draft}
 
 -- ---- entries changed
-
--- the entry of this block, changed so
-pub record Flip : Type 0 where
-  pub block : ℕ
-  pub how : Change
-
-abbrev pub flips : Change → List ℕ → List Flip
-flips how [] = []
-flips how (n ∷ ns) = record { block = n; how = how } ∷ flips how ns
-
-abbrev pub flip_in : Image → Flip → Option MapEntry → Image
-flip_in image x None = image
-flip_in image x (Some e) = with_entry image x.block (changed x.how e)
-
--- an image with one entry changed, and with these one after another
-abbrev pub flip : Image → Flip → Image
-flip image x = flip_in image x (entry_in image x.block)
-
-abbrev pub flipped : Image → List Flip → Image
-flipped image [] = image
-flipped image (x ∷ xs) = flipped (flip image x) xs
-
--- each of them may come on this course
-abbrev pub MayFlip : Course → Image → List Flip → Type 0
-MayFlip course image [] = Unit {0}
-MayFlip course image (x ∷ xs) = ((e : MapEntry) × (entry_in image x.block ≡ Some e)
-    × MayPut course x.block e (changed x.how e)) × MayFlip course (flip image x) xs
 
 -- a device call failed, where a write or barrier was tried, or a block that was read is damaged
 abbrev pub Fails : {D : Type 0} → Ghosts D → ℕ → D → D → Kept → Trouble → Type 0

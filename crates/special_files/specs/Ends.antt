@@ -15,5 +15,6 @@ pub record Ends {D A : Type 0} (g : Ghosts D) (at floor n t k : ℕ) (old new : 
   pub refused : IfErr result (IsRefusal g at floor old new after)
   pub untried : IfErr result (λ e. e ≡ refusals.Disk false → (after ≡ before) × OnlyReads g n old new)
   pub cylinders : length after.free ≡ length before.free
+  pub left : after.left ≡ before.left
   pub takes : sum before.free ≤ sum after.free + k
   pub calls : MakesAtMost g n t old new

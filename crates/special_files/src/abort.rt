@@ -54,6 +54,7 @@ fn give_made(space: &mut Space, block: Option<BlockNo>)
     requires on_disk { (n : ℕ) → number_of block ≡ Some n → n < 64 * length space.old.free }
     ensures given { space.new ≡ spec.given_all space.old (option_to_list (number_of block)) }
     ensures cylinders { length space.new.free ≡ length space.old.free }
+    ensures left { space.new.left ≡ space.old.left }
 {
     if let Some(block) = block {
         space.gave(block, 1);
@@ -78,6 +79,7 @@ fn give_up<D: Disk>(
         → spec.AbortEnds D.Disk v.graph v.ds v.id was.created disk.old disk.new space.new result }
     ensures fails { (at : ℕ) → IfErr result (spec.Fails D.Disk at disk.old disk.new space.new) }
     ensures cylinders { length space.new.free ≡ length space.old.free }
+    ensures left { space.new.left ≡ space.old.left }
     ensures calls { MakesAtMost D.Disk (2 * length taken.now + (2 + 2)) (length taken.now + (1 + 1)) disk.old disk.new }
 {
     match undo_all(disk, space.known(), taken, shadow, created) {
@@ -112,6 +114,7 @@ fn abort_parts<D: Disk>(
     ensures tried { IfErr result (λ t. t ≢ troubles.Disk false) }
     ensures made { OnOk result (HasTried D.Disk disk.old disk.new) }
     ensures cylinders { length space.new.free ≡ length space.old.free }
+    ensures left { space.new.left ≡ space.old.left }
     ensures calls { MakesAtMost D.Disk 31205 15483 disk.old disk.new }
 {
     match part_on_disk(disk, at, shadow) {
@@ -157,6 +160,7 @@ impl Draft {
         ensures tried { IfErr result (λ t. t ≢ troubles.Disk false) }
         ensures made { OnOk result (HasTried D.Disk disk.old disk.new) }
         ensures cylinders { length space.new.free ≡ length space.old.free }
+        ensures left { space.new.left ≡ space.old.left }
         ensures calls { MakesAtMost D.Disk 31205 15483 disk.old disk.new }
     {
         let draft = &mut self;

@@ -118,6 +118,7 @@ impl Draft {
             → StoreHas D.Disk graph ds disk.old space.old
             → id.block ≡ at.0 → object_at graph id ≡ Some o → IfErr result (λ e. is_damaged e ≡ false) }
         ensures cylinders { length space.new.free ≡ length space.old.free }
+        ensures left { space.new.left ≡ space.old.left }
         ensures calls { MakesAtMost D.Disk 3 1 disk.old disk.new }
     {
         let room = Room::new(alloc)?;

@@ -8,6 +8,7 @@ ghost use Rattle.cfs_base.specs.Disk.{block_at};
 ghost use Rattle.cfs_base.specs.Run.{IsSettled, Leaves, Tells};
 ghost use Rattle.cyl_alloc.specs.Space.{Kept};
 ghost use Rattle.intentions.specs.declared.change.Change.TheVariants as changes;
+ghost use Rattle.intentions.specs.Flips.{flips};
 ghost use Rattle.special_files.specs.Committing as spec;
 ghost use Rattle.special_files.specs.Drafting.{number_of};
 ghost use Rattle.block_tree.specs.Reads.{is_damage};
@@ -30,7 +31,7 @@ pub(crate) fn flip_made<D: Disk>(
     requires on_disk { (n : ℕ) → number_of created ≡ Some n → n < D.blocks disk.old }
     requires fits { Fits how }
     ensures flips { spec.Flips D.Disk 2 1
-        (spec.flips how (option_to_list (number_of created))) disk.old disk.new result }
+        (flips how (option_to_list (number_of created))) disk.old disk.new result }
 {
     match created {
         Some(block) => flip(disk, known, block, how),
@@ -64,7 +65,7 @@ fn finish_all<D: Disk>(
 /// Clears the commit bit.
 fn clear<D: Disk>(disk: &mut D, known: &mut KnownMaps, at: BlockNo) -> Result<(), Trouble>
     requires { at.0 < D.blocks disk.old }
-    ensures flips { spec.Flips D.Disk 4 3 (spec.flips changes.ClearBit (at.0 ∷ [])) disk.old disk.new result }
+    ensures flips { spec.Flips D.Disk 4 3 (flips changes.ClearBit (at.0 ∷ [])) disk.old disk.new result }
     ensures settled { Tells D.Disk disk.old → OnOk result (IsSettled D.Disk disk.new) }
 {
     match clear_bit(disk, known, at) {
@@ -91,7 +92,7 @@ fn settle<D: Disk>(
     ensures flips { spec.Flips D.Disk (2 * length taken.now + (2 * length dropped.now + (2 + 2)) + 4)
         (length taken.now + (length dropped.now + (1 + 1)) + 3)
         (spec.settling taken.now dropped.now (option_to_list (number_of created)) shadow.0
-        ++ spec.flips changes.ClearBit (at.0 ∷ []))
+        ++ flips changes.ClearBit (at.0 ∷ []))
         disk.old disk.new result }
     ensures settled { Tells D.Disk disk.old → OnOk result (IsSettled D.Disk disk.new) }
 {

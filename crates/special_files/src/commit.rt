@@ -42,6 +42,7 @@ pub(crate) fn finish<D: Disk>(
         space.old space.new result }
     ensures fails { IfErr result (spec.Fails D.Disk at.0 disk.old disk.new space.new) }
     ensures cylinders { length space.new.free ≡ length space.old.free }
+    ensures left { space.new.left ≡ space.old.left }
     ensures calls { MakesAtMost D.Disk (2 * length taken.now + 4 * length dropped.now + 14)
         (length taken.now + 2 * length dropped.now + 10) disk.old disk.new }
 {
@@ -89,6 +90,7 @@ pub(crate) fn commit_begun<D: Disk>(
     // No device call comes before the first try.
     ensures untried { IfErr result (λ t. t ≢ troubles.Disk false) }
     ensures cylinders { length space.new.free ≡ length space.old.free }
+    ensures left { space.new.left ≡ space.old.left }
     ensures calls { MakesAtMost D.Disk 93135 46451 disk.old disk.new }
 {
     let content = root.encode();

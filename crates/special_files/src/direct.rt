@@ -79,6 +79,7 @@ pub(crate) fn commit_listed<D: Disk>(
     ensures untried { IfErr result (λ t. t ≡ troubles.Disk false
         → (space.new ≡ space.old) × OnlyReads D.Disk 1 disk.old disk.new) }
     ensures cylinders { length space.new.free ≡ length space.old.free }
+    ensures left { space.new.left ≡ space.old.left }
     ensures calls { MakesAtMost D.Disk (2 * length taken.now + 4 * length dropped.now + 17)
         (length taken.now + 2 * length dropped.now + 12) disk.old disk.new }
 {
@@ -119,6 +120,7 @@ pub(crate) fn commit_direct<D: Disk>(
     ensures untried { IfErr result (λ t. t ≡ troubles.Disk false
         → (space.new ≡ space.old) × OnlyReads D.Disk 241 disk.old disk.new) }
     ensures cylinders { length space.new.free ≡ length space.old.free }
+    ensures left { space.new.left ≡ space.old.left }
     ensures calls { MakesAtMost D.Disk 93137 46452 disk.old disk.new }
 {
     match changed(disk, at, own, root, taken, dropped) {

@@ -2,6 +2,7 @@
 ghost use Rattle.std.specs.Prelude.{◌≡◌, ◌<◌, ◌*◌, ℕ, [], ◌∷◌, length};
 ghost use Rattle.std.specs.List.{All};
 ghost use Rattle.intentions.specs.Entries.{Fits};
+ghost use Rattle.intentions.specs.Flips.{flips};
 ghost use Rattle.special_files.specs.Committing as spec;
 
 use cfs_base::{BlockNo, Disk, Trouble};
@@ -34,7 +35,7 @@ pub(crate) fn flip_all<D: Disk>(
 ) -> Result<(), Trouble>
     requires on_disk { All (λ n. n < D.blocks disk.old) blocks.now }
     requires fits { Fits how }
-    ensures flips { spec.Flips D.Disk (2 * length blocks.now) (length blocks.now) (spec.flips how blocks.now)
+    ensures flips { spec.Flips D.Disk (2 * length blocks.now) (length blocks.now) (flips how blocks.now)
         disk.old disk.new result }
 {
     for block in blocks {
@@ -48,6 +49,7 @@ pub(crate) fn give_all(space: &mut Space, blocks: &[u32])
     requires on_disk { All (λ n. n < 64 * length space.old.free) blocks.now }
     ensures given { space.new ≡ spec.given_all space.old blocks.now }
     ensures cylinders { length space.new.free ≡ length space.old.free }
+    ensures left { space.new.left ≡ space.old.left }
 {
     for block in blocks {
         space.gave(BlockNo(*block), 1);

@@ -83,6 +83,7 @@ fn commit_parts<D: Disk>(
     ensures untried { IfErr result (λ t. t ≡ troubles.Disk false
         → (space.new ≡ space.old) × OnlyReads D.Disk 241 disk.old disk.new) }
     ensures cylinders { length space.new.free ≡ length space.old.free }
+    ensures left { space.new.left ≡ space.old.left }
     ensures calls { MakesAtMost D.Disk 93137 46452 disk.old disk.new }
 {
     match part_on_disk(disk, at, created) {
@@ -140,6 +141,7 @@ impl Draft {
         ensures untried { IfErr result (λ t. t ≡ troubles.Disk false
             → (space.new ≡ space.old) × OnlyReads D.Disk 241 disk.old disk.new) }
         ensures cylinders { length space.new.free ≡ length space.old.free }
+        ensures left { space.new.left ≡ space.old.left }
         ensures calls { MakesAtMost D.Disk 93137 46452 disk.old disk.new }
     {
         let draft = &mut self;
@@ -177,6 +179,7 @@ impl Draft {
         ensures refused { IfErr result (IsTrouble D.Disk self.at disk.old disk.new space.new) }
         ensures made { OnOk result (HasTried D.Disk disk.old disk.new) }
         ensures cylinders { length space.new.free ≡ length space.old.free }
+        ensures left { space.new.left ≡ space.old.left }
         ensures calls { MakesAtMost D.Disk 29 18 disk.old disk.new }
     {
         let draft = &mut self;

@@ -24,6 +24,7 @@ returns-then-commit g c =
       tried = c.commit.ensures.tried (λ none. never_none c.args.draft.shadow ready.shadow.0 none ready.shadow.1);
       refused = c.commit.ensures.refused;
       cylinders = c.commit.ensures.cylinders;
+      left = c.commit.ensures.left;
       calls = c.commit.ensures.calls;
     })
 
@@ -37,5 +38,6 @@ returns-else-commit g c = subst (λ b. EndsDraft g.D.Disk b c.args.draft c.args.
   tried = c.abort.ensures.tried;
   refused = c.abort.ensures.refused;
   cylinders = c.abort.ensures.cylinders;
+  left = c.abort.ensures.left;
   calls = fewer_calls g.D.Disk 31205 15483 93137 46452 c.args.disk.now c.abort.new.disk (omega arith) (omega arith) c.abort.ensures.calls;
 })

@@ -1,7 +1,7 @@
 use Rattle.std.proofs.Common.{◌≡◌, [], Err, refl, sym, subst, arith}
 use Rattle.cfs_core.proofs.Words.{both_ways, colours_in, refused_by, waiting_in}
 use Rattle.cfs_core.specs.declared.collecting.Step.TheVariants as steps
-use Rattle.cfs_core.specs.Collect.{StepsSo}
+use Rattle.cfs_core.specs.Collect.{StepsSo, with_parts}
 use Rattle.cfs_core.proofs.Answering.{reads_none}
 use Rattle.cfs_core.proofs.Stepping.{first_there, marks_on, no_want, none_left, scan_calm, scan_cause, steps_condemned, steps_failed, steps_read}
 use Rattle.cfs_core.proofs.collecting.mark.Goals as goal
@@ -44,7 +44,7 @@ returns-in-Err g c = λ kept.
     let why = c.in-Err.ensures.refused first.0 first.1 in
     subst (λ e. StepsSo g.D.Disk d c.scan.new.disk kept kept c.args.names.now c.args.names.now k c.scan.new.self (Err e)) (sym c.from.ensures)
     (steps_failed g.D.Disk d kept c.args.names.now k c.scan.new.self c.scan.ensures.volume 4 c.scan.new.disk c.scan.ensures.reads (omega arith) c.requires.marks c.in-Err.ensures.same (refused_by t)
-    (scan_cause g.D.Disk d c.scan.new.disk _ t why) (no_want t) (λ s ds serves col. scan_calm g.D.Disk d c.scan.new.disk _ t why (c.in-Err.ensures.sound s ds serves col) c.in-Err.ensures.untried))
+    (λ core. scan_cause g.D.Disk (with_parts core d kept c.args.names.now k) (with_parts core c.scan.new.disk kept c.args.names.now c.scan.new.self) _ t (k, first.0, refl, first.1, refl) why) (no_want t) (λ s ds serves col. scan_calm g.D.Disk d c.scan.new.disk _ t why (c.in-Err.ensures.sound s ds serves col) c.in-Err.ensures.untried))
 
 pub condemn-ids-requires-clause-read : goal.condemn-ids-requires-clause-read
 condemn-ids-requires-clause-read g c = none_left c.args.collector.now.marks.grey (λ some. both_ways _ c.if-has_grey.false (c.has_grey.ensures.1 some))

@@ -1,7 +1,7 @@
 use Rattle.std.proofs.Common.{◌≡◌, ℕ, ◌+◌, ◌++◌, take, drop, length, true, false, refl, sym, ◌∙◌, ap, subst, slice_range}
 use Rattle.cfs_core.proofs.Words.{is_damaged, is_range, take-append_seam}
 use Rattle.ufs_model.specs.declared.asked.Reply.TheVariants as replies
-use Rattle.cfs_core.specs.Looks.{IsCalmCause}
+use Rattle.cfs_core.specs.Looks.{IsDraftCause}
 use Rattle.cfs_core.proofs.Rewritten.{calm_trouble, sound_trouble}
 use Rattle.cfs_core.proofs.drafting.content.Goals as goal
 
@@ -22,5 +22,5 @@ returns-in-Err-read-clause-sound g c = λ graph ds space id o d store there is_o
 
 pub returns-in-Err-read-clause-cause : goal.returns-in-Err-read-clause-cause
 returns-in-Err-read-clause-cause g c =
-    subst (IsCalmCause g.D.Disk c.args.disk.now c.read.new.disk) (sym c.from-in-Err-read.ensures)
+    subst (IsDraftCause g.D.Disk c.args.draft.now.at c.args.disk.now c.read.new.disk) (sym c.from-in-Err-read.ensures)
     (calm_trouble g.D.Disk c.args.draft.now.at c.args.disk.now c.read.new.disk c.in-Err-read.trouble c.in-Err-read.ensures.refused c.in-Err-read.ensures.untried)

@@ -22,5 +22,6 @@ returns g c =
       shadow = c.write.ensures.stays.shadow;
       created = c.write.ensures.stays.created;
       cylinders = c.write.ensures.ends.cylinders;
+      left = c.write.ensures.ends.left;
       calls = fewer_calls g.D.Disk _ _ 31092 15486 c.args.disk.now c.write.new.disk (omega (arith, few)) (omega (arith, few)) c.write.ensures.ends.calls;
     }

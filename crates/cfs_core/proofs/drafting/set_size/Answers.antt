@@ -20,5 +20,6 @@ returns g c =
       shadow = stays.1;
       created = stays.2;
       cylinders = c.resize.ensures.ends.cylinders;
+      left = c.resize.ensures.ends.left;
       calls = c.resize.ensures.ends.calls;
     }

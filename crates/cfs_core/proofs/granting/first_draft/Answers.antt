@@ -1,7 +1,6 @@
-use Rattle.std.proofs.Common.{◌≡◌, true, refl, ap, subst}
-use Rattle.cfs_core.proofs.Words.{Drafting, IsRefusalOrMemory, nothing_made}
+use Rattle.std.proofs.Common.{◌≡◌, true, refl, ap}
+use Rattle.cfs_core.proofs.Words.{Drafting, nothing_made}
 use Rattle.cfs_core.proofs.Openings.{begun_open, refusal_so}
-use Rattle.cfs_core.proofs.Went.{cause_of}
 use Rattle.cfs_core.proofs.granting.first_draft.Goals as goal
 
 pub returns-then-not-wanted-clause-begins : goal.returns-then-not-wanted-clause-begins
@@ -40,6 +39,6 @@ returns-in-Err-clause-begins g c =
       ends = λ graph ds id o store same at shut. refusal_so g.D.Disk graph ds id o c.args.disk.now c.begin.new.disk c.args.space.now c.begin.new.space c.args.wanted wants c.in-Err.refused c.in-Err.ensures.full c.in-Err.ensures.untried
           (c.in-Err.ensures.sound graph ds id o store same at) (c.begin.ensures.leaves graph ds id o store same at);
       ready = tt;
-      cause = cause_of g.D.Disk c.args.disk.now c.begin.new.disk c.in-Err.refused (λ tried is. subst (IsRefusalOrMemory g.D.Disk c.args.at.0 4 c.args.disk.now c.begin.new.disk c.begin.new.space) is c.in-Err.ensures.refused);
+      cause = c.in-Err.ensures.refused;
       calls = c.begin.ensures.calls;
     }

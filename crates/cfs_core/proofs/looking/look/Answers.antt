@@ -1,7 +1,11 @@
-use Rattle.std.proofs.Common.{◌≡◌, ◌<◌, ◌≤◌, ℕ, true, false, Option, Some, None, length, refl, sym, ◌∙◌, ap, arith, nat_le}
+use Rattle.std.proofs.Common.{◌≡◌, ◌<◌, ◌≤◌, ℕ, true, false, Option, Some, None, Err, length, refl, sym, ◌∙◌, ap, subst, arith, nat_le}
 use Rattle.cfs_core.proofs.Words.{Index, nat_tests, Puid, slot_of, slot_reply}
 use Rattle.ufs_model.specs.declared.asked.Reply.TheVariants as replies
+use Rattle.ufs_model.specs.declared.object.Object.TheVariants as objects
 use Rattle.cfs_core.specs.Calls.{looked}
+use Rattle.cfs_core.specs.Looks.{IsCalm}
+use Rattle.cfs_core.proofs.Calm.{calm_slot}
+use Rattle.cfs_core.proofs.Rewritten.{sound_trouble}
 use Rattle.cfs_core.proofs.looking.look.Goals as goal
 
 beyond : (i : Index) (slot n : ℕ) → n ≡ length i.slots → n ≤ slot → replies.Slot ≡ looked i slot
@@ -28,3 +32,9 @@ returns-in-Ok-None-clause-exact g c = λ i knows.
     let store = c.in-Ok.ensures.store knows.graph knows.drafts knows.space knows.store in
     let what = c.in-Ok-None.ensures.slot knows.graph knows.drafts knows.space knows.id i store knows.root knows.there (omega (arith, count, c.if-slot-count.false)) in
     inside i c.args.slot c.in-Ok.count None count (omega (arith, c.if-slot-count.false)) (sym c.in-Ok-None.field-0-is ∙ what)
+
+pub returns-in-Err-retrieve-clause-calm : goal.returns-in-Err-retrieve-clause-calm
+returns-in-Err-retrieve-clause-calm g c =
+    subst (λ e. IsCalm g.D.Disk objects.Index 4 c.args.index.0 c.args.disk.now c.retrieve.new.disk (Err e)) (sym c.from-in-Err-retrieve.ensures)
+    (calm_slot g.D.Disk c.args.slot c.args.index.0 c.args.disk.now c.slots.new.disk c.retrieve.new.disk c.in-Err-retrieve.trouble c.slots.ensures.reads c.retrieve.ensures.reads
+    (λ i knows. sound_trouble c.in-Err-retrieve.trouble (c.in-Err-retrieve.ensures.sound knows.graph knows.drafts knows.space knows.id i (c.in-Ok.ensures.store knows.graph knows.drafts knows.space knows.store) knows.root knows.there)) c.in-Err-retrieve.ensures.refused)

@@ -53,7 +53,7 @@ returns-clause-recovered g c a settled is survey =
     (subst (λ (held : List Bool). AreTidied (g.D.Disk.content d) c.deref-2.result.now held free (length c.deref-2.result.now)) c.deref-3.ensures.value done.2) in
     let most = subst (λ (ms : List (List MapEntry)). g.D.Disk.tries d ≤ g.D.Disk.tries c.copy_roots.new.disk + 1 + changed_maps b (g.D.Disk.content d) (length ms)) c.deref-2.ensures.value done.3 in
     let same = changed_from a b (g.D.Disk.content d) (length s.grounds.maps.items) (map_kept a s survey b roots.1 roots.2) in (
-      recovers a s survey b roots.1 roots.2 (g.D.Disk.content d) done.1 free tidied g.D.Disk d done.0 refl (g.met.D.Disk.sized d done.0.tells.honest)
+      recovers a s survey b roots.1 roots.2 (g.D.Disk.content d) done.1 c.tidy_maps.new.space tidied g.D.Disk d done.0 refl (g.met.D.Disk.sized d done.0.tells.honest)
           (omega (arith, c.tidy_maps.ensures.size, c.deref-2.ensures.len)),
       writes_these g.D.Disk c.args.disk.now d s.walked.walk.found.items (length s.walked.walk.found.items) survey.walked.kept.0 2 (length s.grounds.maps.items)
           (subst (λ (i : Image). AreCopies i s.walked.walk.found.items (length s.walked.walk.found.items) survey.walked.kept.0) (sym is) survey.walked.kept.1.are)

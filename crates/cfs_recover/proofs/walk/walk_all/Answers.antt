@@ -1,8 +1,8 @@
 use Rattle.std.proofs.Common.{rules, ◌≡◌, ◌+◌, ◌*◌, ◌<◌, ℕ, List, length, get_or, Some, refl, sym, ◌∙◌, ap, subst, arith}
-use Rattle.cfs_recover.proofs.Words.{Found, HasKept, Walks, reads_then, slice_get, slice_get-get_or, reads_of_object}
+use Rattle.cfs_recover.proofs.Words.{Found, HasKept, IsCaused, Walks, reads_then, slice_get, slice_get-get_or, reads_of_object}
 use Rattle.cfs_recover.proofs.Copyings.{kept_none, kept_on}
 use Rattle.cfs_recover.proofs.Noting.{grows_then}
-use Rattle.cfs_recover.proofs.Refused.{told_on}
+use Rattle.cfs_recover.proofs.Refused.{caused_after, if_err, told_on}
 use Rattle.cfs_recover.proofs.walk.walk_all.Goals as goal
 
 -- what was indexed stands on the list
@@ -36,6 +36,11 @@ returns-in_err-head-clause-told g c image label walks standing has =
     let at = read_at w.found.items c.loop-next.next c.index-item.result.now (omega (arith, c.len.ensures, c.if-next-len.false, w.found.ok.0)) c.index-item.ensures in
     told_on _ _ _ _ _ c.from_residual.ensures.1
     (c.in_err-head.ensures.told image label c.loop-next.next (c.loop-next.invariant.told image label walks standing has).0 standing has at) (λ d wrong. wrong)
+
+pub returns-in_err-head-clause-cause : goal.returns-in_err-head-clause-cause
+returns-in_err-head-clause-cause g c =
+    if_err (IsCaused g.D.Disk c.args.disk.now c.walk_object.new.disk) _ _ c.from_residual.ensures.1
+    (caused_after g.D.Disk c.args.disk.now c.loop-next.disk c.walk_object.new.disk (reads_of_object * c.loop-next.next) _ c.loop-next.invariant.reads c.in_err-head.ensures.cause)
 
 pub loop-next-preserved : goal.loop-next-preserved
 loop-next-preserved g c =

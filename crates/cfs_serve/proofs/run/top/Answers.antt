@@ -1,6 +1,6 @@
 use Rattle.std.proofs.Common.{ap, ◌∙◌}
-use Rattle.cfs_serve.proofs.Cited.{after, asked_by, before, ended, ground_of, length-map}
-use Rattle.cfs_serve.proofs.Saying.{said}
+use Rattle.cfs_serve.proofs.Cited.{after, asked_by, before, ended, length-map}
+use Rattle.cfs_serve.proofs.Spinning.{says}
 use Rattle.cfs_serve.proofs.run.top.Goals as goal
 
 pub returns-clause-said : goal.returns-clause-said
@@ -8,9 +8,8 @@ returns-clause-said g c =
     let bay = c.args.bay in
     let done = c.do_asked-played.result in
     let told = done.played.report in
-    let asked = asked_by c.args.words.now in
-    let written = c.write_report-written.ensures asked c.do_asked-played.ensures.trace in
-    said asked (ground_of g.D.Disk asked bay.disk) (before g.D.Disk.faults g.S.Source.supply g.K.Sink.intake bay)
+    let written = c.write_report-written.result in
+    says c.scripts_have_so_many_lines.ensures.lines c.scripts_have_so_many_lines.ensures.short g.D.Disk bay.disk (before g.D.Disk.faults g.S.Source.supply g.K.Sink.intake bay)
     (after g.D.Disk.faults g.S.Source.supply g.K.Sink.intake (record {
       status = c.status_of.result;
       disk = done.disk;
@@ -21,13 +20,5 @@ returns-clause-said g c =
       told = told;
       ending = done.played.ending;
     }))
-    told c.status_of.result done.played.ending done.played.trail.events
-    (rw (length-map bay.sources.items g.S.Source.supply, length-map bay.sinks.items g.K.Sink.intake) c.requires.places) (record {
-      run = c.do_asked-played.ensures.asks;
-      short = c.write_report-written.result.short;
-      text = written.text;
-      is_text = written.is;
-      written = c.write_report-written.result.whole;
-      reported = written.taken;
-      said = c.status_of.ensures ∙ ap (ended c.write_report-written.result.whole) c.at_last.ensures;
-    })
+    told c.status_of.result done.played.ending done.played.trail.events done.trace written c.write_report-written.ensures (c.status_of.ensures ∙ ap (ended written.whole) c.at_last.ensures)
+    (asked_by c.args.words.now) c.do_asked-played.ensures.trace (rw (length-map bay.sources.items g.S.Source.supply, length-map bay.sinks.items g.K.Sink.intake) c.requires.places) c.do_asked-played.ensures.asks

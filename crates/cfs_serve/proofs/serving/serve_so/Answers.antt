@@ -1,13 +1,13 @@
-use Rattle.cfs_serve.proofs.Workers.{all_done, none_left}
+use Rattle.cfs_serve.proofs.Workers.{all_done}
 use Rattle.cfs_serve.proofs.serving.serve_so.Goals as goal
 
 pub returns-in-Ok-clause-left : goal.returns-in-Ok-clause-left
 returns-in-Ok-clause-left g c =
     let hall = c.in-Ok.hall in
-    rw c.into_parts.ensures.ports (all_done hall.ports hall.turns c.in-Ok.ensures.done)
+    rw (c.into_parts.ensures.ports, c.collect_rest.ensures.ports) (all_done hall.ports hall.turns c.in-Ok.ensures.done)
 
 pub returns-in-Ok-clause-collected : goal.returns-in-Ok-clause-collected
 returns-in-Ok-clause-collected g c = (
-  λ whole. c.into_parts.ensures.collected (none_left c.in-Ok.hall.ports c.in-Ok.hall.turns c.in-Ok.ensures.done) whole,
+  λ whole. c.into_parts.ensures.collected c.collect_rest.ensures.left whole,
   c.into_parts.ensures.wanting,
 )

@@ -35,4 +35,5 @@ returns-in-Ok g c =
     c.encode.result (c.encode.ensures.spelled ∙ ap map_spelling c.sweep_map-freed.ensures.swept) c.in_ok-map.ensures.map (omega (arith, c.requires.size, c.requires.on_disk)) (λ tells. g.met.D.Disk.sized d tells.honest)
     c.write_block.ensures.leaves c.write_block.ensures.calls c.gave.new.self c.in-Ok.ensures.content c.in-Ok.ensures.carries
     (ap (λ (k : Kept). length k.free) c.gave.ensures.given ∙ length-set c.args.space.now.free _ _)
+    (ap (λ (k : Kept). k.left) c.gave.ensures.given)
     (λ image other are elsewhere more. c.gave.ensures.counts image other are elsewhere (more ∙ ap (λ (n : ℕ). free_in_cylinder image (64 * c.args.cylinder / 64) + n) (sym c.sweep_map-freed.ensures.count)))

@@ -1,24 +1,24 @@
 use Rattle.file_ops.proofs.Words.{inl, inr, Ok, Err, sym, ◌∙◌, subst, arith, reads_within, FileKind, makes_within, SetSize}
 use Rattle.file_ops.specs.Changes.{ChangesFile, OfDrops, OfFile}
-use Rattle.file_ops.proofs.InPlace.{place_full, place_refusal, same_damaged}
+use Rattle.file_ops.proofs.InPlace.{handed, place_full, place_refusal, same_damaged}
 use Rattle.file_ops.proofs.changing.resize.Goals as goal
 
 pub returns-in-Ok : goal.returns-in-Ok
 returns-in-Ok g c =
     let e = c.in-Ok.ensures in
     subst (λ (kind : FileKind). ChangesFile g.D.Disk c.args.at.0 kind c.args.floor (SetSize c.args.size) c.args.disk.now c.resize.new.disk c.args.space.now c.resize.new.space (Ok tt)) (sym c.in-Normal.is) (record {
-      done = λ graph ds id f may. let all = e.resized graph ds id f may.has.store may.has.there may.has.shut may.has.root in record {
-        store = all.0.store;
-        only = all.0.only;
-        settled = λ durable. e.settled graph ds id f may.has.store may.has.there may.has.shut may.has.root durable;
+      done = λ graph ds id f may. let all = e.resizes (handed may) in record {
+        store = all.done.store;
+        only = all.done.only;
+        settled = λ durable. all.settled durable;
       };
-      order = λ graph ds id f may. (e.resized graph ds id f may.has.store may.has.there may.has.shut may.has.root).1;
-      leaves = λ graph ds id f may. e.images graph ds id f may.has.store may.has.there may.has.shut may.has.root;
+      order = λ graph ds id f may. (e.resizes (handed may)).takes_none;
+      leaves = λ graph ds id f may. (e.resizes (handed may)).images;
       room = λ graph ds id f may. omega (arith, e.room);
       full = λ graph ds id f may. tt;
       begun = λ graph ds id f may. tt;
       sound = λ graph ds id f may. tt;
-      ends = record { refused = tt; untried = tt; cylinders = e.cylinders; calls = makes_within g.D.Disk c.args.disk.now c.resize.new.disk 31346 15614 124230 61938 (omega arith) (omega arith) e.calls };
+      ends = record { refused = tt; untried = tt; cylinders = e.cylinders; left = e.left; calls = makes_within g.D.Disk c.args.disk.now c.resize.new.disk 31346 15614 124230 61938 (omega arith) (omega arith) e.calls };
     })
 
 pub returns-in-Err : goal.returns-in-Err
@@ -27,10 +27,10 @@ returns-in-Err g c =
     subst (λ (kind : FileKind). ChangesFile g.D.Disk c.args.at.0 kind c.args.floor (SetSize c.args.size) c.args.disk.now c.resize.new.disk c.args.space.now c.resize.new.space (Err c.in-Err.error)) (sym c.in-Normal.is) (record {
       done = λ graph ds id f may. tt;
       order = λ graph ds id f may. tt;
-      leaves = λ graph ds id f may. e.images graph ds id f may.has.store may.has.there may.has.shut may.has.root;
+      leaves = λ graph ds id f may. (e.resizes (handed may)).images;
       room = λ graph ds id f may. tt;
       full = λ graph ds id f may. place_full g.D.Disk _ c.args.at.0 c.args.floor (SetSize c.args.size) c.args.disk.now c.resize.new.disk c.args.space.now c.resize.new.space 0 c.in-Err.error e.refused e.full;
       begun = λ graph ds id f may is. inl (omega (arith, e.begun is));
-      sound = λ graph ds id f may. same_damaged c.in-Err.error ∙ e.sound graph ds id f may.has.store may.has.there may.has.shut may.has.root;
-      ends = record { refused = place_refusal g.D.Disk _ c.args.at.0 c.args.floor (SetSize c.args.size) c.args.disk.now c.resize.new.disk c.args.space.now c.resize.new.space (λ damage is. elim is [ inl file ↦ OfFile file | inr drops ↦ OfDrops drops ]) c.in-Err.error e.refused; untried = λ un. let two = e.untried un in (two.0, reads_within g.D.Disk c.args.disk.now c.resize.new.disk 3 31093 (omega arith) two.1); cylinders = e.cylinders; calls = makes_within g.D.Disk c.args.disk.now c.resize.new.disk 31346 15614 124230 61938 (omega arith) (omega arith) e.calls };
+      sound = λ graph ds id f may. same_damaged c.in-Err.error ∙ (e.resizes (handed may)).sound;
+      ends = record { refused = place_refusal g.D.Disk _ c.args.at.0 c.args.floor (SetSize c.args.size) c.args.disk.now c.resize.new.disk c.args.space.now c.resize.new.space (λ damage is. elim is [ inl file ↦ OfFile file | inr drops ↦ OfDrops drops ]) c.in-Err.error e.refused; untried = λ un. let two = e.untried un in (two.0, reads_within g.D.Disk c.args.disk.now c.resize.new.disk 3 31093 (omega arith) two.1); cylinders = e.cylinders; left = e.left; calls = makes_within g.D.Disk c.args.disk.now c.resize.new.disk 31346 15614 124230 61938 (omega arith) (omega arith) e.calls };
     })

@@ -1,4 +1,5 @@
 use Rattle.file_ops.proofs.Words.{sym, ◌∙◌, ap, Root, file_to_leaves, file_of, one_root_block}
+use Rattle.normal_files.proofs.Refusals.{root_trouble}
 use Rattle.file_ops.proofs.reading.read_root.Goals as goal
 
 pub returns-in-Ok-clause-size : goal.returns-in-Ok-clause-size
@@ -10,3 +11,6 @@ pub returns-in-Err-clause-sound : goal.returns-in-Err-clause-sound
 returns-in-Err-clause-sound g c = λ graph ds space id f has.
     let file = file_of (g.D.Disk.content c.args.disk.now) graph ds id f c.args.at.0 has.store.account has.there has.root in
     c.in-Err.ensures.sound file.root has.store.carries.tells file.tree.spelled
+
+pub returns-in-Err-clause-refused : goal.returns-in-Err-clause-refused
+returns-in-Err-clause-refused g c = root_trouble g.D.Disk c.args.at.0 c.args.disk.now c.read_root.new.disk c.in-Err.trouble c.in-Err.ensures.refused

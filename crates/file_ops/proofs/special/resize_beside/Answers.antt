@@ -41,4 +41,4 @@ returns-in-Ok-resize g c =
     })
     r.ends r.stays.at r.stays.shadow r.stays.created c.has_fresh_nodes-wrote.result
     (λ wrote. let some = c.has_fresh_nodes-wrote.ensures.some wrote in (r.told none).tried some.0 some.1) (λ none_now. (r.told none).untried (c.has_fresh_nodes-wrote.ensures.none none_now)) c.commit.new.disk c.commit.new.space c.commit.result
-    (record { done = c.commit.ensures.done; leaves = c.commit.ensures.leaves; sound = c.commit.ensures.sound; refusal = c.commit.ensures.refused; untried = c.commit.ensures.untried; cylinders = c.commit.ensures.cylinders; calls = c.commit.ensures.calls })
+    (record { done = c.commit.ensures.done; leaves = c.commit.ensures.leaves; sound = c.commit.ensures.sound; refusal = c.commit.ensures.refused; untried = c.commit.ensures.untried; cylinders = c.commit.ensures.cylinders; left = c.commit.ensures.left; calls = c.commit.ensures.calls })

@@ -62,4 +62,4 @@ returns-in-Ok-write g c =
     })
     (ends_more g.D.Disk was.at c.args.floor _ _ (sum c.begin_direct.new.space.free) 31092 15486 d1 c.write.new.disk c.begin_direct.new.space c.write.new.space (Ok (tt {0})) r.ends (omega (arith, c.requires.most)) (omega (arith, c.requires.most)))
     r.stays.at r.stays.shadow r.stays.created true (λ wrote. r.tried c.requires.least) (λ no. cc) c.commit.new.disk c.commit.new.space c.commit.result
-    (record { done = c.commit.ensures.done; leaves = c.commit.ensures.leaves; sound = c.commit.ensures.sound; refusal = c.commit.ensures.refused; untried = c.commit.ensures.untried; cylinders = c.commit.ensures.cylinders; calls = c.commit.ensures.calls })
+    (record { done = c.commit.ensures.done; leaves = c.commit.ensures.leaves; sound = c.commit.ensures.sound; refusal = c.commit.ensures.refused; untried = c.commit.ensures.untried; cylinders = c.commit.ensures.cylinders; left = c.commit.ensures.left; calls = c.commit.ensures.calls })

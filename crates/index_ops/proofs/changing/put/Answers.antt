@@ -97,7 +97,7 @@ returns-in-Ok-commit_swap g c =
     let is = becomes graph ds id i has in
     c.in-Ok-commit_swap.ensures.commits graph _ id (objects.Index i) (filled_draft i slot what (begun_draft i)) None is.steps.store has.there is.is_open (c.fill.ensures.stays.created ∙ ap (λ (x : Drafting). x.created) begun)
     (rw c.in-Ok-Some.field-0-is at (c.in-Ok-Some.ensures.swaps graph _ id (objects.Index i) (begun_draft i) i (begins graph ds id i has) has.there (opens graph ds id i has) refl (ap (λ (x : Drafting). x.root) begun))) in
-    ok_commit G at slot what d0 k0 d1 d2 c.begin_direct.new.space k2 c.in-Ok.ensures.space was reads d3 k3 _ c.in-Ok-Some.ensures.ends (c.in-Ok-Some.ensures.done (ap is_some c.in-Ok-Some.field-0-is)) c.commit_swap.ensures.cylinders c.commit_swap.ensures.calls
+    ok_commit G at slot what d0 k0 d1 d2 c.begin_direct.new.space k2 c.in-Ok.ensures.space was reads d3 k3 _ c.in-Ok-Some.ensures.ends (c.in-Ok-Some.ensures.done (ap is_some c.in-Ok-Some.field-0-is)) c.commit_swap.ensures.cylinders c.commit_swap.ensures.left c.commit_swap.ensures.calls
     (λ graph ds id i has. (c.fill.ensures.leaves graph _ id (objects.Index i) (begun_draft i) (begins graph ds id i has) has.there (opens graph ds id i has), (ends graph ds id i has).leaves))
     (λ graph ds id i has. commit_done G graph ds id i at slot what d0 d1 k0 was has begun reads d2 d3 k2 k3 c.fill.new.self (becomes graph ds id i has) (ends graph ds id i has).done)
     (λ graph ds id i has. commit_leaf G graph ds id i at slot what d0 d1 k0 was has begun reads d2 d3 k2 k3 c.fill.new.self (becomes graph ds id i has) (c.in-Ok.ensures.root has.store.carries.tells)
@@ -129,7 +129,7 @@ returns-in-Err-commit_swap g c =
     c.in-Err-commit_swap.ensures.commits graph _ id (objects.Index i) (filled_draft i slot what (begun_draft i)) None is.steps.store has.there is.is_open (c.fill.ensures.stays.created ∙ ap (λ (x : Drafting). x.created) begun)
     (rw c.in-Ok-Some.field-0-is at (c.in-Ok-Some.ensures.swaps graph _ id (objects.Index i) (begun_draft i) i (begins graph ds id i has) has.there (opens graph ds id i has) refl (ap (λ (x : Drafting). x.root) begun))) in
     subst (λ (e : Refused). PutsSlot G at slot what d0 d3 k0 k3 (Err e)) (sym (c.from.ensures ∙ ap refused_by c.after_try.ensures))
-    (err_commit G at slot what d0 k0 d1 d2 c.begin_direct.new.space k2 c.in-Ok.ensures.space was reads d3 k3 _ c.in-Ok-Some.ensures.ends (c.in-Ok-Some.ensures.done (ap is_some c.in-Ok-Some.field-0-is)) c.commit_swap.ensures.cylinders c.commit_swap.ensures.calls
+    (err_commit G at slot what d0 k0 d1 d2 c.begin_direct.new.space k2 c.in-Ok.ensures.space was reads d3 k3 _ c.in-Ok-Some.ensures.ends (c.in-Ok-Some.ensures.done (ap is_some c.in-Ok-Some.field-0-is)) c.commit_swap.ensures.cylinders c.commit_swap.ensures.left c.commit_swap.ensures.calls
     (λ graph ds id i has. (c.fill.ensures.leaves graph _ id (objects.Index i) (begun_draft i) (begins graph ds id i has) has.there (opens graph ds id i has), (ends graph ds id i has).leaves))
     c.in-Err-commit_swap.trouble (subst (λ (n : ℕ). IsTrouble G n d2 d3 k3 c.in-Err-commit_swap.trouble) (c.fill.ensures.stays.at ∙ ap (λ (x : Drafting). x.at) begun) c.in-Err-commit_swap.ensures.refused)
     (λ graph ds id i has. (ends graph ds id i has).sound))

@@ -30,13 +30,13 @@ map_before g n old mid before after e reads kept map = record {
       (map.free (tells_on g old mid mid n reads tells) (subst (λ (i : Image). AreCounts i after) (sym reads.content) (subst (AreCounts (g.content old)) (sym kept) counts)));
 }
 
-made_either : {D : Type 0} (g : Ghosts D) (at slot : ℕ) (d0 d2 d3 : D) (k0 k1 k3 : Kept) (n : ℕ) (root : roots.Root) (reads : OnlyReads g 2 d0 d2) (kept : k1 ≡ k0) (cylinders : length k3.free ≡ length k1.free) (calls : MakesAtMost g 40 24 d2 d3)
+made_either : {D : Type 0} (g : Ghosts D) (at slot : ℕ) (d0 d2 d3 : D) (k0 k1 k3 : Kept) (n : ℕ) (root : roots.Root) (reads : OnlyReads g 2 d0 d2) (kept : k1 ≡ k0) (cylinders : length k3.free ≡ length k1.free) (left : k3.left ≡ k1.left) (calls : MakesAtMost g 40 24 d2 d3)
     → ((graph : Graph) (ds : List Opened) (id : Puid) (i : Index) → HasSlot g graph ds d0 k0 at id i slot → IsLeastFree (g.content d0) n) → (r : Result Puid Refused) → IfOk r (λ p. p ≡ named n root.word)
     → IfErr r (λ e. IsRefusal g at 0 d2 d3 k3 e × (is_full e ≡ false)) → IfErr r (λ e. e ≡ refusals.Disk false → (k3 ≡ k1) × OnlyReads g 3 d2 d3)
     → ((graph : Graph) (ds : List Opened) (id : Puid) (i : Index) → HasSlot g graph ds d0 k0 at id i slot → MakeEnds g graph ds id i slot (named n root.word) (bare_object root) d2 d3 k3 r)
     → PutsObject g at slot (bare_object root) root.word d0 d3 k0 k3 r
-made_either g at slot d0 d2 d3 k0 k1 k3 n root reads kept cylinders calls least (Ok p) value why untried ends = made_done g at slot d0 k0 d2 d3 k1 k3 n root reads kept cylinders calls least p value ends
-made_either g at slot d0 d2 d3 k0 k1 k3 n root reads kept cylinders calls least (Err e) value why untried ends = made_err g at slot d0 k0 d2 d3 k1 k3 n root reads kept cylinders calls least e why untried ends
+made_either g at slot d0 d2 d3 k0 k1 k3 n root reads kept cylinders left calls least (Ok p) value why untried ends = made_done g at slot d0 k0 d2 d3 k1 k3 n root reads kept cylinders left calls least p value ends
+made_either g at slot d0 d2 d3 k0 k1 k3 n root reads kept cylinders left calls least (Err e) value why untried ends = made_err g at slot d0 k0 d2 d3 k1 k3 n root reads kept cylinders left calls least e why untried ends
 
 pub returns-in-Err-least : goal.returns-in-Err-least
 returns-in-Err-least g c =
@@ -71,7 +71,7 @@ returns-in-Ok-least g c =
     let at_is = ap (λ (x : Drafting). x.at) c.in-Ok.ensures.begun in
     let least1 = λ (graph : Graph) (ds : List Opened) (id : Puid) (i : Index) (has : HasSlot G graph ds d0 k0 at id i c.args.slot).
     let store1 = c.in-Ok.ensures.store graph ds id (objects.Index i) has.store has.root has.there has.shut in c.in-Ok-least.ensures.found store1.carries.tells store1.counts in
-    made_either G at c.args.slot d0 d2 d3 k0 k1 k3 n c.args.root.now reads c.in-Ok.ensures.space c.make_at.ensures.cylinders c.make_at.ensures.calls
+    made_either G at c.args.slot d0 d2 d3 k0 k1 k3 n c.args.root.now reads c.in-Ok.ensures.space c.make_at.ensures.cylinders c.make_at.ensures.left c.make_at.ensures.calls
     (λ graph ds id i has. subst (λ (x : Image). IsLeastFree x n) first.content (least1 graph ds id i has)) c.make_at.result c.make_at.ensures.value
     (subst (λ (a : ℕ). IfErr c.make_at.result (λ e. IsRefusal G a 0 d2 d3 k3 e × (is_full e ≡ false))) at_is c.make_at.ensures.refused) c.make_at.ensures.untried
     (λ graph ds id i has.

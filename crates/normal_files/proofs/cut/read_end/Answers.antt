@@ -1,7 +1,6 @@
-use Rattle.normal_files.proofs.Words.{ℕ, inl, inr, sym, ap, ◌∙◌, subst, arith, Image, bytes_in, cut}
+use Rattle.normal_files.proofs.Words.{ℕ, inl, inr, sym, ap, ◌∙◌, subst, arith, Image, bytes_in, cut, IsNear, leaves_at}
 use Rattle.normal_files.specs.Laid.{node_of}
-use Rattle.normal_files.specs.Nodes.{IsNear, leaves_at}
-use Rattle.normal_files.proofs.Refusals.{stopped_undamaged, tells_after}
+use Rattle.normal_files.proofs.Refusals.{node_trouble, stopped_undamaged, tells_after}
 use Rattle.normal_files.proofs.cut.read_end.Goals as goal
 
 pub returns-clause-read : goal.returns-clause-read
@@ -12,8 +11,8 @@ returns-clause-read g c =
       count = c.in-Ok.ensures.count;
       cut = c.cut_block-cut.ensures.block;
       near = c.cut_block-cut.ensures.near _ c.requires.some c.in-Ok.ensures.leaves;
-      before = λ k early. c.shortened-node.ensures.before k (omega (arith, early, c.leaves_in-keep.ensures, c.last_node-last.ensures.node));
-      past = λ k small late. c.shortened-node.ensures.past k (omega (arith, late, c.leaves_in-keep.ensures, c.last_node-last.ensures.node)) small;
+      before = λ k early. c.cut-node.ensures.before k (omega (arith, early, c.leaves_in-keep.ensures, c.last_node-last.ensures.node));
+      past = λ k small late. c.cut-node.ensures.past k (omega (arith, late, c.leaves_in-keep.ensures, c.last_node-last.ensures.node)) small;
       kept = elim c.kept_block-kept.ensures [ inl node ↦ inl (node.0 ∙ same, node.1) | inr none ↦ inr none ];
       there = (let is = c.in-Ok.ensures.there in omega (arith, is, same));
     }
@@ -33,3 +32,6 @@ returns-in-Err-clause-sound g c = λ tells near.
 
 pub returns-in-Err-cut_content-clause-sound : goal.returns-in-Err-cut_content-clause-sound
 returns-in-Err-cut_content-clause-sound g c = λ tells near. stopped_undamaged g.D.Disk c.read_node.new.disk c.cut_content.new.disk c.in-Err-cut_content.trouble c.in-Err-cut_content.ensures.refused
+
+pub returns-in-Err-clause-refused : goal.returns-in-Err-clause-refused
+returns-in-Err-clause-refused g c = node_trouble g.D.Disk _ c.args.at.0 c.args.disk.now c.read_node.new.disk c.in-Err.trouble c.in-Err.ensures.refused

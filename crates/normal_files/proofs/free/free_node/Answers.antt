@@ -1,37 +1,39 @@
-use Rattle.normal_files.proofs.Words.{◌+◌, ◌*◌, Err, sym, subst, arith, Trouble}
+use Rattle.normal_files.proofs.Words.{◌+◌, ◌*◌, Err, sym, subst, arith, Trouble, leaf_pointers}
 use Rattle.normal_files.specs.Frees.{Follows, FreesTo, GivesNode}
 use Rattle.normal_files.proofs.Freed.{follows_on}
 use Rattle.normal_files.proofs.FreedRun.{after_read, node_err, node_on, node_unread, read_follows, unread_follows}
+use Rattle.normal_files.proofs.Refusals.{node_trouble}
 use Rattle.normal_files.proofs.free.free_node.Goals as goal
 
 pub returns-in-Err-clause-frees : goal.returns-in-Err-clause-frees
 returns-in-Err-clause-frees g c =
     let n = c.args.number in
-    subst (λ (t : Trouble). FreesTo g.D.Disk c.args.root.now (GivesNode n) (128 * n) n (128 * n + 128) (n + 1) c.args.disk.now c.read_node.new.disk c.args.space.now c.args.space.now (Err t)) (sym c.after_try.ensures)
-    (node_unread g.D.Disk c.args.root.now n c.args.disk.now c.read_node.new.disk c.args.space.now c.in-Err.ensures.reads (128 * n) n (128 * n + 128) (n + 1) c.in-Err.trouble (λ honest. g.met.D.Disk.sized c.args.disk.now honest) (λ tells near. c.in-Err.ensures.sound tells near))
+    subst (λ (t : Trouble). FreesTo g.D.Disk c.args.root.now (GivesNode n) (leaf_pointers.count * n) n (leaf_pointers.count * n + leaf_pointers.count) (n + 1) c.args.disk.now c.read_node.new.disk c.args.space.now c.args.space.now (Err t)) (sym c.after_try.ensures)
+    (node_unread g.D.Disk c.args.root.now n c.args.disk.now c.read_node.new.disk c.args.space.now c.in-Err.ensures.reads (leaf_pointers.count * n) n (leaf_pointers.count * n + leaf_pointers.count) (n + 1) c.in-Err.trouble (λ honest. g.met.D.Disk.sized c.args.disk.now honest) (λ tells near. c.in-Err.ensures.sound tells near))
 
 pub returns-in-Err-clause-follows : goal.returns-in-Err-clause-follows
 returns-in-Err-clause-follows g c =
     subst (λ (t : Trouble). Follows g.D.Disk c.args.at.0 259 129 c.args.disk.now c.read_node.new.disk c.args.space.now c.args.space.now (Err t)) (sym c.after_try.ensures)
-    (unread_follows g.D.Disk c.args.root.now c.args.number c.args.disk.now c.read_node.new.disk c.args.space.now c.in-Err.ensures.reads c.args.at.0 259 129 c.in-Err.trouble (omega arith) c.in-Err.ensures.refused c.in-Err.ensures.untried)
+    (unread_follows g.D.Disk c.args.root.now c.args.number c.args.disk.now c.read_node.new.disk c.args.space.now c.in-Err.ensures.reads c.args.at.0 259 129 c.in-Err.trouble (omega arith)
+    (node_trouble g.D.Disk _ c.args.at.0 c.args.disk.now c.read_node.new.disk c.in-Err.trouble c.in-Err.ensures.refused) c.in-Err.ensures.untried)
 
 pub returns-in-Err-free_leaves-clause-frees : goal.returns-in-Err-free_leaves-clause-frees
 returns-in-Err-free_leaves-clause-frees g c =
     let n = c.args.number in
-    after_read g.D.Disk c.args.root.now n c.args.disk.now c.read_node.new.disk c.args.space.now c.in-Ok.ensures.reads c.in-Ok.node.leaves (128 * n) n (128 * n + 128) (n + 1) c.free_leaves.new.disk c.free_leaves.new.space _ (λ tells. c.in-Ok.ensures.node tells)
-    (node_err g.D.Disk c.args.root.now c.in-Ok.node.leaves n (128 * n + 128) n c.read_node.new.disk c.free_leaves.new.disk c.args.space.now c.free_leaves.new.space c.in-Err-free_leaves.trouble c.in-Err-free_leaves.ensures.frees)
+    after_read g.D.Disk c.args.root.now n c.args.disk.now c.read_node.new.disk c.args.space.now c.in-Ok.ensures.reads c.in-Ok.node.leaves (leaf_pointers.count * n) n (leaf_pointers.count * n + leaf_pointers.count) (n + 1) c.free_leaves.new.disk c.free_leaves.new.space _ (λ tells. c.in-Ok.ensures.node tells)
+    (node_err g.D.Disk c.args.root.now c.in-Ok.node.leaves n (leaf_pointers.count * n + leaf_pointers.count) n c.read_node.new.disk c.free_leaves.new.disk c.args.space.now c.free_leaves.new.space c.in-Err-free_leaves.trouble c.in-Err-free_leaves.ensures.frees)
 
 pub returns-in-Err-free_leaves-clause-follows : goal.returns-in-Err-free_leaves-clause-follows
 returns-in-Err-free_leaves-clause-follows g c =
-    read_follows g.D.Disk c.args.root.now c.args.number c.args.disk.now c.read_node.new.disk c.args.space.now c.in-Ok.ensures.reads c.args.at.0 256 128 259 129 c.free_leaves.new.disk c.free_leaves.new.space _ (omega arith) (omega arith) c.in-Err-free_leaves.ensures.follows
+    read_follows g.D.Disk c.args.root.now c.args.number c.args.disk.now c.read_node.new.disk c.args.space.now c.in-Ok.ensures.reads c.args.at.0 256 leaf_pointers.count 259 129 c.free_leaves.new.disk c.free_leaves.new.space _ (omega arith) (omega arith) c.in-Err-free_leaves.ensures.follows
 
 pub returns-clause-frees : goal.returns-clause-frees
 returns-clause-frees g c =
     let n = c.args.number in
-    after_read g.D.Disk c.args.root.now n c.args.disk.now c.read_node.new.disk c.args.space.now c.in-Ok.ensures.reads c.in-Ok.node.leaves (128 * n) n (128 * n + 128) (n + 1) c.free.new.disk c.free.new.space c.free.result (λ tells. c.in-Ok.ensures.node tells)
+    after_read g.D.Disk c.args.root.now n c.args.disk.now c.read_node.new.disk c.args.space.now c.in-Ok.ensures.reads c.in-Ok.node.leaves (leaf_pointers.count * n) n (leaf_pointers.count * n + leaf_pointers.count) (n + 1) c.free.new.disk c.free.new.space c.free.result (λ tells. c.in-Ok.ensures.node tells)
     (node_on g.D.Disk c.args.root.now c.in-Ok.node.leaves n c.args.at.0 c.read_node.new.disk c.free_leaves.new.disk c.free.new.disk c.args.space.now c.free_leaves.new.space c.free.new.space c.free.result c.in-Ok-free_leaves.ensures.frees c.free.ensures.frees c.free.ensures.follows)
 
 pub returns-clause-follows : goal.returns-clause-follows
 returns-clause-follows g c =
     read_follows g.D.Disk c.args.root.now c.args.number c.args.disk.now c.read_node.new.disk c.args.space.now c.in-Ok.ensures.reads c.args.at.0 258 129 259 129 c.free.new.disk c.free.new.space c.free.result (omega arith) (omega arith)
-    (follows_on g.D.Disk c.args.at.0 256 128 2 1 258 129 c.read_node.new.disk c.free_leaves.new.disk c.free.new.disk c.args.space.now c.free_leaves.new.space c.free.new.space c.free.result (omega arith) (omega arith) c.in-Ok-free_leaves.ensures.follows c.free.ensures.follows)
+    (follows_on g.D.Disk c.args.at.0 256 leaf_pointers.count 2 1 258 129 c.read_node.new.disk c.free_leaves.new.disk c.free.new.disk c.args.space.now c.free_leaves.new.space c.free.new.space c.free.result (omega arith) (omega arith) c.in-Ok-free_leaves.ensures.follows c.free.ensures.follows)

@@ -1,4 +1,4 @@
-use Rattle.normal_files.proofs.Words.{◌≡◌, ℕ, ◌+◌, ◌*◌, Ok, subst, arith}
+use Rattle.normal_files.proofs.Words.{◌≡◌, ℕ, ◌+◌, ◌*◌, Ok, subst, arith, leaf_pointers, node_pointers, leaf_limit}
 use Rattle.normal_files.specs.Frees.{FreesTo, GivesNodes}
 use Rattle.normal_files.proofs.Freed.{follows_on}
 use Rattle.normal_files.proofs.FreedRun.{frees_err, nodes_on}
@@ -8,7 +8,7 @@ pub returns-in-Err-clause-frees : goal.returns-in-Err-clause-frees
 returns-in-Err-clause-frees g c =
     let n = c.loop-number.number in
     let from = c.args.from in
-    frees_err g.D.Disk c.args.root.now (GivesNodes from) (128 * from) from (128 * n + 128) (n + 1) 15360 120 c.args.disk.now c.free_node.new.disk c.args.space.now c.free_node.new.space c.in-Err.trouble
+    frees_err g.D.Disk c.args.root.now (GivesNodes from) (leaf_pointers.count * from) from (leaf_pointers.count * n + leaf_pointers.count) (n + 1) leaf_limit node_pointers.count c.args.disk.now c.free_node.new.disk c.args.space.now c.free_node.new.space c.in-Err.trouble
     (nodes_on g.D.Disk c.args.root.now from n c.args.disk.now c.loop-number.disk c.free_node.new.disk c.args.space.now c.loop-number.space c.free_node.new.space _ (omega (arith, c.loop-number.auto.number)) (omega (arith, c.loop-number-test.true)) c.loop-number.invariant.frees c.in-Err.ensures.frees)
 
 pub returns-in-Err-clause-follows : goal.returns-in-Err-clause-follows
@@ -21,9 +21,9 @@ pub loop-number-preserved : goal.loop-number-preserved
 loop-number-preserved g c =
     let n = c.loop-number.number in
     let from = c.args.from in
-    let up : 128 * n + 128 ≡ 128 * (n + 1) = omega arith in
+    let up : leaf_pointers.count * n + leaf_pointers.count ≡ leaf_pointers.count * (n + 1) = omega arith in
     record {
-      frees = subst (λ (l : ℕ). FreesTo g.D.Disk c.args.root.now (GivesNodes from) (128 * from) from l (n + 1) c.args.disk.now c.free_node.new.disk c.args.space.now c.free_node.new.space (Ok tt)) up
+      frees = subst (λ (l : ℕ). FreesTo g.D.Disk c.args.root.now (GivesNodes from) (leaf_pointers.count * from) from l (n + 1) c.args.disk.now c.free_node.new.disk c.args.space.now c.free_node.new.space (Ok tt)) up
           (nodes_on g.D.Disk c.args.root.now from n c.args.disk.now c.loop-number.disk c.free_node.new.disk c.args.space.now c.loop-number.space c.free_node.new.space _ (omega (arith, c.loop-number.auto.number)) (omega (arith, c.loop-number-test.true)) c.loop-number.invariant.frees c.in-Ok.ensures.frees);
       follows = follows_on g.D.Disk c.args.at.0 _ _ 259 129 _ _ c.args.disk.now c.loop-number.disk c.free_node.new.disk c.args.space.now c.loop-number.space c.free_node.new.space _ (omega (arith, c.loop-number.auto.number)) (omega (arith, c.loop-number.auto.number)) c.loop-number.invariant.follows c.in-Ok.ensures.follows;
     }
@@ -31,5 +31,5 @@ loop-number-preserved g c =
 pub returns-clause-frees : goal.returns-clause-frees
 returns-clause-frees g c =
     let from = c.args.from in
-    let is : c.loop-number.number ≡ 120 = omega (arith, c.loop-number.auto.number, c.loop-number.auto.number-end, c.loop-number-test.false) in
-    subst (λ (k : ℕ). FreesTo g.D.Disk c.args.root.now (GivesNodes from) (128 * from) from (128 * k) k c.args.disk.now c.loop-number.disk c.args.space.now c.loop-number.space (Ok tt)) is c.loop-number.invariant.frees
+    let is : c.loop-number.number ≡ node_pointers.count = omega (arith, c.loop-number.auto.number, c.loop-number.auto.number-end, c.loop-number-test.false) in
+    subst (λ (k : ℕ). FreesTo g.D.Disk c.args.root.now (GivesNodes from) (leaf_pointers.count * from) from (leaf_pointers.count * k) k c.args.disk.now c.loop-number.disk c.args.space.now c.loop-number.space (Ok tt)) is c.loop-number.invariant.frees

@@ -1,8 +1,7 @@
-use Rattle.normal_files.proofs.Words.{◌≡◌, ℕ, ◌+◌, ◌*◌, false, length, sym, ◌∙◌, ap, subst, arith, slice_index, slice_range, Image, block_at, reads_then, IsReadTo, leaf_in, tree_in, leaves_in}
-use Rattle.normal_files.specs.Nodes.{IsNear}
-use Rattle.normal_files.specs.Refusal.{IsTrouble, is_damage}
+use Rattle.normal_files.proofs.Words.{◌≡◌, ℕ, ◌+◌, ◌*◌, false, length, sym, ◌∙◌, ap, subst, arith, slice_index, slice_range, Image, block_at, reads_then, IsReadTo, leaf_in, tree_in, leaves_in, leaf_pointers, IsNear, is_damage}
+use Rattle.normal_files.specs.Refusal.{IsTrouble}
 use Rattle.normal_files.proofs.LeafReads.{node_leads, part_is, read_on}
-use Rattle.normal_files.proofs.Refusals.{passed, reads_one, stopped_is, stopped_undamaged, tells_after, trouble_after_reads}
+use Rattle.normal_files.proofs.Refusals.{node_trouble, passed, reads_one, stopped_is, stopped_undamaged, tells_after, trouble_after_reads}
 use Rattle.normal_files.proofs.Trees.{near}
 use Rattle.ufs_model.specs.declared.object.Object.TheVariants as objects
 use Rattle.normal_files.proofs.reading.read.Goals as goal
@@ -19,6 +18,12 @@ returns-in_err-node-clause-sound g c = λ f tells file rooted.
     (c.in_err-node.ensures.sound (tells_after g.D.Disk d mid reads tells)
     (subst (λ (s : ℕ). IsNear s (g.D.Disk.content mid) (slice_index c.args.root.now.nodes c.loop-number.number)) (size ∙ sym reads.same.size)
     (subst (λ (i : Image). IsNear (length image) i (slice_index c.args.root.now.nodes c.loop-number.number)) (sym reads.content) is)))
+
+pub returns-in_err-node-clause-refused : goal.returns-in_err-node-clause-refused
+returns-in_err-node-clause-refused g c =
+    let t = c.in_err-node.field-0.0 in
+    passed (IsTrouble g.D.Disk c.args.at.0 c.args.disk.now c.read_node.new.disk) c.from_residual.result t c.from_residual.ensures.1
+    (trouble_after_reads g.D.Disk c.args.at.0 c.args.disk.now c.loop-number.disk c.read_node.new.disk _ t c.loop-number.invariant.reads (node_trouble g.D.Disk _ c.args.at.0 c.loop-number.disk c.read_node.new.disk t c.in_err-node.ensures.refused))
 
 pub returns-in_err-read_below-clause-refused : goal.returns-in_err-read_below-clause-refused
 returns-in_err-read_below-clause-refused g c =
@@ -48,7 +53,7 @@ loop-number-preserved g c =
           let lead = node_leads image (g.D.Disk.content c.loop-number.disk) (g.D.Disk.content c.read_node.new.disk) (block_at image c.args.at.0) c.args.root.now n c.in_ok-node.node.leaves rooted
           reads.content both.content (c.in_ok-node.ensures.node (tells_after g.D.Disk d c.loop-number.disk reads tells)) in
           let done = c.in_ok-read_below.ensures.read leaf (tells_after g.D.Disk d c.read_node.new.disk both tells) lead (c.loop-number.invariant.read tells rooted) in
-          let next : 128 * n + 128 ≡ 128 * (n + 1) = omega arith in
+          let next : leaf_pointers.count * n + leaf_pointers.count ≡ leaf_pointers.count * (n + 1) = omega arith in
           subst (λ (m : ℕ). IsReadTo m c.args.root.now.fill leaf c.args.offset c.read_below.new.into) next done;
     }
 
@@ -57,7 +62,7 @@ returns-clause-read g c = λ f tells file rooted inside.
     let image = g.D.Disk.content c.args.disk.now in
     let part = c.loop-number.into in
     let long : length part ≡ length c.args.into.now = c.loop-number.invariant.long in
-    let all = read_on c.args.root.now.fill (leaf_in (tree_in image (block_at image c.args.at.0))) c.args.offset part (128 * c.loop-number.number) (leaves_in (c.args.offset + length part))
+    let all = read_on c.args.root.now.fill (leaf_in (tree_in image (block_at image c.args.at.0))) c.args.offset part (leaf_pointers.count * c.loop-number.number) (leaves_in (c.args.offset + length part))
     (omega (arith, c.loop-number-test.false, c.touched-leaves.ensures.to, long)) (c.loop-number.invariant.read tells rooted) in
     part_is image c.args.at.0 c.args.root.now f c.args.offset part file rooted (omega (arith, inside, long)) all
     ∙ ap (λ (n : ℕ). slice_range f.bytes c.args.offset (c.args.offset + n)) long

@@ -1,56 +1,11 @@
-use Rattle.normal_files.proofs.Words.{refl, ◌∙◌, ap, sym, subst, arith, Image, resized, reads_then, reads_within}
+use Rattle.normal_files.proofs.Words.{Ok, Refused, refl, ◌∙◌, ap, sym, subst, arith, reads_then, reads_within}
 use Rattle.normal_files.specs.Ends.{is_damaged}
 use Rattle.normal_files.specs.WriteRefusal.{is_untried}
-use Rattle.normal_files.specs.Frees.{IsResizeRefusal, TakesNone}
+use Rattle.normal_files.specs.Frees.{IsResizeRefusal}
 use Rattle.normal_files.proofs.Come.{reads_none}
-use Rattle.normal_files.proofs.FileCalls.{becomes_on, damage_same, file_of, shrink_refused, troubled_untried, becomes_as, file_size, partly_as, view, view_on}
+use Rattle.normal_files.proofs.FileCalls.{becomes_on, damage_same, handed_file, images_read, none_on, read_troubled, shrink_refused, troubled_untried, becomes_as, file_size, partly_as, view, view_on}
+use Rattle.normal_files.proofs.Refusals.{root_trouble, stopped_undamaged}
 use Rattle.normal_files.proofs.resizing.resize.Goals as goal
-
-pub returns-in-Err-read_root-clause-sound : goal.returns-in-Err-read_root-clause-sound
-returns-in-Err-read_root-clause-sound g c = λ graph ds id f store there no_draft here.
-    let file = file_of (g.D.Disk.content c.args.disk.now) graph ds id f c.args.at.0 store.account there here in
-    ap is_damaged c.from.ensures ∙ damage_same c.in-Err-read_root.trouble ∙ c.in-Err-read_root.ensures.sound file.root store.carries.tells file.tree.spelled
-
-pub returns-in-Ok-grow-clause-resized : goal.returns-in-Ok-grow-clause-resized
-returns-in-Ok-grow-clause-resized g c = λ graph ds id f store there no_draft here.
-    let v = view g.D.Disk c.args.disk.now graph ds id f c.args.space.now c.args.at.0 c.in-Ok-read_root.root store there no_draft here (g.met.D.Disk.of_blocks c.args.disk.now store.carries.tells.honest) (c.in-Ok-read_root.ensures.root store.carries.tells) in
-    let now = c.in-Ok-grow.ensures.grown c.args.space.now (view_on c.in-Ok-read_root.ensures.reads v) (omega (arith, c.if-root-size.true, (file_size v))) in
-    (becomes_as id c.args.at.0 here (becomes_on c.in-Ok-read_root.ensures.reads v now.0).done, subst (λ (i : Image). TakesNone i (g.D.Disk.content c.grow.new.disk)) c.in-Ok-read_root.ensures.reads.content now.1.1)
-
-pub returns-in-Ok-grow-clause-settled : goal.returns-in-Ok-grow-clause-settled
-returns-in-Ok-grow-clause-settled g c = λ graph ds id f store there no_draft here less. let v = view g.D.Disk c.args.disk.now graph ds id f c.args.space.now c.args.at.0 c.in-Ok-read_root.root store there no_draft here (g.met.D.Disk.of_blocks c.args.disk.now store.carries.tells.honest) (c.in-Ok-read_root.ensures.root store.carries.tells) in (c.in-Ok-grow.ensures.grown c.args.space.now (view_on c.in-Ok-read_root.ensures.reads v) (omega (arith, c.if-root-size.true, (file_size v)))).1.0
-
-pub returns-in-Ok-grow-clause-images : goal.returns-in-Ok-grow-clause-images
-returns-in-Ok-grow-clause-images g c = λ graph ds id f store there no_draft here.
-    let v = view g.D.Disk c.args.disk.now graph ds id f c.args.space.now c.args.at.0 c.in-Ok-read_root.root store there no_draft here (g.met.D.Disk.of_blocks c.args.disk.now store.carries.tells.honest) (c.in-Ok-read_root.ensures.root store.carries.tells) in
-    partly_as g.D.Disk graph id c.args.at.0 f (resized f c.args.size) c.args.disk.now c.grow.new.disk here (becomes_on c.in-Ok-read_root.ensures.reads v (c.in-Ok-grow.ensures.grown c.args.space.now (view_on c.in-Ok-read_root.ensures.reads v) (omega (arith, c.if-root-size.true, (file_size v)))).0).images
-
-pub returns-in-Err-grow-clause-images : goal.returns-in-Err-grow-clause-images
-returns-in-Err-grow-clause-images g c = λ graph ds id f store there no_draft here.
-    let v = view g.D.Disk c.args.disk.now graph ds id f c.args.space.now c.args.at.0 c.in-Ok-read_root.root store there no_draft here (g.met.D.Disk.of_blocks c.args.disk.now store.carries.tells.honest) (c.in-Ok-read_root.ensures.root store.carries.tells) in
-    partly_as g.D.Disk graph id c.args.at.0 f (resized f c.args.size) c.args.disk.now c.grow.new.disk here (becomes_on c.in-Ok-read_root.ensures.reads v (c.in-Err-grow.ensures.grown c.args.space.now (view_on c.in-Ok-read_root.ensures.reads v) (omega (arith, c.if-root-size.true, (file_size v)))).0).images
-
-pub returns-in-Ok-shrink-clause-resized : goal.returns-in-Ok-shrink-clause-resized
-returns-in-Ok-shrink-clause-resized g c = λ graph ds id f store there no_draft here.
-    let v = view g.D.Disk c.args.disk.now graph ds id f c.args.space.now c.args.at.0 c.in-Ok-read_root.root store there no_draft here (g.met.D.Disk.of_blocks c.args.disk.now store.carries.tells.honest) (c.in-Ok-read_root.ensures.root store.carries.tells) in
-    let now = c.in-Ok-shrink.ensures.shrunk (view_on c.in-Ok-read_root.ensures.reads v) (omega (arith, c.if-root-size.false, (file_size v))) in
-    (becomes_as id c.args.at.0 here (becomes_on c.in-Ok-read_root.ensures.reads v now.0).done, subst (λ (i : Image). TakesNone i (g.D.Disk.content c.shrink.new.disk)) c.in-Ok-read_root.ensures.reads.content now.1)
-
-pub returns-in-Ok-shrink-clause-settled : goal.returns-in-Ok-shrink-clause-settled
-returns-in-Ok-shrink-clause-settled g c = λ graph ds id f store there no_draft here more. let v = view g.D.Disk c.args.disk.now graph ds id f c.args.space.now c.args.at.0 c.in-Ok-read_root.root store there no_draft here (g.met.D.Disk.of_blocks c.args.disk.now store.carries.tells.honest) (c.in-Ok-read_root.ensures.root store.carries.tells) in let size = file_size v in absurd (omega (arith, c.if-root-size.false, size, more))
-
-pub returns-in-Ok-shrink-clause-images : goal.returns-in-Ok-shrink-clause-images
-returns-in-Ok-shrink-clause-images g c = λ graph ds id f store there no_draft here.
-    let v = view g.D.Disk c.args.disk.now graph ds id f c.args.space.now c.args.at.0 c.in-Ok-read_root.root store there no_draft here (g.met.D.Disk.of_blocks c.args.disk.now store.carries.tells.honest) (c.in-Ok-read_root.ensures.root store.carries.tells) in
-    partly_as g.D.Disk graph id c.args.at.0 f (resized f c.args.size) c.args.disk.now c.shrink.new.disk here (becomes_on c.in-Ok-read_root.ensures.reads v (c.in-Ok-shrink.ensures.shrunk (view_on c.in-Ok-read_root.ensures.reads v) (omega (arith, c.if-root-size.false, (file_size v)))).0).images
-
-pub returns-in-Err-shrink-clause-images : goal.returns-in-Err-shrink-clause-images
-returns-in-Err-shrink-clause-images g c = λ graph ds id f store there no_draft here.
-    let v = view g.D.Disk c.args.disk.now graph ds id f c.args.space.now c.args.at.0 c.in-Ok-read_root.root store there no_draft here (g.met.D.Disk.of_blocks c.args.disk.now store.carries.tells.honest) (c.in-Ok-read_root.ensures.root store.carries.tells) in
-    partly_as g.D.Disk graph id c.args.at.0 f (resized f c.args.size) c.args.disk.now c.shrink.new.disk here (becomes_on c.in-Ok-read_root.ensures.reads v (c.in-Err-shrink.ensures.shrunk (view_on c.in-Ok-read_root.ensures.reads v) (omega (arith, c.if-root-size.false, (file_size v)))).0).images
-
-pub returns-in-Err-shrink-clause-sound : goal.returns-in-Err-shrink-clause-sound
-returns-in-Err-shrink-clause-sound g c = λ graph ds id f store there no_draft here. let v = view g.D.Disk c.args.disk.now graph ds id f c.args.space.now c.args.at.0 c.in-Ok-read_root.root store there no_draft here (g.met.D.Disk.of_blocks c.args.disk.now store.carries.tells.honest) (c.in-Ok-read_root.ensures.root store.carries.tells) in ap is_damaged c.from-in-Err-shrink.ensures ∙ damage_same c.in-Err-shrink.trouble ∙ (c.in-Err-shrink.ensures.shrunk (view_on c.in-Ok-read_root.ensures.reads v) (omega (arith, c.if-root-size.false, (file_size v)))).2
 
 pub returns-in-Err-shrink-clause-refused : goal.returns-in-Err-shrink-clause-refused
 returns-in-Err-shrink-clause-refused g c = subst (IsResizeRefusal g.D.Disk c.args.at.0 c.args.floor c.args.disk.now c.shrink.new.disk c.args.space.now) (sym c.from-in-Err-shrink.ensures)
@@ -71,3 +26,81 @@ pub returns-in-Err-shrink-clause-untried : goal.returns-in-Err-shrink-clause-unt
 returns-in-Err-shrink-clause-untried g c = λ h.
     let two = troubled_untried c.in-Err-shrink.trouble c.in-Err-shrink.ensures.untried (sym (ap is_untried c.from-in-Err-shrink.ensures) ∙ h) in
     (two.0, reads_then g.D.Disk c.args.disk.now c.read_root.new.disk c.shrink.new.disk 1 2 3 c.in-Ok-read_root.ensures.reads two.1 (omega arith))
+
+pub returns-in-Err-clause-resizes : goal.returns-in-Err-clause-resizes
+returns-in-Err-clause-resizes g c = λ h. record {
+  done = tt;
+  takes_none = tt;
+  settled = λ more. tt;
+  images = images_read (reads_none g.D.Disk c.args.disk.now) _;
+  sound = ap is_damaged c.in-Err.ensures.full.0;
+}
+
+pub returns-in-Err-read_root-clause-resizes : goal.returns-in-Err-read_root-clause-resizes
+returns-in-Err-read_root-clause-resizes g c = λ h. record {
+  done = tt;
+  takes_none = tt;
+  settled = λ more. tt;
+  images = images_read c.in-Err-read_root.ensures.reads _;
+  sound = ap is_damaged c.from.ensures ∙ damage_same c.in-Err-read_root.trouble ∙ c.in-Err-read_root.ensures.sound (handed_file h).root h.store.carries.tells (handed_file h).tree.spelled;
+}
+
+pub returns-in-Ok-grow-clause-resizes : goal.returns-in-Ok-grow-clause-resizes
+returns-in-Ok-grow-clause-resizes g c = λ h.
+    let reads = c.in-Ok-read_root.ensures.reads in
+    let v = view h (g.met.D.Disk.of_blocks c.args.disk.now h.store.carries.tells.honest) (c.in-Ok-read_root.ensures.root h.store.carries.tells) in
+    let now = c.in-Ok-grow.ensures.grown c.args.space.now (view_on reads v) (omega (arith, c.if-root-size.true, file_size v)) in
+    let all = becomes_on reads v now.0 in
+    record {
+      done = becomes_as h _ _ _ (Ok tt) all.done;
+      takes_none = none_on reads {E = Refused} c.grow.new.disk (Ok tt) now.1.1;
+      settled = λ more. now.1.0;
+      images = partly_as h all.images;
+      sound = tt;
+    }
+
+pub returns-in-Err-grow-clause-resizes : goal.returns-in-Err-grow-clause-resizes
+returns-in-Err-grow-clause-resizes g c = λ h.
+    let reads = c.in-Ok-read_root.ensures.reads in
+    let v = view h (g.met.D.Disk.of_blocks c.args.disk.now h.store.carries.tells.honest) (c.in-Ok-read_root.ensures.root h.store.carries.tells) in
+    let all = becomes_on reads v (c.in-Err-grow.ensures.grown c.args.space.now (view_on reads v) (omega (arith, c.if-root-size.true, file_size v))).0 in
+    record {
+      done = tt;
+      takes_none = tt;
+      settled = λ more. tt;
+      images = partly_as h all.images;
+      sound = ap is_damaged c.from-in-Err-grow.ensures ∙ damage_same c.in-Err-grow.trouble ∙ stopped_undamaged g.D.Disk c.read_root.new.disk c.grow.new.disk c.in-Err-grow.trouble c.in-Err-grow.ensures.ends.stopped;
+    }
+
+pub returns-in-Ok-shrink-clause-resizes : goal.returns-in-Ok-shrink-clause-resizes
+returns-in-Ok-shrink-clause-resizes g c = λ h.
+    let reads = c.in-Ok-read_root.ensures.reads in
+    let v = view h (g.met.D.Disk.of_blocks c.args.disk.now h.store.carries.tells.honest) (c.in-Ok-read_root.ensures.root h.store.carries.tells) in
+    let size = file_size v in
+    let now = c.in-Ok-shrink.ensures.shrunk (view_on reads v) (omega (arith, c.if-root-size.false, size)) in
+    let all = becomes_on reads v now.0 in
+    record {
+      done = becomes_as h _ _ _ (Ok tt) all.done;
+      takes_none = none_on reads {E = Refused} c.shrink.new.disk (Ok tt) now.1;
+      settled = λ more. absurd (omega (arith, c.if-root-size.false, size, more));
+      images = partly_as h all.images;
+      sound = tt;
+    }
+
+pub returns-in-Err-shrink-clause-resizes : goal.returns-in-Err-shrink-clause-resizes
+returns-in-Err-shrink-clause-resizes g c = λ h.
+    let reads = c.in-Ok-read_root.ensures.reads in
+    let v = view h (g.met.D.Disk.of_blocks c.args.disk.now h.store.carries.tells.honest) (c.in-Ok-read_root.ensures.root h.store.carries.tells) in
+    let now = c.in-Err-shrink.ensures.shrunk (view_on reads v) (omega (arith, c.if-root-size.false, file_size v)) in
+    record {
+      done = tt;
+      takes_none = tt;
+      settled = λ more. tt;
+      images = partly_as h (becomes_on reads v now.0).images;
+      sound = ap is_damaged c.from-in-Err-shrink.ensures ∙ damage_same c.in-Err-shrink.trouble ∙ now.2;
+    }
+
+pub returns-in-Err-read_root-clause-refused : goal.returns-in-Err-read_root-clause-refused
+returns-in-Err-read_root-clause-refused g c = subst (IsResizeRefusal g.D.Disk c.args.at.0 c.args.floor c.args.disk.now c.read_root.new.disk c.args.space.now) (sym c.from.ensures)
+    (shrink_refused g.D.Disk c.args.at.0 c.args.floor c.args.disk.now c.args.disk.now c.read_root.new.disk (reads_none g.D.Disk c.args.disk.now) c.args.space.now c.in-Err-read_root.trouble
+    (read_troubled g.D.Disk c.args.at.0 c.args.disk.now c.read_root.new.disk c.in-Err-read_root.trouble (root_trouble g.D.Disk c.args.at.0 c.args.disk.now c.read_root.new.disk c.in-Err-read_root.trouble c.in-Err-read_root.ensures.refused)))

@@ -1,5 +1,4 @@
-use Rattle.normal_files.proofs.Words.{◌≡◌, ◌∙◌, ap, refl, false, true, ℕ, List, set, sym, subst, arith, Leaves, makes_then, reads_make, then_tried}
-use Rattle.normal_files.specs.Refusal.{is_damage}
+use Rattle.normal_files.proofs.Words.{◌≡◌, ◌∙◌, ap, refl, false, true, ℕ, List, set, sym, subst, arith, Leaves, makes_then, reads_make, then_tried, is_damage}
 use Rattle.normal_files.proofs.FileCalls.{becomes_on, cut_of, drop_troubled, images_read, near_of, next_root, none_on, read_troubled, root_images, shrunk_ends, stop_troubled, trim_images}
 use Rattle.normal_files.proofs.Refusals.{stopped_later, tells_after}
 use Rattle.normal_files.proofs.WriteParts.{after_is}

@@ -21,6 +21,7 @@ returns-in-Err g c = record {
   tried = far_apart c.args.at.0 c.in-Err.trouble c.in-Err.ensures.far.1;
   made = tt;
   cylinders = refl;
+  left = refl;
   calls = nothing_made g.D.Disk c.args.disk.now 31205 15483;
 }
 
@@ -35,6 +36,7 @@ returns-in-Err-part_on_disk g c = record {
   tried = far_apart c.args.at.0 c.in-Err-part_on_disk.trouble c.in-Err-part_on_disk.ensures.far.1;
   made = tt;
   cylinders = refl;
+  left = refl;
   calls = nothing_made g.D.Disk c.args.disk.now 31205 15483;
 }
 
@@ -45,6 +47,7 @@ returns-in-Err-barrier g c = record {
   tried = known_apart c.in-Err-barrier.trouble c.in-Err-barrier.ensures.refused;
   made = tt;
   cylinders = refl;
+  left = refl;
   calls = makes_more g.D.Disk c.args.disk.now c.barrier.new.disk 1 1 31205 15483 (omega arith) (omega arith) c.barrier.ensures.calls;
 }
 
@@ -63,6 +66,7 @@ returns-in-Err-changed g c =
       tried = subst (λ (t : Trouble). t ≢ troubles.Disk false) (sym c.after_try.ensures) (tried_apart c.in-Err-changed.trouble);
       made = tt;
       cylinders = refl;
+      left = refl;
       calls = makes_then g.D.Disk c.args.disk.now c.barrier.new.disk c.changed.new.disk 1 240 31205 1 0 15483 c.barrier.ensures.calls (reads_make g.D.Disk c.barrier.new.disk c.changed.new.disk 240 reads) (omega arith) (omega arith);
     }
 
@@ -96,5 +100,6 @@ returns g c =
       tried = finish_apart g.D.Disk c.args.at.0 c.changed.new.disk c.give_up.new.disk c.give_up.new.space c.give_up.result (c.give_up.ensures.fails c.args.at.0);
       made = all_ok c.give_up.result all_tried;
       cylinders = c.give_up.ensures.cylinders;
+      left = c.give_up.ensures.left;
       calls = makes_then g.D.Disk c.args.disk.now c.changed.new.disk c.give_up.new.disk 241 (2 * nt + (2 + 2)) 31205 1 (nt + (1 + 1)) 15483 first c.give_up.ensures.calls (omega (arith, room.0, ap (length {A = ℕ}) c.as_slice.ensures)) (omega (arith, room.0, ap (length {A = ℕ}) c.as_slice.ensures));
     }

@@ -22,6 +22,7 @@ returns-in-Ok g c = record {
       (given ∙ (λ i. given_all (given_all (given_all c.args.space.now c.args.taken.now) (option_to_list (sym shadow i))) (option_to_list (sym made i))));
   fails = λ at. tt;
   cylinders = c.give_made-in-Ok.ensures.cylinders ∙ c.give_made.ensures.cylinders ∙ c.give_all.ensures.cylinders;
+  left = c.give_made-in-Ok.ensures.left ∙ c.give_made.ensures.left ∙ c.give_all.ensures.left;
   calls = c.in-Ok.ensures.flips.calls;
 }
 
@@ -32,5 +33,6 @@ returns-in-Err g c = record {
       (subst (λ (x : Option ℕ). Flips g.D.Disk (2 * length c.args.taken.now + (2 + 2)) (length c.args.taken.now + (1 + 1)) (undoing c.args.taken.now (number_of c.args.shadow) x) c.args.disk.now c.undo_all.new.disk (Err c.in-Err.trouble)) (sym made) c.in-Err.ensures.flips)) tt;
   fails = λ at. c.in-Err.ensures.flips.fails at c.args.space.now;
   cylinders = refl;
+  left = refl;
   calls = c.in-Err.ensures.flips.calls;
 }

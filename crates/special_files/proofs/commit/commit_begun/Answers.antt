@@ -17,6 +17,7 @@ returns-in-Err g c = record {
   made = c.write_own.ensures.tried;
   untried = λ same. cc;
   cylinders = refl;
+  left = refl;
   calls = makes_more g.D.Disk c.args.disk.now c.write_own.new.disk 1 1 93135 46451 (omega arith) (omega arith) c.write_own.ensures.calls;
 }
 
@@ -36,6 +37,7 @@ returns-in-Err-changed g c =
       made = tried_then g.D.Disk c.args.disk.now c.write_own.new.disk c.changed.new.disk 240 0 c.write_own.ensures.tried (reads_make g.D.Disk c.write_own.new.disk c.changed.new.disk 240 reads);
       untried = subst (λ (t : Trouble). t ≢ troubles.Disk false) (sym c.after_try.ensures) (tried_apart c.in-Err-changed.trouble);
       cylinders = refl;
+      left = refl;
       calls = makes_then g.D.Disk c.args.disk.now c.write_own.new.disk c.changed.new.disk 1 240 93135 1 0 46451 c.write_own.ensures.calls (reads_make g.D.Disk c.write_own.new.disk c.changed.new.disk 240 reads) (omega arith) (omega arith);
     }
 
@@ -76,5 +78,6 @@ returns g c =
       made = tried;
       untried = finish_apart g.D.Disk c.args.at.0 c.changed.new.disk c.finish.new.disk c.finish.new.space c.finish.result c.finish.ensures.fails;
       cylinders = c.finish.ensures.cylinders;
+      left = c.finish.ensures.left;
       calls = calls;
     }

@@ -17,6 +17,7 @@ returns-in-Ok g c =
           (c.in-Ok.ensures.finishes c.args.space.now spelled);
       fails = tt;
       cylinders = ap (λ (k : Kept). length k.free) c.gave.ensures.given ∙ length-set _ _ _ ∙ c.give_all.ensures.cylinders;
+      left = ap (λ (k : Kept). k.left) c.gave.ensures.given ∙ c.give_all.ensures.left;
       calls = c.carry_out.ensures.calls;
     }
 
@@ -26,5 +27,6 @@ returns-in-Err g c =
       finishes = λ spelled. let end = c.in-Err.ensures.finishes c.args.space.now spelled in record { done = λ graph full word was o run ready. tt; leaves = end.leaves; sound = end.sound };
       fails = c.in-Err.ensures.fails c.args.space.now;
       cylinders = refl;
+      left = refl;
       calls = c.carry_out.ensures.calls;
     }

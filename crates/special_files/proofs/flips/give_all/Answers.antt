@@ -13,6 +13,7 @@ loop-block-preserved c = record {
   left = ap (λ (k : Kept). given_all k (drop (c.loop-block.block-index + 1) c.args.blocks.now)) c.gave.ensures.given
       ∙ sym (at_drop_more (given_all c.loop-block.space) c.args.blocks.now c.loop-block.block-index 0 c.loop-block-test.true) ∙ c.loop-block.invariant.left;
   cylinders = ap (λ (k : Kept). length k.free) c.gave.ensures.given ∙ length-set _ _ _ ∙ c.loop-block.invariant.cylinders;
+  commit = ap (λ (k : Kept). k.left) c.gave.ensures.given ∙ c.loop-block.invariant.commit;
 }
 
 pub returns : goal.returns
@@ -21,4 +22,5 @@ returns c =
     record {
       given = ap (given_all c.loop-block.space) (sym (drop-length c.args.blocks.now) ∙ ap (λ (i : ℕ). drop i c.args.blocks.now) end) ∙ c.loop-block.invariant.left;
       cylinders = c.loop-block.invariant.cylinders;
+      left = c.loop-block.invariant.commit;
     }

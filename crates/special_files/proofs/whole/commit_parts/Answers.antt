@@ -22,6 +22,7 @@ returns-in-Err g c = record {
   tried = λ some. far_apart c.args.at.0 c.in-Err.trouble c.in-Err.ensures.far.1;
   untried = λ same. absurd (far_apart c.args.at.0 c.in-Err.trouble c.in-Err.ensures.far.1 same);
   cylinders = refl;
+  left = refl;
   calls = nothing_made g.D.Disk c.args.disk.now 93137 46452;
 }
 
@@ -36,6 +37,7 @@ returns-in-Err-is_on_disk g c = record {
   tried = λ some. far_apart c.args.at.0 c.in-Err-is_on_disk.trouble c.in-Err-is_on_disk.ensures.far.1;
   untried = λ same. absurd (far_apart c.args.at.0 c.in-Err-is_on_disk.trouble c.in-Err-is_on_disk.ensures.far.1 same);
   cylinders = refl;
+  left = refl;
   calls = nothing_made g.D.Disk c.args.disk.now 93137 46452;
 }
 

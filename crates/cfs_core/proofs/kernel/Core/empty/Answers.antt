@@ -11,7 +11,7 @@ returns g c = λ to.
     let k : Kernel _ = record { disk = c.self.inside.disk; root = c.self.inside.root; names = c.self.inside.names; space = c.self.inside.space; words = c.self.inside.words; seats = c.self.inside.seats.seats; collections = c.self.inside.collections; stop = c.self.inside.stop } in
     let new : Kernel _ = record k { disk = c.delete.new.disk; space = c.delete.new.space } in
     let request = asks.Delete to c.args.slot in
-    let done = tries_put g.D.Disk g.met.D.Disk.left_sized g.met.D.Disk.sized k c.delete.new.disk c.delete.new.space c.args.index c.args.slot None request refl refl c.delete.result c.delete.ensures
+    let done = tries_put g.D.Disk g.met.D.Disk.left_sized g.met.D.Disk.sized k c.delete.new.disk c.delete.new.space c.args.index c.args.slot None request refl refl refl c.delete.result c.delete.ensures
     (λ s who i serves r. (refl, delete_out k.words.seed s who to c.args.index i c.args.slot r))
     (λ s who i serves r. ((λ short. let no = short.delete in cc), serves.four)) in
     subst (λ x. TriesOn g.D.Disk x new c.args.index c.args.slot request c.done.result) c.self.view_is (subst (λ r. TriesOn g.D.Disk k new c.args.index c.args.slot request r) (sym c.done.ensures) done)

@@ -31,7 +31,7 @@ returns-in-Ok g c = λ seats was drafting.
     ∙ ap (seats_but (is_grant c.args.who c.args.grant)) (ap (λ x. x.seats) c.self.view_is ∙ was) in
     subst (λ x. Tries g.D.Disk (record x { seats = seats }) (record k { disk = c.end_draft.new.disk; space = c.end_draft.new.space; seats = c.close.new.self.seats }) c.args.who (asks.Close c.args.grant c.args.commit) (Ok replies.Done)) c.self.view_is
     (subst (λ ss. Tries g.D.Disk (record k { seats = seats }) (record k { disk = c.end_draft.new.disk; space = c.end_draft.new.space; seats = ss }) c.args.who (asks.Close c.args.grant c.args.commit) (Ok replies.Done)) (sym left)
-    (tries_ended g.D.Disk g.met.D.Disk.left_sized g.met.D.Disk.sized (record k { seats = seats }) c.args.who c.args.grant c.args.draft (ready_for _ c.args.draft c.requires.ready).bare
+    (tries_ended g.D.Disk g.met.D.Disk.left_sized g.met.D.Disk.sized (record k { seats = seats }) c.args.who c.args.grant c.args.draft drafting (ready_for _ c.args.draft c.requires.ready).bare
     (held_in g.D.Disk (record k { seats = seats }) c.args.who c.args.grant c.args.draft drafting had (λ s. c.table_follows_the_model.ensures.found s c.args.who c.args.grant))
     c.end_draft.new.disk c.end_draft.new.space c.args.commit c.in-Ok.ensures))
 
@@ -45,6 +45,6 @@ returns-in-Err g c = λ seats was drafting.
     subst (λ e. Tries g.D.Disk (record c.args.self.now { seats = seats }) (record k { disk = c.end_draft.new.disk; space = c.end_draft.new.space }) c.args.who (asks.Close c.args.grant c.args.commit) (Err e)) (sym c.from.ensures)
     (subst (λ x. Tries g.D.Disk (record x { seats = seats }) (record k { disk = c.end_draft.new.disk; space = c.end_draft.new.space }) c.args.who (asks.Close c.args.grant c.args.commit) (Err (refused_by c.in-Err.trouble))) c.self.view_is
     (subst (λ ss. Tries g.D.Disk (record k { seats = seats }) (record k { disk = c.end_draft.new.disk; space = c.end_draft.new.space; seats = ss }) c.args.who (asks.Close c.args.grant c.args.commit) (Err (refused_by c.in-Err.trouble))) (sym (ap (λ x. x.seats) c.self.view_is ∙ was))
-    (tries_unended g.D.Disk g.met.D.Disk.left_sized g.met.D.Disk.sized (record k { seats = seats }) c.args.who c.args.grant c.args.draft (ready_for _ c.args.draft c.requires.ready).bare
+    (tries_unended g.D.Disk g.met.D.Disk.left_sized g.met.D.Disk.sized (record k { seats = seats }) c.args.who c.args.grant c.args.draft drafting (ready_for _ c.args.draft c.requires.ready).bare
     (held_in g.D.Disk (record k { seats = seats }) c.args.who c.args.grant c.args.draft drafting had (λ s. c.table_follows_the_model.ensures.found s c.args.who c.args.grant))
     c.end_draft.new.disk c.end_draft.new.space c.args.commit c.in-Err.trouble c.in-Err.ensures)))

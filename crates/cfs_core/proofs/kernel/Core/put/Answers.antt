@@ -17,7 +17,7 @@ returns g c = λ to.
           let full = c.retain.ensures.full few in
           subst (λ r. TriesOn g.D.Disk k new c.args.index c.args.slot request (done_or r)) (sym full.0)
           (tries_full g.D.Disk g.met.D.Disk.left_sized g.met.D.Disk.sized k c.retain.new.disk c.retain.new.space full.1 full.2 c.args.index to c.args.slot c.args.id few)
-      | inr enough ↦ tries_put g.D.Disk g.met.D.Disk.left_sized g.met.D.Disk.sized k c.retain.new.disk c.retain.new.space c.args.index c.args.slot (Some c.args.id) request refl refl c.retain.result (c.retain.ensures.fills enough)
+      | inr enough ↦ tries_put g.D.Disk g.met.D.Disk.left_sized g.met.D.Disk.sized k c.retain.new.disk c.retain.new.space c.args.index c.args.slot (Some c.args.id) request refl refl refl c.retain.result (c.retain.ensures.fills enough)
           (λ s who i serves r. (refl, retain_out k.words.seed s who to c.args.index i c.args.slot c.args.id r))
           (λ s who i serves r. ((λ short. omega (arith, short.few, enough, retain_need k.words.seed s who to c.args.index i c.args.slot c.args.id r)), omega (arith, enough)))
     ] in

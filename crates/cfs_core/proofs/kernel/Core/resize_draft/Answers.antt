@@ -48,7 +48,7 @@ returns g c =
     let request = asks.Resize (Through c.args.grant) c.args.size in
     let done = some_if (λ was. (now : Drafting) × (c.resize.new.self.seats ≡ with_drafting c.args.grant.draw (Some now) c.self.inside.seats.seats) × ChangesDraft g.D.Disk (SetSize c.args.size) c.self.inside.disk c.resize.new.disk c.self.inside.space c.resize.new.space was now c.resize.result) _ c.requires.drafting (ap (λ x. drafting_at x.seats c.args.grant.draw) c.self.view_is ∙ c.requires.has) c.resize.ensures in
     let held = held_in g.D.Disk k c.args.who c.args.grant c.requires.drafting (ap (λ x. drafting_at x.seats c.args.grant.draw) c.self.view_is ∙ c.requires.has) (subst (λ o. IsSome o) (sym (ap (λ x. grant_in (grants_in x.seats) c.args.who c.args.grant) c.self.view_is ∙ c.requires.found)) refl) (λ s. c.table_follows_the_model.ensures.found s c.args.who c.args.grant) in
-    let tried = tries_altered g.D.Disk g.met.D.Disk.left_sized g.met.D.Disk.sized k c.self.invariant.ready c.args.who c.args.grant c.requires.drafting held
+    let tried = tries_altered g.D.Disk g.met.D.Disk.left_sized g.met.D.Disk.sized k c.self.invariant.ready c.args.who c.args.grant c.requires.drafting (ap (λ x. drafting_at x.seats c.args.grant.draw) c.self.view_is ∙ c.requires.has) held
     (SetSize c.args.size) request (resize_changes (Through c.args.grant) c.args.size) refl
     (λ s serves. resize_goes g.D.Disk k s serves c.args.who c.args.grant c.requires.drafting (held s serves) c.args.size (within c.args.size (omega (arith, c.if-size-gt-MOST_BYTES.false))))
     done.0 c.resize.new.disk c.resize.new.space c.resize.result done.2 in

@@ -26,7 +26,7 @@ returns-then-size-gt-MOST_BYTES g c =
     let request = asks.Resize c.args.to c.args.size in
     tries_refusal g.D.Disk g.met.D.Disk.left_sized g.met.D.Disk.sized c.args.self.now c.args.who request replies.Range tt
     (λ s serves.
-    let f = c.in-Ok.ensures.reached request (record { to = refl; each = λ s who. refl }) s serves in
+    let f = (c.in-Ok.ensures.reached request (record { to = refl; each = λ s who. refl })).0 s serves in
     resize_range 0 s c.args.who c.args.to c.in-Ok.there.0 f.0 c.args.size f.1 (above c.args.size (omega (arith, c.if-size-gt-MOST_BYTES.true))))
 
 pub returns : goal.returns

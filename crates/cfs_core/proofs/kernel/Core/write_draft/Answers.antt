@@ -50,7 +50,7 @@ returns g c =
     let done = some_if (λ was. (now : Drafting) × (c.write.new.self.seats ≡ with_drafting c.args.grant.draw (Some now) c.self.inside.seats.seats) × ChangesDraft g.D.Disk (Overwrite c.args.offset c.args.bytes.now) c.self.inside.disk c.write.new.disk c.self.inside.space c.write.new.space was now c.write.result) _ c.requires.drafting (ap (λ x. drafting_at x.seats c.args.grant.draw) c.self.view_is ∙ c.requires.has) c.write.ensures in
     let held = held_in g.D.Disk k c.args.who c.args.grant c.requires.drafting (ap (λ x. drafting_at x.seats c.args.grant.draw) c.self.view_is ∙ c.requires.has) (subst (λ o. IsSome o) (sym (ap (λ x. grant_in (grants_in x.seats) c.args.who c.args.grant) c.self.view_is ∙ c.requires.found)) refl) (λ s. c.table_follows_the_model.ensures.found s c.args.who c.args.grant) in
     let same : c.in-Some.draft.now ≡ c.requires.drafting = same_draft _ _ (sym (ap option_copied c.in-Some.is) ∙ c.draft.ensures ∙ (ap (λ x. drafting_at x.seats c.args.grant.draw) c.self.view_is ∙ c.requires.has)) in
-    let tried = tries_altered g.D.Disk g.met.D.Disk.left_sized g.met.D.Disk.sized k c.self.invariant.ready c.args.who c.args.grant c.requires.drafting held
+    let tried = tries_altered g.D.Disk g.met.D.Disk.left_sized g.met.D.Disk.sized k c.self.invariant.ready c.args.who c.args.grant c.requires.drafting (ap (λ x. drafting_at x.seats c.args.grant.draw) c.self.view_is ∙ c.requires.has) held
     (Overwrite c.args.offset c.args.bytes.now) request (write_changes (Through c.args.grant) c.args.offset c.args.bytes.now c.are_bytes.ensures) refl
     (λ s serves. write_goes g.D.Disk k s serves c.args.who c.args.grant c.requires.drafting (held s serves) c.args.offset c.args.bytes.now (ap (λ (n : ℕ). is_range n c.args.offset (length c.args.bytes.now)) (sym (size_is g.D.Disk k s serves c.args.who c.args.grant c.requires.drafting (held s serves)) ∙ ap (λ (d : Drafting). d.root.size) (sym same) ∙ sym c.size-held.ensures) ∙ sym c.is_range.ensures ∙ c.if-not-is_range.false))
     done.0 c.write.new.disk c.write.new.space c.write.result done.2 in

@@ -1,18 +1,18 @@
 use Rattle.std.proofs.Common.{◌<◌, ◌∙◌, ap, refl, subst, sym, arith}
 use Rattle.cfs_serve.proofs.Cited.{AreCounted, first_fault, is_recorded}
 use Rattle.cfs_serve.proofs.Raising.{counted_step}
-use Rattle.cfs_serve.proofs.Workers.{as_told, few_on, heard_on, quiet_on, room_on}
+use Rattle.cfs_serve.proofs.Workers.{acts, as_told, few_on, fewer_now, heard_on, quiet_on, room_on}
 use Rattle.cfs_serve.proofs.hall.Hall.collector_turn.Goals as goal
 
 pub collect-progress-requires : goal.collect-progress-requires
 collect-progress-requires g c =
-    let some : 0 < c.self.inside.rest.turns = omega (arith, ap (λ h. h.turns) c.self.view_is, c.requires) in
+    let some = (acts c.self.inside.resting c.self.inside.rest.turns (omega (arith, ap (λ h. h.turns) c.self.view_is, c.requires))).1 in
     let left = c.self.invariant.4 some in
     omega (arith, c.self.invariant.1, left.1)
 
 pub after-self-inside-requires : goal.after-self-inside-requires
 after-self-inside-requires g c =
-    let some : 0 < c.self.inside.rest.turns = omega (arith, ap (λ h. h.turns) c.self.view_is, c.requires) in
+    let some = (acts c.self.inside.resting c.self.inside.rest.turns (omega (arith, ap (λ h. h.turns) c.self.view_is, c.requires))).1 in
     let left = c.self.invariant.4 some in
     record {
       some = some;
@@ -35,7 +35,7 @@ invariant_of-self g c =
     let turns = c.self.inside.rest.turns in
     let events = c.self.inside.rest.events in
     let refused = c.self.inside.rest.refused in
-    let some : 0 < turns = omega (arith, ap (λ h. h.turns) c.self.view_is, c.requires) in
+    let some = (acts c.self.inside.resting turns (omega (arith, ap (λ h. h.turns) c.self.view_is, c.requires))).1 in
     let left = k.4 some in
     let paired : 0 < turns → 0 < events = (λ more. omega (arith, left.1)) in
     let now = c.after-self-inside.result.events in (
@@ -62,7 +62,8 @@ returns-clause-turn g c = rw (← c.self.view_is) (record {
   progress = c.collect-progress.result;
   steps = c.collect-progress.ensures.steps;
   ports = refl;
-  turns = c.after-self-inside.ensures.fewer;
+  turns = fewer_now c.self.inside.resting _ (c.self.inside.rest.turns) (c.after-self-inside.result.turns) (omega (arith, ap (λ h. h.turns) c.self.view_is, c.requires)) c.after-self-inside.ensures.fewer;
+  left = c.after-self-inside.ensures.fewer;
 })
 
 pub returns-clause-raised : goal.returns-clause-raised

@@ -1,4 +1,4 @@
-use Rattle.std.proofs.Common.{◌≡◌, ◌⊎◌, ◌+◌, ◌*◌, ◌<◌, ◌≤◌, ℕ, inl, inr, Option, None, arith, ap, length, subst, sym}
+use Rattle.std.proofs.Common.{◌≡◌, ◌+◌, ◌*◌, ◌<◌, ◌≤◌, ℕ, inl, inr, Option, None, arith, ap, length, subst, sym}
 use Rattle.cfs_serve.proofs.Cited.{AreCounted, CollectFault, Rest, TellsStop, cases_lt, first_fault}
 use Rattle.cfs_serve.proofs.Served.{fresh_heard}
 use Rattle.cfs_serve.proofs.hall.Hall.new.Goals as goal

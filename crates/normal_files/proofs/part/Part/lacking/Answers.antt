@@ -1,4 +1,4 @@
-use Rattle.normal_files.proofs.Words.{◌≡◌, ℕ, ◌%◌, Bool, cond, ap, subst, eq-eqb, arith, get_or, ne_eqb}
+use Rattle.normal_files.proofs.Words.{◌≡◌, ℕ, ◌%◌, Bool, cond, ap, subst, eq-eqb, arith, get_or, ne_eqb, leaf_pointers}
 use Rattle.normal_files.specs.Parts.{absent_in, lacking_to}
 use Rattle.normal_files.proofs.LackingTo.{filter_to}
 use Rattle.normal_files.proofs.part.Part.lacking.Goals.{then-self-leaf-eq0, else-self-leaf-eq0}
@@ -19,9 +19,9 @@ loop-leaf-preserved c =
     let more = filter_to (absent_in own) c.args.self.now.leaves.from l c.loop-leaf.auto.leaf in
     elim c.if-self-leaf-eq0.branch [
       | then-self-leaf-eq0 w ↦
-          let one = ap (λ (b : Bool). cond {A = ℕ} b 1 0) (eq-eqb (get_or own (l % 128) 0) 0 w.if-self-leaf-eq0.true) in
+          let one = ap (λ (b : Bool). cond {A = ℕ} b 1 0) (eq-eqb (get_or own (l % leaf_pointers.count) 0) 0 w.if-self-leaf-eq0.true) in
           record { count = omega (arith, w.count-is, c.loop-leaf.invariant.count, more, one); most = omega (arith, w.count-is, c.loop-leaf.invariant.most, c.loop-leaf.auto.leaf) }
       | else-self-leaf-eq0 w ↦
-          let none = ap (λ (b : Bool). cond {A = ℕ} b 1 0) (ne_eqb (get_or own (l % 128) 0) 0 w.if-self-leaf-eq0.false) in
+          let none = ap (λ (b : Bool). cond {A = ℕ} b 1 0) (ne_eqb (get_or own (l % leaf_pointers.count) 0) 0 w.if-self-leaf-eq0.false) in
           record { count = omega (arith, w.count-is, c.loop-leaf.invariant.count, more, none); most = omega (arith, w.count-is, c.loop-leaf.invariant.most, c.loop-leaf.auto.leaf) }
     ]

@@ -1,5 +1,5 @@
-use Rattle.normal_files.proofs.Words.{inl, inr, sym, ◌∙◌, ap, subst, arith}
-use Rattle.normal_files.specs.Nodes.{IsNear, leaves_at}
+use Rattle.normal_files.proofs.Words.{inl, inr, sym, ◌∙◌, ap, subst, arith, IsNear, leaves_at}
+use Rattle.normal_files.proofs.Refusals.{node_trouble}
 use Rattle.normal_files.proofs.Trees.{near_none}
 use Rattle.normal_files.proofs.part.Part.read.Goals as goal
 
@@ -27,3 +27,6 @@ returns-in-Err-clause-sound g c = λ tells near.
 
 pub returns-in-Ok-clause-there : goal.returns-in-Ok-clause-there
 returns-in-Ok-clause-there g c = λ some. let same = c.touched_node-block.ensures.node some in omega (arith, same, c.in-Ok.ensures.there)
+
+pub returns-in-Err-clause-refused : goal.returns-in-Err-clause-refused
+returns-in-Err-clause-refused g c = node_trouble g.D.Disk _ c.args.at.0 c.args.disk.now c.read_node.new.disk c.in-Err.trouble c.in-Err.ensures.refused

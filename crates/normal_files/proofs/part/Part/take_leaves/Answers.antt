@@ -11,6 +11,7 @@ pub loop-leaf-init : goal.loop-leaf-init
 loop-leaf-init g c = record {
   size = refl;
   cylinders = refl;
+  left = refl;
   near = λ some. c.requires.near some;
   grown = λ yes. cc;
   takes = λ w may. (may, taken_begins (g.D.Disk.content c.args.disk.now) c.args.at.0 c.args.root.now.fill c.args.offset c.args.bytes.now c.args.self.now (node_of c.args.root.now c.args.self.now.number) c.requires.read.count);
@@ -21,6 +22,7 @@ pub loop-leaf-preserved : goal.loop-leaf-preserved
 loop-leaf-preserved g c = record {
   size = c.take_one.ensures.size ∙ c.loop-leaf.invariant.size;
   cylinders = c.take_one.ensures.cylinders ∙ c.loop-leaf.invariant.cylinders;
+  left = c.take_one.ensures.left ∙ c.loop-leaf.invariant.left;
   near = λ some. let less = c.in-Ok.ensures.near (let was = c.loop-leaf.invariant.near some in omega (arith, was, c.loop-leaf.invariant.size)) in omega (arith, less, c.loop-leaf.invariant.size);
   grown = λ yes. omega (arith, c.loop-leaf.auto.leaf);
   takes = c.in-Ok.ensures.takes c.args.disk.now c.args.space.now c.loop-leaf.invariant.takes;

@@ -8,6 +8,7 @@ abbrev pub invariant-loop-leaf : goal.invariant-loop-leaf
 invariant-loop-leaf g l = record {
   size : g.D.Disk.blocks l.disk ≡ g.D.Disk.blocks l.initial.disk;
   cylinders : length l.space.free ≡ length l.initial.space.free;
+  left : l.space.left ≡ l.initial.space.left;
   near : l.self.leaves.from < l.self.leaves.to → l.next.block < g.D.Disk.blocks l.initial.disk;
   grown : l.next.grown ≡ true → l.self.leaves.from < l.leaf;
   takes : Takes g.D.Disk l.at.0 l.offset l.bytes l.initial.disk l.disk l.initial.space l.space (Ok l.next) (λ a c next. HasTaken a c l.at.0 l.root.fill l.offset l.bytes l.self (node_of l.root l.self.number) l.leaf next);

@@ -1,4 +1,4 @@
-use Rattle.normal_files.proofs.Words.{◌∙◌, inl, inr, refl, ap, eq-eqb, arith, ◌%◌, Bool, subst, true, ne_eqb, patched}
+use Rattle.normal_files.proofs.Words.{◌∙◌, inl, inr, refl, ap, eq-eqb, arith, ◌%◌, Bool, subst, true, ne_eqb, patched, leaf_pointers}
 use Rattle.normal_files.specs.declared.next.Next.{Next}
 use Rattle.normal_files.proofs.TakeOne.{at_leaf, one_taken}
 use Rattle.normal_files.proofs.TakeRun.{held_passed}
@@ -9,7 +9,7 @@ use Rattle.normal_files.proofs.part.Part.take_one.Goals as goal
 pub returns-then-block-ne0-clause-takes : goal.returns-then-block-ne0-clause-takes
 returns-then-block-ne0-clause-takes g c = λ d kept before w may.
     let on = before w may in
-    (on.0, held_passed on.1 (c.args.leaf % 128) (at_leaf c.requires.read c.args.leaf c.requires.from c.requires.to) (omega arith) c.if-block-ne0.true)
+    (on.0, held_passed on.1 (c.args.leaf % leaf_pointers.count) (at_leaf c.requires.read c.args.leaf c.requires.from c.requires.to) (omega arith) c.if-block-ne0.true)
 
 pub returns-then-block-ne0-clause-ends : goal.returns-then-block-ne0-clause-ends
 returns-then-block-ne0-clause-ends g c = inl (ne_eqb _ 0 c.if-block-ne0.true, refl, refl, refl)

@@ -85,5 +85,5 @@ returns-clause-calls g c =
     let puts = subst (λ (w : Drafting). PutsWithin g.D.Disk c.args.from c.args.read.now.node.leaves w c.list_from.new.disk c.put_within.new.disk c.args.space.now c.put_within.new.space (Ok c.in-Ok-put_within.block)) c.self.view_is c.in-Ok-put_within.ensures in
     let list = λ (stale : (n : ℕ) → is_fresh_node c.args.self.now n ≡ false). c.list_from.ensures.none (λ n. ap (λ (w : Drafting). is_fresh_node w n) c.self.view_is ∙ stale n) in
     drop_ok_call c.in-Ok.ensures.reads (λ stale. (list stale).2) c.args.from c.args.read.now.node.leaves c.in-Ok-put_within.block puts (length c.as_slice.result.now) (omega (arith, c.in-Ok.ensures.room, ap (length {A = ℕ}) c.as_slice.ensures)) c.undo_listed.new.disk
-    c.in-Ok-undo_listed.ensures.flips.calls (λ stale. c.undo_listed.ensures.none (c.as_slice.ensures ∙ (list stale).1)) c.give_all.new.space c.forget.new.self c.in-Ok-undo_listed.ensures.told c.give_all.ensures.cylinders
+    c.in-Ok-undo_listed.ensures.flips.calls (λ stale. c.undo_listed.ensures.none (c.as_slice.ensures ∙ (list stale).1)) c.give_all.new.space c.forget.new.self c.in-Ok-undo_listed.ensures.told c.give_all.ensures.cylinders c.give_all.ensures.left
     (λ stale. c.give_all.ensures.given ∙ ap (given_all c.put_within.new.space) (c.as_slice-2.ensures ∙ (list stale).1)) (subst (λ (w : Drafting). Forgets c.args.from c.in-Ok-put_within.block.0 w c.forget.new.self) c.self.view_is c.forget.ensures)

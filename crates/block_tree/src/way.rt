@@ -1,0 +1,84 @@
+//! The blocks of one path of a tree, changed from its leaf up: each block is a copy with its child's number in it.
+ghost use Rattle.std.specs.Prelude.{◌≡◌, ◌<◌, ℕ, IsFalse, IsTrue, List};
+ghost use Rattle.cfs_base.specs.Disk.{Image};
+ghost use Rattle.block_tree.specs.Node.{IsNode, node_spelling};
+ghost use Rattle.block_tree.specs.Pointers.{leaf_pointers, node_pointers};
+ghost use Rattle.block_tree.specs.Root.{Fits, root_spelling};
+ghost use Rattle.block_tree.specs.Tree.{pointer, tree_of};
+ghost use Rattle.block_tree.specs.Way as spec;
+
+use crate::node::{LEAVES, Node};
+use crate::root::{NODES, Root};
+
+impl Root {
+    /// The same with another block as one of its nodes.
+    pub fn with_node(&self, number: u32, block: u32) -> Root
+        requires { number < node_pointers.count }
+        ensures root { result ≡ spec.with_node self.now number block }
+        ensures one { Fits self.now → spec.SetsOne (pointer node_pointers (root_spelling self.now)) number block
+            (pointer node_pointers (root_spelling result)) }
+    {
+        let mut root = *self;
+        root.nodes[number as usize] = block;
+        root
+    }
+
+    /// The same without its nodes from one on.
+    pub fn cut(&self, from: u32) -> Root
+        ensures { spec.CutsRoot self.now from result }
+    {
+        let mut kept = *self;
+        for number in from..NODES as u32 {
+            kept.nodes[number as usize] = 0;
+        }
+        kept
+    }
+}
+
+impl Node {
+    /// The same with another block as one of its leaves.
+    pub fn with_leaf(&self, place: u32, block: u32) -> Node
+        requires { place < leaf_pointers.count }
+        ensures node { result ≡ spec.with_leaf self.now place block }
+        ensures one { IsNode self.now → spec.SetsOne (pointer leaf_pointers (node_spelling self.now)) place block
+            (pointer leaf_pointers (node_spelling result)) }
+    {
+        let mut node = *self;
+        node.leaves[place as usize] = block;
+        node
+    }
+
+    /// The same without its leaves from a place on.
+    pub fn cut(&self, from: u32) -> Node
+        ensures { spec.CutsNode self.now from result }
+    {
+        let mut kept = *self;
+        for place in from..LEAVES as u32 {
+            kept.leaves[place as usize] = 0;
+        }
+        kept
+    }
+
+    /// Whether it has a leaf.
+    pub fn leads(&self) -> bool
+        ensures some { IsTrue result → spec.SomeLeaf self.now }
+        ensures none { IsFalse result → spec.NoLeaf self.now }
+    {
+        for leaf in &self.leaves {
+            if *leaf != 0 {
+                return true;
+            }
+        }
+        false
+    }
+}
+
+/// What is proved of a tree in which the blocks of one path are other ones, as a contract. This call does nothing.
+pub fn one_path_changes()
+    // A path that parts from it leads to what it led to.
+    ensures beside { (a b : Image) (old new path blocks : List ℕ) → spec.IsPut a b old new path blocks
+        → (q : List ℕ) → spec.Part path q → tree_of b new q ≡ tree_of a old q }
+    // The path itself leads to the last of the blocks.
+    ensures here { (a b : Image) (old new path blocks : List ℕ) (last : ℕ) → spec.IsPut a b old new path blocks
+        → spec.IsLast blocks last → tree_of b new path ≡ last }
+{}

@@ -1,0 +1,201 @@
+-- What a damage of one call of the store tells of the core's call.
+use Rattle.std.proofs.Common.{◌≡◌, ◌⊎◌, inl, inr, ℕ, ◌/◌, ◌%◌, ◌<◌, ◌*◌, ◌+◌, Some, None, Option, false, refl, sym, ◌∙◌, ap, subst, arith, IsTrue, List, length, slice_index, sum, [], ◌∷◌}
+use Rattle.cfs_core.proofs.Words.{Ghosts, Image, IsIndexRefusal, IsOpenMap, OnlyReads, Request}
+use Rattle.cfs_base.proofs.Calls.{tells_on}
+use Rattle.cfs_base.specs.Disk.{block_at}
+use Rattle.cfs_base.specs.Run.{Tells}
+use Rattle.cfs_base.specs.declared.refusal.Damage.{Damage}
+use Rattle.cfs_base.specs.declared.refusal.Refused.TheVariants as refusals
+use Rattle.cfs_base.specs.declared.refusal.Trouble.TheVariants as troubles
+use Rattle.block_tree.proofs.Spellings.{nodes_of}
+use Rattle.block_tree.proofs.Trees.{node_block, past_is, path_is}
+use Rattle.block_tree.specs.Pointers.{node_pointers}
+use Rattle.block_tree.specs.Reads.{IsPast, IsRootTrouble}
+use Rattle.block_tree.specs.Root.{IsRootBlock, root_spelling}
+use Rattle.block_tree.specs.Tree.{pointer, tree_of}
+use Rattle.block_tree.specs.declared.root.Root.{Root}
+use Rattle.collector_steps.specs.Scan as scan
+use Rattle.collector_steps.specs.Scan.{IsIndexDamage, LeadsPast}
+use Rattle.cyl_alloc.specs.Refusals.{IsNoMap}
+use Rattle.cyl_map.specs.Volume.{entry_in}
+use Rattle.file_ops.specs.Changes as files
+use Rattle.file_ops.specs.Changes.{IsBesideDamage, IsFileDamage, IsPlaceDamage, end_of}
+use Rattle.index_ops.specs.Causes as causes
+use Rattle.normal_files.specs.Ends as ends
+use Rattle.normal_files.specs.Frees as frees
+use Rattle.normal_files.specs.Refusal as normal
+use Rattle.special_files.specs.Drafting.{node_of}
+use Rattle.special_files.specs.Refusal as special
+use Rattle.special_files.specs.Refusal.{IsFarNode}
+use Rattle.ufs_model.specs.declared.change.Change.{Change}
+use Rattle.cfs_base.specs.declared.kind.FileKind.{FileKind}
+use Rattle.cfs_base.specs.declared.kind.FileKind.TheVariants as kinds
+use Rattle.cyl_alloc.specs.Space.{IsBadMap}
+use Rattle.cfs_core.specs.declared.collecting.Collections.{Collections}
+use Rattle.cfs_core.specs.Damage.{After, Before, FarBelow, FarNode, FarRoot, FewLeft, IsDamageTold, IsOutside, IsRootHere, NoEntry, NoRoot, FindsFew, NotOwned, OpenMap, OtherCount, bytes_wanted, is_delete}
+use Rattle.cfs_core.specs.Kernel.{Kernel}
+
+-- the same in an image that is as it was, of a disk that is
+pub outside_as : (Told Says : Type 0) (a b : Image) (size now : ℕ) (IsRoot Is : ℕ → Type 0) (bytes most : ℕ) (damage : Damage) → (Says → Told) → b ≡ a → now ≡ size → ((n : ℕ) → IsRoot n → Is n) → ((n : ℕ) → n < bytes → n < most)
+    → IsOutside Told a size IsRoot bytes damage → IsOutside Says b now Is most damage
+outside_as Told Says a b size now IsRoot Is bytes most damage on same size_is root less (NoEntry code why) = NoEntry code (λ t. subst (λ (i : Image). IsBadMap i damage.block) (sym same) (why (on t)))
+outside_as Told Says a b size now IsRoot Is bytes most damage on same size_is root less (NoRoot code here why) = NoRoot code (root damage.block here) (λ t r is. less r.size (why (on t) r (subst (λ (i : Image). IsRootBlock (block_at i damage.block) r) same is)))
+outside_as Told Says a b size now IsRoot Is bytes most damage on same size_is root less (FarNode code why) = FarNode code (λ t. rw (same, size_is) (why (on t)))
+outside_as Told Says a b size now IsRoot Is bytes most damage on same size_is root less (FarRoot code here) = FarRoot code (root damage.block here)
+outside_as Told Says a b size now IsRoot Is bytes most damage on same size_is root less (FarBelow code at here why) = FarBelow code at (root at here) (λ t. rw (same, size_is) (why (on t)))
+
+module _ {D : Type 0} (g : Ghosts D) (old new : Kernel D) where
+  -- of a request, whatever the collector is
+  pub told_asked : (x : Collections) (request : Request) (damage : Damage) → IsDamageTold g (record old { collections = x }) new (Some request) damage → IsDamageTold g old new (Some request) damage
+  told_asked x request damage (Before is) = Before is
+  told_asked x request damage (After is) = After is
+  told_asked x request damage (OpenMap code block why) = OpenMap code block why
+  told_asked x request damage (OtherCount code why) = OtherCount code why
+  told_asked x request damage (NotOwned made is creates code why) = NotOwned made is creates code why
+  told_asked x request damage (FewLeft code block few) = FewLeft code block few
+
+  -- by a core with the same disk and counts afterwards
+  pub told_as : (now : Kernel D) (request : Option Request) (damage : Damage) → now.disk ≡ new.disk → now.space ≡ new.space → IsDamageTold g old new request damage → IsDamageTold g old now request damage
+  told_as now request damage disk space (Before is) = Before is
+  told_as now request damage disk space (After is) = After (rw disk is)
+  told_as now request damage disk space (OpenMap code block why) = OpenMap code block (rw disk why)
+  told_as now request damage disk space (OtherCount code why) = OtherCount code (rw (disk, space) why)
+  told_as now request damage disk space (NotOwned made is creates code why) = NotOwned made is creates code why
+  told_as now request damage disk space (FewLeft code block few) = FewLeft code block (rw space few)
+
+  -- after reads
+  pub told_then : (n : ℕ) (d : D) (request : Option Request) (damage : Damage) → OnlyReads g n old.disk d → IsDamageTold g (record old { disk = d }) new request damage → IsDamageTold g old new request damage
+  told_then n d request damage reads is = by is
+    where
+      on : Tells g old.disk → Tells g d
+      on tells = tells_on g old.disk d d n reads tells
+
+      here : (r : Option Request) (k : ℕ) → IsRootHere (record old { disk = d }) r k → IsRootHere old r k
+      here None k is = is
+      here (Some r) k is = is
+
+      by : IsDamageTold g (record old { disk = d }) new request damage → IsDamageTold g old new request damage
+      by (Before is) = Before (outside_as (Tells g d) (Tells g old.disk) (g.content d) (g.content old.disk) (g.blocks d) (g.blocks old.disk) _ (IsRootHere old request) (bytes_wanted request) (bytes_wanted request) damage on (sym reads.content) (sym reads.same.size) (here request) (λ k less. less) is)
+      by (After is) = After (outside_as (Tells g d) (Tells g old.disk) (g.content new.disk) (g.content new.disk) (g.blocks d) (g.blocks old.disk) _ (IsRootHere old request) (bytes_wanted request) (bytes_wanted request) damage on refl (sym reads.same.size) (here request) (λ k less. less) is)
+      by (OpenMap code block why) = OpenMap code block (λ tells. rw reads.content at (why (on tells)))
+      by (OtherCount code why) = OtherCount code (λ tells. why (on tells))
+      by (NotOwned made is creates code why) = NotOwned made is creates code (rw reads.same.size at why)
+      by (FewLeft code block few) = FewLeft code block few
+
+-- ---- of a read
+
+-- of a block that the disk had before
+pub told_of_read : {D : Type 0} (g : Ghosts D) (old new : Kernel D) (request : Request) (at : ℕ) (damage : Damage) → IsRootHere old (Some request) at → IsOutside (Tells g old.disk) (g.content old.disk) (g.blocks old.disk) (λ n. n ≡ at) 0 damage → IsDamageTold g old new (Some request) damage
+told_of_read g old new request at damage here is =
+    Before (outside_as (Tells g old.disk) (Tells g old.disk) (g.content old.disk) (g.content old.disk) (g.blocks old.disk) (g.blocks old.disk) (λ n. n ≡ at) (IsRootHere old (Some request)) 0 (bytes_wanted (Some request)) damage (λ tells. tells) refl refl (λ n same. subst (IsRootHere old (Some request)) (sym same) here) (λ n less. absurd (omega (arith, less))) is)
+
+-- ---- of a draft
+
+module _ {D : Type 0} (g : Ghosts D) (old new : Kernel D) (request : Option Request) (at : ℕ) (here : IsRootHere old request at) (damage : Damage) (size : g.blocks new.disk ≡ g.blocks old.disk) where
+  here_so : damage.block ≡ at → IsRootHere old request damage.block
+  here_so same = subst (IsRootHere old request) (sym same) here
+
+  pub told_of_draft : special.IsDamage g at old.disk new.disk new.space damage → IsDamageTold g old new request damage
+  told_of_draft (special.NoMap code there why) = After (NoEntry code why)
+  told_of_draft (special.OpenMap code block why) = OpenMap code block (λ tells counts. inr (why tells))
+  told_of_draft (special.OtherCount code why) = OtherCount code why
+  told_of_draft (special.NoRoot code block why) = After (NoRoot code (here_so block) (λ tells root is. absurd (why tells root (rw block at is))))
+  told_of_draft (special.FarNode code why) = After (FarNode code (λ tells. subst (λ (n : ℕ). IsFarNode n (g.content new.disk) damage.block) size (why tells)))
+  told_of_draft (special.FarRoot code block) = After (FarRoot code (here_so block))
+
+  -- ---- of a file
+
+  -- a block of a normal one, in an image that is as the disk has it then
+  of_file : (mid : D) (Told : Type 0) (image : Image) (IsRoot : ℕ → Type 0) (bytes : ℕ) → IsRoot at → (Told → Tells g mid) → g.content mid ≡ image → (Told → g.blocks mid ≡ g.blocks old.disk) → normal.IsDamage g at mid damage → IsOutside Told image (g.blocks old.disk) IsRoot bytes damage
+  of_file mid Told image IsRoot bytes there on same blocks (normal.NoRoot code block why) = NoRoot code (subst IsRoot (sym block) there) (λ t root is. absurd (why (on t) root (rw (block, sym same) at is)))
+  of_file mid Told image IsRoot bytes there on same blocks (normal.FarRoot code block) = FarRoot code (subst IsRoot (sym block) there)
+  of_file mid Told image IsRoot bytes there on same blocks (normal.FarNode code why) = FarNode code (λ t. rw (sym same, sym (blocks t)) (why (on t)))
+
+  -- while it is changed
+  module _ (sized : (d : D) → IsTrue (g.honest d) → length (g.content d) ≡ g.blocks d) (honesty : g.honest new.disk ≡ g.honest old.disk) where
+    of_claims : ends.IsNoSpace g old.disk new.disk new.space damage → IsDamageTold g old new request damage
+    of_claims (ends.NoMap code there why) = After (NoEntry code why)
+    of_claims (ends.OtherCount code why) = OtherCount code why
+
+    of_drops : frees.IsDropDamage g at old.disk new.disk damage → IsDamageTold g old new request damage
+    of_drops (frees.NoMap code why) = After (NoEntry code why)
+    of_drops (frees.OfFile mid on same is) = After (of_file mid (Tells g old.disk) (g.content new.disk) (IsRootHere old request) (bytes_wanted request) here on same
+        (λ tells. sym (sized mid (on tells).honest) ∙ ap (length {A = List ℕ}) same ∙ sized new.disk (subst IsTrue (sym honesty) tells.honest) ∙ size) is)
+
+    of_place : IsPlaceDamage g at old.disk new.disk new.space damage → IsDamageTold g old new request damage
+    of_place (files.OfFile is) = Before (of_file old.disk (Tells g old.disk) (g.content old.disk) (IsRootHere old request) (bytes_wanted request) here (λ tells. tells) refl (λ tells. refl) is)
+    of_place (files.OfClaims is) = of_claims is
+    of_place (files.OfDrops is) = of_drops is
+
+    of_beside : (change : Change) → bytes_wanted request ≡ end_of change → ((r : Request) → request ≡ Some r → is_delete r ≡ false) → IsBesideDamage g at change old.disk new.disk new.space damage → IsDamageTold g old new request damage
+    of_beside change bytes kept (files.OfBlock is) = told_of_draft is
+    of_beside change bytes kept (files.Short code block why) = Before (NoRoot code (here_so block) (λ tells root is. rw bytes (why tells root (rw block at is))))
+    of_beside change bytes kept (files.NoneLeft is) = FewLeft is.code is.block (few request kept)
+      where
+        few : (q : Option Request) → ((r : Request) → q ≡ Some r → is_delete r ≡ false) → FindsFew q (sum old.space.free) (sum new.space.free)
+        few None kept = is.none
+        few (Some r) kept = inr (kept r refl, is.none)
+
+    pub told_of_file : (kind : FileKind) (change : Change) → bytes_wanted request ≡ end_of change → ((r : Request) → request ≡ Some r → is_delete r ≡ false) → IsFileDamage g at kind change old.disk new.disk new.space damage → IsDamageTold g old new request damage
+    told_of_file kinds.Normal change bytes kept is = of_place is
+    told_of_file kinds.Special change bytes kept is = of_beside change bytes kept is
+
+  -- ---- of an index
+
+  -- while a slot is filled
+  pub told_of_index : (slot : ℕ) → bytes_wanted request ≡ 8 * slot + 8 → IsIndexRefusal g at slot old.disk new.disk new.space (refusals.Damaged damage) → IsDamageTold g old new request damage
+  told_of_index slot bytes (inl is) = told_of_draft is
+  told_of_index slot bytes (inr short) = Before (NoRoot short.code (here_so short.block) (λ tells root is. rw bytes (short.short tells root (rw short.block at is))))
+
+  -- and where an object is made
+  pub told_of_making : (slot : ℕ) → bytes_wanted request ≡ 8 * slot + 8 → IsIndexRefusal g at slot old.disk new.disk new.space (refusals.Damaged damage) ⊎ IsOpenMap g old.disk old.space (refusals.Damaged damage) → IsDamageTold g old new request damage
+  told_of_making slot bytes (inl is) = told_of_index slot bytes is
+  told_of_making slot bytes (inr map) = (let same : damage ≡ record { block = 0; code = 2 } = (let is = map.is in cc) in
+      OpenMap (ap (λ (d : Damage). d.code) same) (ap (λ (d : Damage). d.block) same) (λ tells counts. inl (map.free tells counts)))
+
+-- ---- of an index that is read
+
+-- the root that a root block has
+spelled : (image : Image) (at : ℕ) (root : Root) → IsRootBlock (block_at image at) root → block_at image at ≡ root_spelling root
+spelled image at root is = is.spelled
+
+far_leaf : (image : Image) (size at : ℕ) (root : Root) (leaf : ℕ) (damage : Damage) → IsRootBlock (block_at image at) root → causes.IsFarLeaf image size at root leaf damage → LeadsPast image size at damage.block
+far_leaf image size at root leaf damage is (causes.FarNode code block past above) =
+    let two = past_is image size (root_spelling root) leaf past above in
+    record { path = []; k = leaf / 128; at = block; past = rw (spelled image at root is) (subst (IsPast size) (two.0 ∙ sym (node_block image (root_spelling root) (leaf / 128))) two.1) }
+far_leaf image size at root leaf damage is (causes.FarLeaf code block past) =
+    record {
+      path = leaf / 128 ∷ [];
+      k = leaf % 128;
+      at = block ∙ node ∙ sym (node_block image (root_spelling root) (leaf / 128)) ∙ ap (λ (b : List ℕ). tree_of image b (leaf / 128 ∷ [])) (sym (spelled image at root is));
+      past = rw (spelled image at root is) (subst (IsPast size) (ap (tree_of image (root_spelling root)) (path_is (root_spelling root) leaf)) past);
+    }
+  where
+    node : node_of root (leaf / 128) ≡ pointer node_pointers (root_spelling root) (leaf / 128)
+    node = ap (λ (ns : List ℕ). slice_index ns (leaf / 128)) (nodes_of root is.good.0)
+
+pub outside_slot : {D : Type 0} (g : Ghosts D) (at slot : ℕ) (old : D) (damage : Damage) → causes.IsSlotDamage g at slot old damage → IsOutside (Tells g old) (g.content old) (g.blocks old) (λ n. n ≡ at) 0 damage
+outside_slot g at slot old damage (causes.NoRoot is none) = NoRoot (ap (λ (d : Damage). d.code) is) (ap (λ (d : Damage). d.block) is) (λ tells root there. absurd (none tells root (rw (ap (λ (d : Damage). d.block) is) at there)))
+outside_slot g at slot old damage (causes.Far code far) = FarBelow code at refl (λ tells. let f = far tells in far_leaf (g.content old) (g.blocks old) at f.0 (slot / 64) damage f.1 f.2)
+
+pub outside_root : {D : Type 0} (g : Ghosts D) (at : ℕ) (old new : D) (damage : Damage) → IsRootTrouble g at old new (troubles.Damaged damage) → IsOutside (Tells g old) (g.content old) (g.blocks old) (λ n. n ≡ at) 0 damage
+outside_root g at old new damage is = NoRoot (ap (λ (d : Damage). d.code) is.0) (ap (λ (d : Damage). d.block) is.0) (λ tells root there. absurd (is.1 tells root (rw (ap (λ (d : Damage). d.block) is.0) at there)))
+
+-- of a file that is read
+pub outside_file : {D : Type 0} (g : Ghosts D) (at : ℕ) (old : D) (damage : Damage) → normal.IsDamage g at old damage → IsOutside (Tells g old) (g.content old) (g.blocks old) (λ n. n ≡ at) 0 damage
+outside_file g at old damage (normal.NoRoot code block why) = NoRoot code block (λ tells root is. absurd (why tells root (rw block at is)))
+outside_file g at old damage (normal.FarRoot code block) = FarRoot code block
+outside_file g at old damage (normal.FarNode code why) = FarNode code why
+
+-- ---- of a step of the collector
+
+module _ {D : Type 0} (g : Ghosts D) (old new : Kernel D) (damage : Damage) where
+  pub told_of_scan : (at : ℕ) → IsRootHere old None at → IsIndexDamage g old.disk at damage → IsDamageTold g old new None damage
+  told_of_scan at here (scan.NoRoot code block why) = Before (NoRoot code (subst (IsRootHere old None) (sym block) here) (λ tells root is. absurd (why tells root (rw block at is))))
+  told_of_scan at here (scan.PastDisk code why) = Before (FarBelow code at here why)
+
+  pub told_of_map : (n : ℕ) → IsNoMap g old.disk n damage → IsDamageTold g old new None damage
+  told_of_map n is = Before (NoEntry is.code (λ tells. bad_map (is.bad tells)))
+    where
+      bad_map : IsBadMap (g.content old.disk) n → IsBadMap (g.content old.disk) damage.block
+      bad_map b = rw is.block (b.0, b.1, ap (λ (m : ℕ). entry_in (g.content old.disk) (m + b.0)) (omega arith) ∙ b.2)

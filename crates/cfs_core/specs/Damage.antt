@@ -1,0 +1,106 @@
+-- What a damage tells: which block is outside its table, and how.
+use Rattle.std.specs.Prelude.{◌≡◌, ◌⊎◌, ℕ, ◌+◌, ◌*◌, ◌<◌, ◌≤◌, Bool, true, false, length, sum, Option, Some, None}
+use Rattle.cfs_base.specs.Codes.{no_entry, no_root, not_owned, other_count, past_disk, too_full}
+use Rattle.cfs_base.specs.Disk.{Image, block_at}
+use Rattle.cfs_base.specs.Run.{Tells}
+use Rattle.cfs_base.specs.declared.disk.Disk.{Ghosts}
+use Rattle.cfs_base.specs.declared.refusal.Damage.{Damage}
+use Rattle.block_tree.specs.Root.{IsRootBlock}
+use Rattle.block_tree.specs.declared.root.Root.{Root}
+use Rattle.collector_steps.specs.Collecting.{Collecting, colours_in}
+use Rattle.collector_steps.specs.Scan.{LeadsPast}
+use Rattle.cyl_alloc.specs.Space.{AreCounts, IsBadMap}
+use Rattle.cyl_map.specs.Volume.{is_free_in}
+use Rattle.marking.specs.Colours.{first_grey}
+use Rattle.marking.specs.declared.memory.Grey.{Grey}
+use Rattle.puid_space.specs.Directory.{has_root_in}
+use Rattle.special_files.specs.Drafting.{Drafting}
+use Rattle.special_files.specs.Refusal.{IsFarNode}
+use Rattle.ufs_model.specs.declared.asked.Request.{Request}
+use Rattle.ufs_model.specs.declared.asked.Request.TheVariants as asks
+use Rattle.ufs_model.specs.Outcome.{creates}
+use Rattle.cfs_core.specs.Kernel.{Kernel}
+use Rattle.cfs_core.specs.Seats.{drafting_at}
+
+-- so many bytes the root must have to which the request goes
+abbrev pub bytes_wanted : Option Request → ℕ
+bytes_wanted None = 0
+bytes_wanted (Some (asks.Retain index slot id)) = 8 * slot + 8
+bytes_wanted (Some (asks.Retrieve index slot)) = 0
+bytes_wanted (Some (asks.Delete index slot)) = 8 * slot + 8
+bytes_wanted (Some (asks.Slots index)) = 0
+bytes_wanted (Some (asks.CreateFile kind fill index slot)) = 8 * slot + 8
+bytes_wanted (Some (asks.CreateIndex slots index slot)) = 8 * slot + 8
+bytes_wanted (Some (asks.OpenFor id mode)) = 0
+bytes_wanted (Some (asks.Close grant commit)) = 0
+bytes_wanted (Some (asks.Read file offset count)) = 0
+bytes_wanted (Some (asks.Write file offset bytes)) = offset + length bytes
+bytes_wanted (Some (asks.Size file)) = 0
+bytes_wanted (Some (asks.Resize file size)) = 0
+
+-- In this image, of a disk of this size, the block is outside its table, where the disk tells it: of the maps, of an
+-- object whose root has to have so many bytes, or of an index.
+pub data IsOutside (Told : Type 0) (image : Image) (size : ℕ) (IsRoot : ℕ → Type 0) (bytes : ℕ)
+    (damage : Damage) : Type 0 where
+  -- an entry of a map is none
+  NoEntry : damage.code ≡ no_entry → (Told → IsBadMap image damage.block)
+      → IsOutside Told image size IsRoot bytes damage
+  -- no root of so many bytes
+  NoRoot : damage.code ≡ no_root → IsRoot damage.block
+      → (Told → (root : Root) → IsRootBlock (block_at image damage.block) root → root.size < bytes)
+      → IsOutside Told image size IsRoot bytes damage
+  -- a node that has a pointer past the disk
+  FarNode : damage.code ≡ past_disk → (Told → IsFarNode size image damage.block)
+      → IsOutside Told image size IsRoot bytes damage
+  -- a root that has, on the disk or of a draft
+  FarRoot : damage.code ≡ past_disk → IsRoot damage.block → IsOutside Told image size IsRoot bytes damage
+  -- a block of the tree of a root that has
+  FarBelow : damage.code ≡ past_disk → (at : ℕ) → IsRoot at → (Told → LeadsPast image size at damage.block)
+      → IsOutside Told image size IsRoot bytes damage
+
+-- a draft stands of the object with this root
+abbrev pub IsOfDraft : {D : Type 0} → Kernel D → ℕ → Type 0
+IsOfDraft k at = (draw : ℕ) × (was : Drafting) × (drafting_at k.seats draw ≡ Some was) × (was.at ≡ at)
+
+-- it is the root of the first index that is grey
+abbrev pub IsOfGrey : {D : Type 0} → Kernel D → ℕ → Type 0
+IsOfGrey k at = (c : Collecting) × (e : Grey) × (k.collections.collector ≡ Some c)
+    × (first_grey (colours_in c) ≡ Some e) × (e.id.block ≡ at)
+
+-- In a request it is the root of an object that has a name, or of one that has a draft; in a step of the collector that
+-- of a grey index, and where a session leaves that of one that has a draft.
+abbrev pub IsRootHere : {D : Type 0} → Kernel D → Option Request → ℕ → Type 0
+IsRootHere k None at = IsOfDraft k at ⊎ IsOfGrey k at
+IsRootHere k (Some request) at = (has_root_in k.names.named at ≡ true) ⊎ IsOfDraft k at
+
+abbrev pub is_delete : Request → Bool
+is_delete (asks.Delete index slot) = true
+is_delete request = false
+
+-- fewer blocks were counted Free than a delete takes; of all other calls none is left
+abbrev pub FindsFew : Option Request → (before after : ℕ) → Type 0
+FindsFew None before after = after ≡ 0
+FindsFew (Some request) before after =
+    ((is_delete request ≡ true) × (before < 3)) ⊎ ((is_delete request ≡ false) × (after ≡ 0))
+
+-- A damage that is met in a call, in a request or in none. Where the disk tells its content, it is so in what the disk
+-- had before the call or has after it.
+pub data IsDamageTold {D : Type 0} (g : Ghosts D) (old new : Kernel D) (request : Option Request)
+    (damage : Damage) : Type 0 where
+  Before : IsOutside (Tells g old.disk) (g.content old.disk) (g.blocks old.disk) (IsRootHere old request)
+      (bytes_wanted request) damage → IsDamageTold g old new request damage
+  After : IsOutside (Tells g old.disk) (g.content new.disk) (g.blocks old.disk) (IsRootHere old request)
+      (bytes_wanted request) damage → IsDamageTold g old new request damage
+  -- the first map's own block is Free by that map
+  OpenMap : damage.code ≡ no_entry → damage.block ≡ 0 → (Tells g old.disk → AreCounts (g.content old.disk) old.space
+      → (is_free_in (g.content old.disk) 0 ≡ true) ⊎ (is_free_in (g.content new.disk) 0 ≡ true))
+      → IsDamageTold g old new request damage
+  -- a map doesn't have so many Free blocks as were counted
+  OtherCount : damage.code ≡ other_count → (Tells g old.disk → ¬ AreCounts (g.content new.disk) new.space)
+      → IsDamageTold g old new request damage
+  -- a Free block was taken for a new object that is the root of one, or none of the disk's
+  NotOwned : (made : Request) → request ≡ Some made → creates made ≡ true → damage.code ≡ not_owned
+      → (damage.block ≡ 0) ⊎ ((g.blocks old.disk ≤ damage.block) ⊎ (has_root_in old.names.named damage.block ≡ true))
+      → IsDamageTold g old new request damage
+  FewLeft : damage.code ≡ too_full → damage.block ≡ 0 → FindsFew request (sum old.space.free) (sum new.space.free)
+      → IsDamageTold g old new request damage

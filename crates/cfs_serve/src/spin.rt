@@ -1,0 +1,94 @@
+//! Spins: services of a drawn workload, whose replies nobody keeps.
+ghost use Rattle.std.specs.Prelude.{◌≡◌, ◌<◌, ◌≤◌, ◌+◌, ◌*◌, IfSome, None, map};
+ghost use Rattle.cfs_serve.specs.Ground.{new_ground};
+ghost use Rattle.cfs_serve.specs.Scripts.{lines_in};
+ghost use Rattle.cfs_serve.specs.Spun.{drains, drawn_scripts, drawn_sources};
+ghost use Rattle.cfs_serve.specs.Whole.{AsksSessions};
+ghost use Rattle.cfs_workload.specs.Workload as workload;
+
+use crate::play::{Played, nothing, serve_scripts};
+use crate::report::Cause;
+use crate::script::Script;
+use crate::scripts::Scripts;
+use crate::volume::new_volume;
+use cfs_base::{Failed, Gate, Sink};
+use cfs_workload::{script, scripts_have_so_many_lines};
+use std::alloc::Global;
+use std::sync::Wait;
+use std::thread::Threads;
+
+/// A sink that takes all and keeps nothing.
+#[derive(Drop)]
+struct Drain;
+
+impl Sink for Drain {
+    ghost use Rattle.cfs_serve.specs.Spun.{drain};
+
+    ghost intake = { λ s. drain };
+
+    fn write(&mut self, from: &[u8]) -> Result<usize, Failed> {
+        Ok(from.len())
+    }
+}
+
+/// The script of one session. None for want of memory.
+fn draw(alloc: Global, seed: u64, session: u32, count: u64) -> Option<Script>
+    requires { session < 4 }
+    ensures { IfSome result (λ s. s ≡ workload.script seed session count) }
+{
+    match script(alloc, seed, session, count) {
+        Ok(text) => Some(Script::new(text)),
+        Err(_) => None,
+    }
+}
+
+/// The scripts of all. None for want of memory.
+fn draw_scripts(alloc: Global, seed: u64, count: u64) -> Option<Scripts>
+    requires { count ≤ 5370 }
+    ensures scripts { IfSome result (λ s. s.scripts.items ≡ drawn_scripts seed count) }
+    ensures lines { IfSome result (λ s. s.lines ≡ 4 * (count + 1)) }
+{
+    let first = draw(alloc, seed, 0, count)?;
+    let second = draw(alloc, seed, 1, count)?;
+    let third = draw(alloc, seed, 2, count)?;
+    let fourth = draw(alloc, seed, 3, count)?;
+    match Vec::from_array(alloc, [first, second, third, fourth]) {
+        Ok(scripts) => Some(Scripts {
+            scripts,
+            lines: 4 * (count + 1),
+        }),
+        Err(_) => None,
+    }
+}
+
+/// Draws the scripts of four sessions, so many lines for each and the first, and serves them on a new volume in memory,
+/// where it calls for two collections: one beside them, and one when they have left.
+pub(crate) fn spin<G: Gate + Sync, R: Threads + Wait + Sync>(
+    rt: &R,
+    alloc: Global,
+    gate: &G,
+    cylinders: u32,
+    seed: u64,
+    count: u64,
+) -> Played
+    requires some { 1 ≤ cylinders }
+    requires most { cylinders ≤ 1024 }
+    requires fits { 12 * count + 64 ≤ 63 * cylinders }
+    ensures { AsksSessions (new_ground cylinders seed) seed 2
+        (record { disk = None; sources = drawn_sources seed count; sinks = drains })
+        (record { disk = None; sources = drawn_sources seed count; sinks = drains })
+        result.report result.ending result.trail.events }
+{
+    scripts_have_so_many_lines();
+    let Some(scripts) = draw_scripts(alloc, seed, count) else {
+        return nothing(alloc, Cause::Memory);
+    };
+    let Ok(mut sinks) = Vec::from_array(alloc, [Drain, Drain, Drain, Drain]) else {
+        return nothing(alloc, Cause::Memory);
+    };
+    let Some(core) = new_volume(alloc, cylinders, seed) else {
+        return nothing(alloc, Cause::Memory);
+    };
+    let (played, _) = serve_scripts(rt, alloc, gate, core, scripts, &mut sinks, 2, true);
+    played
+}

@@ -1,0 +1,71 @@
+-- One commit past its bit that isn't carried out yet, and the parts in which it is.
+use Rattle.std.specs.Prelude.{ℕ, ◌+◌, ◌<◌, ◌==◌, ◌&&◌, if◌then◌else◌, not, length, Bool, true, false, List, []}
+use Rattle.std.specs.Prelude.{◌∷◌, Option, Some, None}
+use Rattle.std.specs.List.{All}
+use Rattle.cfs_base.specs.declared.identifier.BlockNo.{BlockNo}
+use Rattle.cyl_alloc.specs.declared.part.Part.{Part}
+use Rattle.cyl_alloc.specs.declared.part.Part.TheVariants.{Copy, Flip, Clear}
+
+-- the object's root block and shadow root; the blocks whose entries are still to be changed, the shadow root as the
+-- last; and whether the root has the shadow root's content
+pub record Left : Type 0 where
+  pub root : ℕ
+  pub shadow : ℕ
+  pub rest : List ℕ
+  pub copied : Bool
+
+-- ---- the parts
+
+abbrev pub block_no : ℕ → BlockNo
+block_no n = record { 0 = n }
+
+abbrev pub part_in : Left → Bool → List ℕ → Part
+part_in l false rest = Copy (block_no l.root) (block_no l.shadow)
+part_in l true [] = Clear (block_no l.root)
+part_in l true (n ∷ ns) = Flip (block_no n)
+
+-- the next one
+abbrev pub part_of : Left → Part
+part_of l = part_in l l.copied l.rest
+
+abbrev pub after_in : Left → Bool → List ℕ → Option Left
+after_in l false rest = Some (record l { copied = true })
+after_in l true [] = None
+after_in l true (n ∷ ns) = Some (record l { rest = ns })
+
+-- what is left after it
+abbrev pub after_part : Left → Option Left
+after_part l = after_in l l.copied l.rest
+
+abbrev pub after_next : Option Left → Option Left
+after_next None = None
+after_next (Some l) = after_part l
+
+-- how many there are
+abbrev pub parts_left : Option Left → ℕ
+parts_left None = 0
+parts_left (Some l) = 1 + length l.rest + (if l.copied then 0 else 1)
+
+-- the first of these blocks is the shadow root
+abbrev pub is_first : ℕ → List ℕ → Bool
+is_first s [] = false
+is_first s (n ∷ ns) = n == s
+
+-- ---- reads
+
+-- the block by which an object with this root block is read
+abbrev pub shown_in : Option Left → ℕ → ℕ
+shown_in None r = r
+shown_in (Some l) r = if (l.root == r) && not l.copied then l.shadow else r
+
+-- ---- a disk of this many blocks
+
+-- all blocks of it lie on the disk
+abbrev pub IsNear : ℕ → Option Left → Type 0
+IsNear size None = Unit {0}
+IsNear size (Some l) = (l.root < size) × (l.shadow < size) × All (λ n. n < size) l.rest
+
+abbrev pub IsPartNear : ℕ → Part → Type 0
+IsPartNear size (Copy root shadow) = (root.0 < size) × (shadow.0 < size)
+IsPartNear size (Flip block) = block.0 < size
+IsPartNear size (Clear root) = root.0 < size

@@ -1,0 +1,84 @@
+//! The one commit that a space keeps while it isn't carried out. None of these calls takes memory.
+ghost use Rattle.std.specs.Prelude.{◌≡◌, ◌<◌, ◌*◌, false, if◌then◌else◌, is_some, length, IsSome, None, Some, IfSome};
+ghost use Rattle.std.specs.List.{All};
+ghost use Rattle.std.specs.Option.{option_map};
+ghost use Rattle.cyl_alloc.specs.Left as left;
+
+use crate::part::Part;
+use crate::space::Space;
+use crate::unfinished::{Blocks, Unfinished};
+use cfs_base::BlockNo;
+
+impl Space {
+    /// Keeps a commit whose bit is durable. The blocks are those whose entries are still to be changed, the shadow root
+    /// as the last.
+    pub fn note(&mut self, root: BlockNo, shadow: BlockNo, rest: Blocks)
+        requires none { self.old.left ≡ None }
+        requires root { root.0 < 64 * length self.old.free }
+        requires shadow { shadow.0 < 64 * length self.old.free }
+        requires rest { All (λ n. n < 64 * length self.old.free) rest }
+        ensures { self.new ≡ record self.old {
+          left = Some (record {
+            root = root.0;
+            shadow = shadow.0;
+            rest = rest;
+            copied = false;
+          });
+        } }
+    {
+        self.unfinished = Some(Unfinished::new(root, shadow, rest));
+    }
+
+    /// How many commits aren't carried out: 1 or 0.
+    pub fn unfinished(&self) -> u32
+        ensures { result ≡ if is_some self.now.left then 1 else 0 }
+    {
+        self.unfinished.is_some() as u32
+    }
+
+    /// The block by which an object is read: the shadow root where its commit is kept and its root isn't copied, else
+    /// the root.
+    pub fn shown(&self, root: BlockNo) -> BlockNo
+        ensures { result.0 ≡ left.shown_in self.now.left root.0 }
+    {
+        match &self.unfinished {
+            Some(commit) => commit.shown(root),
+            None => root,
+        }
+    }
+
+    /// The next part of the commit that is kept. None exactly where none is.
+    pub fn next_part(&self) -> Option<Part>
+        ensures part { result ≡ option_map (λ l. left.part_of l) self.now.left }
+        ensures near { IfSome result (left.IsPartNear (64 * length self.now.free)) }
+    {
+        match &self.unfinished {
+            Some(commit) => Some(commit.part()),
+            None => None,
+        }
+    }
+
+    /// Whether the next block whose entry is changed is the shadow root.
+    pub fn is_shadow_next(&self) -> bool
+        ensures { (l : left.Left) → self.now.left ≡ Some l → result ≡ left.is_first l.shadow l.rest }
+    {
+        match &self.unfinished {
+            Some(commit) => commit.is_shadow_next(),
+            None => false,
+        }
+    }
+
+    /// The next part was made.
+    pub fn part_done(&mut self)
+        requires { IsSome self.old.left }
+        ensures { self.new ≡ record self.old { left = left.after_next self.old.left } }
+    {
+        let is_over = match &mut self.unfinished {
+            Some(commit) => commit.go_on(),
+            None => true,
+        };
+        if is_over {
+            self.unfinished = None;
+        }
+    }
+}

@@ -1,0 +1,134 @@
+//! A commit past its bit, and how far it is carried out.
+ghost use Rattle.std.specs.Prelude.{◌≡◌, true, false, None, Some};
+ghost use Rattle.cyl_alloc.specs.Left as spec;
+
+use crate::part::Part;
+use cfs_base::BlockNo;
+use std::marker::Model;
+
+/// Blocks, in their order. Clauses see the list of their numbers.
+#[derive(Debug, Drop)]
+pub struct Blocks {
+    items: Vec<u32>,
+}
+
+impl Model for Blocks {
+    ghost use Rattle.std.specs.Prelude.{List, ℕ};
+
+    ghost Value = { List ℕ };
+
+    ghost view = { λ a. a.items.items };
+}
+
+impl Blocks {
+    /// These blocks.
+    pub fn new(items: Vec<u32>) -> Blocks
+        ensures { result ≡ items.items }
+    {
+        Blocks { items }
+    }
+
+    /// Their numbers.
+    pub fn into_vec(self) -> Vec<u32>
+        ensures { result.items ≡ self }
+    {
+        self.items
+    }
+}
+
+/// What is left of a commit past its bit.
+#[derive(Debug, Drop)]
+pub(crate) struct Unfinished {
+    root: BlockNo,
+    shadow: BlockNo,
+    rest: Blocks,
+    /// How many of these are done.
+    done: usize,
+    copied: bool,
+}
+
+impl Model for Unfinished {
+    ghost use Rattle.std.specs.Prelude.{drop};
+    ghost use Rattle.cyl_alloc.specs.Left.{Left};
+
+    ghost Value = { Left };
+
+    ghost view = { λ a. record {
+      root = a.root.0;
+      shadow = a.shadow.0;
+      rest = drop a.done a.rest;
+      copied = a.copied;
+    } };
+}
+
+impl Unfinished {
+    /// All is left.
+    pub fn new(root: BlockNo, shadow: BlockNo, rest: Blocks) -> Unfinished
+        ensures { result ≡ record { root = root.0; shadow = shadow.0; rest = rest; copied = false } }
+    {
+        Unfinished {
+            root,
+            shadow,
+            rest,
+            done: 0,
+            copied: false,
+        }
+    }
+
+    /// The block by which an object is read.
+    pub fn shown(&self, root: BlockNo) -> BlockNo
+        ensures { result.0 ≡ spec.shown_in (Some self.now) root.0 }
+    {
+        if self.root == root && !self.copied {
+            self.shadow
+        } else {
+            root
+        }
+    }
+
+    /// The next part.
+    pub fn part(&self) -> Part
+        ensures { result ≡ spec.part_of self.now }
+    {
+        if !self.copied {
+            return Part::Copy {
+                root: self.root,
+                shadow: self.shadow,
+            };
+        }
+        match self.rest.items.get(self.done) {
+            Some(block) => Part::Flip {
+                block: BlockNo(*block),
+            },
+            None => Part::Clear { root: self.root },
+        }
+    }
+
+    /// Whether the next block whose entry is changed is the shadow root.
+    pub fn is_shadow_next(&self) -> bool
+        ensures { result ≡ spec.is_first self.now.shadow self.now.rest }
+    {
+        match self.rest.items.get(self.done) {
+            Some(block) => *block == self.shadow.0,
+            None => false,
+        }
+    }
+
+    /// The next part was made. Answers whether it was the last.
+    pub fn go_on(&mut self) -> bool
+        ensures goes { result ≡ false → spec.after_part self.old ≡ Some self.new }
+        ensures ends { result ≡ true → spec.after_part self.old ≡ None }
+    {
+        if !self.copied {
+            self.copied = true;
+            return false;
+        }
+        match self.rest.items.get(self.done) {
+            Some(_) => {
+                self.done += 1;
+                false
+            }
+            None => true,
+        }
+    }
+}

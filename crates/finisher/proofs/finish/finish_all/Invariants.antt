@@ -1,0 +1,24 @@
+use Rattle.std.proofs.Common.{◌≡◌, ◌*◌, ◌+◌, ◌≤◌, ℕ, true, false, length, Ok, None}
+use Rattle.std.specs.Prelude.{IsSome}
+use Rattle.cfs_base.specs.Calls.{HasTried, MakesAtMost}
+use Rattle.cfs_base.specs.Run.{IsSettled, Tells}
+use Rattle.cyl_alloc.specs.Left.{parts_left}
+use Rattle.finisher.specs.Going.{Goes, calls_left, tries_left}
+use Rattle.finisher.proofs.finish.finish_all.Given as goal
+
+abbrev pub invariant-parts : goal.invariant-parts
+invariant-parts g l = record {
+  goes : Goes g.D.Disk l.fn.disk l.disk l.fn.space l.space (Ok tt);
+  size : g.D.Disk.blocks l.disk ≡ 64 * length l.space.free;
+  cylinders : length l.space.free ≡ length l.fn.space.free;
+  tells : Tells g.D.Disk l.fn.disk → Tells g.D.Disk l.disk;
+  begun : l.tried ≡ false → (l.disk ≡ l.fn.disk) × (l.space ≡ l.fn.space);
+  tried : l.tried ≡ true → HasTried g.D.Disk l.fn.disk l.disk;
+  some : l.tried ≡ true → IsSome l.fn.space.left;
+  settled : l.tried ≡ true → l.space.left ≡ None → Tells g.D.Disk l.fn.disk → IsSettled g.D.Disk l.disk;
+  calls : (n t : ℕ) × (n + calls_left l.space.left ≤ calls_left l.fn.space.left) × (t + tries_left l.space.left ≤ tries_left l.fn.space.left)
+      × MakesAtMost g.D.Disk n t l.fn.disk l.disk;
+}
+
+abbrev pub decreases-parts : goal.decreases-parts
+decreases-parts g l = parts_left l.space.left

@@ -1,0 +1,100 @@
+-- A commit that is past its bit is carried on.
+use Rattle.std.specs.Prelude.{◌≡◌, ℕ, ◌+◌, ◌*◌, ◌<◌, Bool, false, if◌then◌else◌, List, length, Option, Some, None}
+use Rattle.std.specs.Prelude.{IfErr, IsSome, OnOk, Ok, Err, Result}
+use Rattle.block_tree.specs.Reads.{is_damage}
+use Rattle.cfs_base.specs.Calls.{HasStopped, HasTried, OnlyReads}
+use Rattle.cfs_base.specs.Codes.{no_entry}
+use Rattle.cfs_base.specs.Refusals.{trouble_had_tried}
+use Rattle.cfs_base.specs.Run.{Leaves, Tells}
+use Rattle.cfs_base.specs.declared.disk.Disk.{Ghosts}
+use Rattle.cfs_base.specs.declared.refusal.Trouble.{Trouble}
+use Rattle.cfs_base.specs.declared.refusal.Trouble.TheVariants as trouble
+use Rattle.cyl_alloc.specs.Left.{Left}
+use Rattle.cyl_alloc.specs.Space.{IsBadMap, Kept}
+use Rattle.cyl_alloc.specs.declared.part.Part.{Part}
+use Rattle.cyl_alloc.specs.declared.part.Part.TheVariants.{Copy, Flip, Clear}
+use Rattle.cyl_map.specs.Map.{is_free}
+use Rattle.cyl_map.specs.declared.entry.MapEntry.{MapEntry}
+use Rattle.intentions.specs.Left.{GoesWith, StoreWith, coming}
+use Rattle.ufs_model.specs.Graph.{Graph}
+use Rattle.vol_image.specs.Sound.{Holds}
+use Rattle.vol_owners.specs.Account.{Opened}
+
+-- ---- what a call does where the store has its objects
+
+-- From what was left to what is left now. The image that is to come stays, each image that a crash leaves on the way
+-- holds all objects, and no damage is met.
+pub record GoesFrom {D : Type 0} (g : Ghosts D) (old new : D) (before after : Kept) (was now : Option Left)
+    (result : Result (Unit {0}) Trouble) : Type 0 where
+  pub goes : (graph : Graph) → GoesWith g graph old before was → OnOk result (GoesWith g graph new after now)
+  pub comes : (graph : Graph) → GoesWith g graph old before was
+      → OnOk result (coming (g.content new) now ≡ coming (g.content old) was)
+  pub leaves : (graph : Graph) → GoesWith g graph old before was → Leaves g old new (λ c. Holds c graph)
+  pub sound : (graph : Graph) → GoesWith g graph old before was → IfErr result (λ t. is_damage t ≡ false)
+  -- each block has its use, as before
+  pub store : (graph : Graph) (drafts : List Opened) → StoreWith g graph drafts old before was
+      → OnOk result (StoreWith g graph drafts new after now)
+
+abbrev pub Goes : {D : Type 0} → Ghosts D → D → D → Kept → Kept → Result (Unit {0}) Trouble → Type 0
+Goes g old new before after result = GoesFrom g old new before after before.left after.left result
+
+-- ---- on any disk
+
+-- a device call failed, or a map block was read and is none
+abbrev pub IsLeftTrouble : {D : Type 0} → Ghosts D → D → D → Trouble → Type 0
+IsLeftTrouble g old new (trouble.Disk tried) = HasStopped g tried old new
+IsLeftTrouble g old new (trouble.Damaged damage) = (damage.code ≡ no_entry) × (damage.block < g.blocks new)
+    × (Tells g old → IsBadMap (g.content new) damage.block)
+
+-- one part, and why it isn't made
+pub record PartEnds {D : Type 0} (g : Ghosts D) (old new : D) (result : Result (Unit {0}) Trouble) : Type 0 where
+  pub tells : Tells g old → OnOk result (Tells g new)
+  pub tried : OnOk result (HasTried g old new)
+  pub refused : IfErr result (IsLeftTrouble g old new)
+  pub unless_tried : IfErr result (λ t. trouble_had_tried t ≡ false → OnlyReads g 1 old new)
+
+-- all parts that were left
+pub record Ends {D : Type 0} (g : Ghosts D) (old new : D) (before after : Kept)
+    (result : Result (Unit {0}) Trouble) : Type 0 where
+  pub tells : Tells g old → OnOk result (Tells g new)
+  pub tried : IsSome before.left → OnOk result (HasTried g old new)
+  pub refused : IfErr result (IsLeftTrouble g old new)
+  -- where a device call failed before the first try, only reads were made
+  pub untried : IfErr result (λ t. t ≡ trouble.Disk false → OnlyReads g 1 old new × (after ≡ before))
+
+-- ---- device calls
+
+abbrev pub calls_of : Part → ℕ
+calls_of (Copy root shadow) = 3
+calls_of (Flip block) = 2
+calls_of (Clear root) = 4
+
+abbrev pub tries_of : Part → ℕ
+tries_of (Copy root shadow) = 2
+tries_of (Flip block) = 1
+tries_of (Clear root) = 3
+
+abbrev pub calls_left : Option Left → ℕ
+calls_left None = 0
+calls_left (Some l) = (if l.copied then 0 else 3) + (2 * length l.rest + 4)
+
+abbrev pub tries_left : Option Left → ℕ
+tries_left None = 0
+tries_left (Some l) = (if l.copied then 0 else 2) + (length l.rest + 3)
+
+-- ---- what is left before the copy
+
+-- the root at r isn't copied yet
+abbrev pub IsUncopied : ℕ → Option Left → Type 0
+IsUncopied r None = ⊥
+IsUncopied r (Some l) = (l.copied ≡ false) × (l.root ≡ r)
+
+-- ---- entries and results
+
+-- a block became Free
+abbrev pub is_freed : MapEntry → MapEntry → Bool
+is_freed was now = if is_free was then false else is_free now
+
+abbrev pub unit_of : {A : Type 0} → Result A Trouble → Result (Unit {0}) Trouble
+unit_of (Ok x) = Ok tt
+unit_of (Err t) = Err t

@@ -1,0 +1,107 @@
+//! A commit that is past its bit, carried out.
+ghost use Rattle.std.specs.Prelude.{◌≡◌, ◌≢◌, ◌*◌, ◌-◌, ◌<◌, true, false, is_some, length, IfErr, IfOk, IsErr};
+ghost use Rattle.std.specs.Prelude.{IsSome, None, OnOk, Some};
+ghost use Rattle.cfs_base.specs.Calls.{MakesAtMost};
+ghost use Rattle.cfs_base.specs.Disk.{block_at};
+ghost use Rattle.cfs_base.specs.Refusals.{trouble_after_try};
+ghost use Rattle.cfs_base.specs.Run.{IsSettled, Tells};
+ghost use Rattle.cfs_base.specs.declared.refusal.Trouble.TheVariants as troubles;
+ghost use Rattle.cyl_alloc.specs.Left as left;
+ghost use Rattle.finisher.specs.Going as spec;
+
+use crate::part::{copy, make};
+use cfs_base::{Block, BlockNo, Disk, Trouble};
+use cyl_alloc::Space;
+
+/// Makes one part of the commit that is kept, by at most four device calls, and answers whether there was one.
+/// `Damaged` names a map block, with code 2, which is none. Where it is refused the part isn't done.
+pub fn step<D: Disk>(disk: &mut D, space: &mut Space) -> Result<bool, Trouble>
+    requires size { D.blocks disk.old ≡ 64 * length space.old.free }
+    ensures goes { spec.Goes D.Disk disk.old disk.new space.old space.new (spec.unit_of result) }
+    ensures told { IfOk result (λ some. some ≡ is_some space.old.left) }
+    ensures left { OnOk result (space.new.left ≡ left.after_next space.old.left) }
+    // After the last part nothing waits.
+    ensures settled { IsSome space.old.left → left.after_next space.old.left ≡ None → Tells D.Disk disk.old
+        → OnOk result (IsSettled D.Disk disk.new) }
+    ensures kept { IsErr result → space.new ≡ space.old }
+    ensures none { space.old.left ≡ None → (disk.new ≡ disk.old) × (space.new ≡ space.old) }
+    ensures cylinders { length space.new.free ≡ length space.old.free }
+    ensures ends { IsSome space.old.left → spec.PartEnds D.Disk disk.old disk.new (spec.unit_of result) }
+    ensures of_part { (l : left.Left) → space.old.left ≡ Some l → MakesAtMost D.Disk (spec.calls_of (left.part_of l))
+        (spec.tries_of (left.part_of l)) disk.old disk.new }
+    ensures calls { MakesAtMost D.Disk 4 3 disk.old disk.new }
+{
+    let Some(part) = space.next_part() else {
+        return Ok(false);
+    };
+    match make(disk, space, part, space.is_shadow_next()) {
+        Ok(()) => {
+            space.part_done();
+            Ok(true)
+        }
+        Err(trouble) => Err(trouble),
+    }
+}
+
+/// The trouble of a call that may have made parts before.
+fn since(tried: bool, trouble: Trouble) -> Trouble
+    ensures some { tried ≡ true → result ≡ trouble_after_try trouble }
+    ensures none { tried ≡ false → result ≡ trouble }
+{
+    if tried { trouble.after_try() } else { trouble }
+}
+
+/// Makes all parts that are left of the commit that is kept. Refused as `step`; the parts before are done.
+pub fn finish_all<D: Disk>(disk: &mut D, space: &mut Space) -> Result<(), Trouble>
+    requires size { D.blocks disk.old ≡ 64 * length space.old.free }
+    ensures goes { spec.Goes D.Disk disk.old disk.new space.old space.new result }
+    ensures done { OnOk result (space.new.left ≡ None) }
+    // Where something was left, nothing waits then.
+    ensures settled { IsSome space.old.left → Tells D.Disk disk.old → OnOk result (IsSettled D.Disk disk.new) }
+    ensures none { space.old.left ≡ None → (disk.new ≡ disk.old) × (space.new ≡ space.old) }
+    ensures cylinders { length space.new.free ≡ length space.old.free }
+    ensures ends { spec.Ends D.Disk disk.old disk.new space.old space.new result }
+    ensures calls { MakesAtMost D.Disk (spec.calls_left space.old.left) (spec.tries_left space.old.left) disk.old
+        disk.new }
+{
+    let mut tried = false;
+    'parts: while space.unfinished() > 0 {
+        match step(disk, space) {
+            Ok(_) => {}
+            Err(trouble) => return Err(since(tried, trouble)),
+        }
+        tried = true;
+    }
+    Ok(())
+}
+
+/// The same of a commit that was kept just now, with the content of its shadow root, which isn't read again.
+pub fn finish_written<D: Disk>(
+    disk: &mut D,
+    space: &mut Space,
+    root: BlockNo,
+    content: &Block,
+) -> Result<(), Trouble>
+    requires size { D.blocks disk.old ≡ 64 * length space.old.free }
+    requires on_disk { root.0 < D.blocks disk.old }
+    requires left { spec.IsUncopied root.0 space.old.left }
+    ensures goes { ((l : left.Left) → space.old.left ≡ Some l → block_at (D.content disk.old) l.shadow ≡ content.now)
+        → spec.Goes D.Disk disk.old disk.new space.old space.new result }
+    ensures done { OnOk result (space.new.left ≡ None) }
+    ensures settled { Tells D.Disk disk.old → OnOk result (IsSettled D.Disk disk.new) }
+    ensures cylinders { length space.new.free ≡ length space.old.free }
+    // Nothing is read before the first write.
+    ensures told { IfErr result (λ t. t ≢ troubles.Disk false) }
+    ensures ends { spec.Ends D.Disk disk.old disk.new space.old space.new result }
+    ensures calls { MakesAtMost D.Disk (spec.calls_left space.old.left - 1) (spec.tries_left space.old.left) disk.old
+        disk.new }
+{
+    match copy(disk, root, content) {
+        Ok(()) => space.part_done(),
+        Err(trouble) => return Err(trouble),
+    }
+    match finish_all(disk, space) {
+        Ok(()) => Ok(()),
+        Err(trouble) => Err(trouble.after_try()),
+    }
+}

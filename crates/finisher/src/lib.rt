@@ -1,0 +1,9 @@
+//! A commit past its bit, carried out part by part: the copy of the root, the entries, and the commit bit. The layer
+//! above uses that no part changes the image that is to come, that each image on the way holds all objects, and that at
+//! the end nothing is left and nothing waits.
+#![tactic(auto)]
+
+mod finish;
+mod part;
+
+pub use finish::{finish_all, finish_written, step};

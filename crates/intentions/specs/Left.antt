@@ -1,0 +1,104 @@
+-- A store in which one commit is past its bit and not carried out.
+use Rattle.std.specs.Prelude.{◌≡◌, ℕ, ◌==◌, Bool, true, false, List, [], ◌∷◌, ◌++◌, set, Option, Some, None}
+use Rattle.cfs_base.specs.Disk.{Image, block_at}
+use Rattle.cfs_base.specs.Run.{IsSettled}
+use Rattle.cfs_base.specs.declared.disk.Disk.{Ghosts}
+use Rattle.cfs_base.specs.declared.identifier.Puid.{Puid}
+use Rattle.cyl_alloc.specs.Left.{Left}
+use Rattle.cyl_alloc.specs.Space.{AreCounts, Kept}
+use Rattle.cyl_map.specs.Volume.{entry_in}
+use Rattle.cyl_map.specs.declared.entry.MapEntry.{MapEntry}
+use Rattle.intentions.specs.Commit.{IsCommitted}
+use Rattle.intentions.specs.Course.{IsCopied, Keeps, Settling}
+use Rattle.intentions.specs.Entries.{changed}
+use Rattle.intentions.specs.Flips.{Flip, MayFlip, flip, flipped, flips}
+use Rattle.intentions.specs.Store.{StoreHas}
+use Rattle.intentions.specs.declared.change.Change.{Change}
+use Rattle.intentions.specs.declared.change.Change.TheVariants.{ClearBit, Finish, Undo}
+use Rattle.ufs_model.specs.Graph.{Graph, ids_of}
+use Rattle.ufs_model.specs.Identifier.{rises}
+use Rattle.ufs_model.specs.Numbers.{has_number}
+use Rattle.ufs_model.specs.declared.object.Object.{Object}
+use Rattle.vol_image.specs.Run.{Carries}
+use Rattle.vol_owners.specs.Account.{Accounts, Opened, drafts_of}
+use Rattle.vol_owners.specs.Change.{IsOpenTo, of_owners}
+
+-- ---- what is to come
+
+-- the shadow root is given back, all else is carried out
+abbrev pub how_for : Bool → Change
+how_for true = Undo
+how_for false = Finish
+
+abbrev pub to_flip : ℕ → List ℕ → List Flip
+to_flip s [] = []
+to_flip s (n ∷ ns) = record { block = n; how = how_for (n == s) } ∷ to_flip s ns
+
+-- the entries that are still to be changed, the root's as the last
+abbrev pub plan : Left → List Flip
+plan l = to_flip l.shadow l.rest ++ flips ClearBit (l.root ∷ [])
+
+abbrev pub copied_if : Bool → Left → Image → Image
+copied_if true l image = image
+copied_if false l image = set image l.root (block_at image l.shadow)
+
+-- what the image is once nothing is left
+abbrev pub coming : Image → Option Left → Image
+coming image None = image
+coming image (Some l) = flipped (copied_if l.copied l image) (plan l)
+
+-- ---- how far it is
+
+-- Each entry that is changed is open to changes of these owners, before it and after it.
+abbrev pub AreOpen : (Option MapEntry → Bool) → Image → List Flip → Type 0
+AreOpen T image [] = Unit {0}
+AreOpen T image (x ∷ xs) = ((e : MapEntry) × (entry_in image x.block ≡ Some e) × IsOpenTo T (Some e)
+    × IsOpenTo T (Some (changed x.how e))) × AreOpen T (flip image x) xs
+
+-- The object's commit bit stands, it is read by its shadow root, and nothing waits for a barrier. Or its root is
+-- copied, and each image that a crash leaves is one in which it settles. What is left may be done.
+abbrev pub GoesOn : {D : Type 0} → Ghosts D → Bool → Graph → Puid → Object → Left → D → Type 0
+GoesOn g false graph id o l d = IsSettled g d × IsCommitted (g.content d) graph id o l.shadow
+    × MayFlip (Settling (copied_if false l (g.content d)) graph id o l.shadow) (copied_if false l (g.content d))
+    (plan l)
+GoesOn g true graph id o l d = (c : Image) × IsCopied c graph id o l.shadow
+    × Keeps g (Settling c graph id o l.shadow) d × MayFlip (Settling c graph id o l.shadow) (g.content d) (plan l)
+
+-- These objects are carried on: one of them, whose commit is past its bit, goes on as far as it is. The Free blocks of
+-- the disk as it is are counted.
+pub record IsGoing {D : Type 0} (g : Ghosts D) (graph : Graph) (disk : D) (space : Kept) (l : Left) : Type 0 where
+  pub id : Puid
+  pub object : Object
+  pub root_is : id.block ≡ l.root
+  pub goes : GoesOn g l.copied graph id object l disk
+  pub counts : AreCounts (g.content disk) space
+
+abbrev pub GoesWith : {D : Type 0} → Ghosts D → Graph → D → Kept → Option Left → Type 0
+GoesWith g graph disk space None = Carries g graph disk × AreCounts (g.content disk) space
+GoesWith g graph disk space (Some l) = IsGoing g graph disk space l
+
+-- ---- with the blocks of all objects and drafts
+
+-- The store has these objects and drafts. Each block of the image that is to come has its use.
+pub record HasLeft {D : Type 0} (g : Ghosts D) (graph : Graph) (drafts : List Opened) (disk : D) (space : Kept)
+    (l : Left) : Type 0 where
+  pub going : IsGoing g graph disk space l
+  -- Of this object, and one that is made with it, are all entries that are still to be changed, and no draft is theirs.
+  pub owners : List ℕ
+  pub own : has_number going.id.block owners ≡ true
+  pub opens : AreOpen (λ e. of_owners owners e) (copied_if l.copied l (g.content disk)) (plan l)
+  pub shut : (x : Puid) → has_number x.block owners ≡ true → drafts_of drafts x ≡ []
+  pub account : Accounts (coming (g.content disk) (Some l)) graph drafts
+  pub ordered : rises (ids_of graph) ≡ true
+
+-- what stands between two calls, with what is left of one commit or with none
+abbrev pub StoreWith : {D : Type 0} → Ghosts D → Graph → List Opened → D → Kept → Option Left → Type 0
+StoreWith g graph drafts disk space None = StoreHas g graph drafts disk space
+StoreWith g graph drafts disk space (Some l) = HasLeft g graph drafts disk space l
+
+abbrev pub StoreIs : {D : Type 0} → Ghosts D → Graph → List Opened → D → Kept → Type 0
+StoreIs g graph drafts disk space = StoreWith g graph drafts disk space space.left
+
+-- the image to which it comes
+abbrev pub end_of : {D : Type 0} → Ghosts D → D → Kept → Image
+end_of g disk space = coming (g.content disk) space.left

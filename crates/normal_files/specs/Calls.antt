@@ -1,0 +1,58 @@
+-- What a call that changes a file is handed, and what it did.
+use Rattle.std.specs.Prelude.{◌≡◌, ℕ, ◌+◌, ◌≤◌, false, true, List, [], Some, Result, IfErr, OnOk, length, sum}
+use Rattle.cfs_base.specs.Run.{IsSettled, Leaves}
+use Rattle.cfs_base.specs.declared.disk.Disk.{Ghosts}
+use Rattle.cfs_base.specs.declared.identifier.Puid.{Puid}
+use Rattle.cfs_base.specs.declared.refusal.Refused.{Refused}
+use Rattle.cfs_base.specs.declared.refusal.Refused.TheVariants as refusals
+use Rattle.claims.specs.Claims.{AreClaimed}
+use Rattle.cyl_alloc.specs.Space.{Kept}
+use Rattle.intentions.specs.Store.{StoreHas}
+use Rattle.normal_files.specs.Ends.{is_damaged}
+use Rattle.normal_files.specs.Frees.{TakesNone}
+use Rattle.normal_files.specs.Order.{claims_of}
+use Rattle.normal_files.specs.Standing.{BecomesFile, IsPartly}
+use Rattle.normal_files.specs.WriteRefusal.{TellsNeed, needs}
+use Rattle.ufs_model.specs.Graph.{Graph, object_at}
+use Rattle.ufs_model.specs.Object.{resized, written}
+use Rattle.ufs_model.specs.declared.object.File.{File}
+use Rattle.ufs_model.specs.declared.object.Object.TheVariants as objects
+use Rattle.vol_owners.specs.Account.{Opened, drafts_of}
+
+-- the store has a file without a draft, and its root is in this block
+pub record Handed {D : Type 0} (g : Ghosts D) (at : ℕ) (disk : D) (space : Kept) : Type 0 where
+  pub graph : Graph
+  pub drafts : List Opened
+  pub id : Puid
+  pub file : File
+  pub store : StoreHas g graph drafts disk space
+  pub there : object_at graph id ≡ Some (objects.File file)
+  pub no_draft : drafts_of drafts id ≡ []
+  pub here : id.block ≡ at
+
+-- A write of bytes at an offset. Done, the store has the file with them, and that outlasts a crash. Each touched leaf
+-- that wasn't held took the least Free block, and after it its node: in increasing order. Done or not, each image that
+-- is left has each leaf old or new. It is Full exactly where fewer blocks are Free than the write needs, with the
+-- floor; where a write was tried so many were Free.
+pub record WritesFile {D : Type 0} {g : Ghosts D} {at : ℕ} {disk : D} {space : Kept} (h : Handed g at disk space)
+    (offset : ℕ) (bytes : List ℕ) (floor : ℕ) (new : D) (after : Kept)
+    (result : Result (Unit {0}) Refused) : Type 0 where
+  pub done : OnOk result (BecomesFile g h.graph h.drafts h.id (written h.file offset bytes) disk new after)
+  pub settled : OnOk result (IsSettled g new)
+  pub order : OnOk result (AreClaimed (claims_of at h.file offset (length bytes)) (g.content disk) (g.content new))
+  pub images : Leaves g disk new (λ c. IsPartly c h.graph h.id h.file (written h.file offset bytes))
+  pub sound : IfErr result (λ e. is_damaged e ≡ false)
+  pub room : OnOk result (needs h.file offset (length bytes) + floor ≤ sum space.free)
+  pub full : IfErr result (TellsNeed (needs h.file offset (length bytes)))
+  pub begun : IfErr result (λ e. e ≡ refusals.Disk true → needs h.file offset (length bytes) + floor ≤ sum space.free)
+
+-- A size set. Done, the store has the file of this size, and no block was taken. A resize to less ends in writes of
+-- maps that no barrier follows: they free what the file had. Done or not, each image that is left has the size and each
+-- leaf old or new.
+pub record ResizesFile {D : Type 0} {g : Ghosts D} {at : ℕ} {disk : D} {space : Kept} (h : Handed g at disk space)
+    (size : ℕ) (new : D) (after : Kept) (result : Result (Unit {0}) Refused) : Type 0 where
+  pub done : OnOk result (BecomesFile g h.graph h.drafts h.id (resized h.file size) disk new after)
+  pub takes_none : OnOk result (TakesNone (g.content disk) (g.content new))
+  pub settled : length h.file.bytes ≤ size → OnOk result (IsSettled g new)
+  pub images : Leaves g disk new (λ c. IsPartly c h.graph h.id h.file (resized h.file size))
+  pub sound : IfErr result (λ e. is_damaged e ≡ false)
