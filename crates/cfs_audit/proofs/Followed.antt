@@ -1,6 +1,6 @@
 -- A run that is followed line after line.
 use Rattle.std.proofs.Common.{◌≡◌, ℕ, ◌+◌, ◌≤◌, List, [], ◌∷◌, ◌++◌, length, refl, sym, ap, subst, ◌∙◌, inr, arith, true, Some, None, length-append}
-use Rattle.cfs_audit.proofs.Words.{Err, Event, IfOk, IsBad, IsBadLine, IsFollowed, IsIllegal, IsLast, IsLineOf, IsNoLine, IsVerdict, NoMemory, Ok, Opening, Result, Server, Verdict, and_from, append-nil, append_assoc, begun, ended, event_line, fits, flat_map, flat_map-append, fresh_graph, has_no_end, in_8, list_all, list_all-append, next, opening, opening_fits, opening_line, option_and_then, replay_from-push, root_of, status_line}
+use Rattle.cfs_audit.proofs.Words.{EndsIn, Err, Event, IfOk, IsBad, IsFollowed, HasVerdict, IsLast, IsLineOf, IsNoLine, IsVerdict, NoMemory, Ok, Opening, Result, Server, Verdict, and_from, append-nil, append_assoc, begun, ended, event_line, fits, flat_map, flat_map-append, fresh_graph, has_no_end, in_8, list_all, list_all-append, next, opening, opening_fits, opening_line, option_and_then, replay_from-push, root_of, status_line}
 use Rattle.cfs_audit.specs.declared.trail.Verdict.TheVariants as verdicts
 use Rattle.cfs_audit.proofs.Lines.{bad, unended_bad}
 
@@ -50,52 +50,35 @@ module _ (text rest more : List ℕ) (o : Opening) (count : ℕ) (old new : Serv
 abbrev pub started : Opening → ℕ → Server
 started o w = record { seed = o.seed; state = opening (fresh_graph (record { block = 2; word = w })) }
 
-module _ (text rest line more : List ℕ) (o : Opening) (count : ℕ) (server : Server) (h : IsAt text rest o count server) (cut : rest ≡ line ++ 10 ∷ more) where
-  pub illegal_here : (event : Event) → IsLineOf line event → next server.seed server.state event ≡ None → IsIllegal text (count + 1)
-  illegal_here event is none = record {
-    o = o;
-    events = h.events;
-    s = server.state;
-    event = event;
-    more = more;
-    followed = record {
-      opened = h.followed.opened;
-      is = h.followed.is ∙ ap (λ t. begun o h.events ++ t) (cut ∙ ap (λ l. l ++ 10 ∷ more) is.is ∙ sym (append_assoc (event_line event) (10 ∷ []) more));
-      fitting = h.followed.fitting;
-      allowed = h.followed.allowed;
-    };
-    fitting = is.fitting;
-    forbidden = subst (λ (k : ℕ). next k server.state event ≡ None) h.seed none;
-    placed = ap (λ n. n + 1) h.counted;
-  }
+module _ (text rest : List ℕ) (o : Opening) (count : ℕ) (server : Server) (h : IsAt text rest o count server) where
+  found : (v : Verdict) → EndsIn o.seed server.state rest (length h.events) v → HasVerdict text v
+  found v is = record { o = o; events = h.events; s = server.state; rest = rest; followed = h.followed; ends = is }
 
-  bad_here : IsBad rest → IsBadLine text (count + 2)
-  bad_here is = record { o = o; events = h.events; s = server.state; rest = rest; followed = h.followed; bad = is; placed = ap (λ n. n + 2) h.counted }
+  bad_here : IsBad rest → HasVerdict text (verdicts.BadLine (count + 2))
+  bad_here is = found (verdicts.BadLine (count + 2)) (is, ap (λ n. n + 2) h.counted)
 
-  module _ (clear : has_no_end line ≡ true) (event_ends : (event : Event) → fits event ≡ true → has_no_end (event_line event) ≡ true)
-      (status_ends : (n : ℕ) → in_8 n ≡ true → has_no_end (status_line n) ≡ true) (none : IsNoLine line) where
-    ended_so : (v : Verdict) → IsLast line more count v → IsVerdict text v
-    ended_so (verdicts.Legal n) is = record {
-      o = o;
-      events = h.events;
-      s = server.state;
-      status = is.0;
-      within = is.1;
-      followed = record {
-        opened = h.followed.opened;
-        is = h.followed.is ∙ ap (λ t. begun o h.events ++ t) (cut ∙ ap (λ l. l ++ 10 ∷ more) is.2 ∙ ap (λ t. status_line is.0 ++ 10 ∷ t) is.3);
-        fitting = h.followed.fitting;
-        allowed = h.followed.allowed;
-      };
-      counted = is.4 ∙ h.counted;
-    }
-    ended_so (verdicts.Illegal place) is = absurd is
-    ended_so (verdicts.BadLine place) is = inr (subst (IsBadLine text) (sym is.1) (bad_here (subst IsBad (sym cut) (bad line more clear event_ends status_ends none is.0))))
+  pub broken_off : has_no_end rest ≡ true → HasVerdict text (verdicts.BadLine (count + 2))
+  broken_off none = bad_here (unended_bad rest none)
 
-    pub last_verdict : (r : Result Verdict NoMemory) → IfOk r (λ v. IsLast line more count v) → IfOk r (λ v. IsVerdict text v)
-    last_verdict (Ok v) is = ended_so v is
-    last_verdict (Err e) is = is
+  module _ (line more : List ℕ) (cut : rest ≡ line ++ 10 ∷ more) where
+    pub illegal_here : (event : Event) → IsLineOf line event → next server.seed server.state event ≡ None → HasVerdict text (verdicts.Illegal (count + 1))
+    illegal_here event is none = found (verdicts.Illegal (count + 1)) (
+      event,
+      more,
+      is.fitting,
+      cut ∙ ap (λ l. l ++ 10 ∷ more) is.is ∙ sym (append_assoc (event_line event) (10 ∷ []) more),
+      subst (λ (k : ℕ). next k server.state event ≡ None) h.seed none,
+      ap (λ n. n + 1) h.counted,
+    )
 
-pub broken_off : (text rest : List ℕ) (o : Opening) (count : ℕ) (server : Server) → IsAt text rest o count server → has_no_end rest ≡ true → IsBadLine text (count + 2)
-broken_off text rest o count server h none =
-    record { o = o; events = h.events; s = server.state; rest = rest; followed = h.followed; bad = unended_bad rest none; placed = ap (λ n. n + 2) h.counted }
+    module _ (clear : has_no_end line ≡ true) (event_ends : (event : Event) → fits event ≡ true → has_no_end (event_line event) ≡ true)
+        (status_ends : (n : ℕ) → in_8 n ≡ true → has_no_end (status_line n) ≡ true) (none : IsNoLine line) where
+      ended_so : (v : Verdict) → IsLast line more count v → IsVerdict text v
+      ended_so (verdicts.Legal n) is = found (verdicts.Legal n)
+          (is.0, is.1, cut ∙ ap (λ l. l ++ 10 ∷ more) is.2 ∙ ap (λ t. status_line is.0 ++ 10 ∷ t) is.3, is.4 ∙ h.counted)
+      ended_so (verdicts.Illegal place) is = absurd is
+      ended_so (verdicts.BadLine place) is = inr (subst (λ n. HasVerdict text (verdicts.BadLine n)) (sym is.1) (bad_here (subst IsBad (sym cut) (bad line more clear event_ends status_ends none is.0))))
+
+      pub last_verdict : (r : Result Verdict NoMemory) → IfOk r (λ v. IsLast line more count v) → IfOk r (λ v. IsVerdict text v)
+      last_verdict (Ok v) is = ended_so v is
+      last_verdict (Err e) is = is

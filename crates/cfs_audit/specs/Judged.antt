@@ -3,8 +3,8 @@ use Rattle.std.specs.Prelude.{◌≡◌, ◌≢◌, ℕ, ◌+◌, ◌≤◌, tru
 use Rattle.ufs_model.specs.Next.{next}
 use Rattle.ufs_model.specs.Plain.{Server}
 use Rattle.ufs_model.specs.declared.asked.Event.{Event}
-use Rattle.trail_text.specs.Fits.{in_8}
 use Rattle.trail_text.specs.Read.{IsLineOf, IsNoLine}
+use Rattle.trail_text.specs.Token.{in_8}
 use Rattle.trail_text.specs.Trail.{status_line}
 use Rattle.cfs_audit.specs.declared.trail.Judged.{Judged}
 use Rattle.cfs_audit.specs.declared.trail.Judged.TheVariants.{Followed, Illegal, NoEvent}

@@ -10,7 +10,8 @@ use Rattle.ufs_model.specs.Run.{replay}
 use Rattle.ufs_model.specs.declared.asked.Event.{Event}
 use Rattle.trail_text.specs.declared.ends.Opening.{Opening}
 use Rattle.trail_text.specs.EventLine.{event_line}
-use Rattle.trail_text.specs.Fits.{fits, in_8}
+use Rattle.trail_text.specs.Fits.{fits}
+use Rattle.trail_text.specs.Token.{in_8}
 use Rattle.trail_text.specs.Trail.{begun, ended, opening_fits, opening_line, status_line}
 use Rattle.cfs_audit.specs.declared.trail.Verdict.{Verdict}
 use Rattle.cfs_audit.specs.declared.trail.Verdict.TheVariants as verdicts
@@ -35,39 +36,30 @@ pub record IsBad (rest : List ℕ) : Type 0 where
 abbrev pub IsUnopened : List ℕ → Type 0
 IsUnopened text = (o : Opening) (more : List ℕ) → opening_fits o ≡ true → text ≢ ended (opening_line o) ++ more
 
--- a legal trail of so many events
-pub record IsLegal (text : List ℕ) (count : ℕ) : Type 0 where
-  pub o : Opening
-  pub events : List Event
-  pub s : State
-  pub status : ℕ
-  pub within : in_8 status ≡ true
-  pub followed : IsFollowed text (ended (status_line status)) o events s
-  pub counted : count ≡ length events
+-- how it goes on behind so many events, which may happen up to this state: with a last line that ends it; with an event
+-- that may not happen; or with a line that a trail doesn't have there
+abbrev pub EndsIn : (seed : ℕ) → State → (rest : List ℕ) → (count : ℕ) → Verdict → Type 0
+EndsIn seed s rest count (verdicts.Legal n) =
+    (status : ℕ) × (in_8 status ≡ true) × (rest ≡ ended (status_line status)) × (n ≡ count)
+EndsIn seed s rest count (verdicts.Illegal n) =
+    (event : Event) × (more : List ℕ) × (fits event ≡ true) × (rest ≡ ended (event_line event) ++ more)
+    × (next seed s event ≡ None) × (n ≡ count + 1)
+EndsIn seed s rest count (verdicts.BadLine n) = IsBad rest × (n ≡ count + 2)
 
--- after some events one that may not happen
-pub record IsIllegal (text : List ℕ) (place : ℕ) : Type 0 where
-  pub o : Opening
-  pub events : List Event
-  pub s : State
-  pub event : Event
-  pub more : List ℕ
-  pub followed : IsFollowed text (ended (event_line event) ++ more) o events s
-  pub fitting : fits event ≡ true
-  pub forbidden : next o.seed s event ≡ None
-  pub placed : place ≡ length events + 1
-
--- after some events a line that a trail doesn't have there
-pub record IsBadLine (text : List ℕ) (line : ℕ) : Type 0 where
+-- it has a first line, and events that may happen, as far as the verdict tells
+pub record HasVerdict (text : List ℕ) (verdict : Verdict) : Type 0 where
   pub o : Opening
   pub events : List Event
   pub s : State
   pub rest : List ℕ
   pub followed : IsFollowed text rest o events s
-  pub bad : IsBad rest
-  pub placed : line ≡ length events + 2
+  pub ends : EndsIn o.seed s rest (length events) verdict
+
+-- a legal trail of so many events
+abbrev pub IsLegal : List ℕ → (count : ℕ) → Type 0
+IsLegal text count = HasVerdict text (verdicts.Legal count)
 
 abbrev pub IsVerdict : List ℕ → Verdict → Type 0
 IsVerdict text (verdicts.Legal count) = IsLegal text count
-IsVerdict text (verdicts.Illegal place) = IsIllegal text place
-IsVerdict text (verdicts.BadLine line) = (IsUnopened text × (line ≡ 1)) ⊎ IsBadLine text line
+IsVerdict text (verdicts.Illegal place) = HasVerdict text (verdicts.Illegal place)
+IsVerdict text (verdicts.BadLine line) = (IsUnopened text × (line ≡ 1)) ⊎ HasVerdict text (verdicts.BadLine line)

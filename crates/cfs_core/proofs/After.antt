@@ -1,10 +1,11 @@
 -- A call that reads, and then goes on.
-use Rattle.std.proofs.Common.{◌≡◌, ℕ, ◌<◌, length, true, false, None, Result, Ok, Err, refl, ◌∙◌, subst, sum}
-use Rattle.cfs_core.proofs.Words.{Ghosts, Image, Index, Leaves, OnlyReads, Puid, refusal_of, Refused, Reply, Request, State, then, wider}
+use Rattle.std.proofs.Common.{◌≡◌, ℕ, ◌<◌, length, true, false, None, Result, Ok, Err, refl, subst, sum, ◌+◌, arith}
+use Rattle.cfs_core.proofs.Words.{Ghosts, Image, Index, Leaves, OnlyReads, Puid, refusal_of, Refused, Reply, Request, State, then, wider, reads_then}
 use Rattle.cfs_base.specs.declared.refusal.Refused.TheVariants as refusals
 use Rattle.ufs_model.specs.declared.asked.Reply.TheVariants as replies
 use Rattle.ufs_model.specs.declared.object.Object.TheVariants as objects
 use Rattle.cfs_core.specs.Calls.{AddsNoStray, Answers, EndsSo, Owes, Tries, TriesOn}
+use Rattle.cfs_core.specs.Claimed.{Takes}
 use Rattle.cfs_core.specs.Kernel.{Kernel}
 use Rattle.cfs_core.specs.Looks.{ReachesAll}
 use Rattle.cfs_core.specs.StandsFor.{Serves}
@@ -23,8 +24,9 @@ module _ {D : Type 0} (g : Ghosts D) (n : ℕ) (old : Kernel D) (d : D) (new : K
     answers : (reply : Reply) → Answers g mid new s who request reply → Answers g old new s who request reply
     answers reply is = record {
       event = record { after = is.event.after; step = is.event.step; stores = is.event.stores; strays = subst (λ (i : Image). AddsNoStray i (g.content new.disk) s.graph is.event.after.graph) reads.content is.event.strays; survives = record { crashes = first _ is.event.survives.crashes; now = is.event.survives.now } };
-      still = λ all. is.still all ∙ reads.content;
+      still = λ all. let was = is.still all in record { same = was.same; most = n + was.most; reads = reads_then g old.disk d new.disk n was.most (n + was.most) reads was.reads (omega arith) };
       owed = subst (λ (i : Image). Owes old.words.seed s who request i (sum old.space.free) reply) reads.content is.owed;
+      taken = λ done. subst (λ (i : Image). Takes old.seats s who request reply i (g.content new.disk)) reads.content (is.taken done);
     }
 
     pub ends : (r : Result Reply Refused) → EndsSo g mid new s who request r → EndsSo g old new s who request r

@@ -28,6 +28,9 @@ use Rattle.cfs_core.proofs.Refusing.{IsSeen}
 use Rattle.cfs_core.proofs.Seated.{grants_with}
 use Rattle.cfs_core.proofs.Serving.{fits, running, stays}
 use Rattle.cfs_core.proofs.Moved.{HasStepped, IsStepped, four_left, makes_stepped}
+use Rattle.cfs_core.specs.Claimed.{ClaimsInOrder, Takes, claims_for, claims_in_draft, owners_of, claims_in_file, claims_through, root_of}
+use Rattle.ufs_model.specs.State.{file_seen}
+use Rattle.std.specs.Option.{option_map_or}
 
 -- ---- how many blocks of a draft are fresh
 
@@ -233,6 +236,16 @@ module _ {D : Type 0} (g : Ghosts D) (k : Kernel D) (s : State) (serves : Serves
     legal none = subst (λ (p : Reply × State). next k.words.seed s (events.Ask who request p.0) ≡ Some p.1) (is.outcome k.words.seed s who 0 ∙ ap (λ (y : State). (replies.Done, y)) changed_is)
         (outcome_legal k.words.seed s who request 0 (running g k s serves none) goes (λ made. let no : true ≡ false = sym made ∙ is.makes in cc))
 
+    takes : (disk : D) → ClaimsInOrder (claims_in_draft change before was) (id.block ∷ []) (g.content k.disk) (g.content disk) → Takes k.seats s who request replies.Done (g.content k.disk) (g.content disk)
+    takes disk order =
+        let here : held.x.id ≡ id = sym (ap (λ e. e.id) held.place.here) in
+        let claims : claims_for k.seats s who request replies.Done ≡ claims_in_draft change before was = is.claims k.seats s who replies.Done ∙ ap (λ to. claims_through k.seats s who to change) goes_to
+        ∙ ap (λ (o : Option Draft). elim o [ None ↦ claims_in_file (root_of s who (Through t)) change (file_seen s who (Through t)) | Some e ↦ option_map_or (claims_in_draft change e) (drafting_at k.seats t.draw) [] ]) (ap (option_and_then (λ (x : Grant). x.draft)) held.found ∙ held.draft_was)
+        ∙ ap (λ o. option_map_or (claims_in_draft change before) o []) held.at in
+        let owners : owners_of s who request replies.Done ≡ id.block ∷ [] = rw (is.makes, goes_to, held.found) (ap (λ (x : Puid). x.block ∷ []) here) in
+        subst (λ (cs : List MapEntry). ClaimsInOrder cs (owners_of s who request replies.Done) (g.content k.disk) (g.content disk)) (sym claims)
+        (subst (λ (ns : List ℕ). ClaimsInOrder (claims_in_draft change before was) ns (g.content k.disk) (g.content disk)) (sym owners) order)
+
     module _ (now : Drafting) (disk : D) (space : Kept) where
       abbrev new : Kernel D
       new = record k { disk = disk; space = space; seats = with_drafting t.draw (Some now) k.seats }
@@ -259,9 +272,9 @@ module _ {D : Type 0} (g : Ghosts D) (k : Kernel D) (s : State) (serves : Serves
         table = grants_with t.draw (Some now) k.seats ∙ serves.front.grants ∙ sym (bare_with who t d s.grants);
       }
 
-      module _ (becomes : Becomes g s.graph ds id d k.disk disk space now) (shadow : now.shadow ≡ was.shadow) (created : now.created ≡ was.created) (room : need_beside change before was + 4 ≤ sum k.space.free) where
+      module _ (becomes : Becomes g s.graph ds id d k.disk disk space now) (left_same : space.left ≡ k.space.left) (shadow : now.shadow ≡ was.shadow) (created : now.created ≡ was.created) (room : need_beside change before was + 4 ≤ sum k.space.free) where
         has : HasStepped g k new s s.graph T es
-        has = record { store = becomes.steps.store; only = becomes.steps.only; these = of_its_draft s.graph id (block g k s serves who t was held) }
+        has = record { store = becomes.steps.store; only = becomes.steps.only; these = of_its_draft s.graph id (block g k s serves who t was held); left = left_same ∙ serves.left }
 
         rising : list_all numbers_rise d.fresh ≡ true
         rising = all_rise d.fresh (λ n. ap numbers_rise (becomes.is_open.fresh n) ∙ level n)
@@ -287,14 +300,15 @@ module _ {D : Type 0} (g : Ghosts D) (k : Kernel D) (s : State) (serves : Serves
         four = four_left g k new s after s.graph serves T es has (need_of s who request) few (omega (arith, room, beside_is))
 
         pub altered : ((c : D) (n : ℕ) (i : Image) → g.left_since c n i → length i ≡ g.blocks c) → length (g.content k.disk) ≡ g.blocks disk → k.stop ≡ None → Leaves g k.disk disk (λ c. Holds c s.graph)
-            → Answers g k new s who request replies.Done
-        altered left_sized wide none leaves = record {
+            → ClaimsInOrder (claims_in_draft change before was) (id.block ∷ []) (g.content k.disk) (g.content disk) → Answers g k new s who request replies.Done
+        altered left_sized wide none leaves order = record {
           event = makes_stepped g k new s after s.graph serves T es has stepped (next_keeps k.words.seed s after (events.Ask who request replies.Done) serves.state (is.speaks who) (legal none))
               (changed_drafts who t k.seats s.grants held.seat held.x held.place serves.drafts was before held.drafting held.draft_was now d)
               (changed_have who t k.seats s.grants held.seat held.x held.place serves.drafts was before held.drafting held.draft_was now d
               (record { is_open = becomes.is_open; writes = written_in; special = subst (λ (y : Object). is_normal (changed_object change y) ≡ false) (sym file_is) (still_special change file (subst (λ (y : Object). is_normal y ≡ false) file_is not_normal)) })) four
               left_sized wide (events.Ask who request replies.Done) (legal none) refl leaves;
           still = λ all. let no : true ≡ false = sym all in cc;
+          taken = λ done. takes disk order;
           owed = owes k.words.seed s who request (g.content k.disk) (sum k.space.free) replies.Done tt (ByOutcome goes (record {
             block = 0;
             least = λ made. let no : true ≡ false = sym made ∙ is.makes in cc;
@@ -331,7 +345,8 @@ module _ {D : Type 0} (g : Ghosts D) (k : Kernel D) (s : State) (serves : Serves
             record {
               event = stays g 31092 k new reads (as_it_was same before_it) s serves left_sized (sized k.disk serves.store.carries.tells.honest) (events.Ask who request (replies.Full n))
                   (is.full k.words.seed s who n (running g k s serves none) goes need_so (omega (arith, short, need_so, free_so, beside_is)));
-              still = λ all. reads.content;
+              still = λ all. record { same = as_it_was same before_it; most = 31092; reads = reads };
+              taken = λ done. let no : false ≡ true = done in cc;
               owed = ByWant goes (record { delete = is.delete; few = omega (arith, short, beside_is) })
                   (ap (λ (y : needs.Need). replies.Full y) is_need ∙ ap (λ (y : ℕ). replies.Full (record { free = sum k.space.free; need = y })) beside_is);
             }
@@ -347,7 +362,7 @@ module _ {D : Type 0} (g : Ghosts D) (k : Kernel D) (s : State) (serves : Serves
 
         did : (r : Result (Unit {0}) Refused) → r ≡ result → EndsSo g k new s who request (done_or r)
         did (Ok u) same =
-            altered (rw (← same) at alters.done) changes.shadow changes.created (rw (← same) at alters.room) left_sized wide none alters.leaves
+            altered (rw (← same) at alters.done) changes.left changes.shadow changes.created (rw (← same) at alters.room) left_sized wide none alters.leaves (rw (← same) at alters.order)
         did (Err (refusals.Full n)) same =
             let told = (rw (← same) at alters.full) refl in
             let spared = (rw (← same) at alters.spared) refl in
@@ -382,7 +397,7 @@ module _ {D : Type 0} (g : Ghosts D) (left_sized : (d : D) (t : ℕ) (c : Image)
     (k : Kernel D) (who : ℕ) (t : Tuid) (was : Drafting) (drafting : drafting_at k.seats t.draw ≡ Some was) (the : (s : State) → Serves g k s → IsHeld g k s who t was) where
   pub tries_size : Tries g k k who (asks.Size (Through t)) (Ok (replies.Number was.root.size))
   tries_size = tries_so g left_sized sized 0 k k (reads_none g 0 k.disk) refl who (asks.Size (Through t)) (Ok (replies.Number was.root.size))
-      (λ s serves none. told g left_sized sized 0 k k (reads_none g 0 k.disk) refl s who serves none (asks.Size (Through t)) (replies.Number was.root.size) refl refl
+      (λ s serves none. told g left_sized sized 0 k k (reads_none g 0 k.disk) refl s who serves none (asks.Size (Through t)) (replies.Number was.root.size) refl refl refl
       (subst (IsSeen k.words.seed s who (asks.Size (Through t))) (ap replies.Number (sym (size_is g k s serves who t was (the s serves)))) (size_told g k s serves who t was (the s serves) k.words.seed)))
       tt tt
 
@@ -400,7 +415,7 @@ module _ {D : Type 0} (g : Ghosts D) (left_sized : (d : D) (t : ℕ) (c : Image)
     tries_read (Ok reply) exact plain sound cause = tries_so g left_sized sized n k (record k { disk = d }) reads refl who read (Ok reply)
         (λ s serves none.
         let knows = knows g k s serves who t was (the s serves) in
-        told g left_sized sized n k (record k { disk = d }) reads refl s who serves none read reply refl refl
+        told g left_sized sized n k (record k { disk = d }) reads refl s who serves none read reply refl refl refl
         (subst (IsSeen k.words.seed s who read) (sym (exact s.graph _ k.space _ knows.object _ knows.file knows.store knows.there knows.is_open knows.is_file (sym (size_is g k s serves who t was (the s serves)))))
         (read_told g k s serves who t was (the s serves) k.words.seed offset count)))
         plain tt

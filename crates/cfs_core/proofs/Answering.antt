@@ -1,6 +1,6 @@
 -- How a call ends that only reads: a refusal, what was asked for, or the failure of a device call.
-use Rattle.std.proofs.Common.{◌≡◌, inl, inr, ℕ, [], length, Bool, true, false, Option, Some, None, Result, Ok, Err, IsTrue, refl, sym, ◌∙◌, ap, subst, arith, IfErr, IfOk, sum}
-use Rattle.cfs_core.proofs.Words.{AFile, AnIndex, answer_legal, creates, drafts_of, Either, Event, Ghosts, Image, Index, is_damaged, IsPlainReply, Kind, need_of, next, Object, object_at, OnlyReads, outcome_legal, outcome_plain, Puid, refusal_of, Refused, refused_answer, refused_plain, Reply, Request, State, Wanted}
+use Rattle.std.proofs.Common.{◌≡◌, inl, inr, ℕ, [], length, Bool, true, false, Option, Some, None, Result, Ok, Err, IsTrue, refl, sym, ◌∙◌, ap, subst, arith, IfErr, IfOk, sum, List}
+use Rattle.cfs_core.proofs.Words.{AFile, AnIndex, answer_legal, creates, drafts_of, Either, Event, Ghosts, Image, Index, is_damaged, IsPlainReply, Kind, need_of, next, Object, object_at, OnlyReads, outcome_legal, outcome_plain, Puid, refusal_of, Refused, refused_answer, refused_plain, Reply, Request, State, Wanted, MapEntry}
 use Rattle.cfs_base.specs.declared.kind.Kind.TheVariants as kinds
 use Rattle.cfs_base.specs.declared.refusal.Refused.TheVariants as refusals
 use Rattle.ufs_model.specs.declared.asked.Event.TheVariants as events
@@ -16,6 +16,8 @@ use Rattle.cfs_core.specs.Damage.{IsRootHere}
 use Rattle.cfs_core.proofs.Damages.{told_of_read}
 use Rattle.cfs_core.proofs.Went.{went_so}
 use Rattle.cfs_core.proofs.Serving.{running, shut, stays}
+use Rattle.cfs_core.specs.Claimed.{ClaimsInOrder, claims_for, owners_of}
+use Rattle.cfs_core.proofs.Claimed.{claims_none, refused_undone}
 
 -- what is owed is so of a reply in which no device call failed
 pub owes : (seed : ℕ) (s : State) (who : ℕ) (request : Request) (image : Image) (free : ℕ) (reply : Reply) → IsPlainReply reply → IsOwed seed s who request image free reply → Owes seed s who request image free reply
@@ -46,34 +48,37 @@ module _ {D : Type 0} (g : Ghosts D) (left_sized : (d : D) (t : ℕ) (c : Image)
     pub refused : (request : Request) (reply : Reply) → refusal_of s who request ≡ Some reply → Answers g old new s who request reply
     refused request reply is = record {
       event = on (events.Ask who request reply) (answer_legal old.words.seed s who request reply s (running g old s serves none) (refused_answer old.words.seed s who request reply is));
-      still = λ all. reads.content;
+      still = λ all. record { same = same; most = n; reads = reads };
       owed = owes old.words.seed s who request (g.content old.disk) (sum old.space.free) reply (refused_plain s who request reply is) (ByRefusal is);
+      taken = λ done. let no : true ≡ false = sym done ∙ refused_undone s who request reply is in cc;
     }
 
     -- what was asked for, or a refusal
-    pub seen : (request : Request) (reply : Reply) → need_of s who request ≡ 0 → creates request ≡ false → IsSeen old.words.seed s who request reply → Answers g old new s who request reply
-    seen request reply need makes (inl is) = refused request reply is
-    seen request reply need makes (inr two) =
+    pub seen : (request : Request) (reply : Reply) → need_of s who request ≡ 0 → creates request ≡ false → claims_for old.seats s who request reply ≡ [] → IsSeen old.words.seed s who request reply → Answers g old new s who request reply
+    seen request reply need makes claims (inl is) = refused request reply is
+    seen request reply need makes claims (inr two) =
         let done = two.1 0 in
         let legal = outcome_legal old.words.seed s who request 0 (running g old s serves none) two.0 (λ made. let no : true ≡ false = sym made ∙ makes in cc) in
         let step : next old.words.seed s (events.Ask who request reply) ≡ Some s = subst (λ (p : Reply × State). next old.words.seed s (events.Ask who request p.0) ≡ Some p.1) done legal in
         let plain = subst (λ (p : Reply × State). IsPlainReply p.0) done (outcome_plain old.words.seed s who request 0 serves.state two.0) in
         record {
           event = on (events.Ask who request reply) step;
-          still = λ all. reads.content;
+          still = λ all. record { same = same; most = n; reads = reads };
           owed = owes old.words.seed s who request (g.content old.disk) (sum old.space.free) reply plain (ByOutcome two.0 (record {
             block = 0;
             least = λ made. let no : true ≡ false = sym made ∙ makes in cc;
             reply_is = sym (ap (λ (p : Reply × State). p.0) done);
             room = λ short. omega (arith, short.few, serves.four, need);
           }));
+          taken = λ taken. subst (λ (cs : List MapEntry). ClaimsInOrder cs (owners_of s who request reply) (g.content old.disk) (g.content new.disk)) (sym claims)
+              (claims_none (owners_of s who request reply) (g.content old.disk) (g.content new.disk) reads.content);
         }
 
     pub disk_failed : (request : Request) → Answers g old new s who request (replies.Disk None)
-    disk_failed request = record { event = on (events.Ask who request (replies.Disk None)) (rw (running g old s serves none) refl); still = λ all. reads.content; owed = tt }
+    disk_failed request = record { event = on (events.Ask who request (replies.Disk None)) (rw (running g old s serves none) refl); still = λ all. record { same = same; most = n; reads = reads }; owed = tt; taken = λ done. let no : false ≡ true = done in cc }
 
     pub memory : (request : Request) → Answers g old new s who request replies.Memory
-    memory request = record { event = on (events.Ask who request replies.Memory) refl; still = λ all. reads.content; owed = tt }
+    memory request = record { event = on (events.Ask who request replies.Memory) refl; still = λ all. record { same = same; most = n; reads = reads }; owed = tt; taken = λ done. let no : false ≡ true = done in cc }
 
   -- what the call itself owes
   pub tries_so : (who : ℕ) (request : Request) (result : Result Reply Refused) → ((s : State) → Serves g old s → old.stop ≡ None → EndsSo g old new s who request result)
@@ -131,15 +136,15 @@ module _ {D A : Type 0} (g : Ghosts D) (left_sized : (d : D) (t : ℕ) (c : Imag
   pub tries_failed : (e : Refused) → OnlyReads g n k.disk d → ((a : A) → Knows g k.disk id.block (sort a) → is_damaged e ≡ false) → IsCalmCause g id.block k.disk d e → Tries g k (record k { disk = d }) who request (Err e)
   tries_failed e reads sound cause = failed g left_sized sized n k (record k { disk = d }) reads refl sort id.block e sound cause who request (inl reaches.1) knows
 
-  pub tries_seen : (says : A → Reply) (result : Result Reply Refused) → creates request ≡ false → IsReplied says → IfOk result IsPlainReply
+  pub tries_seen : (says : A → Reply) (result : Result Reply Refused) → creates request ≡ false → ((s : State) (reply : Reply) → claims_for k.seats s who request reply ≡ []) → IsReplied says → IfOk result IsPlainReply
       → ((a : A) → Knows g k.disk id.block (sort a) → IfOk result (λ reply. reply ≡ says a)) → IsCalm g sort n id.block k.disk d result → Tries g k (record k { disk = d }) who request result
-  tries_seen says (Ok reply) makes replied plain exact calm = tries_so g left_sized sized n k (record k { disk = d }) calm.reads refl who request (Ok reply)
+  tries_seen says (Ok reply) makes claims replied plain exact calm = tries_so g left_sized sized n k (record k { disk = d }) calm.reads refl who request (Ok reply)
       (λ s serves none.
       let r = reaches.0 s serves in
       let two = replied s r.0 serves r.1 in
-      subst (Answers g k (record k { disk = d }) s who request) (sym (exact r.0 (knows s serves).1)) (seen g left_sized sized n k (record k { disk = d }) calm.reads refl s who serves none request (says r.0) two.0 makes two.1))
+      subst (Answers g k (record k { disk = d }) s who request) (sym (exact r.0 (knows s serves).1)) (seen g left_sized sized n k (record k { disk = d }) calm.reads refl s who serves none request (says r.0) two.0 makes (claims s (says r.0)) two.1))
       plain tt
-  tries_seen says (Err e) makes replied plain exact calm = tries_failed e calm.reads calm.sound calm.cause
+  tries_seen says (Err e) makes claims replied plain exact calm = tries_failed e calm.reads calm.sound calm.cause
 
   -- it is refused
   pub tries_refused : (reply : Reply) → IsPlainReply reply → OnlyReads g n k.disk d

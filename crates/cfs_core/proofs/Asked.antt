@@ -8,10 +8,11 @@ use Rattle.cfs_core.specs.declared.collecting.Collections.{Collections}
 use Rattle.cfs_core.specs.declared.kernel.Stop.{Stop}
 use Rattle.cfs_core.specs.Asked.{Asks, Happens, IsShortContent, IsToldCause, stopped_by, told}
 use Rattle.cfs_core.proofs.Damages.{told_as, told_asked}
-use Rattle.cfs_core.specs.Calls.{Answers, CutShort, EndsSo, IsCause, IsInDoubt, MayStand, Owes, Tries, Undone, Whole, leaves_all}
+use Rattle.cfs_core.specs.Calls.{Answers, CutShort, EndsSo, IsAsItWas, IsCause, IsInDoubt, MayStand, Owes, Tries, Undone, Whole, leaves_all}
 use Rattle.cfs_core.specs.Kernel.{Kernel}
 use Rattle.cfs_core.specs.Rescues.{AreRescued}
 use Rattle.cfs_core.specs.StandsFor.{IsFront, Serves, Stands}
+use Rattle.cfs_core.proofs.Answering.{reads_none}
 use Rattle.cfs_core.proofs.Collected.{collection_asked, collection_ready, rescued_after, same_rescued}
 use Rattle.cfs_core.proofs.Lefts.{adds_none, adds_one}
 use Rattle.cfs_core.proofs.Serving.{fewer_lost, fits, pending, running, serves_from, stands_from, stored}
@@ -71,7 +72,8 @@ module _ {D : Type 0} (g : Ghosts D) (old : Kernel D) (x : Collections) (ready :
       lost = λ _. omega arith;
     };
     owed = λ _ s stands. tt;
-    still = λ _ s stands all. refl;
+    still = λ _ s stands all. record { same = refl; most = 0; reads = reads_none g 0 old.disk };
+    taken = λ _ s stands done. let no : false ≡ true = done in cc;
     stopped = λ stop is. cc;
     stops = λ _. none;
     cause = λ _. tt;
@@ -94,6 +96,7 @@ asks_stopped g k who request stop is = record {
   event = λ s stands. record { after = s; step = step s (subst (Stands g k s) is stands); stands = stands; survives = inr (record { disk = refl; after = s; step = step s (subst (Stands g k s) is stands); graph = refl }); lost = λ _. omega arith };
   owed = λ none. cc;
   still = λ none. cc;
+  taken = λ none. cc;
   stopped = λ other same. let one : stop ≡ other = cc in (refl, ap (λ (x : Stop). replies.Stopped x.moment) one);
   stops = λ none. cc;
   cause = λ none. absurd (cc (is, none));
@@ -118,12 +121,14 @@ pub asks_answered : {D : Type 0} (g : Ghosts D) → ((d : D) → IsTrue (g.hones
     → x.called ≡ old.collections.called → x.finished ≡ old.collections.finished → (mid : Kernel D) (y : Collections) (who : ℕ) (request : Request) (reply : Reply) (more : List Rescue)
     → ((s : State) → Serves g (record old { collections = x }) s → more ≡ rescues_of s who request reply) → AreRescued mid.collections.collector y.collector more → y.called ≡ mid.collections.called → y.finished ≡ mid.collections.finished → old.stop ≡ None
     → length more ≤ 1 → Tries g (record old { collections = x }) mid who request (Ok reply) → Asks g old (record mid { collections = y }) who request reply
-asks_answered g sized old x ready called finished mid y who request reply more are rescued called_on finished_on none few tries = record {
+asks_answered {D = D} g sized old x ready called finished mid y who request reply more are rescued called_on finished_on none few tries = record {
   event = λ s stands. let serves = serves_from g old s none stands in
       happens g old x ready sized mid tries.went.size y s who request reply (tries.went.stop ∙ none) (all_rescued s serves) serves
       (tries.ends s (serves_roomy g old x ready s serves) none);
   owed = λ _ s stands. (tries.ends s (serves_roomy g old x ready s (serves_from g old s none stands)) none).owed;
-  still = λ _ s stands. (tries.ends s (serves_roomy g old x ready s (serves_from g old s none stands)) none).still;
+  still = λ _ s stands all. let was = (tries.ends s (serves_roomy g old x ready s (serves_from g old s none stands)) none).still all in
+      record { same = ap (λ (k : Kernel D). record k { collections = y }) was.same; most = was.most; reads = was.reads };
+  taken = λ _ s stands. (tries.ends s (serves_roomy g old x ready s (serves_from g old s none stands)) none).taken;
   stopped = λ stop is. cc;
   stops = λ _. tries.went.stop ∙ none ∙ sym (plain_goes_on reply tries.went.plain None);
   cause = λ _. plain_cause g old (record mid { collections = y }) request reply tries.went.plain;
@@ -201,12 +206,15 @@ module _ {D : Type 0} (g : Ghosts D) (left_sized : (d : D) (t : ℕ) (c : Image)
   told_owed (refusals.Damaged damage) moment s is = absurd is
   told_owed refusals.Memory moment s is = tt
 
-  told_still : (refused : Refused) (moment : ℕ) (s : State) → EndsSo g (roomy g old x ready) mid s who request (Err refused) → leaves_all (told refused moment) ≡ true → g.content mid.disk ≡ g.content old.disk
-  told_still (refusals.Full need) moment s is leaves = is.still leaves
-  told_still (refusals.Disk false) moment s is leaves = is.still leaves
+  still_roomy : IsAsItWas g (roomy g old x ready) mid → IsAsItWas g (record old { collections = mid.collections }) mid
+  still_roomy is = record { same = is.same ∙ ap (λ (c : Collections). record old { disk = mid.disk; collections = c }) (sym (ap (λ (k : Kernel D). k.collections) is.same)); most = is.most; reads = is.reads }
+
+  told_still : (refused : Refused) (moment : ℕ) (s : State) → EndsSo g (roomy g old x ready) mid s who request (Err refused) → leaves_all (told refused moment) ≡ true → IsAsItWas g (record old { collections = mid.collections }) (stopped_as (told refused moment))
+  told_still (refusals.Full need) moment s is leaves = still_roomy (is.still leaves)
+  told_still (refusals.Disk false) moment s is leaves = still_roomy (is.still leaves)
   told_still (refusals.Disk true) moment s is leaves = absurd (cc leaves)
   told_still (refusals.Damaged damage) moment s is leaves = absurd (cc leaves)
-  told_still refusals.Memory moment s is leaves = is.still leaves
+  told_still refusals.Memory moment s is leaves = still_roomy (is.still leaves)
 
   told_cause : (refused : Refused) → (stop : Option Stop) → IsCause g (roomy g old x ready) mid (Some request) refused → IsToldCause g old (record mid { stop = stop }) request (told refused (g.moment mid.disk))
   told_cause (refusals.Full need) stop is = tt
@@ -227,6 +235,7 @@ module _ {D : Type 0} (g : Ghosts D) (left_sized : (d : D) (t : ℕ) (c : Image)
     event = λ s stands. let serves = serves_from g old s none stands in told_happens refused (g.moment mid.disk) s (tries.went.stop ∙ none) tries.went.collections serves (tries.ends s (serves_roomy g old x ready s serves) none);
     still = λ _ s stands. told_still refused (g.moment mid.disk) s (tries.ends s (serves_roomy g old x ready s (serves_from g old s none stands)) none);
     owed = λ _ s stands. told_owed refused (g.moment mid.disk) s (tries.ends s (serves_roomy g old x ready s (serves_from g old s none stands)) none);
+    taken = λ _ s stands done. let no : true ≡ false = sym done ∙ undone refused (g.moment mid.disk) in cc;
     stopped = λ stop same. cc;
     stops = λ _. ap (λ (o : Option Stop). stopped_by (told refused (g.moment mid.disk)) o) (tries.went.stop ∙ none);
     cause = λ _. told_cause refused _ tries.went.cause;

@@ -6,6 +6,7 @@ use Rattle.ufs_model.specs.declared.asked.Event.TheVariants as events
 use Rattle.ufs_model.specs.declared.asked.Reply.TheVariants as replies
 use Rattle.ufs_model.specs.declared.object.Object.TheVariants as objects
 use Rattle.cfs_core.specs.Calls.{Answers, ByOutcome, CutShort, IsInDoubt, IsShort, MayStand, Undone, Whole, leaves_all}
+use Rattle.cfs_core.specs.Claimed.{Takes}
 use Rattle.cfs_core.specs.Kernel.{Kernel, grants_in}
 use Rattle.cfs_core.specs.StandsFor.{AreDraftsOf, Serves, drafts_of_seats}
 use Rattle.cfs_core.proofs.Answering.{owes}
@@ -90,8 +91,8 @@ module _ {D : Type 0} (g : Ghosts D) (left_sized : (d : D) (t : ℕ) (c : Image)
     four : 4 ≤ sum new.space.free
     four = four_left g old new s after h serves T drafts has n (omega (arith, is.few)) is.free
 
-    pub did : IsPlainReply reply → leaves_all reply ≡ false → (¬ IsShort s who request (sum old.space.free)) → (creates request ≡ true → IsLeastFree (g.content old.disk) b) → Answers g old new s who request reply
-    did plain changes short least = record {
+    pub did : IsPlainReply reply → leaves_all reply ≡ false → (¬ IsShort s who request (sum old.space.free)) → (creates request ≡ true → IsLeastFree (g.content old.disk) b) → Takes old.seats s who request reply (g.content old.disk) (g.content new.disk) → Answers g old new s who request reply
+    did plain changes short least takes = record {
       event = record {
         after = after;
         step = step;
@@ -103,6 +104,7 @@ module _ {D : Type 0} (g : Ghosts D) (left_sized : (d : D) (t : ℕ) (c : Image)
         });
       };
       still = λ all. let no : true ≡ false = sym all ∙ changes in cc;
+      taken = λ done. takes;
       owed = owes old.words.seed s who request (g.content old.disk) (sum old.space.free) reply plain
           (ByOutcome is.allowed (record { block = b; least = least; reply_is = sym (ap (λ (p : Reply × State). p.0) is.out); room = short }));
     }

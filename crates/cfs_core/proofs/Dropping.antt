@@ -1,6 +1,6 @@
 -- A grant of a session that leaves is dropped.
 use Rattle.std.proofs.Common.{◌≡◌, inl, ℕ, List, [], ◌∷◌, Bool, true, false, cond, not, Some, None, refl, sym, ◌∙◌, ap, subst, arith, ◌==◌, filter}
-use Rattle.cfs_core.proofs.Words.{closed, Drafting, Ghosts, Grant, grant_of, Holds, is_grant, next, nothing_left, outcome_legal, State, Tuid, without_session-without_grant}
+use Rattle.cfs_core.proofs.Words.{closed, Drafting, Ghosts, Grant, grant_of, Holds, is_grant, next, outcome_legal, State, Tuid, without_session-without_grant}
 use Rattle.open_table.specs.declared.grant.Grant as seats
 use Rattle.open_table.specs.Grants as tables
 use Rattle.ufs_model.specs.declared.asked.Event.TheVariants as events
@@ -15,7 +15,7 @@ use Rattle.cfs_core.proofs.Damages.{told_of_draft}
 use Rattle.cfs_core.proofs.Ended.{IsHeld, gone_is, held_by, open_in, stores_aborted, strays_aborted}
 use Rattle.cfs_core.proofs.Granted.{close_goes, stores_closed}
 use Rattle.cfs_core.proofs.Seated.{grants_with}
-use Rattle.cfs_core.proofs.Serving.{none_more, running}
+use Rattle.cfs_core.proofs.Serving.{none_more, running, nothing_left}
 
 -- ---- lists
 
@@ -92,9 +92,9 @@ module _ {D : Type 0} (g : Ghosts D) (k : Kernel D) (who : ℕ) (t : Tuid) (the 
           let dropped = (gave s serves none).dropped runs in
           subst (λ (j : Kernel D). ServesFewer g j s who) (sym (new_is s serves none runs)) (record {
             grants = (closed s who t false).grants;
-            serves = stores_aborted g k s serves who t was (held s serves) new.disk new.space bare dropped k.collections
+            serves = stores_aborted g k s serves who t was (held s serves) new.disk new.space bare (gives.left ∙ serves.left) dropped k.collections
                 (collection_asked (g.content k.disk) (g.content new.disk) k.words.seed s (closed s who t false) who (asks.Close t false) replies.Done (step s serves none) serves.state
-                (strays_aborted g k s serves who t was (held s serves) new.disk new.space bare dropped)
+                (strays_aborted g k s serves who t was (held s serves) new.disk new.space bare (gives.left ∙ serves.left) dropped)
                 k.collections.collector k.collections.collector (same_rescued k.collections.collector) serves.collecting);
             others = others_stay who t s.grants;
           })
@@ -111,7 +111,7 @@ module _ {D : Type 0} (g : Ghosts D) (k : Kernel D) (who : ℕ) (t : Tuid) (the 
         idle = λ stop is. let same = gives.idle stop is in (ap (λ (j : Kernel D). j.stop) same ∙ is, ap (λ (j : Kernel D). j.disk) same, ap (λ (j : Kernel D). j.space) same);
         leaves = λ s serves none. (gave s serves none).leaves;
         serves = fewer;
-        strays = λ s serves none runs. strays_aborted g k s serves who t was (held s serves) new.disk new.space bare ((gave s serves none).dropped runs);
+        strays = λ s serves none runs. strays_aborted g k s serves who t was (held s serves) new.disk new.space bare (gives.left ∙ serves.left) ((gave s serves none).dropped runs);
         halts = λ stop none is. record {
           failed = gives.failed stop none is;
           damaged = λ damage met. (let two = gives.damaged stop damage none is met in (record { mid = k; later = omega arith; told = told_of_draft g k new None was.at (inl (t.draw, was, drafting, refl)) damage gives.size two.0 }, two.1));

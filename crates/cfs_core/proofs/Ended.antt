@@ -25,6 +25,8 @@ use Rattle.cfs_core.proofs.Seated.{grants_with}
 use Rattle.cfs_core.proofs.Serving.{fits, running}
 use Rattle.cfs_core.proofs.Moved.{HasStepped, IsStepped, fewer_take, four_left, makes_committed, makes_stepped, stores_stepped, strays_stepped}
 use Rattle.cfs_core.proofs.Taken.{replaced_few}
+use Rattle.cfs_core.specs.Claimed.{ClaimsInOrder, owners_of}
+use Rattle.cfs_core.proofs.Claimed.{claims_meant, claims_only}
 
 -- what is meant for an object that is there
 pub of_its_draft : (graph : Graph) (id : Puid) → has_block graph.objects id.block ≡ true → IsOfThese (λ entry. of_drafts (id.block ∷ []) entry) graph graph
@@ -151,6 +153,9 @@ module _ {D : Type 0} (g : Ghosts D) (k : Kernel D) (s : State) (serves : Serves
   have_left : (commit : Bool) → AreDraftsOf left (seats_but (tables.is_grant who t) k.seats) (closed s who t commit).grants
   have_left commit = gone_have who t k.seats s.grants held.seat held.x held.place serves.drafts was before held.drafting held.draft_was
 
+  owners : (commit : Bool) → owners_of s who (asks.Close t commit) replies.Done ≡ id.block ∷ []
+  owners commit = rw held.found (ap (λ (e : seats.Grant). e.id.block ∷ []) (sym held.place.here))
+
   -- nothing is owed but the outcome
   owed : (commit : Bool) → Owes k.words.seed s who (asks.Close t commit) (g.content k.disk) (sum k.space.free) replies.Done
   owed commit = owes k.words.seed s who (asks.Close t commit) (g.content k.disk) (sum k.space.free) replies.Done tt
@@ -171,12 +176,13 @@ module _ {D : Type 0} (g : Ghosts D) (k : Kernel D) (s : State) (serves : Serves
     stepped : IsStepped k aborted s (closed s who t false) s.graph
     stepped = closed_stepped g k s serves who t false d space s.graph refl refl refl
 
-    module _ (bare : was.created ≡ None) (dropped : Dropped g s.graph ds id was.created k.disk d space) where
+    module _ (bare : was.created ≡ None) (finished : space.left ≡ None) (dropped : Dropped g s.graph ds id was.created k.disk d space) where
       has : HasStepped g k aborted s s.graph T left
       has = record {
         store = dropped.store;
         only = subst (λ o. ChangesOnly (λ entry. of_drafts (id.block ∷ option_to_list o) entry) (g.content k.disk) (g.content d)) bare dropped.only;
         these = of_its_draft s.graph id block;
+        left = finished;
       }
 
       four : 4 ≤ sum space.free
@@ -194,6 +200,7 @@ module _ {D : Type 0} (g : Ghosts D) (k : Kernel D) (s : State) (serves : Serves
             left_sized wide (events.Ask who (asks.Close t false) replies.Done) (legal false none) refl leaves;
         still = λ all. let no : true ≡ false = sym all in cc;
         owed = owed false;
+        taken = λ done. subst (λ (ns : List ℕ). ClaimsInOrder [] ns (g.content k.disk) (g.content d)) (sym (owners false)) (claims_meant (id.block ∷ []) (g.content k.disk) (g.content d) has.only);
       }
 
     -- what the seats are where it failed
@@ -249,9 +256,9 @@ module _ {D : Type 0} (g : Ghosts D) (k : Kernel D) (s : State) (serves : Serves
     abbrev U : Option MapEntry → Bool
     U entry = of_owners (id.block ∷ []) entry
 
-    module _ (committed : Committed g s.graph ds id before.object None k.disk d space) where
+    module _ (finished : space.left ≡ None) (committed : Committed g s.graph ds id before.object None k.disk d space) where
       holds_now : HasStepped g k aborted s h U left
-      holds_now = record { store = committed.store; only = committed.only; these = of_this s.graph id before.object }
+      holds_now = record { store = committed.store; only = committed.only; these = of_this s.graph id before.object; left = finished }
 
       four_now : 4 ≤ sum space.free
       four_now = four_left g k aborted s (closed s who t true) h serves U left holds_now 0 (omega (arith, few, takes)) (omega (arith, serves.four))
@@ -263,6 +270,7 @@ module _ {D : Type 0} (g : Ghosts D) (k : Kernel D) (s : State) (serves : Serves
             left_sized wide (events.Ask who (asks.Close t true) replies.Done) (legal true none) (fits_after wide) committed.settled leaves;
         still = λ all. let no : true ≡ false = sym all in cc;
         owed = owed true;
+        taken = λ done. subst (λ (ns : List ℕ). ClaimsInOrder [] ns (g.content k.disk) (g.content d)) (sym (owners true)) (claims_only (id.block ∷ []) (g.content k.disk) (g.content d) committed.only);
       }
 
     pub commit_in_doubt : length (g.content k.disk) ≡ g.blocks d → Leaves g k.disk d (IsOldOrNew s.graph s.graph id before.object) → IsInDoubt g k doubtful s who (asks.Close t true)
@@ -291,8 +299,8 @@ module _ {D : Type 0} (g : Ghosts D) (k : Kernel D) (s : State) (serves : Serves
       ended_ok is = subst (λ ss. Answers g k (record k { disk = d; space = space; seats = ss }) s who (asks.Close t commit) replies.Done) gone_is (by commit (is.ends s.graph ds id object before serves.store held.there open_in))
         where
           by : (b : Bool) → DraftEnds g b s.graph ds id before was k.disk d space (Ok tt) → Answers g k (aborted d space) s who (asks.Close t b) replies.Done
-          by true e = commits d space e.done left_sized wide none e.leaves
-          by false e = aborts d space bare e.done left_sized wide none e.leaves
+          by true e = commits d space is.left e.done left_sized wide none e.leaves
+          by false e = aborts d space bare is.left e.done left_sized wide none e.leaves
 
       pub ended_err : (e : Trouble) → EndsDraft g commit was k.disk d k.space space (Err e) → EndsSo g k (doubtful d space) s who (asks.Close t commit) (Err (refused_by e))
       ended_err e is = by commit e is.tried (is.ends s.graph ds id object before serves.store held.there open_in)

@@ -1,8 +1,8 @@
 -- How a call ends that changes a file which has no draft: a normal one in place, a special one as one commit.
-use Rattle.std.proofs.Common.{◌≡◌, ◌⊎◌, inl, inr, ℕ, ◌+◌, ◌<◌, ◌≤◌, [], length, true, false, cond, Some, None, Result, Ok, Err, IsTrue, refl, sym, ◌∙◌, ap, subst, arith, List, ◌∷◌, nat_lt, sum}
+use Rattle.std.proofs.Common.{◌≡◌, ◌⊎◌, inl, inr, ℕ, ◌+◌, ◌<◌, ◌≤◌, [], length, true, false, cond, Some, None, Result, Ok, Err, IsTrue, refl, sym, ◌∙◌, ap, subst, arith, List, ◌∷◌, nat_lt, sum, Option}
 use Rattle.cfs_core.proofs.Words.{and_parts, blocks_of, byte_may_stand, Change, change_need, change_of, changed, changed_object, ChangesFile, closed_graph, creates, draft_of, drafts_of, each_from, EndsChange, eq-eqb, File, FileKind, Fill, filter-rises, Fits, Ghosts, Graph, has_number, held_levels, here, Holds, HoldsOfEither, Image, in_filter, in_with, index_has_pair, is_among, is_object, is_running}
 use Rattle.cfs_core.proofs.Words.{is_there, IsInside, IsPartly, IsSpeakable, Kept, kind_of, later, Leaves, leaves_in, list_all, MayChange, MayLeave, named, nat_tests, Need, need_for, need_of, next, numbers_rise, Object, object_at, object_at-with_object, object_whole, OnlyReads, Opened, outcome_of, Overwrite, pair_from_index, Puid, Ref, referred, refusal_of, Refused, Request, resized}
-use Rattle.cfs_core.proofs.Words.{rises-with_object, same_puid, same_puid_is, SetSize, State, still_there, target, touched, wider, with_numbers, with_object, withs-rise, written}
+use Rattle.cfs_core.proofs.Words.{rises-with_object, same_puid, same_puid_is, SetSize, State, still_there, target, touched, wider, with_numbers, with_object, withs-rise, written, MapEntry, ChangesOnly, of_owner, Reply, Draft}
 use Rattle.cfs_base.specs.Run.{Tells}
 use Rattle.cfs_base.specs.declared.kind.FileKind.TheVariants as kinds
 use Rattle.cfs_base.specs.declared.refusal.Refused.TheVariants as refusals
@@ -13,8 +13,8 @@ use Rattle.ufs_model.specs.declared.object.Object.TheVariants as objects
 use Rattle.ufs_model.specs.Graph.{IsClosedGraph}
 use Rattle.cfs_core.specs.Calls.{Answers, ByWant, EndsSo, IsInDoubt, IsShort, Tries, Undone, done_or}
 use Rattle.cfs_core.specs.Damage.{bytes_wanted, is_delete}
-use Rattle.file_ops.specs.Changes.{end_of}
-use Rattle.cfs_core.specs.Kernel.{Kernel}
+use Rattle.file_ops.specs.Changes.{end_of, ClaimsFor, claims_beside}
+use Rattle.cfs_core.specs.Kernel.{Kernel, Seat}
 use Rattle.cfs_core.specs.Looks.{Knows, ReachesAll}
 use Rattle.cfs_core.specs.StandsFor.{Serves, drafts_of_seats}
 use Rattle.cfs_core.specs.Ways.{Reaches}
@@ -28,6 +28,11 @@ use Rattle.cfs_core.proofs.Few.{blocks_within}
 use Rattle.cfs_core.proofs.Grown.{replaced_blocks}
 use Rattle.cfs_core.proofs.Refusing.{put_is}
 use Rattle.cfs_core.proofs.Serving.{fits, may_fit, running, serves_on, stays}
+use Rattle.cfs_core.specs.Claimed.{ClaimsInOrder, Takes, claims_for, claims_in_file, claims_through, owners_of, claims_in_place, claims_in_draft, drafting_of, root_of}
+use Rattle.cfs_core.proofs.Claimed.{claims_all, claims_only, claims_put}
+use Rattle.normal_files.specs.Order as plain
+use Rattle.ufs_model.specs.State.{file_seen}
+use Rattle.std.specs.Option.{option_map_or}
 
 -- ---- a request that changes a file
 
@@ -37,6 +42,7 @@ pub record IsChanging (request : Request) (change : Change) : Type 0 where
   pub need : (s : State) (who : ℕ) → need_of s who request ≡ change_need s who (target request) change
   pub change_is : change_of request ≡ Some change
   pub makes : creates request ≡ false
+  pub claims : (seats : List Seat) (s : State) (who : ℕ) (reply : Reply) → claims_for seats s who request reply ≡ claims_through seats s who (target request) change
   pub delete : is_delete request ≡ false
   pub wants : bytes_wanted (Some request) ≡ end_of change
   pub full : (seed : ℕ) (s : State) (who : ℕ) (n : Need) → is_running s ≡ true → refusal_of s who request ≡ None → n.need ≡ need_of s who request → n.free < n.need + 4
@@ -49,6 +55,7 @@ write_changes to offset bytes small = record {
   need = λ s who. refl;
   change_is = refl;
   makes = refl;
+  claims = λ seats s who reply. refl;
   delete = refl;
   wants = refl;
   full = λ seed s who n run goes need few. let less : nat_lt n.free (n.need + 4) ≡ true = grind (arith, nat_tests) in rw (run, goes, eq-eqb n.need _ need, less) refl;
@@ -61,6 +68,7 @@ resize_changes to size = record {
   need = λ s who. refl;
   change_is = refl;
   makes = refl;
+  claims = λ seats s who reply. refl;
   delete = refl;
   wants = refl;
   full = λ seed s who n run goes need few. let less : nat_lt n.free (n.need + 4) ≡ true = grind (arith, nat_tests) in rw (run, goes, eq-eqb n.need _ need, less) refl;
@@ -245,7 +253,8 @@ module _ {D : Type 0} (g : Ghosts D) (left_sized : (d : D) (t : ℕ) (c : Image)
         record {
           event = stays g 31093 k new two.1 (as_it_was two) s serves left_sized (sized k.disk serves.store.carries.tells.honest) (events.Ask who request (replies.Full n))
               (is.full k.words.seed s who n (running g k s serves none) goes need_is (omega (arith, told.1, need_is, free_is, need)));
-          still = λ all. two.1.content;
+          still = λ all. record { same = as_it_was two; most = 31093; reads = two.1 };
+          taken = λ done. let no : false ≡ true = done in cc;
           owed = ByWant goes (record { delete = is.delete; few = omega (arith, told.1, need) })
               (ap (λ (x : Need). replies.Full x) told.0 ∙ ap (λ (x : ℕ). replies.Full (record { free = sum k.space.free; need = x })) (sym need));
         }
@@ -261,12 +270,38 @@ module _ {D : Type 0} (g : Ghosts D) (left_sized : (d : D) (t : ℕ) (c : Image)
       leaves = wider g k.disk d _ _ still (λ c holds. record { graph = s.graph; may = Undone; fits = fits g k s serves (g.blocks d) wide; holds = holds });
     }
 
+    takes : ChangesOnly (λ entry. of_owner id.block entry) (g.content k.disk) (g.content d) → ClaimsFor kind change id.block f (g.content k.disk) (g.content d) → Takes k.seats s who request replies.Done (g.content k.disk) (g.content d)
+    takes only order =
+        subst (λ (cs : List MapEntry). ClaimsInOrder cs (owners_of s who request replies.Done) (g.content k.disk) (g.content d)) (sym (is.claims k.seats s who replies.Done ∙ in_place))
+        (subst (λ (ns : List ℕ). ClaimsInOrder (claims_in_file id.block change f) ns (g.content k.disk) (g.content d)) (sym (rw (is.makes, reach.name) refl)) (by kind change kind_is order))
+      where
+        root_is : root_of s who (target request) ≡ id.block
+        root_is = rw reach.name refl
+
+        file_is : file_seen s who (target request) ≡ f
+        file_is = rw (reach.bare, reach.name, reach.there) refl
+
+        in_place : claims_through k.seats s who (target request) change ≡ claims_in_file id.block change f
+        in_place =
+            ap (λ (o : Option Draft). elim o [ None ↦ claims_in_file (root_of s who (target request)) change (file_seen s who (target request)) | Some e ↦ option_map_or (claims_in_draft change e) (drafting_of k.seats (target request)) [] ]) reach.bare
+            ∙ ap (λ n. claims_in_file n change (file_seen s who (target request))) root_is ∙ ap (claims_in_file id.block change) file_is
+
+        so : (y : Change) (x : FileKind) → f.kind ≡ x → claims_in_file id.block y f ≡ elim x [ kinds.Normal ↦ claims_in_place id.block y f | kinds.Special ↦ claims_beside id.block y f ]
+        so y x at = ap (λ (z : FileKind). elim z [ kinds.Normal ↦ claims_in_place id.block y f | kinds.Special ↦ claims_beside id.block y f ]) at
+
+        by : (x : FileKind) (y : Change) → f.kind ≡ x → ClaimsFor x y id.block f (g.content k.disk) (g.content d) → ClaimsInOrder (claims_in_file id.block y f) (id.block ∷ []) (g.content k.disk) (g.content d)
+        by kinds.Normal (Overwrite offset bytes) at claimed = subst (λ (cs : List MapEntry). ClaimsInOrder cs (id.block ∷ []) (g.content k.disk) (g.content d)) (sym (so (Overwrite offset bytes) kinds.Normal at)) (claims_all (plain.claims_of id.block f offset (length bytes)) (id.block ∷ []) (g.content k.disk) (g.content d) claimed)
+        by kinds.Normal (SetSize n) at none = subst (λ (cs : List MapEntry). ClaimsInOrder cs (id.block ∷ []) (g.content k.disk) (g.content d)) (sym (so (SetSize n) kinds.Normal at)) (claims_only (id.block ∷ []) (g.content k.disk) (g.content d) only)
+        by kinds.Normal (Fill slot what) at none = subst (λ (cs : List MapEntry). ClaimsInOrder cs (id.block ∷ []) (g.content k.disk) (g.content d)) (sym (so (Fill slot what) kinds.Normal at)) (claims_only (id.block ∷ []) (g.content k.disk) (g.content d) only)
+        by kinds.Special y at beside = subst (λ (cs : List MapEntry). ClaimsInOrder cs (id.block ∷ []) (g.content k.disk) (g.content d)) (sym (so y kinds.Special at)) (claims_put id.block (claims_beside id.block y f) (g.content k.disk) (g.content d) beside)
+
     did_so : (r : Result (Unit {0}) Refused) → r ≡ result → EndsSo g k new s who request (done_or r)
     did_so (Ok u) same =
         let done = rw (← same) at (changes.done s.graph drafts id f has) in
         let free = rw (← same) at (changes.room s.graph drafts id f has) in
         object_did g left_sized sized k new size refl none s after who request serves id (objects.File f) o reach.there (same_kinds change f) (need_for kind change f) more goes is.makes (is.speaks who) out
-        (record { graph = refl; grants = refl; drawn = refl; stopped = refl; sweeping = refl }) (roomy free) free (left free) done.store done.only
+        (record { graph = refl; grants = refl; drawn = refl; stopped = refl; sweeping = refl }) (roomy free) free (left free) done.store (rw (← same) at changes.ends.left) done.only
+        (takes done.only (rw (← same) at (changes.order s.graph drafts id f has)))
     did_so (Err (refusals.Full n)) same = let told = (rw (← same) at (changes.full s.graph drafts id f has)) refl in full n (same_need n _ told.0, told.1) ((rw (← same) at changes.ends.untried) refl)
     did_so (Err (refusals.Disk false)) same = let two = (rw (← same) at changes.ends.untried) refl in disk_failed g left_sized sized 31093 k new two.1 (as_it_was two) s who serves none request
     did_so (Err (refusals.Disk true)) same = doubtful ((rw (← same) at (changes.begun s.graph drafts id f has)) refl)

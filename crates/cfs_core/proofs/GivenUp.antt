@@ -9,7 +9,7 @@ use Rattle.cfs_core.specs.Asked.{stopped_by, told}
 use Rattle.cfs_core.specs.Kernel.{Kernel}
 use Rattle.cfs_core.specs.Leaving.{GivesUp}
 
-module _ {D : Type 0} (g : Ghosts D) (was : Drafting) (k : Kernel D) (d : D) (space : Kept) (n m : ℕ) (calls : MakesAtMost g n m k.disk d) (runs : k.stop ≡ None)
+module _ {D : Type 0} (g : Ghosts D) (was : Drafting) (k : Kernel D) (d : D) (space : Kept) (n m : ℕ) (calls : MakesAtMost g n m k.disk d) (runs : k.stop ≡ None) (left_same : space.left ≡ k.space.left)
     (leaves : (graph : Graph) (ds : List Opened) (id : Puid) (o : Object) (dr : Draft) → StoreHas g graph ds k.disk k.space → object_at graph id ≡ Some o → IsOpen ds id was dr → Leaves g k.disk d (λ c. Holds c graph)) where
   no_stop : {A : Type 0} (stop : Stop) → k.stop ≡ Some stop → A
   no_stop stop is = let no : None ≡ Some stop = sym runs ∙ is in cc
@@ -22,6 +22,7 @@ module _ {D : Type 0} (g : Ghosts D) (was : Drafting) (k : Kernel D) (d : D) (sp
     faults = calls.faults;
     later = calls.later;
     idle = λ stop is. no_stop stop is;
+    left = left_same;
     ends = λ graph ds id o dr store at opened none. record { leaves = leaves graph ds id o dr store at opened; dropped = λ still. done graph ds id o dr store at opened; sound = λ stop is. no_stop stop is };
     failed = λ stop none is quiet. no_stop stop is;
     damaged = λ stop damage none is met. no_stop stop is;
@@ -42,6 +43,7 @@ module _ {D : Type 0} (g : Ghosts D) (was : Drafting) (k : Kernel D) (d : D) (sp
         faults = calls.faults;
         later = calls.later;
         idle = λ other is. no_stop other is;
+        left = left_same;
         ends = λ graph ds id o dr store at opened none. record {
           leaves = leaves graph ds id o dr store at opened;
           dropped = λ still. let no : Some stop ≡ None = still in cc;

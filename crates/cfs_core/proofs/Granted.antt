@@ -16,6 +16,8 @@ use Rattle.cfs_core.proofs.Regranted.{KeepsDrafts, but_keeps, but_table, draft_n
 use Rattle.cfs_core.proofs.Seated.{none_of_grant}
 use Rattle.cfs_core.proofs.Went.{went_so}
 use Rattle.cfs_core.proofs.Serving.{running}
+use Rattle.cfs_core.specs.Claimed.{owners_of}
+use Rattle.cfs_core.proofs.Claimed.{claims_none}
 
 -- ---- why a grant isn't acquired
 
@@ -99,7 +101,8 @@ module _ {D : Type 0} (g : Ghosts D) (k : Kernel D) (s : State) (serves : Serves
   answers_closed left_sized sized none = record {
     event = makes_after g k left s (closed s who t commit) serves stepped (closed_keeps s who t commit serves.state) keeps left_sized (sized k.disk serves.store.carries.tells.honest)
         (events.Ask who (asks.Close t commit) replies.Done) (outcome_legal k.words.seed s who (asks.Close t commit) 0 (running g k s serves none) goes (λ made. let no : true ≡ false = sym made in cc));
-    still = λ all. refl;
+    still = λ all. let no : false ≡ true = all in cc;
+    taken = λ done. claims_none (owners_of s who (asks.Close t commit) replies.Done) (g.content k.disk) (g.content k.disk) refl;
     owed = owes k.words.seed s who (asks.Close t commit) (g.content k.disk) (sum k.space.free) replies.Done tt
         (ByOutcome goes (record { block = 0; least = λ made. let no : true ≡ false = sym made in cc; reply_is = refl; room = λ short. omega (arith, short.few, serves.four) }));
   }

@@ -1,6 +1,6 @@
 -- A session's grants are dropped, one after the other, and then it has left.
 use Rattle.std.proofs.Common.{◌≡◌, inl, inr, ℕ, List, [], ◌∷◌, length, Bool, true, false, cond, not, Option, Some, None, IsTrue, refl, sym, ◌∙◌, ap, subst, arith, ◌==◌, find, map, option_map}
-use Rattle.cfs_core.proofs.Words.{after_leave, Ghosts, Grant, Holds, Image, Leaves, loose, nothing_left, State, stopped_at, then, without_session-none}
+use Rattle.cfs_core.proofs.Words.{after_leave, Ghosts, Grant, Holds, Image, Leaves, loose, State, stopped_at, then, without_session-none}
 use Rattle.open_table.specs.declared.grant.Grant as seats
 use Rattle.open_table.specs.Grants as tables
 use Rattle.ufs_model.specs.declared.asked.Event.TheVariants as events
@@ -12,7 +12,7 @@ use Rattle.cfs_base.proofs.Calls.{failed_since}
 use Rattle.cfs_core.specs.Leaving.{ServesFewer, Sheds, StopsSo, halt_of, of_others}
 use Rattle.cfs_core.proofs.Damages.{told_as}
 use Rattle.cfs_core.specs.StandsFor.{IsFront, Serves, Stands, StandsFor, bare, front_of}
-use Rattle.cfs_core.proofs.Serving.{fewer_lost, fits, none_more, pending, running}
+use Rattle.cfs_core.proofs.Serving.{fewer_lost, fits, none_more, pending, running, nothing_left}
 
 module _ {D : Type 0} (g : Ghosts D) (who : ℕ) where
   pub sheds_none : (k : Kernel D) → Sheds g who k k

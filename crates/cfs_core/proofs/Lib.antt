@@ -6,6 +6,7 @@ mod Ways
 mod Refusing
 mod Damages
 mod Went
+mod Claimed
 mod Answering
 mod Calm
 mod Grown

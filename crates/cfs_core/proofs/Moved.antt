@@ -1,5 +1,5 @@
 -- What a step of a draft, its commit or its end makes of the state.
-use Rattle.std.proofs.Common.{◌≡◌, ◌⊎◌, ℕ, ◌+◌, ◌/◌, ◌≤◌, List, [], ◌∷◌, length, Bool, true, false, cond, Option, Some, sym, ◌∙◌, ap, subst, arith, filter, map, sum, option_map, sum_by}
+use Rattle.std.proofs.Common.{◌≡◌, ◌⊎◌, ℕ, ◌+◌, ◌/◌, ◌≤◌, List, [], ◌∷◌, length, Bool, true, false, cond, Option, Some, sym, ◌∙◌, ap, subst, arith, filter, map, sum, option_map, None, sum_by}
 use Rattle.cfs_core.proofs.Words.{blocks_taken, ChangesOnly, done, draft_blocks, Event, Fits, Ghosts, Graph, Holds, Image, IsOfThese, IsSettled, IsState, IsSwept, kinds_of, Leaves, loose, MapEntry, next, Opened, room, State, stays_swept, StoreHas, stray_was, strays_stay, sum_by-cons, sum_is}
 use Rattle.cfs_core.specs.declared.kernel.Stop.{Stop}
 use Rattle.cfs_core.specs.Calls.{AddsNoStray, Makes}
@@ -19,11 +19,12 @@ pub record IsStepped {D : Type 0} (old new : Kernel D) (s after : State) (h : Gr
   pub stop : new.stop ≡ old.stop
   pub table : grants_in new.seats ≡ map bare after.grants
 
--- the store has these objects and drafts afterwards, and only blocks of objects that are there changed
+-- the store has these objects and drafts afterwards, only blocks of objects that are there changed, and no commit is left
 pub record HasStepped {D : Type 0} (g : Ghosts D) (old new : Kernel D) (s : State) (h : Graph) (T : Option MapEntry → Bool) (es : List Opened) : Type 0 where
   pub store : StoreHas g h es new.disk new.space
   pub only : ChangesOnly T (g.content old.disk) (g.content new.disk)
   pub these : IsOfThese T s.graph h
+  pub left : new.space.left ≡ None
 
 -- the drafts of fewer take no more
 pub fewer_take : (P : Opened → Bool) (ds : List Opened) → sum_by draft_blocks (filter P ds) ≤ sum_by draft_blocks ds
@@ -55,6 +56,7 @@ module _ {D : Type 0} (g : Ghosts D) (old new : Kernel D) (s after : State) (h :
       root = ap (λ (x : Graph). x.root) is.graph ∙ is.rooted ∙ serves.root ∙ sym is.root;
       store = subst (λ (x : Graph). StoreHas g x (drafts_of_seats new.seats after.grants) new.disk new.space) (sym is.graph)
           (subst (λ (ds : List Opened). StoreHas g h ds new.disk new.space) (sym drafts_are) has.store);
+      left = has.left;
       drafts = subst (λ (ds : List Opened). AreDraftsOf ds new.seats after.grants) (sym drafts_are) have;
       swept = λ rests. subst (IsSwept (g.content new.disk)) (sym is.graph)
           (stays_swept T (g.content old.disk) (g.content new.disk) s.graph h has.only has.these (serves.swept (sym is.sweeping ∙ rests)));

@@ -19,13 +19,14 @@ module _ {D : Type 0} (g : Ghosts D) (before : Image) (d : D) (label : Label) (n
   pub never : {A : Type 0} (blocks : ℕ) (astray : Bool) → blocks ≡ g.blocks d → (names.room ≡ blocks → has_root_in names.named 0 ≡ false → astray ≡ false) → astray ≡ true → A
   never blocks astray size straight there = let no : false ≡ true = sym (straight (is.room ∙ sym size) none_at_zero) ∙ there in cc
 
-  pub opened : (seed : ℕ) → AreBlocks before → (graph : Graph) → IsSoundAs before graph → IsOpened g graph seed (core seed)
-  opened seed blocks graph sound = subst (λ (h : Graph). IsOpened g h seed (core seed)) (reading_is_one before is.graph graph is.was sound) (record {
+  pub opened : space.left ≡ None → (seed : ℕ) → AreBlocks before → (graph : Graph) → IsSoundAs before graph → IsOpened g graph seed (core seed)
+  opened left seed blocks graph sound = subst (λ (h : Graph). IsOpened g h seed (core seed)) (reading_is_one before is.graph graph is.was sound) (record {
     stands = record {
       front = record { drawn = refl; names = is.named; grants = refl; stopped = refl };
       state = opening_state is.graph (sound_graph before is.graph blocks is.was);
       root = is.root;
       store = record { carries = is.carries; account = is.account; counts = is.counts; ordered = is.ordered };
+      left = left;
       drafts = tt;
       swept = λ _. is.swept;
       four = omega (arith, room (g.content d) is.graph [] is.account is.ordered, no_strays (g.content d) is.graph is.swept, sum_is (g.content d) space is.counts, is.sound.room);

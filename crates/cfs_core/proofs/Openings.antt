@@ -1,8 +1,8 @@
 -- How an opening ends.
 use Rattle.std.proofs.Common.{◌≡◌, inl, ℕ, ◌+◌, ◌<◌, ◌≤◌, List, [], ◌∷◌, ◌++◌, length, Bool, true, false, cond, get_or, Option, Some, None, Ok, Err, IsTrue, refl, sym, ◌∙◌, ap, subst, arith, IfSome, Result, is_some, map, nat_le, nat_lt, option_to_list, sum}
 use Rattle.cfs_core.proofs.Words.{AcquireFault, begun_at, begun_fresh, block_there, changes_begin, differs, draft_blocks, Drafting, drafts_of, Draws, fault_by, FileKind, first_draft, first_here, first_others, fresh_of, Ghosts, Grant, granted, granted_keeps, Graph, had_tried, has_all_grants, Holds, Image, is_damaged, is_full, is_locked, is_normal, is_reading, is_there, is_unwanted_index, IsOpen}
-use Rattle.cfs_core.proofs.Words.{IsPlainReply, IsState, Kept, Kind, kind_in, kind_of, Leaves, length-none, list_any, Mode, MOST_GRANTS, nat_tests, need_of, next, nothing_left, Object, object_at, of_draft, one_if, OnlyReads, Opened, opened_as, or_parts, outcome_legal, outcome_of, Puid, Reading, refusal_of, Refused, Reply, Request, same_puid, start_stays, State, sum_by-cons, takes_draft, Tuid}
-use Rattle.cfs_core.proofs.Words.{wanted, wider, word, Writing}
+use Rattle.cfs_core.proofs.Words.{IsPlainReply, IsState, Kept, Kind, kind_in, kind_of, Leaves, length-none, list_any, Mode, MOST_GRANTS, nat_tests, need_of, next, Object, object_at, of_draft, one_if, OnlyReads, Opened, opened_as, or_parts, outcome_legal, outcome_of, Puid, Reading, refusal_of, Refused, Reply, Request, same_puid, start_stays, State, sum_by-cons, takes_draft, Tuid}
+use Rattle.cfs_core.proofs.Words.{wanted, wider, word, Writing, MapEntry, stands_for, entry_in, the_draft}
 use Rattle.cfs_base.specs.declared.kind.FileKind.TheVariants as file_kinds
 use Rattle.cfs_base.specs.declared.kind.Kind.TheVariants as kinds
 use Rattle.cfs_base.specs.declared.refusal.Refused.TheVariants as refusals
@@ -26,9 +26,13 @@ use Rattle.cfs_core.specs.Damage.{IsRootHere}
 use Rattle.special_files.specs.Refusal.{IsRefusalOrMemory}
 use Rattle.cfs_core.proofs.Damages.{told_of_draft}
 use Rattle.cfs_core.proofs.Went.{went_so}
-use Rattle.cfs_core.proofs.Serving.{fits, kind_is, named_root, object_listed, running, stays}
+use Rattle.cfs_core.proofs.Serving.{fits, kind_is, named_root, object_listed, running, stays, nothing_left}
 use Rattle.cfs_core.proofs.Ways.{adds_none}
 use Rattle.cfs_core.proofs.Moved.{HasStepped, IsStepped, four_left, makes_stepped}
+use Rattle.cfs_core.specs.Claimed.{ClaimsInOrder, claims_for}
+use Rattle.cfs_core.proofs.Claimed.{claims_none, claims_shadow}
+use Rattle.cyl_alloc.specs.Space.{intended}
+use Rattle.cfs_base.specs.declared.kind.Place.TheVariants as places
 
 -- ---- by its kind
 
@@ -211,6 +215,9 @@ module _ {D : Type 0} (g : Ghosts D) (left_sized : (d : D) (t : ℕ) (c : Image)
   need_is : need_of s who request ≡ one_if wanted_draft
   need_is = rw there (ap one_if gets)
 
+  claims_are : claims_for k.seats s who request (replies.Grant tuid) ≡ cond wanted_draft (intended places.ShadowRoot id.block ∷ []) []
+  claims_are = rw there (ap (λ b. cond b (intended places.ShadowRoot id.block ∷ []) []) gets)
+
   draft_is : first_draft mode (object_at s.graph id) ≡ cond wanted_draft (Some (record { object = o; fresh = [] })) None
   draft_is = rw there (ap (λ b. cond b (Some (record { object = o; fresh = [] })) None) gets)
 
@@ -274,6 +281,7 @@ module _ {D : Type 0} (g : Ghosts D) (left_sized : (d : D) (t : ℕ) (c : Image)
         store = serves.store;
         only = changes_begin (λ entry. false) (g.content k.disk) s.graph serves.store.account.holds;
         these = record { there = λ entry is made. let no : true ≡ false = sym is in cc; more = λ r had. had };
+        left = serves.left;
       } in
       record {
         event = makes_stepped g k after_it s after s.graph serves (λ entry. false) ds has (stepped None k.disk k.space words words_are) (state None k.disk k.space words words_are)
@@ -281,14 +289,16 @@ module _ {D : Type 0} (g : Ghosts D) (left_sized : (d : D) (t : ℕ) (c : Image)
             (push_have ds (record { grant = shown; drafting = None }) grant (subst (HasDraftOf ds (record { grant = shown; drafting = None }) None) (sym no_draft) tt) k.seats s.grants serves.drafts) (omega (arith, serves.four))
             left_sized (sized k.disk serves.store.carries.tells.honest) (events.Ask who request (replies.Grant tuid)) legal refl (nothing_left g k.disk (λ c. Holds c s.graph));
         still = λ all. let no : true ≡ false = sym all in cc;
+        taken = λ done. subst (λ (cs : List MapEntry). ClaimsInOrder cs (id.block ∷ []) (g.content k.disk) (g.content k.disk)) (sym (claims_are ∙ ap (λ b. cond b (intended places.ShadowRoot id.block ∷ []) []) bare))
+            (claims_none (id.block ∷ []) (g.content k.disk) (g.content k.disk) refl);
         owed = owed None k.disk k.space words words_are (omega (arith, free, serves.four));
       }
 
   -- one is, and was begun
-  pub opened_draft : wanted_draft ≡ true → (drafting : Drafting) (d : D) (space : Kept) (words : Draws) → words ≡ record { seed = k.words.seed; drawn = k.words.drawn + 1 } → drafts_of ds id ≡ [] → g.blocks d ≡ g.blocks k.disk
+  pub opened_draft : wanted_draft ≡ true → (drafting : Drafting) (d : D) (space : Kept) (words : Draws) → words ≡ record { seed = k.words.seed; drawn = k.words.drawn + 1 } → drafts_of ds id ≡ [] → g.blocks d ≡ g.blocks k.disk → space.left ≡ k.space.left
       → IsBegun g s.graph ds id o k.disk d k.space space drafting
       → Answers g k (record k { disk = d; space = space; words = words; seats = k.seats ++ record { grant = shown; drafting = Some drafting } ∷ [] }) s who request (replies.Grant tuid)
-  opened_draft wants drafting d space words words_are shut size begun =
+  opened_draft wants drafting d space words words_are shut size left begun =
       let it : Opened = opened_as id drafting (record { object = o; fresh = [] }) in
       let has_draft : first_draft mode (object_at s.graph id) ≡ Some (record { object = o; fresh = [] }) = draft_is ∙ ap (λ b. cond b (Some (record { object = o; fresh = [] })) None) wants in
       let need : need_of s who request ≡ 1 = need_is ∙ ap one_if wants in
@@ -297,6 +307,7 @@ module _ {D : Type 0} (g : Ghosts D) (left_sized : (d : D) (t : ℕ) (c : Image)
         store = begun.steps.store;
         only = begun.steps.only;
         these = of_its_draft s.graph id (block_there s.graph id o there);
+        left = left ∙ serves.left;
       } in
       let made : length (option_to_list drafting.created) ≡ 0 = ap (λ (c : Option ℕ). length (option_to_list c)) begun.bare in
       let four = four_left g k after_it s after s.graph serves (λ entry. of_draft id.block entry) (it ∷ ds) has 1 (omega (arith, sum_by-cons draft_blocks it ds, made, one_at_most drafting.shadow)) (omega (arith, begun.free)) in
@@ -306,9 +317,14 @@ module _ {D : Type 0} (g : Ghosts D) (left_sized : (d : D) (t : ℕ) (c : Image)
             (push_have (it ∷ ds) (record { grant = shown; drafting = Some drafting }) grant (subst (HasDraftOf (it ∷ ds) (record { grant = shown; drafting = Some drafting }) (Some drafting)) (sym has_draft) (record { is_open = begun.opened; special = special_of mode o (gets ∙ wants); writes = written_of mode o (gets ∙ wants) })) k.seats s.grants (others_have id ds (it ∷ ds) (first_others it ds) k.seats s.grants shut serves.drafts)) four
             left_sized (sized k.disk serves.store.carries.tells.honest ∙ sym size) (events.Ask who request (replies.Grant tuid)) legal refl begun.leaves;
         still = λ all. let no : true ≡ false = sym all in cc;
+        taken = λ done. subst (λ (cs : List MapEntry). ClaimsInOrder cs (id.block ∷ []) (g.content k.disk) (g.content d)) (sym (claims_are ∙ ap (λ b. cond b (intended places.ShadowRoot id.block ∷ []) []) wants))
+            (claims_shadow id.block begun.least.0 (g.content k.disk) (g.content d) begun.least.2 (the_shadow begun) begun.steps.only);
         owed = owed (Some drafting) d space words words_are (omega (arith, need, begun.free));
       }
     where
+      the_shadow : (begun : IsBegun g s.graph ds id o k.disk d k.space space drafting) → stands_for id.block (entry_in (g.content d) begun.least.0) ≡ true
+      the_shadow begun = (the_draft (g.content d) _ id drafting (record { object = o; fresh = [] }) begun.opened (begun.steps.store.account.drafts id o there)).shadow begun.least.0 begun.least.1
+
       one_at_most : (c : Option ℕ) → length (option_to_list c) ≤ 1
       one_at_most None = omega arith
       one_at_most (Some n) = omega arith
@@ -327,7 +343,8 @@ module _ {D : Type 0} (g : Ghosts D) (left_sized : (d : D) (t : ℕ) (c : Image)
         subst (λ n. Answers g k stays_as s who request (replies.Full n)) (sym is.1) (record {
           event = stays g 2 k stays_as is.3 (as_it_was is.4) s serves left_sized (sized k.disk serves.store.carries.tells.honest) (events.Ask who request (replies.Full (record { free = sum k.space.free; need = 1 })))
               (full_legal (sum k.space.free) wants is.2);
-          still = λ all. is.3.content;
+          still = λ all. record { same = as_it_was is.4; most = 2; reads = is.3 };
+          taken = λ done. let no : false ≡ true = done in cc;
           owed = ByWant goes (record { delete = refl; few = omega (arith, is.2, wants) }) (ap (λ (n : ℕ). replies.Full (record { free = sum k.space.free; need = n })) (sym wants));
         })
       where
@@ -402,7 +419,7 @@ module _ {D : Type 0} (g : Ghosts D) (left_sized : (d : D) (t : ℕ) (c : Image)
         ends (Some drafting) s serves none is =
             let o = the_object g k s serves id kind listed in
             opened_draft g left_sized sized k who id mode (gets_draft kind mode) tuid tuid_is s serves none o.0 o.1 (gets_now g k s serves id kind listed mode) (goes s serves).0 is.0 drafting d space words words_are
-            (shut s serves is.0) begins.calls.same.size is.1
+            (shut s serves is.0) begins.calls.same.size begins.left is.1
 
   pub tries_not : (e : Refused) → Begins g id.block (gets_draft kind mode) k.disk d k.space space (Err e) → Tries g k (record k { disk = d; space = space }) who (asks.OpenFor id mode) (Err e)
   tries_not e begins = record {

@@ -1,7 +1,7 @@
 -- What the store says of an object that is made, as the core has it.
-use Rattle.std.proofs.Common.{Bool, ◌≡◌, ◌⊎◌, inl, inr, ⊎_elim, ℕ, ◌+◌, ◌<◌, ◌≤◌, List, [], ◌∷◌, length, true, false, None, Some, Result, Ok, Err, IsTrue, refl, sym, ◌∙◌, ap, subst, arith, ◌==◌, IfErr, sum}
+use Rattle.std.proofs.Common.{Bool, ◌≡◌, ◌⊎◌, inl, inr, ⊎_elim, ℕ, ◌+◌, ◌<◌, ◌≤◌, List, [], ◌∷◌, length, true, false, None, Some, Result, Ok, Err, IsTrue, refl, sym, ◌∙◌, ap, subst, arith, ◌==◌, IfErr, sum, ◌/◌}
 use Rattle.cfs_core.proofs.Words.{blocks_of, created, Ghosts, Graph, has_block, has_root_in, HasSlot, HasStopped, Holds, Image, Index, insert_entry, is_damaged, IsIndexRefusal, IsLeastFree, IsOpenMap, Kept, keys_of-kinds_in, Kind, kind_of, kinds_of, list_any, Need, Object, OnlyReads, Puid, puid_cmp, PutsObject, refusal_of, Refused, Reply, Request, State, StoreHas, sum_is, target, wider}
-use Rattle.cfs_core.proofs.Words.{with_made, word}
+use Rattle.cfs_core.proofs.Words.{with_made, word, MapEntry, block_named}
 use Rattle.cfs_base.specs.declared.refusal.Refused.TheVariants as refusals
 use Rattle.special_files.specs.Committing.{named}
 use Rattle.ufs_model.specs.declared.asked.Reply.TheVariants as replies
@@ -21,6 +21,12 @@ use Rattle.cfs_core.proofs.Created.{filled_is, inside, least_one, least_there, n
 use Rattle.cfs_core.proofs.Damages.{told_of_making}
 use Rattle.cfs_core.proofs.Went.{cause_of, went_so}
 use Rattle.cfs_core.proofs.Serving.{running, shut, stays}
+use Rattle.cfs_core.specs.Claimed.{ClaimsInOrder, Takes, owners_of}
+use Rattle.cfs_core.proofs.Claimed.{claims_then}
+use Rattle.index_ops.specs.Changes.{leaf_and_node}
+use Rattle.cyl_alloc.specs.Space.{intended}
+use Rattle.index_ops.specs.Changes as ops
+use Rattle.cfs_base.specs.declared.kind.Place.TheVariants as places
 
 root_is : (named : List (Puid × Kind)) (g : Graph) (b : ℕ) → named ≡ kinds_of g → has_root_in named b ≡ has_block g.objects b
 root_is named g b is = ap (λ ns. has_root_in ns b) is ∙ ap (λ ids. list_any (λ (id : Puid). id.block == b) ids) (keys_of-kinds_in g.objects)
@@ -71,6 +77,12 @@ module _ {D : Type 0} (g : Ghosts D) (left_sized : (d : D) (t : ℕ) (c : Image)
     short : ¬ IsShort s who request (sum k.space.free)
     short is = omega (arith, is.few, enough, need_is s who index i slot o request making reach)
 
+    takes : (reply : Reply) (b : ℕ) → block_named reply ≡ b → ops.Takes (intended places.Root b ∷ leaf_and_node (slot / 64) index.block) (index.block ∷ b ∷ []) (g.content k.disk) (g.content d) → Takes k.seats s who request reply (g.content k.disk) (g.content d)
+    takes reply b is taken =
+        subst (λ (cs : List MapEntry). ClaimsInOrder cs (owners_of s who request reply) (g.content k.disk) (g.content d)) (sym (making.claims k.seats s who reply ∙ rw (is, reach.name) refl))
+        (subst (λ (ns : List ℕ). ClaimsInOrder (intended places.Root b ∷ leaf_and_node (slot / 64) index.block) ns (g.content k.disk) (g.content d)) (sym (rw (making.makes, is, reach.name) refl))
+        (claims_then (intended places.Root b ∷ leaf_and_node (slot / 64) index.block) (index.block ∷ b ∷ []) (g.content k.disk) (g.content d) taken))
+
     made : (p : Puid) → r ≡ Ok p → (new : Kernel D) (result : Result Reply Refused) → Names mid new p (kind_of o) result → EndsSo g k new s who request result
     made p is new result names =
         let two = rw is at (puts.done s.graph (drafts_of_seats k.seats s.grants) index i has) in
@@ -87,8 +99,9 @@ module _ {D : Type 0} (g : Ghosts D) (left_sized : (d : D) (t : ℕ) (c : Image)
           store = subst (λ (q : Puid). StoreHas g (with_made s.graph index i slot q o) (drafts_of_seats k.seats s.grants) d space) (sym same) two.1.store;
           only = two.1.only;
           these = theirs g k s who serves index i slot o one request making reach goes enough b least;
+          left = rw is at puts.left;
         })
-        tt refl short (λ _. least) in
+        tt refl short (λ _. least) (takes (replies.Id (id_at b)) b refl two.1.takes) in
         subst (EndsSo g k new s who request) (sym named_so.0)
         (subst (λ (x : Kernel D). Answers g k x s who request (replies.Id p)) (sym named_so.1)
         (subst (λ (q : Puid). Answers g k (kernel_with q) s who request (replies.Id q)) same answers))
@@ -163,7 +176,8 @@ module _ {D : Type 0} (g : Ghosts D) (left_sized : (d : D) (t : ℕ) (c : Image)
         let need = need_is s who index i slot o request making reach in record {
           event = stays g 0 k (record k { disk = d; space = space }) reads (ap (λ (x : Kept). record k { disk = d; space = x }) same_space) s serves left_sized (sized k.disk serves.store.carries.tells.honest)
               (events.Ask who request (replies.Full (record { free = sum k.space.free; need = 4 }))) (making.full k.words.seed s who (sum k.space.free) (running g k s serves none) goes need few);
-          still = λ all. reads.content;
+          still = λ all. record { same = ap (λ (x : Kept). record k { disk = d; space = x }) same_space; most = 0; reads = reads };
+          taken = λ done. let no : false ≡ true = done in cc;
           owed = ByWant goes (record { delete = making.delete; few = omega (arith, few, need) }) (ap (λ (n : ℕ). replies.Full (record { free = sum k.space.free; need = n })) (sym need));
         };
     went = λ named. went_so g k d space k.seats (ap g.blocks same_disk) reads.faults reads.images.later request (Err (refusals.Full (record { free = sum k.space.free; need = 4 }))) tt tt;

@@ -1,6 +1,6 @@
 -- What the store says of a slot that is filled or emptied, as the core has it.
-use Rattle.std.proofs.Common.{◌≡◌, inl, ℕ, ◌+◌, ◌*◌, ◌<◌, ◌≤◌, length, true, false, Option, None, Some, Result, Ok, Err, IsTrue, refl, sym, ap, subst, arith, sum}
-use Rattle.cfs_core.proofs.Words.{creates, Ghosts, HasSlot, Image, Index, index_with, IsSpeakable, Kept, Need, OnlyReads, outcome_of, Puid, PutsSlot, Ref, refusal_of, Refused, Request, State, with_object}
+use Rattle.std.proofs.Common.{◌≡◌, inl, ℕ, ◌+◌, ◌*◌, ◌<◌, ◌≤◌, length, true, false, Option, None, Some, Result, Ok, Err, IsTrue, refl, sym, ◌∙◌, ap, subst, arith, sum, ◌⊎◌, inr, List, [], ◌∷◌, is_none, ◌/◌, set}
+use Rattle.cfs_core.proofs.Words.{creates, Ghosts, HasSlot, Image, Index, index_with, IsSpeakable, Kept, Need, OnlyReads, outcome_of, Puid, PutsSlot, Ref, refusal_of, Refused, Request, State, with_object, MapEntry, Object, Holds, StoreHas, slot_of, target, object_at-with_object, same_puid_itself}
 use Rattle.cfs_base.specs.declared.refusal.Refused.TheVariants as refusals
 use Rattle.ufs_model.specs.declared.asked.Event.TheVariants as events
 use Rattle.ufs_model.specs.declared.asked.Reply.TheVariants as replies
@@ -19,13 +19,23 @@ use Rattle.cfs_core.proofs.Refusing.{Puts, retain_full, retain_need}
 use Rattle.cfs_core.proofs.Damages.{told_of_index}
 use Rattle.cfs_core.proofs.Went.{went_done, went_so}
 use Rattle.cfs_core.proofs.Serving.{running, shut, stays}
+use Rattle.std.proofs.lemmas.List.{get_or-set_same}
+use Rattle.std.proofs.lemmas.Option.{unwrap_or-slice_get}
+use Rattle.cfs_core.specs.Claimed.{ClaimsInOrder, Takes, claims_for, owners_of, root_of}
+use Rattle.cfs_core.proofs.Claimed.{claims_then}
+use Rattle.index_ops.specs.Changes.{ChangesLeaf, leaf_and_node}
+use Rattle.vol_image.proofs.Unique.{held_object}
+use Rattle.ufs_model.specs.State.{the_index}
+use Rattle.index_ops.specs.Changes as ops
 
 module _ {D : Type 0} (g : Ghosts D) (left_sized : (d : D) (t : ℕ) (c : Image) → g.left_since d t c → length c ≡ g.blocks d) (sized : (d : D) → IsTrue (g.honest d) → length (g.content d) ≡ g.blocks d)
     (k : Kernel D) (d : D) (space : Kept) (index : Puid) (slot : ℕ) (what : Option Puid) (request : Request) (makes : creates request ≡ false) (bytes : bytes_wanted (Some request) ≡ 8 * slot + 8)
     (speaks : IsSpeakable (events.Ask 0 request replies.Done)) (result : Result (Unit {0}) Refused) (puts : PutsSlot g index.block slot what k.disk d k.space space result)
     (out : (s : State) (who : ℕ) (i : Index) → Serves g k s → Reaches s who request index (objects.Index i)
     → (outcome_of k.words.seed s who request 0 ≡ (replies.Done, (outcome_of k.words.seed s who request 0).1)) × Puts s (outcome_of k.words.seed s who request 0).1 index (index_with i slot what))
-    (room : (s : State) (who : ℕ) (i : Index) → Serves g k s → Reaches s who request index (objects.Index i) → (¬ IsShort s who request (sum k.space.free)) × (added_by what + 4 ≤ sum k.space.free)) where
+    (room : (s : State) (who : ℕ) (i : Index) → Serves g k s → Reaches s who request index (objects.Index i) → (¬ IsShort s who request (sum k.space.free)) × (added_by what + 4 ≤ sum k.space.free))
+    (claims : (s : State) (who : ℕ) → (claims_for k.seats s who request replies.Done ≡ leaf_and_node (slot / 64) (root_of s who (target request))) × (owners_of s who request replies.Done ≡ root_of s who (target request) ∷ []))
+    (holds : (s : State) (who : ℕ) (i : Index) → Reaches s who request index (objects.Index i) → refusal_of s who request ≡ None → what ≡ None → is_none (slot_of i slot) ≡ false) where
   abbrev new : Kernel D
   new = record k { disk = d; space = space }
 
@@ -48,10 +58,30 @@ module _ {D : Type 0} (g : Ghosts D) (left_sized : (d : D) (t : ℕ) (c : Image)
     left : LeavesThese g k.disk d s who request replies.Done (with_object s.graph index (index_with i slot what))
     left = uncut g k.disk d s who request replies.Done _ (puts.leaves s.graph (drafts_of_seats k.seats s.grants) index i has)
 
+    -- one that was emptied held something, so the content isn't as it was
+    not_still : {A : Type 0} → StoreHas g (with_object s.graph index (index_with i slot what)) (drafts_of_seats k.seats s.grants) d space → (what ≡ None) × (g.content d ≡ g.content k.disk) → A
+    not_still store two =
+        let h = with_object s.graph index (index_with i slot what) in
+        let one = held_object (g.content k.disk) s.graph h index (objects.Index i) (index_with i slot what) serves.store.account.holds (subst (λ (c : Image). Holds c h) two.1 store.account.holds) reach.there
+        (object_at-with_object s.graph index (index_with i slot what) index ∙ rw (same_puid_itself index) refl) in
+        let none : slot_of i slot ≡ None = ap (λ (o : Object). slot_of (the_index o) slot) one ∙ unwrap_or-slice_get (set i.slots slot what) slot None ∙ get_or-set_same i.slots slot what None inside ∙ two.0 in
+        let no : true ≡ false = sym (ap is_none none) ∙ holds s who i reach goes two.0 in cc
+
+    takes : StoreHas g (with_object s.graph index (index_with i slot what)) (drafts_of_seats k.seats s.grants) d space → ChangesLeaf g (slot / 64) index.block what k.disk d → Takes k.seats s who request replies.Done (g.content k.disk) (g.content d)
+    takes store leaf =
+        let at : root_of s who (target request) ≡ index.block = rw reach.name refl in
+        subst (λ (cs : List MapEntry). ClaimsInOrder cs (owners_of s who request replies.Done) (g.content k.disk) (g.content d)) (sym ((claims s who).0 ∙ ap (leaf_and_node (slot / 64)) at))
+        (subst (λ (ns : List ℕ). ClaimsInOrder (leaf_and_node (slot / 64) index.block) ns (g.content k.disk) (g.content d)) (sym ((claims s who).1 ∙ ap (λ n. n ∷ []) at)) (by leaf.takes))
+      where
+        by : ((what ≡ None) × (g.content d ≡ g.content k.disk)) ⊎ ops.Takes (leaf_and_node (slot / 64) index.block) (index.block ∷ []) (g.content k.disk) (g.content d)
+            → ClaimsInOrder (leaf_and_node (slot / 64) index.block) (index.block ∷ []) (g.content k.disk) (g.content d)
+        by (inl still) = not_still store still
+        by (inr taken) = claims_then (leaf_and_node (slot / 64) index.block) (index.block ∷ []) (g.content k.disk) (g.content d) taken
+
     ends : (r : Result (Unit {0}) Refused) → r ≡ result → EndsSo g k new s who request (done_or r)
     ends (Ok u) is = let changes = rw (← is) at (puts.done s.graph (drafts_of_seats k.seats s.grants) index i has) in
         object_did g left_sized sized k new size refl none s (outcome_of k.words.seed s who request 0).1 who request serves index (objects.Index i) (index_with i slot what) reach.there refl (added_by what) (filled_blocks i slot what) goes makes (speak who)
-        (out s who i serves reach).0 (out s who i serves reach).1 (room s who i serves reach).0 (room s who i serves reach).1 left changes.store changes.only
+        (out s who i serves reach).0 (out s who i serves reach).1 (room s who i serves reach).0 (room s who i serves reach).1 left changes.store (rw (← is) at puts.left) changes.only (takes changes.store (rw (← is) at (puts.leaf s.graph (drafts_of_seats k.seats s.grants) index i has)))
     ends (Err (refusals.Full need)) is = absurd (rw (← is) at puts.refused)
     ends (Err (refusals.Disk false)) is = let two = (rw (← is) at puts.untried) refl in disk_failed g left_sized sized 9 k new two.1 (ap (λ (x : Kept). record k { disk = d; space = x }) two.0) s who serves none request
     ends (Err (refusals.Disk true)) is = object_in_doubt g left_sized sized k new size refl none s (outcome_of k.words.seed s who request 0).1 who request serves index (objects.Index i) (index_with i slot what) reach.there refl (added_by what) (filled_blocks i slot what) goes makes (speak who)
@@ -87,7 +117,8 @@ module _ {D : Type 0} (g : Ghosts D) (left_sized : (d : D) (t : ℕ) (c : Image)
     ends = λ s who i serves none reach inside goes. record {
       event = stays g 0 k (record k { disk = d; space = space }) reads as_it_was s serves left_sized (sized k.disk serves.store.carries.tells.honest) (events.Ask who request (replies.Full need))
           (retain_full k.words.seed s who to index i slot (sum k.space.free) id reach (running g k s serves none) goes few);
-      still = λ all. reads.content;
+      still = λ all. record { same = as_it_was; most = 0; reads = reads };
+      taken = λ done. let no : false ≡ true = done in cc;
       owed = ByWant goes (record { delete = refl; few = omega (arith, few, retain_need k.words.seed s who to index i slot id reach) })
           (ap (λ (n : ℕ). replies.Full (record { free = sum k.space.free; need = n })) (sym (retain_need k.words.seed s who to index i slot id reach)));
     };

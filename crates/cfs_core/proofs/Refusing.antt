@@ -1,5 +1,5 @@
 -- Requests on an index that they reach: when they are refused, and what they do.
-use Rattle.std.proofs.Common.{◌≡◌, ◌⊎◌, inl, inr, ℕ, List, ◌<◌, length, Bool, true, false, Option, Some, None, refl, sym, ◌∙◌, ap, subst, arith, nat_le, nat_lt}
+use Rattle.std.proofs.Common.{◌≡◌, ◌⊎◌, inl, inr, ℕ, List, ◌<◌, length, Bool, true, false, Option, Some, None, is_none, refl, sym, ◌∙◌, ap, subst, arith, nat_le, nat_lt}
 use Rattle.cfs_core.proofs.Words.{AFile, AnIndex, Change, changed, changed_draft, changed_object, Draft, draft_of, edge_stays, File, FileKind, Fill, has_no_slot, Index, index_with, is_id, is_range, is_running, kind_of, named, nat_tests, need_of, next, Object, object_at, outcome_of, Puid, put_object-at, Ref, refusal_of, Reply, Request, seen, seen_object, slot_named, slot_of, State, with_object}
 use Rattle.cfs_base.specs.declared.kind.FileKind.TheVariants as file_kinds
 use Rattle.ufs_model.specs.declared.asked.Reply.TheVariants as replies
@@ -87,6 +87,14 @@ module _ (seed : ℕ) (s : State) (who : ℕ) (to : Ref) (index : Puid) (i : Ind
       at true o is what = let here : looked i slot ≡ replies.Slot = rw is refl in let no : false ≡ true = sym (ap is_id here) ∙ same in cc
       at false None is what = let here : looked i slot ≡ replies.Empty = rw (is, what) refl in let no : false ≡ true = sym (ap is_id here) ∙ same in cc
       at false (Some x) is what = (r.rest ∙ rw (r.bare, r.name, r.there, is, what) refl, grind (arith, nat_tests))
+
+  pub delete_holds : (slot : ℕ) → Reached (asks.Delete to slot) → refusal_of s who (asks.Delete to slot) ≡ None → is_none (slot_of i slot) ≡ false
+  delete_holds slot r goes = at (nat_le (length i.slots) slot) (slot_of i slot) refl refl
+    where
+      at : (t : Bool) (o : Option Puid) → nat_le (length i.slots) slot ≡ t → slot_of i slot ≡ o → is_none o ≡ false
+      at true o is what = let no : Some replies.Slot ≡ None = sym (r.rest ∙ rw (r.bare, r.name, r.there, is) refl) ∙ goes in cc
+      at false None is what = let no : Some replies.Empty ≡ None = sym (r.rest ∙ rw (r.bare, r.name, r.there, is, what) refl) ∙ goes in cc
+      at false (Some id) is what = refl
 
   -- the state after a slot is filled or emptied
   pub retain_out : (slot : ℕ) (id : Puid) → Reached (asks.Retain to slot id) → Puts s (outcome_of seed s who (asks.Retain to slot id) 0).1 index (index_with i slot (Some id))

@@ -1,6 +1,6 @@
 -- Calls that change the grants, and no draft.
 use Rattle.std.proofs.Common.{◌≡◌, ℕ, List, [], ◌∷◌, ◌++◌, length, Bool, true, false, cond, ◌&&◌, Option, Some, None, is_some, refl, sym, ◌∙◌, ap, subst, arith, ◌+◌, append-nil, append_assoc, filter, find, map, nat_le, not}
-use Rattle.cfs_core.proofs.Words.{and_parts, changes_begin, Draft, Drafting, Event, Ghosts, Grant, Holds, Image, is_grant, IsState, list_all, nat_tests, next, nothing_left, Opened, or_parts, State, Tuid}
+use Rattle.cfs_core.proofs.Words.{and_parts, changes_begin, Draft, Drafting, Event, Ghosts, Grant, Holds, Image, is_grant, IsState, list_all, nat_tests, next, Opened, or_parts, State, Tuid}
 use Rattle.open_table.specs.declared.grant.Grant as seats
 use Rattle.open_table.specs.Grants as tables
 use Rattle.cfs_core.specs.Calls.{Makes}
@@ -8,6 +8,7 @@ use Rattle.cfs_core.specs.Kernel.{Kernel, Seat, grants_in, is_drawn_by}
 use Rattle.cfs_core.specs.Seats.{have_draft, seats_but}
 use Rattle.cfs_core.specs.StandsFor.{AreDraftsOf, HasDraftOf, Serves, Stores, bare, drafts_at, drafts_of_seats}
 use Rattle.cfs_core.proofs.Moved.{HasStepped, IsStepped, makes_stepped, stores_stepped}
+use Rattle.cfs_core.proofs.Serving.{nothing_left}
 
 -- each is drawn where more are drawn
 pub drawn_more : (ss : List Seat) (n m : ℕ) → m ≡ n + 1 → list_all (is_drawn_by n) ss ≡ true → list_all (is_drawn_by m) ss ≡ true
@@ -135,6 +136,7 @@ module _ {D : Type 0} (g : Ghosts D) (k : Kernel D) (left : List Seat) (s after 
     store = serves.store;
     only = changes_begin (λ entry. false) (g.content k.disk) s.graph serves.store.account.holds;
     these = record { there = λ entry is made. let no : true ≡ false = sym is in cc; more = λ r had. had };
+    left = serves.left;
   }
 
   pub stores_after : Stores g new after

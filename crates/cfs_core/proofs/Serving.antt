@@ -1,7 +1,7 @@
 -- What a core that serves knows of its disk, and what it goes on to know after calls that only read.
-use Rattle.std.proofs.Common.{◌≡◌, ◌≢◌, cond, ℕ, ◌+◌, ◌*◌, ◌/◌, ◌≤◌, List, [], ◌∷◌, length, Bool, true, false, Option, Some, None, refl, sym, ◌∙◌, ap, subst, arith, ◌==◌, ◌||◌, is_some, option_map, sum, eq-eqb}
+use Rattle.std.proofs.Common.{◌≡◌, ◌≢◌, cond, ℕ, ◌+◌, ◌*◌, ◌/◌, ◌≤◌, List, [], ◌∷◌, length, Bool, true, false, Option, Some, None, refl, sym, ◌∙◌, ap, subst, arith, ◌==◌, ◌||◌, is_some, option_map, sum, eq-eqb, inl}
 use Rattle.cfs_core.proofs.Words.{blocks_taken, closed_graph, drafts_of, entry_in, Event, Fits, frames_hold, Ghosts, Graph, graph_blocks, has_root_in, Holds, Image, Index, is_running, is_stray, is_there, IsClosedGraph, IsSwept, Kind, kind_in, kind_in-kinds_in, kind_of, left_now, loose, next, no_strays, Object, object_at, ones_le, OnlyReads, Opened, Puid, room, same_puid, same_puid_is, State}
-use Rattle.cfs_core.proofs.Words.{store_reads, stray_blocks, sum_is, wider}
+use Rattle.cfs_core.proofs.Words.{store_reads, stray_blocks, sum_is, wider, Leaves}
 use Rattle.ufs_model.specs.declared.object.Object.TheVariants as objects
 use Rattle.cfs_core.specs.Calls.{AddsNoStray, Makes}
 use Rattle.cfs_core.specs.Kernel.{Kernel}
@@ -40,11 +40,16 @@ stored g k s serves = λ c has. record {
   state = serves.state;
   root = serves.root;
   store = serves.store;
+  left = serves.left;
   drafts = serves.drafts;
   swept = serves.swept;
   four = serves.four;
   collecting = has;
 }
+
+-- no call was made
+pub nothing_left : {D : Type 0} (g : Ghosts D) (d : D) (P : Image → Type 0) → Leaves g d d P
+nothing_left g d P = record { later = omega arith; since = λ k c le h. inl h; now = λ c h. inl h }
 
 -- what leaves image and graph as they were adds no stray
 pub none_more : (a b : Image) (h : Graph) → b ≡ a → AddsNoStray a b h h
@@ -125,6 +130,7 @@ module _ {D : Type 0} (g : Ghosts D) (n : ℕ) (old new : Kernel D) (reads : Onl
         state = serves.state;
         root = serves.root;
         store = store_reads g s.graph (drafts_of_seats old.seats s.grants) old.disk new.disk old.space n serves.store reads;
+        left = serves.left;
         drafts = serves.drafts;
         swept = λ none. subst (λ (i : Image). IsSwept i s.graph) (sym reads.content) (serves.swept none);
         four = serves.four;

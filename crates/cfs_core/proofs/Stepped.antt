@@ -1,6 +1,6 @@
 -- The steps of the collector, of a core.
 use Rattle.std.proofs.Common.{◌≡◌, inl, ℕ, ◌+◌, ◌-◌, ◌*◌, ◌/◌, ◌^◌, ◌<◌, ◌≤◌, cond, ◌||◌, List, [], ◌∷◌, length, true, false, Result, Ok, Err, Option, Some, None, IsTrue, refl, sym, ◌∙◌, ap, subst, arith, IfSome, map}
-use Rattle.cfs_core.proofs.Words.{Accounts, Collecting, count_after, done, Event, Fits, Ghosts, Grant, had_tried, Holds, Image, IsCollecting, keeps, Kept, list_all, Listing, loose, most_steps, next, nothing_left, Puid, Refused, State, steps_left, stopped_at, volume_of, wider}
+use Rattle.cfs_core.proofs.Words.{Accounts, Collecting, count_after, done, Event, Fits, Ghosts, Grant, had_tried, Holds, Image, IsCollecting, keeps, Kept, list_all, Listing, loose, most_steps, next, Puid, Refused, State, steps_left, stopped_at, volume_of, wider}
 use Rattle.cfs_base.specs.declared.refusal.Refused.TheVariants as refusals
 use Rattle.collector_steps.specs.Collecting as Keeps
 use Rattle.collector_steps.specs.declared.phase.Phase.TheVariants as phases
@@ -21,7 +21,7 @@ use Rattle.cfs_core.proofs.Answering.{reads_none}
 use Rattle.cfs_core.specs.Rescues.{AreRescued}
 use Rattle.cfs_core.proofs.Collected.{collection_ready}
 use Rattle.cfs_core.proofs.Lefts.{goes_begun, goes_ended}
-use Rattle.cfs_core.proofs.Serving.{stored, fits, pending, running, serves_from, stands_from}
+use Rattle.cfs_core.proofs.Serving.{stored, fits, pending, running, serves_from, stands_from, nothing_left}
 use Rattle.cfs_core.proofs.Stepping.{begins, ended, read_calls}
 use Rattle.cfs_core.proofs.Tidied.{tidy}
 

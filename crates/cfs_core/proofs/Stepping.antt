@@ -1,7 +1,7 @@
 -- The steps of the collector: where each leaves a core, and a step of a collection that runs, on any disk.
 use Rattle.std.proofs.Common.{IsTrue, ◌≡◌, inl, inr, ℕ, ◌+◌, ◌*◌, ◌/◌, ◌<◌, ◌≤◌, List, [], ◌∷◌, length, Bool, true, false, not, ◌||◌, cond, Result, Option, Some, None, Ok, Err, refl, sym, ◌∙◌, ap, subst, append-nil, arith, ◌==◌, nat_lt, map, option_map, slice_get}
 use Rattle.cfs_core.proofs.Words.{Accounts, all_among, and_from, and_parts, AreCounts, blocks_taken, both_ways, carries_fewer, Collecting, Collection, Collects, count_after, cylinder_of, Draft, Drafting, entry_in, Event, Ghosts, goes, Grant, Graph, graph_blocks, had_tried, has_root_in, HasSwept, Holds, Image, events_left, steps_left, is_among, is_running, is_stray, is_there, IsAsBefore, IsCollecting, IsDamaged}
-use Rattle.cfs_core.proofs.Words.{IsMapTrouble, IsPhaseOf, IsScanTrouble, IsSpeakable, IsState, IsSwept, IsSweptOf, joined_has, joined_has_new, joined_within, Kept, kept_by, kept_stays, Kind, kinds_of, Leaves, list_all, list_all-append, Listing, MakesAtMost, MapEntry, may_vanish_test, MayVanish, next, next_keeps, next_phase, nothing_left, Object, object_at, object_at-without, ones_le, OnlyReads}
+use Rattle.cfs_core.proofs.Words.{IsMapTrouble, IsPhaseOf, IsScanTrouble, IsSpeakable, IsState, IsSwept, IsSweptOf, joined_has, joined_has_new, joined_within, Kept, kept_by, kept_stays, Kind, kinds_of, Leaves, list_all, list_all-append, Listing, MakesAtMost, MapEntry, may_vanish_test, MayVanish, next, next_keeps, next_phase, Object, object_at, object_at-without, ones_le, OnlyReads}
 use Rattle.cfs_core.proofs.Words.{open_ids, open_kept, Opened, opened_as, or_cases, or_left, or_right, pairs_of, Pass, Phase, Puid, reads_make, reads_within, Refused, refused_by, rises-without, room, same_puid, starts_now, State, stray_blocks, sum_is, swept, Trouble, trouble_had_tried, vanish_goes_on, volume_of, wider, without}
 use Rattle.std.specs.Cmp as cmp
 use Rattle.cfs_base.specs.declared.refusal.Trouble.TheVariants as trouble
@@ -24,7 +24,7 @@ use Rattle.cfs_core.specs.StandsFor.{HasCollection, HasCollector, Serves, bare, 
 use Rattle.cfs_core.proofs.Answering.{reads_none}
 use Rattle.cfs_core.proofs.Collected.{as_before, collection_ready, none_is}
 use Rattle.cfs_core.proofs.Lefts.{events_swept, goes_within}
-use Rattle.cfs_core.proofs.Serving.{running, serves_on, stored}
+use Rattle.cfs_core.proofs.Serving.{running, serves_on, stored, nothing_left}
 use Rattle.cfs_core.proofs.Swept.{frees_strays}
 use Rattle.cfs_core.proofs.Went.{fewer_calls}
 
@@ -143,6 +143,7 @@ module _ {D : Type 0} (g : Ghosts D) (k : Kernel D) (old : D) (space : Kept) (na
           counts = serves.store.counts;
           ordered = rises-without s.graph ids serves.store.ordered;
         };
+        left = serves.left;
         drafts = serves.drafts;
         swept = λ calm. cc;
         four = serves.four;
@@ -172,9 +173,9 @@ module _ {D : Type 0} (g : Ghosts D) (k : Kernel D) (old : D) (space : Kept) (na
       ap (λ n. stray_blocks (g.content new) s.graph n) sweeps.size,
     )
 
-    pub swept_one : IsServed g new names.named s ds → AreCounts (g.content new) after → Collects (g.content new) s l → l.phase ≡ next_phase (volume_of col / 64) col.phase → Leaves g old new (λ c. Holds c s.graph)
+    pub swept_one : after.left ≡ space.left → IsServed g new names.named s ds → AreCounts (g.content new) after → Collects (g.content new) s l → l.phase ≡ next_phase (volume_of col / 64) col.phase → Leaves g old new (λ c. Holds c s.graph)
         → MovesTo g core (with_parts k new after names l) s None
-    swept_one has counts collects next leaves = record {
+    swept_one left has counts collects next leaves = record {
       after = s;
       comes = refl;
       serves = record {
@@ -182,6 +183,7 @@ module _ {D : Type 0} (g : Ghosts D) (k : Kernel D) (old : D) (space : Kept) (na
         state = serves.state;
         root = serves.root;
         store = record { carries = has.carries; account = has.accounts; counts = counts; ordered = serves.store.ordered };
+        left = left ∙ serves.left;
         drafts = serves.drafts;
         swept = λ calm. absurd (both_ways _ calm (serves.collecting.sweeping ∙ (in_sweep pass col.phase phase).1));
         four = omega (
@@ -237,6 +239,7 @@ module _ {D : Type 0} (g : Ghosts D) (k : Kernel D) (s : State) (serves : Serves
       state = next_keeps 0 s (in_stage stage) e serves.state speaks (comes 0);
       root = serves.root;
       store = serves.store;
+      left = serves.left;
       drafts = serves.drafts;
       swept = swept;
       four = serves.four;
@@ -431,7 +434,7 @@ module _ {D : Type 0} (g : Ghosts D) (old : D) (space : Kept) (names : Listing) 
         moves = λ s serves none.
             let has = served g core old space names k s serves l in
             let ds = drafts_of_seats core.seats s.grants in
-            swept_one g core old space names k s serves l new after pass _ phase (rw at at (is.sweep.swept serves.store.carries.tells)) (rw at at (is.serves s ds has serves.collecting.collects)) (rw at at (is.sweep.counts serves.store.carries.tells serves.store.counts))
+            swept_one g core old space names k s serves l new after pass _ phase (rw at at (is.sweep.swept serves.store.carries.tells)) is.sweep.left (rw at at (is.serves s ds has serves.collecting.collects)) (rw at at (is.sweep.counts serves.store.carries.tells serves.store.counts))
             (rw at at (is.keeps s ds has serves.collecting.collects)) (rw at at is.phase) (is.sweep.leaves s ds has);
         due = sweeping k.phase phase;
         counted = (rw at at is.steps, is.added, refl);

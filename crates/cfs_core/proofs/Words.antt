@@ -64,7 +64,7 @@ pub use Rattle.puid_space.specs.Directory.{Listing, has_root_in, kept_by, kind_i
 pub use Rattle.puid_space.specs.Draw.{Draws}
 pub use Rattle.puid_space.specs.Kinds.{kind_of, kinds_of}
 pub use Rattle.special_files.proofs.Begun.{begun_fresh, store_reads}
-pub use Rattle.special_files.proofs.CommitDraft.{nothing_left, nothing_made, without_none, without_others}
+pub use Rattle.special_files.proofs.CommitDraft.{nothing_made, without_none, without_others}
 pub use Rattle.special_files.proofs.Levels.{length-none}
 pub use Rattle.special_files.proofs.Lists.{differs, first_here, first_others, replaced_others}
 pub use Rattle.special_files.proofs.PutStore.{the_draft}
@@ -147,7 +147,7 @@ pub use Rattle.vol_image.proofs.Reached.{same_puid_is, same_puid_itself}
 pub use Rattle.vol_image.proofs.Unique.{reading_is_one}
 pub use Rattle.vol_image.proofs.Views.{held, held_is}
 pub use Rattle.vol_image.specs.Frame.{IsHeldBy}
-pub use Rattle.vol_image.specs.Part.{is_fixed, part_at, part_of, reserved}
+pub use Rattle.vol_image.specs.Part.{is_fixed, part_at, part_of, reserved, stands_for}
 pub use Rattle.vol_image.specs.Reading.{IsTree, held_in, leaf_content, leaf_in, slot_in}
 pub use Rattle.vol_image.specs.Seen.{Held, held_at, tree_in}
 pub use Rattle.vol_image.specs.Sight.{first_or, source}

@@ -4,7 +4,7 @@ use Rattle.cfs_base.specs.Calls.{HasStopped}
 use Rattle.cfs_base.specs.declared.disk.Disk.{Ghosts}
 use Rattle.cfs_base.specs.declared.refusal.Refused.{Refused}
 use Rattle.cfs_base.specs.declared.refusal.Refused.TheVariants as refusals
-use Rattle.marking.specs.Meanwhile.{rescues_of}
+use Rattle.marking.specs.Meanwhile.{is_done, rescues_of}
 use Rattle.survival.specs.Call.{Survived}
 use Rattle.ufs_model.specs.declared.asked.Event.{Event}
 use Rattle.ufs_model.specs.declared.asked.Event.TheVariants as events
@@ -17,7 +17,8 @@ use Rattle.ufs_model.specs.Outcome.{draws}
 use Rattle.ufs_model.specs.State.{State}
 use Rattle.cfs_core.specs.declared.kernel.Halt.{Halt}
 use Rattle.cfs_core.specs.declared.kernel.Stop.{Stop}
-use Rattle.cfs_core.specs.Calls.{Owes, leaves_all}
+use Rattle.cfs_core.specs.Calls.{IsAsItWas, Owes, leaves_all}
+use Rattle.cfs_core.specs.Claimed.{Takes}
 use Rattle.cfs_core.specs.Damage.{IsDamageTold}
 use Rattle.cfs_core.specs.Kernel.{Kernel}
 use Rattle.cfs_core.specs.Left.{AddsOne}
@@ -80,9 +81,12 @@ pub record Asks {D : Type 0} (g : Ghosts D) (old new : Kernel D) (who : ℕ) (re
   -- and the reply is exact
   pub owed : old.stop ≡ None → (s : State) → StandsFor g old s
       → Owes old.words.seed s who request (g.content old.disk) (sum old.space.free) reply
-  -- a refusal, Full and Memory leave the disk's content as it was
+  -- a refusal, Full, Memory and Disk without a doubt leave all as it was, but the room for a rescue, and write nothing
   pub still : old.stop ≡ None → (s : State) → StandsFor g old s → leaves_all reply ≡ true
-      → g.content new.disk ≡ g.content old.disk
+      → IsAsItWas g (record old { collections = new.collections }) new
+  -- of one that is done each block that it takes is the least-numbered Free one, in the stated order
+  pub taken : old.stop ≡ None → (s : State) → StandsFor g old s → is_done reply ≡ true
+      → Takes old.seats s who request reply (g.content old.disk) (g.content new.disk)
   -- one that stopped makes no call of the disk
   pub stopped : (stop : Stop) → old.stop ≡ Some stop → (new ≡ old) × (reply ≡ replies.Stopped stop.moment)
   -- it stops after a doubt and at a damage alone

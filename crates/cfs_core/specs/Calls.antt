@@ -1,7 +1,7 @@
 -- What a call of a core is: one event, and how exact its reply is.
 use Rattle.std.specs.Prelude.{◌≡◌, ℕ, ◌+◌, ◌<◌, ◌≤◌, Bool, true, false, nat_le, if◌then◌else◌}
 use Rattle.std.specs.Prelude.{length, sum, Result, Ok, Err, IfErr, IfOk, Option, Some, None}
-use Rattle.cfs_base.specs.Calls.{HasStopped}
+use Rattle.cfs_base.specs.Calls.{HasStopped, OnlyReads}
 use Rattle.cfs_base.specs.Disk.{Image}
 use Rattle.cfs_base.specs.Run.{Leaves}
 use Rattle.cfs_base.specs.declared.disk.Disk.{Ghosts}
@@ -10,6 +10,7 @@ use Rattle.cfs_base.specs.declared.refusal.Refused.{Refused}
 use Rattle.cfs_base.specs.declared.refusal.Refused.TheVariants as refusals
 use Rattle.cyl_alloc.specs.Space.{IsLeastFree}
 use Rattle.cyl_map.specs.Volume.{entry_in}
+use Rattle.marking.specs.Meanwhile.{is_done}
 use Rattle.puid_space.specs.Directory.{has_root_in}
 use Rattle.survival.specs.Call.{CallSurvives}
 use Rattle.survival.specs.Held.{HoldsSome}
@@ -32,6 +33,7 @@ use Rattle.ufs_model.specs.Refusal.{refusal_of}
 use Rattle.ufs_model.specs.State.{State}
 use Rattle.vol_image.specs.Survives.{ChangesInPlace, IsBetween, MayName}
 use Rattle.vol_owners.specs.Owner.{is_stray}
+use Rattle.cfs_core.specs.Claimed.{Takes}
 use Rattle.cfs_core.specs.Damage.{IsDamageTold, is_delete}
 use Rattle.cfs_core.specs.Kernel.{Kernel, grants_in}
 use Rattle.cfs_core.specs.StandsFor.{Serves, Stores}
@@ -95,12 +97,19 @@ leaves_all (replies.Disk (Some moment)) = false
 leaves_all (replies.Damaged damage moment) = false
 leaves_all reply = true
 
+-- nothing was written, and nothing else changed
+pub record IsAsItWas {D : Type 0} (g : Ghosts D) (old new : Kernel D) : Type 0 where
+  pub same : new ≡ record old { disk = new.disk }
+  pub most : ℕ
+  pub reads : OnlyReads g most old.disk new.disk
+
 -- The call answered so.
 pub record Answers {D : Type 0} (g : Ghosts D) (old new : Kernel D) (s : State) (who : ℕ) (request : Request)
     (reply : Reply) : Type 0 where
   pub event : Makes g old new s (events.Ask who request reply)
-  pub still : leaves_all reply ≡ true → g.content new.disk ≡ g.content old.disk
+  pub still : leaves_all reply ≡ true → IsAsItWas g old new
   pub owed : Owes old.words.seed s who request (g.content old.disk) (sum old.space.free) reply
+  pub taken : is_done reply ≡ true → Takes old.seats s who request reply (g.content old.disk) (g.content new.disk)
 
 -- the objects that may be read of a request which isn't refused: those of before, those of after, or those with a
 -- normal file whose change was cut short

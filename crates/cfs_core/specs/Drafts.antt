@@ -1,6 +1,6 @@
 -- Requests on a file through a grant with a draft.
 use Rattle.std.specs.Prelude.{◌≡◌, ◌≢◌, ℕ, ◌+◌, ◌<◌, ◌≤◌, Bool, true, false, List}
-use Rattle.std.specs.Prelude.{length, sum, Result, Some, None, IfErr, OnOk}
+use Rattle.std.specs.Prelude.{length, sum, Result, Some, None, IfErr, OnOk, ◌∷◌, []}
 use Rattle.cfs_base.specs.Calls.{MakesAtMost, OnlyReads}
 use Rattle.cfs_base.specs.Run.{Leaves}
 use Rattle.cfs_base.specs.declared.disk.Disk.{Ghosts}
@@ -30,6 +30,7 @@ use Rattle.vol_image.specs.Sound.{Holds}
 use Rattle.vol_owners.specs.Account.{Opened}
 use Rattle.cfs_core.specs.Kernel.{Kernel, grants_in}
 use Rattle.cfs_core.specs.Seats.{drafting_at}
+use Rattle.cfs_core.specs.Claimed.{ClaimsInOrder, claims_in_draft}
 
 -- the session has the grant, and it has a draft
 pub record IsDrafted {D : Type 0} (k : Kernel D) (who : ℕ) (t : Tuid) : Type 0 where
@@ -55,6 +56,8 @@ pub record AltersDraft {D : Type 0} (g : Ghosts D) (change : Change) (graph : Gr
     (old new : D) (before after : Kept) (was now : Drafting) (result : Result (Unit {0}) Refused) : Type 0 where
   pub done : OnOk result (Becomes g graph ds id (changed_draft change d) old new after now)
   pub room : OnOk result (need_beside change d was + reserve ≤ sum before.free)
+  -- in their order
+  pub order : OnOk result (ClaimsInOrder (claims_in_draft change d was) (id.block ∷ []) (g.content old) (g.content new))
   pub leaves : Leaves g old new (λ c. Holds c graph)
   pub full : IfErr result (λ e. is_full e ≡ true
       → (e ≡ refusals.Full (record { free = sum before.free; need = need_beside change d was }))
@@ -94,5 +97,5 @@ pub record EndsDraft {D : Type 0} (g : Ghosts D) (commit : Bool) (was : Drafting
   pub tried : IfErr result (λ t. t ≢ troubles.Disk false)
   pub refused : IfErr result (IsTrouble g was.at old new after)
   pub cylinders : length after.free ≡ length before.free
-  pub left : after.left ≡ before.left
+  pub left : OnOk result (after.left ≡ None)
   pub calls : MakesAtMost g 93137 46452 old new

@@ -87,6 +87,7 @@ pub record GivesUp {D : Type 0} (g : Ghosts D) (was : Drafting) (old new : Kerne
   pub faults : g.faults old.disk ≤ g.faults new.disk
   pub later : g.moment old.disk ≤ g.moment new.disk
   pub idle : (stop : Stop) → old.stop ≡ Some stop → new ≡ old
+  pub left : new.space.left ≡ old.space.left
   pub ends : (graph : Graph) (ds : List Opened) (id : Puid) (o : Object) (d : Draft)
       → StoreHas g graph ds old.disk old.space → object_at graph id ≡ Some o → IsOpen ds id was d
       → old.stop ≡ None → GaveUp g graph ds id was.created old new

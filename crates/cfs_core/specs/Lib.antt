@@ -5,6 +5,7 @@ pub mod StandsFor
 pub mod Leaving
 pub mod Room
 pub mod Damage
+pub mod Claimed
 pub mod Calls
 pub mod Drafts
 pub mod Opening

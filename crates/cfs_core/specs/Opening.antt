@@ -11,7 +11,7 @@ use Rattle.cfs_base.specs.declared.kind.Mode.{Mode}
 use Rattle.cfs_base.specs.declared.kind.Mode.TheVariants as modes
 use Rattle.cfs_base.specs.declared.refusal.Refused.{Refused}
 use Rattle.cfs_base.specs.declared.refusal.Refused.TheVariants as refusals
-use Rattle.cyl_alloc.specs.Space.{Kept}
+use Rattle.cyl_alloc.specs.Space.{Kept, IsLeastFree}
 use Rattle.intentions.specs.Store.{StoreHas}
 use Rattle.open_table.specs.declared.fault.AcquireFault.{AcquireFault}
 use Rattle.open_table.specs.declared.fault.AcquireFault.TheVariants as faults
@@ -58,6 +58,7 @@ pub record IsBegun {D : Type 0} (g : Ghosts D) (graph : Graph) (ds : List Opened
   pub steps : Steps g graph id (opened_as id drafting (first_draft o) ∷ ds) old new after
   pub opened : IsOpen (opened_as id drafting (first_draft o) ∷ ds) id drafting (first_draft o)
   pub bare : drafting.created ≡ None
+  pub least : (n : ℕ) × (drafting.shadow ≡ Some n) × IsLeastFree (g.content old) n
   pub leaves : Leaves g old new (λ c. Holds c graph)
   pub free : 1 + reserve ≤ sum before.free
 
@@ -85,4 +86,5 @@ pub record Begins {D : Type 0} (g : Ghosts D) (at : ℕ) (wanted : Bool) (old ne
       IfSome o (λ drafting. (wanted ≡ true) × (drafting.at ≡ at) × ((s : ℕ) × (drafting.shadow ≡ Some s))
       × (drafting.created ≡ None)))
   pub cause : IfErr result (IsRefusalOrMemory g at reserve old new after)
+  pub left : after.left ≡ before.left
   pub calls : MakesAtMost g 3 1 old new

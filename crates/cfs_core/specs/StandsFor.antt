@@ -92,13 +92,14 @@ pub record IsFront {D : Type 0} (k : Kernel D) (s : State) : Type 0 where
   pub grants : grants_in k.seats ≡ map bare s.grants
   pub stopped : s.stopped ≡ option_map (λ stop. stop.moment) k.stop
 
--- The store has the graph and the drafts, whatever writes wait for a barrier; the blocks of vanished objects are gone
--- but in a sweep; four blocks are Free; and the collection is there.
+-- The store has the graph and the drafts, whatever writes wait for a barrier, and no commit is left to be carried out;
+-- the blocks of vanished objects are gone but in a sweep; four blocks are Free; and the collection is there.
 pub record Serves {D : Type 0} (g : Ghosts D) (k : Kernel D) (s : State) : Type 0 where
   pub front : IsFront k s
   pub state : IsState s
   pub root : s.graph.root ≡ k.root
   pub store : StoreHas g s.graph (drafts_of_seats k.seats s.grants) k.disk k.space
+  pub left : k.space.left ≡ None
   pub drafts : AreDraftsOf (drafts_of_seats k.seats s.grants) k.seats s.grants
   pub swept : is_sweeping s.collection ≡ false → IsSwept (g.content k.disk) s.graph
   pub four : reserve ≤ sum k.space.free

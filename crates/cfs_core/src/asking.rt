@@ -1,5 +1,5 @@
 //! A request, answered.
-ghost use Rattle.std.specs.Prelude.{◌≡◌, ◌<◌, option_to_list};
+ghost use Rattle.std.specs.Prelude.{◌≡◌, ◌<◌, None, option_to_list};
 ghost use Rattle.cfs_core.specs.Asked.{Asks, stopped_by, told};
 ghost use Rattle.cfs_core.specs.Calls.{Tries};
 ghost use Rattle.cfs_core.specs.Rescues.{AreRescued, HasRoomFor, rescue_of};
@@ -22,6 +22,10 @@ impl<D: Disk> Core<D> {
                 moment: stop.moment,
             };
         }
+        // A core that runs has carried out each of its commits, so this is never seen.
+        if self.space.unfinished() > 0 {
+            return Reply::Memory;
+        }
         if let Err(_) = self.collections.make_room(request) {
             return Reply::Memory;
         }
@@ -34,6 +38,7 @@ impl<D: Disk> Core<D> {
 
     /// Tries to answer a request.
     fn answer(&mut self, alloc: Global, who: Session, request: &Request) -> Result<Reply, Refused>
+        requires left { self.old.space.left ≡ None }
         requires words { self.old.words.drawn < 4294967295 }
         ensures { Tries D.Disk self.old self.new who request.now result }
     {

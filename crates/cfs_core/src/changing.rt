@@ -1,5 +1,5 @@
 //! Requests that change an index.
-ghost use Rattle.std.specs.Prelude.{◌≡◌, ◌≢◌, ◌<◌};
+ghost use Rattle.std.specs.Prelude.{◌≡◌, ◌≢◌, ◌<◌, None};
 ghost use Rattle.cfs_core.specs.Calls.{Tries, TriesOn, done_or};
 ghost use Rattle.ufs_model.specs.Plain.{is_id};
 ghost use Rattle.ufs_model.specs.declared.asked.Ref.{Ref};
@@ -43,6 +43,7 @@ impl<D: Disk> Core<D> {
         slot: u64,
         id: Puid,
     ) -> Result<Reply, Refused>
+        requires left { self.old.space.left ≡ None }
         ensures { Tries D.Disk self.old self.new who (asks.Retain to slot id) result }
     {
         let way = Way {
@@ -69,6 +70,7 @@ impl<D: Disk> Core<D> {
         to: Ref,
         slot: u64,
     ) -> Result<Reply, Refused>
+        requires left { self.old.space.left ≡ None }
         ensures { Tries D.Disk self.old self.new who (asks.Delete to slot) result }
     {
         let way = Way {
@@ -94,6 +96,7 @@ impl<D: Disk> Core<D> {
 
     /// Puts an identifier into a slot that the index has.
     fn put(&mut self, alloc: Global, index: Puid, slot: u64, id: Puid) -> Result<Reply, Refused>
+        requires left { self.old.space.left ≡ None }
         requires on_disk { index.block < D.blocks self.old.disk }
         requires some { index.block ≢ 0 }
         requires few { slot < 983040 }
@@ -112,6 +115,7 @@ impl<D: Disk> Core<D> {
 
     /// Empties a slot that holds something. On a disk that lies too few blocks may be Free for it.
     fn empty(&mut self, alloc: Global, index: Puid, slot: u64) -> Result<Reply, Refused>
+        requires left { self.old.space.left ≡ None }
         requires on_disk { index.block < D.blocks self.old.disk }
         requires some { index.block ≢ 0 }
         requires few { slot < 983040 }

@@ -28,6 +28,7 @@ fn end_draft<D: Disk>(
     space: &mut Space,
     commit: bool,
 ) -> Result<(), Trouble>
+    requires left { space.old.left ≡ None }
     requires ready { is_ready_for (D.blocks disk.old) draft ≡ true }
     requires size { D.blocks disk.old ≡ 64 * length space.old.free }
     ensures { EndsDraft D.Disk commit draft disk.old disk.new space.old space.new result }
@@ -47,6 +48,7 @@ impl<D: Disk> Core<D> {
         grant: Tuid,
         commit: bool,
     ) -> Result<Reply, Refused>
+        requires left { self.old.space.left ≡ None }
         ensures { Tries D.Disk self.old self.new who (asks.Close grant commit) result }
     {
         table_follows_the_model();
@@ -80,6 +82,7 @@ impl<D: Disk> Core<D> {
         draft: Draft,
         commit: bool,
     ) -> Result<Reply, Refused>
+        requires left { self.old.space.left ≡ None }
         requires ready { is_ready_for (D.blocks self.old.disk) draft ≡ true }
         requires taken { have_draft (is_at grant.draw) self.old.seats ≡ false }
         requires found { IsSome (grant_in (grants_in self.old.seats) who grant) }

@@ -1,5 +1,5 @@
 //! Requests that make an object.
-ghost use Rattle.std.specs.Prelude.{◌≡◌, ◌≢◌, ◌+◌, ◌*◌, ◌<◌, ◌≤◌, ℕ, length, sum, Err};
+ghost use Rattle.std.specs.Prelude.{◌≡◌, ◌≢◌, ◌+◌, ◌*◌, ◌<◌, ◌≤◌, ℕ, length, sum, Err, None};
 ghost use Rattle.cfs_base.specs.declared.refusal.Refused.TheVariants as refusals;
 ghost use Rattle.cfs_core.specs.Calls.{Tries, TriesOn};
 ghost use Rattle.cfs_core.specs.Makes.{IsMaking, Names, file_kind};
@@ -36,6 +36,7 @@ impl<D: Disk> Core<D> {
         to: Ref,
         slot: u64,
     ) -> Result<Reply, Refused>
+        requires left { self.old.space.left ≡ None }
         requires words { self.old.words.drawn < 4294967295 }
         ensures { Tries D.Disk self.old self.new who (asks.CreateFile kind fill to slot) result }
     {
@@ -64,6 +65,7 @@ impl<D: Disk> Core<D> {
         to: Ref,
         slot: u64,
     ) -> Result<Reply, Refused>
+        requires left { self.old.space.left ≡ None }
         requires words { self.old.words.drawn < 4294967295 }
         ensures { Tries D.Disk self.old self.new who (asks.CreateIndex slots to slot) result }
     {
@@ -98,6 +100,7 @@ impl<D: Disk> Core<D> {
         fill: u8,
         size: u64,
     ) -> Result<Reply, Refused>
+        requires left { self.old.space.left ≡ None }
         requires on_disk { index.block < D.blocks self.old.disk }
         requires some { index.block ≢ 0 }
         requires few { slot < 983040 }

@@ -55,7 +55,6 @@ fn first_draft<D: Disk>(
     requires size { D.blocks disk.old ≡ 64 * length space.old.free }
     ensures begins { spec.Begins D.Disk at.0 wanted disk.old disk.new space.old space.new result }
     ensures cylinders { length space.new.free ≡ length space.old.free }
-    ensures left { space.new.left ≡ space.old.left }
 {
     if !wanted {
         return Ok(None);

@@ -25,6 +25,7 @@ impl<D: Disk> Core<D> {
         offset: u64,
         bytes: &[u8],
     ) -> Result<Reply, Refused>
+        requires left { self.old.space.left ≡ None }
         ensures { Tries D.Disk self.old self.new who (asks.Write to offset bytes.now) result }
     {
         match self.drafted(who, to) {
@@ -42,6 +43,7 @@ impl<D: Disk> Core<D> {
         offset: u64,
         bytes: &[u8],
     ) -> Result<Reply, Refused>
+        requires left { self.old.space.left ≡ None }
         requires bare { (s : State) → Serves D.Disk self.old s → draft_of s who to ≡ None }
         ensures { Tries D.Disk self.old self.new who (asks.Write to offset bytes.now) result }
     {
@@ -83,6 +85,7 @@ impl<D: Disk> Core<D> {
         to: Ref,
         size: u64,
     ) -> Result<Reply, Refused>
+        requires left { self.old.space.left ≡ None }
         ensures { Tries D.Disk self.old self.new who (asks.Resize to size) result }
     {
         match self.drafted(who, to) {
@@ -99,6 +102,7 @@ impl<D: Disk> Core<D> {
         to: Ref,
         size: u64,
     ) -> Result<Reply, Refused>
+        requires left { self.old.space.left ≡ None }
         requires bare { (s : State) → Serves D.Disk self.old s → draft_of s who to ≡ None }
         ensures { Tries D.Disk self.old self.new who (asks.Resize to size) result }
     {

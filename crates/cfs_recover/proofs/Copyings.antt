@@ -1,6 +1,6 @@
 -- The list of roots that are to be copied, as one is noted.
 use Rattle.std.proofs.Common.{◌≡◌, ◌≢◌, ◌⊎◌, inl, inr, ℕ, zero, suc, ◌+◌, ◌<◌, ◌≤◌, List, [], ◌∷◌, ◌++◌, length, Option, Some, None, refl, sym, ◌∙◌, ap, subst, arith, append-nil, length-append}
-use Rattle.cfs_recover.proofs.Words.{AreCopies, AreKept, Copied, Found, HasCopy, HasKept, Head, Image, IsCopy, IsRootBlock, Piece, all_pieces, block_at, cases_lt, copies_before, flat_map-append, moved, nat_tests, pieces_of, same_Some, slice_get, slice_get_within, source}
+use Rattle.cfs_recover.proofs.Words.{AreCopies, AreKept, Copied, Found, HasCopy, HasKept, Head, Image, IsCopy, IsRootBlock, Piece, all_pieces, block_at, cases_lt, copies_before, flat_map-append, copies_for, nat_tests, pieces_of, same_Some, slice_get, slice_get_within, source}
 use Rattle.cfs_recover.proofs.Noting.{push_from, push_new, push_old}
 
 past_none : {A : Type 0} (xs : List A) (k : ℕ) → slice_get xs k ≡ None → length xs ≤ k
@@ -91,15 +91,15 @@ copies_same image found done copies x are at own = record {
 -- ---- as they are kept
 
 -- how many stand before an item
-pub before_more : (image : Image) (found : List Found) (k : ℕ) (x : Found) → slice_get found k ≡ Some x → copies_before image found (k + 1) ≡ copies_before image found k + moved image (Some x)
+pub before_more : (image : Image) (found : List Found) (k : ℕ) (x : Found) → slice_get found k ≡ Some x → copies_before image found (k + 1) ≡ copies_before image found k + copies_for image (Some x)
 unfolding copies_before
-before_more image found k x at = let next : k + 1 ≡ suc k = omega arith in ap (copies_before image found) next ∙ ap (λ (o : Option Found). copies_before image found k + moved image o) at
+before_more image found k x at = let next : k + 1 ≡ suc k = omega arith in ap (copies_before image found) next ∙ ap (λ (o : Option Found). copies_before image found k + copies_for image o) at
 
-pub moved_none : (image : Image) (x : Found) → source image x.block ≡ x.block → moved image (Some x) ≡ 0
-moved_none image x own = grind (arith, nat_tests)
+pub none_copied : (image : Image) (x : Found) → source image x.block ≡ x.block → copies_for image (Some x) ≡ 0
+none_copied image x own = grind (arith, nat_tests)
 
-pub moved_one : (image : Image) (x : Found) → source image x.block ≢ x.block → moved image (Some x) ≡ 1
-moved_one image x other = grind (arith, nat_tests)
+pub one_copied : (image : Image) (x : Found) → source image x.block ≢ x.block → copies_for image (Some x) ≡ 1
+one_copied image x other = grind (arith, nat_tests)
 
 -- nothing is kept before the first item
 pub kept_none : (image : Image) (found : List Found) (pieces : List Piece) → pieces ≡ [] → HasKept image found 0 pieces
@@ -135,7 +135,7 @@ module _ (image : Image) (a b : List Found) (grows : (k : ℕ) (x : Found) → s
   before_on : (k : ℕ) → k ≤ length a → copies_before image b k ≡ copies_before image a k
   unfolding copies_before
   before_on zero less = refl
-  before_on (suc k) less = λ i. before_on k (omega (arith, less)) i + moved image (same_at k (omega (arith, less)) i)
+  before_on (suc k) less = λ i. before_on k (omega (arith, less)) i + copies_for image (same_at k (omega (arith, less)) i)
 
   pub kept_on : (done : ℕ) (pieces : List Piece) → done ≤ length a → HasKept image a done pieces → HasKept image b done pieces
   kept_on done pieces within (copies, kept) = (
@@ -159,7 +159,7 @@ module _ (image : Image) (found : List Found) (done : ℕ) (pieces : List Piece)
   kept_same own = record {
     are = copies_same image found done copies x kept.are at own;
     spelled = kept.spelled;
-    count = omega (arith, kept.count, before_more image found done x at, moved_none image x own);
+    count = omega (arith, kept.count, before_more image found done x at, none_copied image x own);
     placed = λ k y less there other. elim (cases_lt k done) [
       | inl before ↦ kept.placed k y before there other
       | inr past ↦ let it = last_is k y less (λ lower. omega (arith, lower, past)) there in absurd (other (subst (λ (z : Found). source image z.block ≡ z.block) it.1 own))
@@ -177,7 +177,7 @@ module _ (image : Image) (found : List Found) (done : ℕ) (pieces : List Piece)
           are = copies_push image found done copies (copies ++ new_copy ∷ []) kept.are x at block same head copy elsewhere first refl;
           spelled = is ∙ ap (λ (ps : List Piece). ps ++ pieces_of head.root) kept.spelled ∙ ap (λ (ps : List Piece). all_pieces copies ++ ps) (sym (append-nil (pieces_of head.root)))
               ∙ sym (flat_map-append (λ c. pieces_of c.root) copies (new_copy ∷ []));
-          count = omega (arith, length-append copies (new_copy ∷ []), kept.count, before_more image found done x at, moved_one image x other);
+          count = omega (arith, length-append copies (new_copy ∷ []), kept.count, before_more image found done x at, one_copied image x other);
           placed = λ k y less there elsewhere. elim (cases_lt k done) [
             | inl before ↦ let c = kept.placed k y before there elsewhere in (c.0, push_old copies new_copy c.0 (copies_before image found k) c.1, c.2)
             | inr past ↦

@@ -1,7 +1,7 @@
 -- One item of the list, as the roots that were kept are copied.
 use Rattle.std.proofs.Common.{◌≡◌, ◌≢◌, ℕ, suc, ◌+◌, ◌<◌, List, ◌++◌, length, drop, get_or, Some, sym, ◌∙◌, ap, arith}
 use Rattle.cfs_recover.proofs.Words.{AreKeptFor, Copied, Found, Graph, Image, IsNamedCopy, MapEntry, Walked, all_pieces, copies_before, drop-cons, get_or_from_slice_get, pieces_of, slice_get, slice_get-get_or, slice_get_within, source}
-use Rattle.cfs_recover.proofs.Copyings.{before_more, moved_none, moved_one}
+use Rattle.cfs_recover.proofs.Copyings.{before_more, none_copied, one_copied}
 
 pieces_next : (copies : List Copied) (n : ℕ) (c : Copied) → slice_get copies n ≡ Some c → all_pieces (drop n copies) ≡ pieces_of c.root ++ all_pieces (drop (n + 1) copies)
 pieces_next copies n c here =
@@ -13,7 +13,7 @@ module _ (a : Image) (graph : Graph) (maps : List (List MapEntry)) (w : Walked) 
   found = w.walk.found.items
 
   pub own_next : source a x.block ≡ x.block → copies_before a found (k + 1) ≡ copies_before a found k
-  own_next own = omega (arith, before_more a found k x at, moved_none a x own)
+  own_next own = omega (arith, before_more a found k x at, none_copied a x own)
 
   pub record Next : Type 0 where
     pub copy : Copied
@@ -32,7 +32,7 @@ module _ (a : Image) (graph : Graph) (maps : List (List MapEntry)) (w : Walked) 
         block = c.2;
         named = are.named (copies_before a found k) c.0 c.1;
         pieces = pieces_next copies (copies_before a found k) c.0 c.1;
-        more = omega (arith, before_more a found k x at, moved_one a x other);
+        more = omega (arith, before_more a found k x at, one_copied a x other);
       }
 
 -- what stands there in the list

@@ -1,6 +1,6 @@
 -- A block of an object that is read: where it stands, and which faults of the volume are found in it.
 use Rattle.std.proofs.Common.{◌≡◌, ◌≢◌, inl, inr, ℕ, ◌+◌, ◌-◌, ◌*◌, ◌/◌, ◌%◌, ◌<◌, ◌≤◌, List, [], ◌∷◌, ◌++◌, length, get_or, Option, Some, None, refl, sym, ◌∙◌, ap, subst, arith, append_assoc, append-nil, length-append}
-use Rattle.cfs_recover.proofs.Words.{AreNamed, BelongsTo, BySlot, Damage, Fault, HasBlock, HasPointers, Image, IsFault, IsKept, IsNotFilled, IsShown, Level, Object, Place, Puid, Root, Shows, SpotFault, Twig, block_at, cases_lt, content_is, content_of, damage, digits_below, div-mul-add, end_of, get_or_past, held, held_at, held_there, holder, index_to_leaves, leaf_content, leaf_in, leaf_pointers, leaves_in, length-path_to, levels_below, levels_of, mod-mul-add, node_pointers, nodes_of, part_at, path_more, path_to, place_above, place_at, place_from, pointer, pointers_of, shown, shown_tree, slice_get, slot_in, slot_of, some_index, tree_of, unwrap_or, width, width_more}
+use Rattle.cfs_recover.proofs.Words.{AreNamed, BelongsTo, BySlot, Damage, Fault, HasBlock, HasPointers, Image, IsFault, IsKept, IsNotFilled, IsShown, Level, Object, Place, Puid, Root, Shows, SpotFault, Twig, block_at, cases_lt, content_is, content_of, damage, digits_below, div-mul-add, end_of, get_or_past, held, held_at, held_there, holder, index_to_leaves, leaf_content, leaf_in, leaf_pointers, leaves_in, length-path_to, levels_below, levels_of, mod-mul-add, node_pointers, nodes_of, part_at, path_more, path_to, place_above, place_at, place_from, pointer, pointers_of, object_shown, shown_tree, slice_get, slot_in, slot_of, some_index, tree_of, unwrap_or, width, width_more}
 use Rattle.cfs_base.specs.declared.kind.Kind.TheVariants as kinds
 use Rattle.cfs_recover.proofs.Trees.{down, holder_is, length-pointers, one_more, place_on}
 
@@ -16,7 +16,7 @@ module _ (image : Image) (owner : ℕ) (root : Root) (twig : Twig) (has : HasBlo
   content = content_of image id
 
   abbrev object : Object
-  object = shown image id root
+  object = object_shown image id root
 
   -- the path that ends at it, and the levels on it
   abbrev path : List ℕ

@@ -1,6 +1,6 @@
 -- An object whose root block was read, and then the root by which it is read: what is wrong, and what is shown.
 use Rattle.std.proofs.Common.{◌≡◌, ◌≢◌, ℕ, ◌<◌, false, length, refl, sym, ◌∙◌, ap, subst, arith, inr}
-use Rattle.cfs_recover.proofs.Words.{Damage, Fault, Found, HasLabel, HasNoRoot, HasRootSlots, Head, HeadFault, Image, IsFault, IsFound, IsHead, IsInPlace, IsOpened, IsOwn, IsReached, IsRootBlock, IsRootIndex, Label, Puid, Root, Shows, Spot, SpotFault, Walk, block_at, damage, id_of, index_to_leaves, leaf_in, lists, object_with, one_root_block, shown, shown_tree, some_index, source}
+use Rattle.cfs_recover.proofs.Words.{Damage, Fault, Found, HasLabel, HasNoRoot, HasRootSlots, Head, HeadFault, Image, IsFault, IsFound, IsHead, IsInPlace, IsOpened, IsOwn, IsReached, IsRootBlock, IsRootIndex, Label, Puid, Root, Shows, Spot, SpotFault, Walk, block_at, damage, id_of, index_to_leaves, leaf_in, lists, object_with, one_root_block, object_shown, shown_tree, some_index, source}
 use Rattle.cfs_base.specs.declared.kind.Place.TheVariants as places
 use Rattle.cfs_recover.proofs.Named.{head_fault, named_nothing, named_reached, no_root}
 
@@ -28,7 +28,7 @@ module _ (image : Image) (x : Found) (own : Root) (is : IsOwn image x own) (belo
   no_head d fault = head_fault image id x.by is.named is.some below own is.spelled refl d fault
 
   module _ (head : Head) (at : IsHead image x.block own head) where
-    shows : Shows image x.block head.root (shown image id head.root)
+    shows : Shows image x.block head.root (object_shown image id head.root)
     shows = record {
       own = own;
       own_spelled = is.spelled;
@@ -43,7 +43,7 @@ module _ (image : Image) (x : Found) (own : Root) (is : IsOwn image x own) (belo
     pub no_root_index : (label : Label) → HasLabel image label → x.block ≡ 2 → ¬ HasRootSlots head.root → IsFault image (damage 2 6)
     no_root_index label has two not =
         let here : x.block ≡ label.root.block = two ∙ sym has.is_label.root in
-        Fault.NoRootIndex label head.root (shown image id head.root) has (subst (λ (n : ℕ). Shows image n head.root (shown image id head.root)) here shows) (λ index it count.
+        Fault.NoRootIndex label head.root (object_shown image id head.root) has (subst (λ (n : ℕ). Shows image n head.root (object_shown image id head.root)) here shows) (λ index it count.
         let gives = index_to_leaves head.root (leaf_in (shown_tree image x.block)) index it in
         let eight = (shows.spelled.good.1.size.slots gives.kind).1 in
         not (record { index = gives.kind; size = omega (arith, gives.size, count, eight) }))

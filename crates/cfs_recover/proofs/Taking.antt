@@ -1,6 +1,6 @@
 -- An object whose nodes were all checked is taken, as it is shown.
 use Rattle.std.proofs.Common.{◌≡◌, inl, ℕ, ◌<◌, true, List, [], length, get_or, Option, refl, sym, ◌∙◌, ap, subst, arith}
-use Rattle.cfs_recover.proofs.Words.{AreGoodBelow, Branch, HasPointers, Head, Held, Image, IsCopy, IsGoodTree, IsKept, IsOpened, IsRootBlock, IsTaken, Kind, Puid, Root, Walk, block_at, content_of, end_of, holds, kind_of, levels_below, levels_of, node_pointers, object_with, path_to, pointers_of, shown, sight, source, node_levels}
+use Rattle.cfs_recover.proofs.Words.{AreGoodBelow, Branch, HasPointers, Head, Held, Image, IsCopy, IsGoodTree, IsKept, IsOpened, IsRootBlock, IsTaken, Kind, Puid, Root, Walk, block_at, content_of, end_of, holds, kind_of, levels_below, levels_of, node_pointers, object_with, path_to, pointers_of, object_shown, sight, source, node_levels}
 use Rattle.cfs_base.specs.declared.kind.Kind.TheVariants as kinds
 use Rattle.cfs_recover.proofs.Good.{all_held, below_all, tree_is}
 use Rattle.cfs_recover.proofs.Objects.{root_pointers}
@@ -50,7 +50,7 @@ module _ (image : Image) (id : Puid) (head : Head) (opened : IsOpened image id h
     nodes : IsGoodTree image id.block head.root w (content_of image id)
     nodes = below_all image id.block head.root w top node_pointers (content_of image id) head.root.nodes nodes_are all
 
-    pub object_taken : IsTaken image w id (shown image id head.root)
+    pub object_taken : IsTaken image w id (object_shown image id head.root)
     unfolding sight
     object_taken = record {
       reached = opened.shown.reached;

@@ -1,6 +1,6 @@
 -- What stands along the paths of a tree, level by level.
 use Rattle.std.proofs.Common.{◌≡◌, ◌≢◌, inl, inr, ℕ, zero, suc, ◌+◌, ◌-◌, ◌*◌, ◌/◌, ◌%◌, ◌<◌, ◌≤◌, List, [], ◌∷◌, ◌++◌, length, refl, ◌∙◌, ap, arith}
-use Rattle.cfs_recover.proofs.Words.{Image, Level, add-mul, block_at, cases_lt, div-add-mod', end_of, get_or_past, holder, leaf_pointers, length-map-range_with_len, levels_below, mod-lt, mul-le-mul_left, mul-le-mul_right, mul_assoc, number_at, path_to, place_above, place_from, pointer, pointers_of, reads_of, source, tree_of, width}
+use Rattle.cfs_recover.proofs.Words.{Image, Level, add-mul, block_at, cases_lt, div-add-mod', end_of, get_or_past, holder, leaf_pointers, length-map-range_with_len, levels_below, mod-lt, mul-le-mul_left, mul-le-mul_right, mul_assoc, number_at, path_to, place_above, place_from, pointer, pointers_of, reads_by_height, source, tree_of, width}
 
 pub length-pointers : (level : Level) (content : List ℕ) → length (pointers_of level content) ≡ level.count
 unfolding pointers_of
@@ -62,11 +62,11 @@ some_below (suc h) = let rest = some_below h in omega (arith, rest)
 pub width_of : (h : ℕ) → h ≢ 0 → width (levels_below h) ≡ leaf_pointers.count * width (levels_below (h - 1))
 width_of h more = ap width (one_more h more)
 
-pub reads_more : (h : ℕ) → h ≢ 0 → reads_of h ≡ 1 + leaf_pointers.count * reads_of (h - 1)
+pub reads_more : (h : ℕ) → h ≢ 0 → reads_by_height h ≡ 1 + leaf_pointers.count * reads_by_height (h - 1)
 reads_more zero more = absurd (more refl)
-reads_more (suc h) more = ap (λ (m : ℕ). 1 + leaf_pointers.count * reads_of m) (less_one h)
+reads_more (suc h) more = ap (λ (m : ℕ). 1 + leaf_pointers.count * reads_by_height m) (less_one h)
 
-pub reads_some : (h : ℕ) → 1 ≤ reads_of h
+pub reads_some : (h : ℕ) → 1 ≤ reads_by_height h
 reads_some zero = omega arith
 reads_some (suc h) = omega arith
 

@@ -19,7 +19,7 @@ pub use Rattle.cfs_base.specs.declared.kind.Place.{Place}
 pub use Rattle.cfs_base.specs.declared.kind.Place.TheVariants.{Leaf, Node, ShadowRoot}
 pub use Rattle.cfs_base.specs.declared.refusal.Damage.{Damage}
 pub use Rattle.cfs_recover.specs.Checks.{HasNoRoot, HasNoneLike, HasRootSlots, HeadFault, IsFilled, IsHead, IsInPlace, IsLike, IsNotFilled, SpotFault}
-pub use Rattle.cfs_recover.specs.Copies.{AreCopies, AreKept, BeginsAnew, BeginsWithout, HasCopy, HasKept, Piece, all_pieces, head_piece, moved, node_piece, piece_at, pieces_of}
+pub use Rattle.cfs_recover.specs.Copies.{AreCopies, AreKept, BeginsAnew, BeginsWithout, HasCopy, HasKept, Piece, all_pieces, head_piece, copies_for, node_piece, piece_at, pieces_of}
 unfoldable pub use Rattle.cfs_recover.specs.Copies.{copies_before, node_pieces}
 pub use Rattle.cfs_recover.specs.Entries.{AreStanding, EntryFault, IsShadow, MayStand, damage, standing_below}
 pub use Rattle.cfs_recover.specs.Found.{AreNamed, AreNoted, ByLabel, BySlot, Grows, IsClash, IsFault, IsFound, IsKept, IsNamed, IsNext, IsNoted, IsTaken, IsWalk, holds, lists}
@@ -33,7 +33,7 @@ pub use Rattle.cfs_recover.specs.Standing.{Shadow, one_more, shadow_of}
 pub use Rattle.cfs_recover.specs.Stored.{AreMapsOf, Stores}
 pub use Rattle.cfs_recover.specs.Survey.{IsIn, IsSurvey}
 pub use Rattle.cfs_recover.specs.Tidy.{AreCopied, AreMarked, AreTidied, CopiesRoots, HasTidied, IsHeldIn, IsMapIn, IsTidied, IsTidiedMap, IsTidy, IsTidyMap, IsTidying, Tidies, tidied}
-pub use Rattle.cfs_recover.specs.Walk.{AreGood, AreGoodBelow, HasBlock, HasPointers, IsCopy, IsGood, IsGoodAt, IsGoodLeaf, IsGoodTree, IsOpened, IsOwn, IsShown, Walks, content_of, id_of, reads_of, reads_of_object, shown}
+pub use Rattle.cfs_recover.specs.Walk.{AreGood, AreGoodBelow, HasBlock, HasPointers, IsCopy, IsGood, IsGoodAt, IsGoodLeaf, IsGoodTree, IsOpened, IsOwn, IsShown, Walks, content_of, id_of, reads_by_height, reads_of_object, object_shown}
 pub use Rattle.cfs_recover.specs.declared.copies.Copied.{Copied}
 pub use Rattle.cfs_recover.specs.declared.fault.RecoverFault.{RecoverFault}
 pub use Rattle.cfs_recover.specs.declared.found.Found.{Found}

@@ -61,13 +61,13 @@ abbrev pub BeginsAnew : List Piece → Type 0
 BeginsAnew pieces = (p : Piece) (rest : List Piece) → pieces ≡ p ∷ rest → p.number ≡ 255
 
 -- how many of the first so many items are read from elsewhere
-abbrev pub moved : Image → Option Found → ℕ
-moved image None = 0
-moved image (Some x) = cond (nat_eq (source image x.block) x.block) 0 1
+abbrev pub copies_for : Image → Option Found → ℕ
+copies_for image None = 0
+copies_for image (Some x) = cond (nat_eq (source image x.block) x.block) 0 1
 
 unfoldable pub copies_before : Image → List Found → ℕ → ℕ
 copies_before image found zero = 0
-copies_before image found (suc k) = copies_before image found k + moved image (slice_get found k)
+copies_before image found (suc k) = copies_before image found k + copies_for image (slice_get found k)
 
 -- These pieces are those of the copies, which stand in the order of the list.
 pub record AreKept (image : Image) (found : List Found) (done : ℕ) (pieces : List Piece)

@@ -31,8 +31,8 @@ use Rattle.cfs_recover.specs.Stored.{AreMapsOf, Stores}
 -- ---- an object
 
 -- the object that is shown, whatever is wrong with its tree
-abbrev pub shown : Image → Puid → Root → Object
-shown image id root = object_with root (leaf_in (shown_tree image id.block))
+abbrev pub object_shown : Image → Puid → Root → Object
+object_shown image id root = object_with root (leaf_in (shown_tree image id.block))
 
 -- the content of the block by which it is read
 abbrev pub content_of : Image → Puid → List ℕ
@@ -41,7 +41,7 @@ content_of image id = block_at image (source image id.block)
 -- the object is reached, and read by this root, which stands in this block
 pub record IsShown (image : Image) (id : Puid) (from : ℕ) (root : Root) : Type 0 where
   pub reached : IsReached image id
-  pub shows : Shows image id.block root (shown image id root)
+  pub shows : Shows image id.block root (object_shown image id root)
   pub word : shows.own.word ≡ id.word
   pub from_is : from ≡ source image id.block
 
@@ -70,19 +70,19 @@ pub record IsCopy (image : Image) (r : ℕ) (head : Head) : Type 0 where
 -- ---- its blocks, each by what leads to it
 
 -- how many reads check a block above so many levels of nodes' pointers, and all below it
-abbrev pub reads_of : ℕ → ℕ
-reads_of zero = 1
-reads_of (suc height) = 1 + leaf_pointers.count * reads_of height
+abbrev pub reads_by_height : ℕ → ℕ
+reads_by_height zero = 1
+reads_by_height (suc height) = 1 + leaf_pointers.count * reads_by_height height
 
 -- and how many an object, with its own root and the one by which it is read
 abbrev pub reads_of_object : ℕ
-reads_of_object = 2 + node_pointers.count * reads_of node_levels
+reads_of_object = 2 + node_pointers.count * reads_by_height node_levels
 
 -- the object with this root block is read by this root
 pub record IsRead (image : Image) (owner : ℕ) (root : Root) : Type 0 where
   pub id : Puid
   pub reached : IsReached image id
-  pub shows : Shows image id.block root (shown image id root)
+  pub shows : Shows image id.block root (object_shown image id root)
   pub owner_is : owner ≡ id.block
 
 -- A block of its tree has these pointers, as many as there are at a level: it is number `at.number` of those at the end

@@ -46,7 +46,7 @@ fn keep_root(kept: &mut Vec<Piece>, root: &Root) -> Result<(), NoMemory>
     ensures { OnOk result (kept.new.items ≡ kept.old.items ++ spec.pieces_of root.now) }
 {
     kept.push(head_piece(root))?;
-    for number in 0..120u8 {
+    for number in 0..NODES as u8 {
         let block = root.nodes[number as usize];
         if block == 0 {
             continue;
@@ -96,7 +96,7 @@ pub(crate) fn first_root(kept: &[Piece], kind: Kind, word: u32) -> Option<(Root,
     let (head, mut rest) = kept.split_first()?;
     let [fill, high, middle, low] = head.bytes;
     let mut nodes = [0; NODES];
-    for number in 0..120u8 {
+    for number in 0..NODES as u8 {
         let Some((block, more)) = next_node(rest, number) else {
             continue;
         };

@@ -1,5 +1,5 @@
 //! A volume opened: what a crash left of it is told apart from damage, and tidied.
-ghost use Rattle.std.specs.Prelude.{◌≡◌, ◌≢◌, ◌⊎◌, ◌+◌, ◌*◌, length, replicate, IsTrue, IfErr, IfOk, OnErr, OnOk};
+ghost use Rattle.std.specs.Prelude.{◌≡◌, ◌≢◌, ◌⊎◌, ◌+◌, ◌*◌, length, replicate, None, IsTrue, IfErr, IfOk, OnErr, OnOk};
 ghost use Rattle.cfs_base.specs.Calls.{HasFailed, MakesAtMost};
 ghost use Rattle.cfs_base.specs.Disk.{Image};
 ghost use Rattle.cfs_base.specs.Run.{IsSettled, Tells};
@@ -40,6 +40,7 @@ fn tidy_volume<D: Disk>(disk: &mut D, survey: &Survey, space: &mut Space) -> Res
     ensures leads { (a : Image) (g : Graph) → IsSettled D.Disk disk.old → D.content disk.old ≡ a → IsSurvey a survey.now
         → IsSoundAs a g → Leads D.Disk (λ c. IsSoundAs c g) disk.old disk.new }
     ensures size { OnOk result (length space.new.free ≡ length survey.now.grounds.maps.items) }
+    ensures left { space.new.left ≡ space.old.left }
     ensures cause { OnErr result (HasFailed D.Disk disk.old disk.new) }
     ensures calls { MakesAtMost D.Disk (2 * D.blocks disk.old + 2) (2 * D.blocks disk.old + 2) disk.old disk.new }
 {
@@ -76,6 +77,7 @@ fn open_settled<D: Disk>(alloc: Global, disk: &mut D) -> Result<Recovered, Recov
     ensures leads { (g : Graph) → IsSettled D.Disk disk.old → IsSoundAs (D.content disk.old) g
         → Leads D.Disk (λ c. IsSoundAs c g) disk.old disk.new }
     ensures size { IfOk result (λ r. D.blocks disk.old ≡ 64 * length r.space.free) }
+    ensures left { IfOk result (λ r. r.space.left ≡ None) }
     ensures cause { IfErr result (IsCaused D.Disk disk.old disk.new) }
     ensures calls { MakesAtMost D.Disk (15485 * D.blocks disk.old + 3) (2 * D.blocks disk.old + 2) disk.old disk.new }
 {
@@ -109,6 +111,8 @@ pub fn recover<D: Disk>(alloc: Global, disk: &mut D) -> Result<Recovered, Recove
     ensures writes { IsTrue (D.honest disk.old) → OnOk result (WritesWhatDiffers D.Disk 3 disk.old disk.new) }
     // On any disk the space is one of its cylinders.
     ensures size { IfOk result (λ r. D.blocks disk.new ≡ 64 * length r.space.free) }
+    // No commit is left to be carried out.
+    ensures left { IfOk result (λ r. r.space.left ≡ None) }
     ensures cause { IfErr result (IsCaused D.Disk disk.old disk.new) }
     ensures calls { MakesAtMost D.Disk (15485 * D.blocks disk.old + 4) (2 * D.blocks disk.old + 3) disk.old disk.new }
 {

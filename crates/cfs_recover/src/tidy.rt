@@ -116,6 +116,7 @@ fn tidy_cylinder<D: Disk>(
         + changed (block_at (D.content disk.old) (64 * cylinder)) (block_at (D.content disk.new) (64 * cylinder))) }
     ensures counts { (k : ℕ) → k ≢ cylinder → OnOk result (get_or space.new.free k 0 ≡ get_or space.old.free k 0) }
     ensures size { length space.new.free ≡ length space.old.free }
+    ensures left { space.new.left ≡ space.old.left }
     ensures cause { OnErr result (HasFailed D.Disk disk.old disk.new) }
     ensures calls { MakesAtMost D.Disk 1 1 disk.old disk.new }
 {
@@ -143,6 +144,7 @@ fn write_maps<D: Disk>(
     ensures leads { (a : Image) (g : Graph) → IsSettled D.Disk disk.old → D.content disk.old ≡ a
         → spec.IsTidying a g held.now → AreMapsOf a maps.now → Leads D.Disk (spec.Tidies a g) disk.old disk.new }
     ensures size { length space.new.free ≡ length maps.now }
+    ensures left { space.new.left ≡ space.old.left }
     ensures cause { OnErr result (HasFailed D.Disk disk.old disk.new) }
     ensures calls { MakesAtMost D.Disk (length maps.now) (length maps.now) disk.old disk.new }
 {
@@ -171,6 +173,7 @@ pub(crate) fn tidy_maps<D: Disk>(
     ensures leads { (a : Image) (g : Graph) → IsSettled D.Disk disk.old → D.content disk.old ≡ a
         → spec.IsTidying a g held.now → AreMapsOf a maps.now → Leads D.Disk (spec.Tidies a g) disk.old disk.new }
     ensures size { length space.new.free ≡ length maps.now }
+    ensures left { space.new.left ≡ space.old.left }
     ensures cause { OnErr result (HasFailed D.Disk disk.old disk.new) }
     ensures calls { MakesAtMost D.Disk (length maps.now + 1) (length maps.now + 1) disk.old disk.new }
 {

@@ -6,7 +6,7 @@ ghost use Rattle.block_tree.specs.Pointers.{leaf_limit, levels_below, width};
 ghost use Rattle.vol_image.specs.Seen.{place_above};
 ghost use Rattle.cfs_recover.specs.Found.{Grows, IsFault};
 ghost use Rattle.cfs_recover.specs.Refusals.{IsCaused, IsDamage};
-ghost use Rattle.cfs_recover.specs.Walk.{AreGood, AreGoodBelow, HasBlock, HasPointers, Walks, reads_of};
+ghost use Rattle.cfs_recover.specs.Walk.{AreGood, AreGoodBelow, HasBlock, HasPointers, Walks, reads_by_height};
 
 use crate::fault::RecoverFault;
 use crate::found::Walk;
@@ -78,7 +78,7 @@ fn walk_twig<D: Disk>(
         × AreGood image owner root.now walk.new twig.height twig.number twig.block) (IsDamage (IsFault image)) }
     ensures grows { OnOk result (Grows walk.old walk.new) }
     ensures cause { IfErr result (IsCaused D.Disk disk.old disk.new) }
-    ensures reads { OnlyReads D.Disk (reads_of twig.height) disk.old disk.new }
+    ensures reads { OnlyReads D.Disk (reads_by_height twig.height) disk.old disk.new }
 {
     check_spot(maps, spot_of(owner, twig))?;
     if twig.height == 0 {
@@ -116,7 +116,7 @@ pub(crate) fn walk_below<D: Disk>(
         × AreGoodBelow image owner root.now walk.new at pointers.now (length pointers.now)) (IsDamage (IsFault image)) }
     ensures grows { OnOk result (Grows walk.old walk.new) }
     ensures cause { IfErr result (IsCaused D.Disk disk.old disk.new) }
-    ensures reads { OnlyReads D.Disk (length pointers.now * reads_of at.height) disk.old disk.new }
+    ensures reads { OnlyReads D.Disk (length pointers.now * reads_by_height at.height) disk.old disk.new }
 {
     for place in 0..pointers.len() {
         let block = pointers[place];

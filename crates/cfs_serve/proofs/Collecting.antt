@@ -1,6 +1,6 @@
 -- A step of the collector of a core, as the hall sees it.
 use Rattle.std.proofs.Common.{◌≡◌, ◌⊎◌, inl, inr, ℕ, ◌+◌, ◌-◌, ◌<◌, ◌≤◌, Bool, true, false, List, [], ◌∷◌, ◌++◌, Option, Some, None, Result, Ok, Err, is_some, length, option_to_list, refl, sym, ap, ◌∙◌, subst, arith, ◌||◌}
-use Rattle.cfs_serve.proofs.Cited.{AsBefore, CallKeeps, CollectFault, Collecting, Collection, Collections, Collects, EndsCollecting, Event, Ghosts, Graph, Happens, HappensOrRests, HasCollection, IsNextOf, IsStep, IsUnchanged, Kernel, MayCount, MayGoOn, MayLose, MayMake, MayTally, PassesStep, Puid, Rests, Rose, RunSurvives, Serves, Spends, Stands, StandsFor, State, Step, Stop, Stops, Survived, Tallies, TellsStep, TellsStop, append-nil, damage_in, event_by, event_of, fails, is_calm_step, is_collecting, is_marking, is_sweeping, listed, lost_blocks, marks_in, next, option_and_then, recorded, refusal_by, replay, runs, stops_in, sweeps_in, tally_of, tells_stop_at}
+use Rattle.cfs_serve.proofs.Cited.{AsBefore, CallKeeps, CollectFault, Collecting, Collection, Collections, Collects, EndsCollecting, Event, Ghosts, Graph, Happens, HappensOrRests, HasCollection, IsNextOf, IsStep, IsUnchanged, Kernel, MayCount, MayGoOn, MayLose, MayMake, MayTally, PassesStep, Puid, Rests, Rose, RunSurvives, Serves, Spends, Stands, StandsFor, State, Step, Stop, Stops, Survived, Tallies, TellsStep, TellsStop, append-nil, damage_in, event_by, event_of, fails, is_calm_step, is_collecting, is_marking, is_sweeping, option_to_list, lost_blocks, marks_in, next, option_and_then, recorded, refusal_by, replay, runs, stops_in, sweeps_in, tally_of, tells_stop_at}
 use Rattle.cfs_core.specs.Left.{steps_ahead}
 use Rattle.cfs_core.specs.declared.collecting.CollectFault.TheVariants as faults
 use Rattle.cfs_core.specs.declared.collecting.Step.TheVariants as steps
@@ -186,7 +186,7 @@ module _ {D : Type 0} (g : Ghosts D) (old new : Kernel D) (result : Result Step 
       calm steps.Finished = refl
 
       still : (made : List Event) → stops_in (damage_in new.stop) made ≡ [] → new.stop ≡ old.stop → Stops old.stop new.stop made
-      still made none same = ap listed same ∙ sym (rw none (append-nil (listed old.stop)))
+      still made none same = ap option_to_list same ∙ sym (rw none (append-nil (option_to_list old.stop)))
 
       -- one that stopped in it ran before
       ran_before : (fault : CollectFault) → result ≡ Err fault → ((moment : ℕ) → fault ≡ faults.Stopped moment → ⊥) → old.stop ≡ None

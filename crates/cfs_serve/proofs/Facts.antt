@@ -1,6 +1,6 @@
 -- What `top` says of a run, from what the run came to.
 use Rattle.std.proofs.Common.{◌≡◌, inl, inr, ℕ, ◌<◌, ◌≤◌, Bool, true, false, not, List, [], ◌∷◌, ◌++◌, length, map, slice_get, Option, Some, None, refl, sym, ap, ◌∙◌, subst, arith, ◌||◌}
-use Rattle.cfs_serve.proofs.Cited.{AreOver, AreSeated, AreWithin, Asked, Asks, Audits, BreaksOff, Cause, Counts, Ending, Event, Formats, Ground, HadLeft, HasBroken, HasPlaces, HasScript, HaveScripts, Intake, IsOver, IsPlayed, IsRunOf, IsServedFrom, Nothing, Outside, Page, Puid, Reading, Replied, Report, RoseIn, Seat, Service, Shows, SomeRose, Supply, Wrote, all_forms, counts_of, events_of, has_broken, has_failed, is_short, is_verdict, length-map, list_any, most_lines, no_names, not_begun, option_map, printed_replies, request_lines, slice_get-map, slice_get_within, turns_from, turns_in, wants_memory}
+use Rattle.cfs_serve.proofs.Cited.{AreOver, AreClients, AreWithin, Asked, Asks, Audits, BreaksOff, Cause, Counts, Ending, Event, Formats, Ground, HadLeft, HasBroken, HasPlaces, HasScript, HaveScripts, Intake, IsOver, IsPlayed, IsRunOf, IsServedFrom, Nothing, Outside, Page, Puid, Reading, Replied, Report, RoseIn, Client, Service, Shows, SomeRose, Supply, Wrote, all_forms, counts_of, events_of, has_broken, has_failed, is_short, is_verdict, length-map, list_any, most_lines, no_names, not_begun, option_map, printed_replies, request_lines, slice_get-map, slice_get_within, turns_from, turns_in, wants_memory}
 use Rattle.cfs_serve.specs.declared.report.Cause.TheVariants as causes
 use Rattle.cfs_serve.specs.Words.{Serves, Spins}
 use Rattle.ufs_model.specs.declared.asked.Event.TheVariants as events
@@ -24,8 +24,8 @@ on false is = absurd (clash is)
 
 module _ (service : Service) (ground : Ground) (disk disk_after : Option ℕ) (sources sources_after : List Supply) (sinks sinks_after : List Intake) (report report_after : Intake) (ending : Ending) (trail : List Event)
     (given : HasPlaces (Serves service) (length sources) (length sinks)) (sources_count : length sources_after ≡ length sources) (sinks_count : length sinks_after ≡ length sinks)
-    (scripts : List (List ℕ)) (have : HaveScripts sources scripts) (sound : ¬ ground.unsound) (counts : Counts) (seats : List Seat) (ports : List Reading)
-    (seated : AreSeated scripts sinks sinks_after seats ports) where
+    (scripts : List (List ℕ)) (have : HaveScripts sources scripts) (sound : ¬ ground.unsound) (counts : Counts) (clients : List Client) (ports : List Reading)
+    (matched : AreClients scripts sinks sinks_after clients ports) where
   abbrev begun : Outside
   begun = places disk sources sinks report
 
@@ -33,7 +33,7 @@ module _ (service : Service) (ground : Ground) (disk disk_after : Option ℕ) (s
   ended = places disk_after sources_after sinks_after report_after
 
   abbrev Played : Cause → Type 0
-  Played cause = IsPlayed ground service.seed service.collections (RoseIn disk disk_after) seats ports counts cause ending trail
+  Played cause = IsPlayed ground service.seed service.collections (RoseIn disk disk_after) clients ports counts cause ending trail
 
   abbrev Sessions : Cause → Type 0
   Sessions cause = Facts (Serves service) ground begun ended (record { counts = Some counts; cause = cause }) ending trail
@@ -41,41 +41,41 @@ module _ (service : Service) (ground : Ground) (disk disk_after : Option ℕ) (s
   few : (left : List (List ℕ)) → HadLeft begun left → AreWithin left
   few = within sources scripts have
 
-  -- as many seats as scripts
-  seats_count : length seats ≡ length sources
-  seats_count = same_length (λ s. s.lines) request_lines seats scripts seated.lines ∙ have.all
+  -- as many clients as scripts
+  clients_count : length clients ≡ length sources
+  clients_count = same_length (λ s. s.lines) request_lines clients scripts matched.lines ∙ have.all
 
-  module _ (root : Puid) (over : AreOver root service.collections seats trail ports) where
+  module _ (root : Puid) (over : AreOver root service.collections clients trail ports) where
     -- the session at a source
     abbrev AtSource : (k : ℕ) (source : Supply) → Type 0
     AtSource k source = (script : List ℕ) × HasScript source script × (length (request_lines script) ≤ most_lines)
-        × ((seat : Seat) × (seat.lines ≡ request_lines script) × ((port : Reading) × (slice_get ports k ≡ Some port) × IsOver root trail k seat port.sink port.failed))
+        × ((client : Client) × (client.lines ≡ request_lines script) × ((port : Reading) × (slice_get ports k ≡ Some port) × IsOver root trail k client port.sink port.failed))
 
     at_source : (k : ℕ) (source : Supply) → slice_get sources k ≡ Some source → AtSource k source
     at_source k source there =
         let below = slice_get_within sources k source there in
         let script = item scripts k (omega (arith, below, have.all)) in
-        let seat = item seats k (omega (arith, below, seats_count)) in
-        let port = item ports k (omega (arith, below, seats_count, over.count)) in (
+        let client = item clients k (omega (arith, below, clients_count)) in
+        let port = item ports k (omega (arith, below, clients_count, over.count)) in (
           script.0,
           have.first.each k source script.0 there script.1,
           omega (arith, one_few scripts k script.0 script.1, have.few),
           (
-            seat.0,
-            map_at (λ s. s.lines) request_lines seats scripts k seat.0 script.0 seated.lines seat.1 script.1,
-            (port.0, port.1, over.each k seat.0 port.0 seat.1 port.1),
+            client.0,
+            map_at (λ s. s.lines) request_lines clients scripts k client.0 script.0 matched.lines client.1 script.1,
+            (port.0, port.1, over.each k client.0 port.0 client.1 port.1),
           ),
         )
 
     -- and at a sink
     abbrev AtSink : (k : ℕ) (sink after : Intake) → Type 0
-    AtSink k sink after = (seat : Seat) × (seat.sink ≡ sink) × ((port : Reading) × (port.sink ≡ after) × (slice_get ports k ≡ Some port) × IsOver root trail k seat port.sink port.failed)
+    AtSink k sink after = (client : Client) × (client.sink ≡ sink) × ((port : Reading) × (port.sink ≡ after) × (slice_get ports k ≡ Some port) × IsOver root trail k client port.sink port.failed)
 
     at_sink : (k : ℕ) (sink after : Intake) → slice_get sinks k ≡ Some sink → slice_get sinks_after k ≡ Some after → AtSink k sink after
     at_sink k sink after at there =
-        let seat = mapped (λ (s : Seat). s.sink) seats k sink (ap (λ l. slice_get l k) seated.begun ∙ at) in
-        let port = mapped (λ (p : Reading). p.sink) ports k after (ap (λ l. slice_get l k) seated.left ∙ there) in
-        (seat.0, seat.2, (port.0, port.2, port.1, over.each k seat.0 port.0 seat.1 port.1))
+        let client = mapped (λ (s : Client). s.sink) clients k sink (ap (λ l. slice_get l k) matched.begun ∙ at) in
+        let port = mapped (λ (p : Reading). p.sink) ports k after (ap (λ l. slice_get l k) matched.left ∙ there) in
+        (client.0, client.2, (port.0, port.2, port.1, over.each k client.0 port.0 client.1 port.1))
 
     abbrev took : ℕ → Bool
     took k = not (failed_at (slice_get ports k))
@@ -95,15 +95,15 @@ module _ (service : Service) (ground : Ground) (disk disk_after : Option ℕ) (s
 
     served_at : (k : ℕ) (source : Supply) → AtSource k source → IsServedFrom root trail (took k) k source
     served_at k source here =
-        let seat = here.3 in
-        let port = seat.2 in
+        let client = here.3 in
+        let port = client.2 in
         record {
           script = here.0;
           whole = here.1.whole;
           short = here.1.short;
           few = here.2;
-          turns = subst (λ l. turns_in k trail ≡ turns_from all_forms k (no_names root) l (turns_in k trail)) seat.1 port.2.turns;
-          answered = λ all. port.2.answered (off port.0.failed (sym (ap (λ p. not (failed_at p)) port.1) ∙ all)) ∙ ap length seat.1;
+          turns = subst (λ l. turns_in k trail ≡ turns_from all_forms k (no_names root) l (turns_in k trail)) client.1 port.2.turns;
+          answered = λ all. port.2.answered (off port.0.failed (sym (ap (λ p. not (failed_at p)) port.1) ∙ all)) ∙ ap length client.1;
         }
 
     left_at : (k : ℕ) (source : Supply) → AtSource k source → (stopped : Option ℕ) × (events_of k trail ≡ turns_in k trail ++ events.Leave k stopped ∷ [])
@@ -116,9 +116,9 @@ module _ (service : Service) (ground : Ground) (disk disk_after : Option ℕ) (s
 
       answered_at : (k : ℕ) (source : Supply) → AtSource k source → (left : List ℕ) → source.left ≡ Some left → length (turns_in k trail) ≡ length (request_lines left)
       answered_at k source here left is =
-          let seat = here.3 in
-          let port = seat.2 in
-          port.2.answered (sym (ap failed_at port.1) ∙ none_failed ports none k) ∙ ap length seat.1 ∙ ap (λ s. length (request_lines s)) (here.1.whole left is)
+          let client = here.3 in
+          let port = client.2 in
+          port.2.answered (sym (ap failed_at port.1) ∙ none_failed ports none k) ∙ ap length client.1 ∙ ap (λ s. length (request_lines s)) (here.1.whole left is)
 
       wrote_at : (k : ℕ) (sink after : Intake) → AtSink k sink after → Wrote sink after (printed_replies k trail)
       wrote_at k sink after here = subst (λ b. Replied sink after (printed_replies k trail) b) (went k) (replied_at k sink after here)
@@ -129,7 +129,7 @@ module _ (service : Service) (ground : Ground) (disk disk_after : Option ℕ) (s
       broke = one_failed ports some
 
       sink_there : broke.0 < length sinks
-      sink_there = omega (arith, slice_get_within ports broke.0 broke.1 broke.2, sym (ap length seated.left), length-map ports (λ (p : Reading). p.sink), sinks_count)
+      sink_there = omega (arith, slice_get_within ports broke.0 broke.1 broke.2, sym (ap length matched.left), length-map ports (λ (p : Reading). p.sink), sinks_count)
 
       lost : took broke.0 ≡ false
       lost = ap (λ p. not (failed_at p)) broke.2 ∙ ap not broke.3
@@ -160,7 +160,7 @@ module _ (service : Service) (ground : Ground) (disk disk_after : Option ℕ) (s
       leaves = λ served. each_of (λ k source after. (stopped : Option ℕ) × (events_of k trail ≡ turns_in k trail ++ events.Leave k stopped ∷ [])) sources sources_after sources_count
           (λ k source after at there. left_at played.root played.over k source (at_source played.root played.over k source at));
       sessions = played.over.sessions;
-      others = λ k past. played.over.none k (omega (arith, past, seats_count));
+      others = λ k past. played.over.none k (omega (arith, past, clients_count));
       on = λ graph reads. let run = played.run graph reads in record {
         last = run.last;
         legal = run.legal;
@@ -168,7 +168,7 @@ module _ (service : Service) (ground : Ground) (disk disk_after : Option ℕ) (s
         calm = run.calm;
         undamaged = (undamaged ending.stop trail (played.undamaged graph reads) played.ends.stops, played.undamaged graph reads);
         stop = λ served. run.stop;
-        counted = (subst (λ n. counts ≡ counts_of n trail run.last.graph counts.free) seats_count run.counted, run.free);
+        counted = (subst (λ n. counts ≡ counts_of n trail run.last.graph counts.free) clients_count run.counted, run.free);
         rests = run.rests;
       };
       sound = λ served. sound;
@@ -194,7 +194,8 @@ module _ (service : Service) (ground : Ground) (disk disk_after : Option ℕ) (s
       verdict = λ is. absurd (plain is);
       ends = λ served. played.ends;
       spoiled = λ served. played.spoiled;
-      counts = subst (λ n. AreCounted n trail counts) seats_count played.counted;
+      counts = subst (λ n. AreCounted n trail counts) clients_count played.counted;
+      last = played.last;
       few = played.few;
       collected = λ served. played.collected;
       wanting = played.wanting;
@@ -253,7 +254,7 @@ of_run : (service : Service) (ground : Ground) (disk disk_after : Option ℕ) (s
     → IsRunOf ground service.seed service.collections (RoseIn disk disk_after) sources sources_after sinks sinks_after told ending trail
     → Facts (Serves service) ground (places disk sources sinks report) (places disk_after sources_after sinks_after report_after) told ending trail
 of_run service ground disk disk_after sources sources_after sinks sinks_after report report_after told ending trail given sources_count sinks_count (inl s) =
-    rw s.told (of_sessions service ground disk disk_after sources sources_after sinks sinks_after report report_after ending trail given sources_count sinks_count s.scripts s.have s.sound s.counts s.seats s.ports s.seated s.cause s.played)
+    rw s.told (of_sessions service ground disk disk_after sources sources_after sinks sinks_after report report_after ending trail given sources_count sinks_count s.scripts s.have s.sound s.counts s.clients s.ports s.matched s.cause s.played)
 of_run service ground disk disk_after sources sources_after sinks sinks_after report report_after told ending trail given sources_count sinks_count (inr n) =
     rw (n.nothing.told, n.nothing.no_event, n.nothing.no_end, n.nothing.untouched) (of_none service ground disk disk_after sources sources_after sinks report report_after given sources_count n.cause n.is)
 

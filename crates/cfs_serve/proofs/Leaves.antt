@@ -1,6 +1,6 @@
 -- A session leaves a core: one that stops in it does so at no damage.
 use Rattle.std.proofs.Common.{◌≡◌, ℕ, Option, Some, None, [], ◌∷◌, false, ap, sym, ◌∙◌, subst, is_some}
-use Rattle.cfs_serve.proofs.Cited.{Ghosts, Kernel, Rose, Serves, Stands, StandsFor, State, Stop, Stops, append-nil, listed, option_and_then}
+use Rattle.cfs_serve.proofs.Cited.{Ghosts, Kernel, Rose, Serves, Stands, StandsFor, State, Stop, Stops, append-nil, option_to_list, option_and_then}
 use Rattle.ufs_model.specs.declared.asked.Event.TheVariants as events
 use Rattle.cfs_core.specs.Leaving.{StopsSo}
 
@@ -15,7 +15,7 @@ raised g old new s stands stop none is so sound = (so.failed (sound s (subst (St
 
 -- why the core stopped
 pub stops_calm : (old new : Option Stop) (who : ℕ) → new ≡ old → Stops old new (events.Leave who None ∷ [])
-stops_calm old new who same = ap listed same ∙ sym (append-nil (listed old))
+stops_calm old new who same = ap option_to_list same ∙ sym (append-nil (option_to_list old))
 
 pub stops_halted : (old new : Option Stop) (who moment : ℕ) (stop : Stop) → old ≡ None → new ≡ Some stop → stop.moment ≡ moment
     → Stops old new (events.Leave who (Some moment) ∷ [])

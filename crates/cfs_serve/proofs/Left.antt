@@ -1,6 +1,6 @@
 -- A session that has left has no grant; once all have left there is none.
 use Rattle.std.proofs.Common.{◌≡◌, ℕ, zero, suc, ◌+◌, ◌≤◌, ◌==◌, ◌&&◌, Bool, true, false, not, cond, List, [], ◌∷◌, ◌++◌, length, filter, Option, Some, None, slice_get, refl, sym, ap, ◌∙◌, subst, arith}
-use Rattle.cfs_serve.proofs.Cited.{AreOver, Change, Direct, Draft, Event, Fill, Grant, Graph, Object, Overwrite, Puid, Reading, Ref, Reply, Request, Seat, SetSize, State, Through, Tuid, after_leave, all_filter, all_passing, allowed_if, and_parts, block_named, by_outcome, changed_draft, created, draft_of, events_of, grant_of, is_grant, is_of, is_outcome, list_all, named, new_file, new_index, next, opening, option_and_then, outcome_of, put, put_draft-at, put_object-at, replay, replay_from, seen, stopped_at, turns_in, with_draft, with_object, word}
+use Rattle.cfs_serve.proofs.Cited.{AreOver, Change, Direct, Draft, Event, Fill, Grant, Graph, Object, Overwrite, Puid, Reading, Ref, Reply, Request, Client, SetSize, State, Through, Tuid, after_leave, all_filter, all_passing, allowed_if, and_parts, block_named, by_outcome, changed_draft, created, draft_of, events_of, grant_of, is_grant, is_of, is_outcome, list_all, named, new_file, new_index, next, opening, option_and_then, outcome_of, put, put_draft-at, put_object-at, replay, replay_from, seen, stopped_at, turns_in, with_draft, with_object, word}
 use Rattle.ufs_model.specs.declared.asked.Event.TheVariants as events
 use Rattle.ufs_model.specs.declared.asked.Reply.TheVariants as replies
 use Rattle.ufs_model.specs.declared.asked.Request.TheVariants as asks
@@ -159,12 +159,12 @@ module _ (k seed : ℕ) where
 
 -- ---- all sessions
 
-seat_or_past : {P : Type 0} (seats : List Seat) (ports : List Reading) (k : ℕ) → length ports ≡ length seats
-    → ((seat : Seat) (p : Reading) → slice_get seats k ≡ Some seat → slice_get ports k ≡ Some p → P) → (length seats ≤ k → P) → P
-seat_or_past [] ports k same there past = past (omega arith)
-seat_or_past (seat ∷ seats) [] k same there past = absurd (omega (arith, same))
-seat_or_past (seat ∷ seats) (p ∷ ports) zero same there past = there seat p refl refl
-seat_or_past (seat ∷ seats) (p ∷ ports) (suc k) same there past = seat_or_past seats ports k (omega (arith, same)) there (λ le. past (omega (arith, le)))
+client_or_past : {P : Type 0} (clients : List Client) (ports : List Reading) (k : ℕ) → length ports ≡ length clients
+    → ((client : Client) (p : Reading) → slice_get clients k ≡ Some client → slice_get ports k ≡ Some p → P) → (length clients ≤ k → P) → P
+client_or_past [] ports k same there past = past (omega arith)
+client_or_past (client ∷ clients) [] k same there past = absurd (omega (arith, same))
+client_or_past (client ∷ clients) (p ∷ ports) zero same there past = there client p refl refl
+client_or_past (client ∷ clients) (p ∷ ports) (suc k) same there past = client_or_past clients ports k (omega (arith, same)) there (λ le. past (omega (arith, le)))
 
 of_nobody : (gs : List Grant) → ((k : ℕ) → list_all (is_anothers k) gs ≡ true) → gs ≡ []
 of_nobody [] all = refl
@@ -173,9 +173,9 @@ of_nobody (g ∷ gs) all =
     absurd (cc (subst (λ b. not b ≡ true) (test_refl g.session) not_own))
 
 -- Where each session has left, and no event is of anybody else, no grant stands.
-pub none_stands : (root : Puid) (collections : ℕ) (seats : List Seat) (trail : List Event) (ports : List Reading) (seed : ℕ) (graph : Graph) (last : State) → AreOver root collections seats trail ports
+pub none_stands : (root : Puid) (collections : ℕ) (clients : List Client) (trail : List Event) (ports : List Reading) (seed : ℕ) (graph : Graph) (last : State) → AreOver root collections clients trail ports
     → replay seed graph trail ≡ Some last → last.grants ≡ []
-none_stands root collections seats trail ports seed graph last over legal = of_nobody last.grants (λ k.
-    seat_or_past seats ports k over.count
-    (λ seat p seat_is at. let one = over.each k seat p seat_is at in left_run k seed trail (turns_in k trail) (opening graph) last one.stopped legal one.leaves)
+none_stands root collections clients trail ports seed graph last over legal = of_nobody last.grants (λ k.
+    client_or_past clients ports k over.count
+    (λ client p client_is at. let one = over.each k client p client_is at in left_run k seed trail (turns_in k trail) (opening graph) last one.stopped legal one.leaves)
     (λ past. others_run k seed trail (opening graph) last legal (over.none k past) refl))

@@ -1,6 +1,6 @@
 -- Lists, item by item.
 use Rattle.std.proofs.Common.{◌≡◌, ◌≢◌, ℕ, zero, suc, ◌+◌, ◌<◌, Bool, true, false, ◌||◌, inl, inr, List, [], ◌∷◌, ◌++◌, length, map, set, Option, Some, None, slice_get, refl, sym, ap, ◌∙◌, subst, arith}
-use Rattle.cfs_serve.proofs.Cited.{AreNew, EachFrom, IsNew, Puid, Reading, Rose, SomeRose, has_broken, length-map, lines_in, map-append, request_lines, reverse, reverse-append, seat_of, sum_by, sum_by-cons, turns_left}
+use Rattle.cfs_serve.proofs.Cited.{AreNew, EachFrom, IsNew, Puid, Reading, Rose, SomeRose, has_broken, length-map, lines_in, map-append, request_lines, reverse, reverse-append, client_of, sum_by, sum_by-cons, turns_left}
 use Rattle.std.proofs.lemmas.List.{append_assoc}
 use Rattle.cfs_serve.proofs.Journals.{some_same}
 
@@ -142,15 +142,15 @@ one_new root ports port new is = subst (AreNew root) (sym (reverse-append ports 
     placed zero p there = subst (IsNew root) (some_same _ _ there) is
     placed (suc k) p there = new k p there
 
--- ---- seats
+-- ---- clients
 
-pub seat_lines : (ports : List Reading) → map (λ s. s.lines) (map seat_of ports) ≡ map (λ p. p.lines) ports
-seat_lines [] = refl
-seat_lines (p ∷ ports) = ap (λ rest. p.lines ∷ rest) (seat_lines ports)
+pub client_lines : (ports : List Reading) → map (λ s. s.lines) (map client_of ports) ≡ map (λ p. p.lines) ports
+client_lines [] = refl
+client_lines (p ∷ ports) = ap (λ rest. p.lines ∷ rest) (client_lines ports)
 
-pub seat_sinks : (ports : List Reading) → map (λ s. s.sink) (map seat_of ports) ≡ map (λ p. p.sink) ports
-seat_sinks [] = refl
-seat_sinks (p ∷ ports) = ap (λ rest. p.sink ∷ rest) (seat_sinks ports)
+pub client_sinks : (ports : List Reading) → map (λ s. s.sink) (map client_of ports) ≡ map (λ p. p.sink) ports
+client_sinks [] = refl
+client_sinks (p ∷ ports) = ap (λ rest. p.sink ∷ rest) (client_sinks ports)
 
 -- each line of the scripts is a turn, and so is each leave
 pub new_work : (root : Puid) (ports : List Reading) (scripts : List (List ℕ)) → AreNew root ports → map (λ p. p.lines) ports ≡ map request_lines scripts

@@ -73,6 +73,7 @@ module _ (asked : Asked) (ground : Ground) (disk disk_after : Option ℕ) (sourc
     ends = λ served. absurd (clash-sym served);
     spoiled = λ served. absurd (clash-sym served);
     counts = tt;
+    last = tt;
     few = none_begins (collections_of asked);
     collected = λ served. absurd (clash-sym served);
     wanting = λ wants. absurd (cc wants);
@@ -208,6 +209,7 @@ module _ (service : Service) (ground : Ground) (disk disk_after : Option ℕ) (s
       ends = λ served. absurd (clash-sym served);
       spoiled = λ served. absurd (clash-sym served);
       counts = tt;
+      last = tt;
       few = none_begins service.collections;
       collected = λ served. absurd (clash-sym served);
       wanting = λ wants. absurd (cc wants);

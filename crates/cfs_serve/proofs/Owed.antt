@@ -1,6 +1,6 @@
 -- A reply that is owed is exact.
 use Rattle.std.proofs.Common.{◌≡◌, ◌⊎◌, inl, inr, ℕ, ◌+◌, ◌<◌, ◌≤◌, Bool, true, false, ◌&&◌, Option, List, [], ◌∷◌, Some, None, refl, sym, ap, ◌∙◌, subst, arith, length, ◌||◌, is_some}
-use Rattle.cfs_serve.proofs.Cited.{AreRescued, ByOutcome, ByRefusal, ByWant, Collecting, Collections, Fits, FitsLine, Ghosts, Happens, Image, IsAsked, IsExact, IsOwed, IsPlainReply, IsRoom, IsShortContent, Kernel, Need, Owes, Reply, Request, Rescue, Rose, Serves, Stands, StandsFor, State, Stop, Stops, Tallies, Tells, allowed_if, answered, append-nil, by_outcome, cases_lt, goes_through, is_calm, is_delete, is_full, is_none, is_outcome, is_running, is_sweeping, listed, lost_blocks, marks_in, need_of, Passes, option_and_then, outcome_of, outcome_plain, refusal_of, reserve, runs, stopped_by, sum, sweeps_in, tally_of, tells_disk, tells_outcome}
+use Rattle.cfs_serve.proofs.Cited.{AreRescued, ByOutcome, ByRefusal, ByWant, Collecting, Collections, Fits, FitsLine, Ghosts, Happens, Image, IsAsked, IsExact, IsOwed, IsPlainReply, IsRoom, IsShortContent, Kernel, Need, Owes, Reply, Request, Rescue, Rose, Serves, Stands, StandsFor, State, Stop, Stops, Tallies, Tells, allowed_if, answered, append-nil, by_outcome, cases_lt, goes_through, is_calm, is_delete, is_full, is_none, is_outcome, is_running, is_sweeping, option_to_list, lost_blocks, marks_in, need_of, Passes, option_and_then, outcome_of, outcome_plain, refusal_of, reserve, runs, stopped_by, sum, sweeps_in, tally_of, tells_disk, tells_outcome}
 use Rattle.cfs_core.specs.Asked.{Asks}
 use Rattle.cfs_core.specs.Left.{events_ahead, steps_ahead}
 use Rattle.ufs_model.specs.declared.asked.Event.TheVariants as events
@@ -188,10 +188,10 @@ module _ {D : Type 0} (g : Ghosts D) (old new : Kernel D) (who : ℕ) (request :
   stops = at old.stop refl
     where
       at : (o : Option Stop) → old.stop ≡ o → Stops old.stop new.stop (events.Ask who request reply ∷ [])
-      at None is = rw is (ap listed (asks.stops is) ∙ sym (append-nil (listed (stopped_by reply None))))
+      at None is = rw is (ap option_to_list (asks.stops is) ∙ sym (append-nil (option_to_list (stopped_by reply None))))
       at (Some stop) is =
           let stood = asks.stopped stop is in
-          rw stood.1 (ap (λ (k : Kernel D). listed k.stop) stood.0 ∙ sym (append-nil (listed old.stop)))
+          rw stood.1 (ap (λ (k : Kernel D). option_to_list k.stop) stood.0 ∙ sym (append-nil (option_to_list old.stop)))
 
   -- what becomes of the collections
   pub tallied : (s : State) → StandsFor g old s → Tallies (λ (k : Kernel D). is_some k.stop) (tally_of g) old.words.seed old new s (events.Ask who request reply)

@@ -1,6 +1,6 @@
 -- A service on a core.
 use Rattle.std.proofs.Common.{◌≡◌, ℕ, ◌/◌, ◌≤◌, Bool, true, false, cond, List, [], ◌∷◌, length, map, filter, Some, None, IsTrue, is_some, refl, sym, ap, ◌∙◌, subst, arith, ◌+◌}
-use Rattle.cfs_serve.proofs.Cited.{AreOver, Cause, Collection, Counts, Ending, EndsSo, Event, Ghosts, Graph, Holds, Image, IsFront, IsRoom, IsRunFrom, IsRunOn, IsSoundAs, IsStop, IsTallied, IsWanting, Kernel, Object, Puid, Reading, Report, Rise, Rose, RunSurvives, Serves, ServesSessions, Stands, StandsFor, State, begins_in, blocks_of, cause_of, counts_of, damage_in, faults_after, finishes_in, first_fault, fits, free_of, front_of, graph_blocks, has_broken, is_among, is_calm, is_collecting, is_reply, is_sweeping, left_now, length-map, list_all, moment_in, opening, pending, rooted, rooted_part, rooted_reads, runs, seat_of, sum, sum_by, sum_by-cons, tally_of, tells_disk, tells_fault}
+use Rattle.cfs_serve.proofs.Cited.{AreOver, Cause, Collection, Counts, Ending, EndsSo, Event, Ghosts, Graph, Holds, Image, IsFront, TellsLast, IsRoom, IsRunFrom, IsRunOn, IsSoundAs, IsStop, IsTallied, IsWanting, Kernel, Object, Puid, Reading, Report, Rise, Rose, RunSurvives, Serves, ServesSessions, Stands, StandsFor, State, Status, begins_in, blocks_of, cause_of, counts_of, damage_in, faults_after, finishes_in, first_fault, fits, free_of, front_of, graph_blocks, has_broken, is_among, is_calm, is_collecting, is_reply, is_sweeping, left_now, length-map, list_all, moment_in, opening, pending, rooted, rooted_part, rooted_reads, runs, client_of, sum, sum_by, sum_by-cons, tally_of, tells_disk, tells_fault}
 use Rattle.cfs_core.specs.declared.collecting.CollectFault.TheVariants as faulted
 use Rattle.survival.specs.Held.{Fits}
 use Rattle.ufs_model.specs.declared.collection.Collection.TheVariants as collections
@@ -43,8 +43,8 @@ module _ {D : Type 0} (g : Ghosts D) (sized : (d : D) → IsTrue (g.honest d) �
 abbrev counted_as : (sessions : ℕ) → List Event → (objects free : ℕ) → Counts
 counted_as sessions trail objects free = record { sessions = sessions; replies = length (filter is_reply trail); collections = finishes_in trail; objects = objects; free = free }
 
-counts_same : (sessions seats : ℕ) (trail : List Event) (free n : ℕ) (graph : Graph) → sessions ≡ seats → n ≡ length graph.objects → counted_as sessions trail n free ≡ counts_of seats trail graph free
-counts_same sessions seats trail free n graph count same = rw (count, same) refl
+counts_same : (sessions clients : ℕ) (trail : List Event) (free n : ℕ) (graph : Graph) → sessions ≡ clients → n ≡ length graph.objects → counted_as sessions trail n free ≡ counts_of clients trail graph free
+counts_same sessions clients trail free n graph count same = rw (count, same) refl
 
 -- ---- a core for which collections are called
 
@@ -62,6 +62,7 @@ called_serves g core n s serves = record {
   state = serves.state;
   root = serves.root;
   store = serves.store;
+  left = serves.left;
   drafts = serves.drafts;
   swept = serves.swept;
   four = serves.four;
@@ -86,6 +87,16 @@ rests_at g k s n trail serves few tallied all = at (runs k.collections.collector
 
 -- ---- sessions on a core
 
+-- what a core tells of itself
+pub record IsStatusOf {D : Type 0} (k : Kernel D) (status : Status) : Type 0 where
+  pub objects : status.objects ≡ length k.names.named
+  pub free : status.free ≡ sum k.space.free
+  pub stopped : status.stopped ≡ moment_in k.stop
+  pub damage : status.damage ≡ damage_in k.stop
+  pub running : status.running ≡ runs k.collections.collector
+  pub called : status.called ≡ k.collections.called
+  pub finished : status.finished ≡ k.collections.finished
+
 -- what is known of a service that a core began for which so many collections were called
 pub record IsServed {D : Type 0} (g : Ghosts D) (n : ℕ) (ending : Ending) (server : Kernel D) (trail : List Event)
     (moments : List ℕ) (k : Kernel D) : Type 0 where
@@ -100,13 +111,14 @@ pub record IsServed {D : Type 0} (g : Ghosts D) (n : ℕ) (ending : Ending) (ser
   pub tallied : is_some server.stop ≡ false → IsTallied (tally_of g server) trail
   pub rise : Rise (g.moment k.disk) moments (g.moment server.disk)
   pub size : length server.space.free ≡ length k.space.free
+  pub called : server.collections.called ≡ n
   pub lasts : (graph : Graph) → StandsFor g k (opening graph) → RunSurvives g k.words.seed graph [] (g.moment k.disk ∷ []) k.disk
       → RunSurvives g k.words.seed graph trail (g.moment k.disk ∷ moments) server.disk
   pub faults : faults_after tells_disk trail (first_fault ending.refused (g.faults k.disk)) ≤ g.faults server.disk
   pub stops : (graph : Graph) → StandsFor g k (opening graph) → faults_after tells_fault trail (first_fault ending.refused (g.faults k.disk)) ≤ g.faults server.disk
 
 module _ {D : Type 0} (g : Ghosts D) (sized : (d : D) → IsTrue (g.honest d) → length (g.content d) ≡ g.blocks d) (left_sized : (d : D) (t : ℕ) (c : Image) → g.left_since d t c → length c ≡ g.blocks d)
-    (core server : Kernel D) (before ports : List Reading) (trail : List Event) (moments : List ℕ) (sessions : ℕ) (ending : Ending) (report : Report) where
+    (core server : Kernel D) (before ports : List Reading) (trail : List Event) (moments : List ℕ) (sessions : ℕ) (ending : Ending) (report : Report) (status : Status) (tells : IsStatusOf server status) where
   abbrev faults : Kernel D → ℕ
   faults k = g.faults k.disk
 
@@ -117,7 +129,7 @@ module _ {D : Type 0} (g : Ghosts D) (sized : (d : D) → IsTrue (g.honest d) �
   damaged k = is_some (damage_in k.stop)
 
   abbrev counts : Counts
-  counts = counted_as sessions trail (length server.names.named) (sum server.space.free)
+  counts = counted_as sessions trail status.objects status.free
 
   abbrev cause : Cause
   cause = cause_of ending trail (has_broken ports)
@@ -126,7 +138,7 @@ module _ {D : Type 0} (g : Ghosts D) (sized : (d : D) → IsTrue (g.honest d) �
   rose = Rose (g.faults core.disk) (g.faults server.disk)
 
   module _ (n : ℕ) (runs : core.stop ≡ None) (is : IsServed g n ending server trail moments (called core n))
-      (over : AreOver core.root n (map seat_of before) trail ports) (count : sessions ≡ length ports)
+      (over : AreOver core.root n (map client_of before) trail ports) (count : sessions ≡ length ports)
       (report_is : report ≡ record { counts = Some counts; cause = cause }) (free_is : (s : State) → Serves g server s → is_sweeping s.collection ≡ false → s.grants ≡ [] → sum server.space.free ≡ free_of (length server.space.free) s.graph) where
     undamaged : damaged (called core n) ≡ false
     undamaged = rw runs refl
@@ -153,23 +165,35 @@ module _ {D : Type 0} (g : Ghosts D) (sized : (d : D) → IsTrue (g.honest d) �
       serving : server.stop ≡ None → Serves g server on.last
       serving none = subst (Stands g server on.last) none on.standing
 
-      is_run : IsRunFrom (length core.space.free) core.words.seed n graph rose (length (map seat_of before)) counts cause trail
+      is_run : IsRunFrom (length core.space.free) core.words.seed n graph rose (length (map client_of before)) counts cause trail
       is_run = record {
         last = on.last;
         legal = on.legal;
         exact = on.exact;
         calm = calm;
         stop = subst (IsStop cause) (ap moment_in is.stop ∙ sym front.stopped) (stop_told ending trail (has_broken ports) whole);
-        counted = counts_same sessions (length (map seat_of before)) trail (sum server.space.free) (length server.names.named) on.last.graph (count ∙ over.count) (ap length front.names ∙ length-map on.last.graph.objects _);
-        free = λ none swept. free_is on.last (serving (stop_none server.stop (sym front.stopped ∙ none))) swept
-            (none_stands core.root n (map seat_of before) trail ports core.words.seed graph on.last over on.legal) ∙ ap (λ m. free_of m on.last.graph) is.size;
+        counted = counts_same sessions (length (map client_of before)) trail status.free status.objects on.last.graph (count ∙ over.count) (tells.objects ∙ ap length front.names ∙ length-map on.last.graph.objects _);
+        free = λ none swept. tells.free ∙ free_is on.last (serving (stop_none server.stop (sym front.stopped ∙ none))) swept
+            (none_stands core.root n (map client_of before) trail ports core.words.seed graph on.last over on.legal) ∙ ap (λ m. free_of m on.last.graph) is.size;
         rests = λ none all.
             let here = stop_none server.stop (sym front.stopped ∙ none) in
             rests_at g server on.last n trail (serving here) is.few (is.tallied (ap is_some here)) all;
       }
 
+    last : TellsLast n (record ending { last = Some status }) trail counts
+    last = record {
+      status = status;
+      is = refl;
+      objects = refl;
+      free = refl;
+      stop = (tells.stopped ∙ ap moment_in (sym is.stop), tells.damage ∙ ap damage_in (sym is.stop));
+      called = tells.called ∙ is.called;
+      finished = λ runs. tells.finished ∙ sym (is.tallied (ap is_some (sym is.stop ∙ runs))).1;
+      running = λ runs. let tallied = is.tallied (ap is_some (sym is.stop ∙ runs)) in rw (tells.running, tallied.1) tallied.0;
+    }
+
     pub served : (begins : (graph : Graph) → ((c : Image) → left_now g core.disk c → IsSoundAs c (rooted_part graph)) → RunSurvives g core.words.seed graph [] (g.moment core.disk ∷ []) core.disk)
-        → ServesSessions g core n (map seat_of before) ports report ending trail moments server.disk
+        → ServesSessions g core n (map client_of before) ports report (record ending { last = Some status }) trail moments server.disk
     served begins = record {
       counts = counts;
       cause = cause;
@@ -180,7 +204,8 @@ module _ {D : Type 0} (g : Ghosts D) (sized : (d : D) → IsTrue (g.honest d) �
         run = is_run;
         over = over;
         counted = (count ∙ over.count, refl, refl);
-        ends = is.ends;
+        last = last;
+        ends = record { stops = is.ends.stops; refusal = is.ends.refusal; quiet = is.ends.quiet; failed = is.ends.failed; calm = is.ends.calm };
         few = is.few;
         collected = is.collected;
         wanting = is.wanting;

@@ -1,6 +1,6 @@
 -- An event keeps what the hall keeps of its sessions.
 use Rattle.std.proofs.Common.{◌≡◌, ◌≢◌, ◌⊎◌, inl, inr, ℕ, ◌+◌, ◌<◌, ◌≤◌, ◌==◌, Bool, true, false, not, cond, List, [], ◌∷◌, ◌++◌, length, filter, set, get_or, Option, Some, None, slice_get, refl, sym, ap, ◌∙◌, subst, arith, append_assoc, length-append, length-set}
-use Rattle.cfs_serve.proofs.Cited.{AreHeard, Departs, Event, Hearing, Hears, IsLeave, IsSession, IsSessionTurn, IsWanting, Names, Puid, Replied, Request, Seat, TakesLine, Terms, Turned, Unread, Wrote, all_forms, append-nil, finishes_in, get_or_from_slice_get, has_left_at, is_begin, is_finish, is_of, is_sessions, is_turn_of, name_spoken, names_after, names_after_reply, names_of, nat_tests, no_names, printed, printed_replies, reading_of, slice_get-get_or, slice_get_within, sum_by, sum_by-set, then, then_some, turn_of, turns_from, turns_in, turns_left, turns_left_at, words_of}
+use Rattle.cfs_serve.proofs.Cited.{AreHeard, Departs, Event, Hearing, Hears, IsLeave, IsSession, IsSessionTurn, IsWanting, Names, Puid, Replied, Request, Client, TakesLine, Terms, Turned, Unread, Wrote, all_forms, append-nil, finishes_in, get_or_from_slice_get, has_left_at, is_begin, is_finish, is_of, is_sessions, is_turn_of, name_spoken, names_after, names_after_reply, names_of, nat_tests, no_names, printed, printed_replies, reading_of, slice_get-get_or, slice_get_within, sum_by, sum_by-set, then, then_some, turn_of, turns_from, turns_in, turns_left, turns_left_at, words_of}
 use Rattle.ufs_model.specs.declared.asked.Event.TheVariants as events
 use Rattle.ufs_model.specs.declared.asked.Reply.TheVariants as replies
 use Rattle.ufs_model.specs.declared.asked.Unread.TheVariants as unread
@@ -75,9 +75,9 @@ printed_turns i (e ∷ es) = elim (is_turn_of i e) as (λ b. is_turn_of i e ≡ 
 
 -- ---- one session
 
-module _ (root : Puid) (i : ℕ) (seat : Seat) (p : ports.Reading) (trail : List Event) (was : IsSession root i seat p trail) where
+module _ (root : Puid) (i : ℕ) (client : Client) (p : ports.Reading) (trail : List Event) (was : IsSession root i client p trail) where
   -- after another's event
-  pub session_other : (e : Event) → is_of i e ≡ false → IsSession root i seat p (trail ++ e ∷ [])
+  pub session_other : (e : Event) → is_of i e ≡ false → IsSession root i client p (trail ++ e ∷ [])
   session_other e is =
       let same : turns_in i (trail ++ e ∷ []) ≡ turns_in i trail = filter_out (is_turn_of i) trail e (other_turns i e is) in
       record {
@@ -95,7 +95,7 @@ module _ (root : Puid) (i : ℕ) (seat : Seat) (p : ports.Reading) (trail : List
   no_leaves stays = subst (λ b. IsLeave i b was.leaves) stays was.left
 
   -- after its own line
-  pub session_turned : (q : ports.Reading) (e : Event) → Turned i p q e → IsSession root i seat q (trail ++ e ∷ [])
+  pub session_turned : (q : ports.Reading) (e : Event) → Turned i p q e → IsSession root i client q (trail ++ e ∷ [])
   session_turned q e turn =
       let more_turns : turns_in i (trail ++ e ∷ []) ≡ turns_in i trail ++ e ∷ [] = filter_in (is_turn_of i) trail e turn.mine in
       let none = no_leaves turn.stays in
@@ -117,26 +117,26 @@ module _ (root : Puid) (i : ℕ) (seat : Seat) (p : ports.Reading) (trail : List
         };
       }
     where
-      on : (more : List Event) → turns_from all_forms i (no_names root) (seat.lines) ((turns_in i trail ++ e ∷ []) ++ more)
+      on : (more : List Event) → turns_from all_forms i (no_names root) (client.lines) ((turns_in i trail ++ e ∷ []) ++ more)
           ≡ (turns_in i trail ++ e ∷ []) ++ turns_from all_forms i (names_of q.names) q.lines more
       on more =
-          ap (λ es. turns_from all_forms i (no_names root) (seat.lines) es) (append_assoc (turns_in i trail) (e ∷ []) more)
+          ap (λ es. turns_from all_forms i (no_names root) (client.lines) es) (append_assoc (turns_in i trail) (e ∷ []) more)
           ∙ was.turned (e ∷ more)
           ∙ ap (λ lines. turns_in i trail ++ turns_from all_forms i (names_of p.names) lines (e ∷ more)) turn.taken
           ∙ ap (λ x. turns_in i trail ++ x ∷ turns_from all_forms i (names_after all_forms (names_of p.names) turn.line e) q.lines more) turn.turn
           ∙ sym (append_assoc (turns_in i trail) (e ∷ []) (turns_from all_forms i (names_after all_forms (names_of p.names) turn.line e) q.lines more))
           ∙ ap (λ names. (turns_in i trail ++ e ∷ []) ++ turns_from all_forms i names q.lines more) (sym turn.names)
 
-      so_far : Wrote seat.sink p.sink (printed_replies i trail)
-      so_far = subst (λ b. Replied seat.sink p.sink (printed_replies i trail) (not b)) turn.goes was.replied
+      so_far : Wrote client.sink p.sink (printed_replies i trail)
+      so_far = subst (λ b. Replied client.sink p.sink (printed_replies i trail) (not b)) turn.goes was.replied
 
-      wrote : (b : Bool) → Replied p.sink q.sink (printed i e) b → Replied seat.sink q.sink (printed_replies i trail ++ printed i e) b
-      wrote true one = then seat.sink p.sink q.sink (printed_replies i trail) (printed i e) so_far one
-      wrote false one = then_some seat.sink p.sink q.sink (printed_replies i trail) (printed i e) so_far one
+      wrote : (b : Bool) → Replied p.sink q.sink (printed i e) b → Replied client.sink q.sink (printed_replies i trail ++ printed i e) b
+      wrote true one = then client.sink p.sink q.sink (printed_replies i trail) (printed i e) so_far one
+      wrote false one = then_some client.sink p.sink q.sink (printed_replies i trail) (printed i e) so_far one
 
   -- after its leave
-  pub session_left : (q : ports.Reading) (e : Event) → Departs i p q e → IsSession root i seat q (trail ++ e ∷ [])
-  session_left q e leave = subst (λ x. IsSession root i seat q (trail ++ x ∷ [])) (sym leave.is) (subst (λ x. IsSession root i seat x (trail ++ gone ∷ [])) (sym leave.port) here)
+  pub session_left : (q : ports.Reading) (e : Event) → Departs i p q e → IsSession root i client q (trail ++ e ∷ [])
+  session_left q e leave = subst (λ x. IsSession root i client q (trail ++ x ∷ [])) (sym leave.is) (subst (λ x. IsSession root i client x (trail ++ gone ∷ [])) (sym leave.port) here)
     where
       gone : Event
       gone = events.Leave i leave.stopped
@@ -144,7 +144,7 @@ module _ (root : Puid) (i : ℕ) (seat : Seat) (p : ports.Reading) (trail : List
       same : turns_in i (trail ++ gone ∷ []) ≡ turns_in i trail
       same = filter_out (is_turn_of i) trail gone refl
 
-      here : IsSession root i seat (record p { has_left = true }) (trail ++ gone ∷ [])
+      here : IsSession root i client (record p { has_left = true }) (trail ++ gone ∷ [])
       here = record {
         leaves = gone ∷ [];
         split = filter_in (is_of i) trail gone (test_refl i) ∙ ap (λ w. w ++ gone ∷ []) (was.split ∙ ap (λ w. turns_in i trail ++ w) (no_leaves leave.stays) ∙ append-nil (turns_in i trail)) ∙ ap (λ w. w ++ gone ∷ []) (sym same);
@@ -170,7 +170,7 @@ module _ {A : Type 0} (t : Terms A) (trail : List Event) (ps : List ports.Readin
       → Turned i p q e ⊎ Departs i p q e → AreHeard t (trail ++ e ∷ []) (set ps i q)
   heard_by i p q e at others kind = record {
     count = length-set ps i q ∙ was.count;
-    each = λ k seat x seat_is here. by_test k seat x seat_is here (k == i) refl;
+    each = λ k client x client_is here. by_test k client x client_is here (k == i) refl;
     none = λ k past.
         let within = slice_get_within ps i p at in
         let long = length-set ps i q in
@@ -182,27 +182,27 @@ module _ {A : Type 0} (t : Terms A) (trail : List Event) (ps : List ports.Readin
     ]);
   }
     where
-      mine : (seat : Seat) → IsSession t.root i seat p trail → IsSession t.root i seat q (trail ++ e ∷ [])
-      mine seat before = elim kind [
-        | inl turn ↦ session_turned t.root i seat p trail before q e turn
-        | inr leave ↦ session_left t.root i seat p trail before q e leave
+      mine : (client : Client) → IsSession t.root i client p trail → IsSession t.root i client q (trail ++ e ∷ [])
+      mine client before = elim kind [
+        | inl turn ↦ session_turned t.root i client p trail before q e turn
+        | inr leave ↦ session_left t.root i client p trail before q e leave
       ]
 
-      by_test : (k : ℕ) (seat : Seat) (x : ports.Reading) → slice_get t.seats k ≡ Some seat → slice_get (set ps i q) k ≡ Some x → (b : Bool) → (k == i) ≡ b → IsSession t.root k seat x (trail ++ e ∷ [])
-      by_test k seat x seat_is here true is =
+      by_test : (k : ℕ) (client : Client) (x : ports.Reading) → slice_get t.clients k ≡ Some client → slice_get (set ps i q) k ≡ Some x → (b : Bool) → (k == i) ≡ b → IsSession t.root k client x (trail ++ e ∷ [])
+      by_test k client x client_is here true is =
           let same : k ≡ i = grind (arith, nat_tests) in
           let found : q ≡ x = some_same q x (sym (get-set_same ps i q p at) ∙ ap (λ n. slice_get (set ps i q) n) (sym same) ∙ here) in
-          let before = was.each i seat p (ap (λ n. slice_get t.seats n) (sym same) ∙ seat_is) at in
-          subst (λ (n : ℕ). IsSession t.root n seat x (trail ++ e ∷ [])) (sym same) (subst (λ (y : ports.Reading). IsSession t.root i seat y (trail ++ e ∷ [])) found (mine seat before))
-      by_test k seat x seat_is here false is =
+          let before = was.each i client p (ap (λ n. slice_get t.clients n) (sym same) ∙ client_is) at in
+          subst (λ (n : ℕ). IsSession t.root n client x (trail ++ e ∷ [])) (sym same) (subst (λ (y : ports.Reading). IsSession t.root i client y (trail ++ e ∷ [])) found (mine client before))
+      by_test k client x client_is here false is =
           let apart : k ≢ i = grind (arith, nat_tests) in
-          session_other t.root k seat x trail (was.each k seat x seat_is (sym (get-set_other ps i k q apart) ∙ here)) e (others k (test_apart i k apart))
+          session_other t.root k client x trail (was.each k client x client_is (sym (get-set_other ps i k q apart) ∙ here)) e (others k (test_apart i k apart))
 
   -- after an event of no session, where collections are called for
   pub heard_beside : (e : Event) → ((k : ℕ) → is_of k e ≡ false) → (t.collections ≡ 0 → ⊥) → AreHeard t (trail ++ e ∷ []) ps
   heard_beside e nobody some = record {
     count = was.count;
-    each = λ k seat x seat_is here. session_other t.root k seat x trail (was.each k seat x seat_is here) e (nobody k);
+    each = λ k client x client_is here. session_other t.root k client x trail (was.each k client x client_is here) e (nobody k);
     none = λ k past. filter_out (is_of k) trail e (nobody k) ∙ was.none k past;
     sessions = λ none. absurd (some none);
   }

@@ -1,6 +1,6 @@
 -- Why a server stopped, as its trail tells it.
 use Rattle.std.proofs.Common.{◌≡◌, ℕ, Bool, false, List, [], ◌∷◌, ◌++◌, Option, Some, None, is_some, refl, sym, ap, ◌∙◌, subst, append_assoc}
-use Rattle.cfs_serve.proofs.Cited.{CollectFault, Damage, Event, Stop, Stops, TellsStop, append-nil, damage_in, list_any, listed, moment_in, stops_in, tells_damage, told_stop}
+use Rattle.cfs_serve.proofs.Cited.{CollectFault, Damage, Event, Stop, Stops, TellsStop, append-nil, damage_in, list_any, option_to_list, moment_in, stops_in, tells_damage, told_stop}
 use Rattle.cfs_core.specs.declared.collecting.CollectFault.TheVariants as faults
 use Rattle.ufs_model.specs.declared.asked.Event.TheVariants as events
 use Rattle.ufs_model.specs.declared.asked.Reply.TheVariants as replies
@@ -11,14 +11,14 @@ use Rattle.cfs_serve.proofs.Journals.{or_false}
 stops_append : (d : Option Damage) (xs ys : List Event) → stops_in d (xs ++ ys) ≡ stops_in d xs ++ stops_in d ys
 stops_append d [] ys = refl
 stops_append d (x ∷ xs) ys =
-    ap (λ l. listed (told_stop d x) ++ l) (stops_append d xs ys) ∙ sym (append_assoc (listed (told_stop d x)) (stops_in d xs) (stops_in d ys))
+    ap (λ l. option_to_list (told_stop d x) ++ l) (stops_append d xs ys) ∙ sym (append_assoc (option_to_list (told_stop d x)) (stops_in d xs) (stops_in d ys))
 
 no_parts : (xs ys : List Stop) → xs ++ ys ≡ [] → (xs ≡ []) × (ys ≡ [])
 no_parts [] ys none = (refl, none)
 no_parts (x ∷ xs) ys none = absurd (cc none)
 
 -- an event that tells none tells none with whatever damage
-none_told : (a b : Option Damage) (e : Event) → listed (told_stop a e) ≡ [] → listed (told_stop b e) ≡ []
+none_told : (a b : Option Damage) (e : Event) → option_to_list (told_stop a e) ≡ [] → option_to_list (told_stop b e) ≡ []
 none_told a b (events.Ask who request reply) none = none
 none_told a b (events.Leave who (Some moment)) none = absurd (cc none)
 none_told a b (events.Halted moment) none = absurd (cc none)
@@ -27,7 +27,7 @@ none_told a b e none = refl
 none_in : (a b : Option Damage) (trail : List Event) → stops_in a trail ≡ [] → stops_in b trail ≡ []
 none_in a b [] none = refl
 none_in a b (e ∷ trail) none =
-    let two = no_parts (listed (told_stop a e)) (stops_in a trail) none in
+    let two = no_parts (option_to_list (told_stop a e)) (stops_in a trail) none in
     rw (none_told a b e two.0, none_in a b trail two.1) refl
 
 -- ---- calls
@@ -51,10 +51,10 @@ stops_on (Some s) new trail made was one =
 
 -- a call that makes no event, or one that tells no stop
 pub stops_still : (stop : Option Stop) → Stops stop stop []
-stops_still stop = sym (append-nil (listed stop))
+stops_still stop = sym (append-nil (option_to_list stop))
 
-pub stops_calm : (stop : Option Stop) (e : Event) → listed (told_stop (damage_in stop) e) ≡ [] → Stops stop stop (e ∷ [])
-stops_calm stop e none = sym (rw none (append-nil (listed stop)))
+pub stops_calm : (stop : Option Stop) (e : Event) → option_to_list (told_stop (damage_in stop) e) ≡ [] → Stops stop stop (e ∷ [])
+stops_calm stop e none = sym (rw none (append-nil (option_to_list stop)))
 
 -- what the collector was refused tells the stop still
 pub tells_on : (refused : Option CollectFault) (old new : Option Stop) → ((s : Stop) → old ≡ Some s → new ≡ Some s) → TellsStop refused old → TellsStop refused new
@@ -83,12 +83,12 @@ stop_none (Some s) is = absurd (cc is)
 abbrev is_damage : Stop → Bool
 is_damage stop = is_some stop.damage
 
-any_parts : (o : Option Stop) (rest : List Stop) → list_any is_damage (listed o ++ rest) ≡ false
-    → (list_any is_damage (listed o) ≡ false) × (list_any is_damage rest ≡ false)
+any_parts : (o : Option Stop) (rest : List Stop) → list_any is_damage (option_to_list o ++ rest) ≡ false
+    → (list_any is_damage (option_to_list o) ≡ false) × (list_any is_damage rest ≡ false)
 any_parts None rest isnt = (refl, isnt)
 any_parts (Some s) rest isnt = let two = or_false (is_damage s) (list_any is_damage rest) isnt in (rw two.0 refl, two.1)
 
-told_undamaged : (e : Event) → list_any is_damage (listed (told_stop None e)) ≡ false → tells_damage e ≡ false
+told_undamaged : (e : Event) → list_any is_damage (option_to_list (told_stop None e)) ≡ false → tells_damage e ≡ false
 told_undamaged (events.Ask who request (replies.Damaged damage moment)) isnt = absurd (cc isnt)
 told_undamaged e isnt = refl
 

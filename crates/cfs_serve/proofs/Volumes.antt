@@ -1,6 +1,6 @@
 -- A volume that was opened, and what a service comes to on it.
 use Rattle.std.proofs.Common.{◌≡◌, ◌⊎◌, inl, inr, ℕ, ◌*◌, ◌≤◌, List, [], Option, Some, None, Result, Ok, Err, IfOk, IsTrue, refl, sym, ap, ◌∙◌, subst, arith, length}
-use Rattle.cfs_serve.proofs.Cited.{AsksSessions, Cause, Counts, Ending, EndsSo, Event, Ghosts, Graph, Ground, HaveScripts, IfSome, Image, Intake, IsCause, IsCaused, IsLater, IsNewCore, IsOpenFault, IsOpened, IsPlayed, IsRefusal, IsRunFrom, IsRunOf, IsSound, IsSoundAs, IsSourceCause, Kernel, LeavesSinceBarrier, LeavesSinceTry, Places, Reading, RecoverFault, Report, Rose, RoseIn, Seat, ServesScripts, ServesVolume, StandsFor, Supply, front_of, ground_at, ground_on, not_begun, opened, opening, option_map, result_ok, told_of}
+use Rattle.cfs_serve.proofs.Cited.{AsksSessions, Cause, Counts, Ending, EndsSo, Event, Ghosts, Graph, Ground, HaveScripts, IfSome, Image, Intake, IsCause, IsCaused, IsLater, IsNewCore, IsOpenFault, IsOpened, IsPlayed, IsRefusal, IsRunFrom, IsRunOf, IsSound, IsSoundAs, IsSourceCause, Kernel, LeavesSinceBarrier, LeavesSinceTry, Places, Reading, RecoverFault, Report, Rose, RoseIn, Client, ServesScripts, ServesVolume, StandsFor, Supply, front_of, ground_at, ground_on, not_begun, opened, opening, option_map, result_ok, opening_cause}
 use Rattle.cfs_recover.specs.declared.fault.RecoverFault.TheVariants as whys
 use Rattle.cfs_serve.specs.declared.report.Cause.TheVariants as causes
 
@@ -55,14 +55,15 @@ module _ (a b : Ground) (seed collections : ℕ) (rose wide : Type 0) (cylinders
     rests = run.rests;
   })
 
-  pub played_on : (seats : List Seat) (ports : List Reading) (counts : Counts) (cause : Cause) (ending : Ending) (trail : List Event)
-      → IsPlayed a seed collections rose seats ports counts cause ending trail → IsPlayed b seed collections wide seats ports counts cause ending trail
-  played_on seats ports counts cause ending trail played = record {
+  pub played_on : (clients : List Client) (ports : List Reading) (counts : Counts) (cause : Cause) (ending : Ending) (trail : List Event)
+      → IsPlayed a seed collections rose clients ports counts cause ending trail → IsPlayed b seed collections wide clients ports counts cause ending trail
+  played_on clients ports counts cause ending trail played = record {
     root = played.root;
     rooted = λ graph is. played.rooted graph (reads graph is);
-    run = λ graph is. run_on graph (length seats) counts cause trail (played.run graph (reads graph is));
+    run = λ graph is. run_on graph (length clients) counts cause trail (played.run graph (reads graph is));
     over = played.over;
     counted = played.counted;
+    last = played.last;
     ends = ends_on rose wide collections ending trail to played.ends;
     few = played.few;
     collected = played.collected;
@@ -84,11 +85,11 @@ module _ {D : Type 0} (g : Ghosts D) (core : Kernel D) (scripts : List (List ℕ
     counts = s.serves.counts;
     cause = s.serves.cause;
     told = s.serves.told;
-    seats = s.seats;
+    clients = s.clients;
     ports = s.ports;
-    seated = s.seated;
-    played = played_on (ground_at g core) ground seed collections (Rose (g.faults core.disk) (g.faults disk)) wide cylinders reads to s.seats s.ports s.serves.counts s.serves.cause ending trail
-        (subst (λ w. IsPlayed (ground_at g core) w collections (Rose (g.faults core.disk) (g.faults disk)) s.seats s.ports s.serves.counts s.serves.cause ending trail) words s.serves.played);
+    matched = s.matched;
+    played = played_on (ground_at g core) ground seed collections (Rose (g.faults core.disk) (g.faults disk)) wide cylinders reads to s.clients s.ports s.serves.counts s.serves.cause ending trail
+        (subst (λ w. IsPlayed (ground_at g core) w collections (Rose (g.faults core.disk) (g.faults disk)) s.clients s.ports s.serves.counts s.serves.cause ending trail) words s.serves.played);
   })
   script_run (inr n) = inr (record { cause = causes.Memory; is = tt; nothing = n.0 })
 
@@ -204,7 +205,7 @@ module _ {D : Type 0} (g : Ghosts D) (old new : D) where
   ]
 
   pub refusal_of : (why : RecoverFault) → (IsTrue (g.honest old) → IsSound (g.content old) → (why ≡ whys.Disk) ⊎ (why ≡ whys.Memory))
-      → (IsTrue (g.honest old) → IsOpenFault (g.content old) why) → IsCaused g old new why → IsRefusal g old new (told_of why)
+      → (IsTrue (g.honest old) → IsOpenFault (g.content old) why) → IsCaused g old new why → IsRefusal g old new (opening_cause why)
   refusal_of whys.Disk free fault caused = (refl, caused.cause)
   refusal_of whys.NotVolume free fault caused = λ honest. (never_free whys.NotVolume (λ e. cc e) (λ e. cc e) free honest, fault honest)
   refusal_of (whys.Version found) free fault caused = λ honest. (never_free (whys.Version found) (λ e. cc e) (λ e. cc e) free honest, fault honest)

@@ -1,6 +1,6 @@
 -- A turn of a worker, of a session or of the collector.
 use Rattle.std.proofs.Common.{◌≡◌, ◌≢◌, inl, inr, ℕ, zero, suc, ◌+◌, ◌<◌, ◌≤◌, ◌==◌, Bool, true, false, cond, List, [], ◌∷◌, ◌++◌, Option, Some, None, length, slice_get, refl, sym, ap, ◌∙◌, subst, arith, length-append}
-use Rattle.cfs_serve.proofs.Cited.{AreHeard, CollectFault, Event, HasNoCollector, Hearing, IsSessionTurn, IsTurn, Kept, Progress, Reading, Steps, Terms, append-nil, has_left_at, is_done_in, is_of, left_in, nat_tests, recorded, slice_get_within, sum_by, turns_left, turns_left_at, turns_now}
+use Rattle.cfs_serve.proofs.Cited.{AreHeard, CollectFault, Event, HasNoCollector, Hearing, IsSessionTurn, IsTurn, Journaled, Progress, Reading, Steps, Terms, append-nil, has_left_at, is_done_in, is_of, turns_left_in, nat_tests, recorded, slice_get_within, sum_by, turns_left, turns_left_at, turns_now}
 use Rattle.cfs_serve.proofs.Sessions as sessions
 use Rattle.cfs_serve.proofs.Sessions.{heard_beside}
 
@@ -11,7 +11,7 @@ session_done [] turns (suc w) apart = refl
 session_done (p ∷ ports) turns zero apart = refl
 session_done (p ∷ ports) turns (suc w) apart = session_done ports turns w (λ same. apart (ap (λ n. suc n) same))
 
-pub session_left : (ports : List Reading) (turns w : ℕ) → w ≢ length ports → left_in ports turns w ≡ turns_left_at (slice_get ports w)
+pub session_left : (ports : List Reading) (turns w : ℕ) → w ≢ length ports → turns_left_in ports turns w ≡ turns_left_at (slice_get ports w)
 session_left [] turns zero apart = absurd (apart refl)
 session_left [] turns (suc w) apart = refl
 session_left (p ∷ ports) turns zero apart = refl
@@ -21,7 +21,7 @@ pub collector_done : (ports : List Reading) (turns : ℕ) → is_done_in ports t
 collector_done [] turns = refl
 collector_done (p ∷ ports) turns = collector_done ports turns
 
-pub collector_left : (ports : List Reading) (turns : ℕ) → left_in ports turns (length ports) ≡ turns
+pub collector_left : (ports : List Reading) (turns : ℕ) → turns_left_in ports turns (length ports) ≡ turns
 collector_left [] turns = refl
 collector_left (p ∷ ports) turns = collector_left ports turns
 
@@ -33,14 +33,14 @@ as_many clock i old new (inl turn) = sessions.as_many clock i old new turn
 as_many clock i old new (inr (is, step)) = ap length step.ports
 
 -- it has less to do
-pub less_left : {A : Type 0} (clock : A → ℕ) (i : ℕ) (old new : Hearing A) → IsTurn clock i old new → left_in new.ports new.turns i < left_in old.ports old.turns i
+pub less_left : {A : Type 0} (clock : A → ℕ) (i : ℕ) (old new : Hearing A) → IsTurn clock i old new → turns_left_in new.ports new.turns i < turns_left_in old.ports old.turns i
 less_left clock i old new (inl turn) =
     let here = no_collector clock i old new turn in
     let there : i ≢ length new.ports = (λ same. here (same ∙ sessions.as_many clock i old new turn)) in
     omega (arith, session_left new.ports new.turns i there, session_left old.ports old.turns i here, sessions.less_left clock i old new turn)
 less_left clock i old new (inr (is, step)) =
-    let before : left_in old.ports old.turns i ≡ old.turns = ap (λ w. left_in old.ports old.turns w) is ∙ collector_left old.ports old.turns in
-    let after : left_in new.ports new.turns i ≡ new.turns = ap (λ w. left_in new.ports new.turns w) (is ∙ sym (ap length step.ports)) ∙ collector_left new.ports new.turns in
+    let before : turns_left_in old.ports old.turns i ≡ old.turns = ap (λ w. turns_left_in old.ports old.turns w) is ∙ collector_left old.ports old.turns in
+    let after : turns_left_in new.ports new.turns i ≡ new.turns = ap (λ w. turns_left_in new.ports new.turns w) (is ∙ sym (ap length step.ports)) ∙ collector_left new.ports new.turns in
     omega (arith, before, after, step.turns)
 
 -- and the others are as they were
@@ -100,7 +100,7 @@ as_told true o none = one_at_most o
 as_told false o none = rw (none refl) (omega arith)
 
 -- what the hall keeps, where the collector has a turn left
-module _ {A : Type 0} (t : Terms A) (clock : A → ℕ) (old new : Kept A) (ports : List Reading) (progress : Progress) (turns events : ℕ) (refused : Option CollectFault)
+module _ {A : Type 0} (t : Terms A) (clock : A → ℕ) (old new : Journaled A) (ports : List Reading) (progress : Progress) (turns events : ℕ) (refused : Option CollectFault)
     (heard : AreHeard t old.events ports) (room : sum_by turns_left ports + events ≤ old.room) (few : length old.events + sum_by turns_left ports + events < 4294967295)
     (paired : 0 < turns → 0 < events) (quiet : HasNoCollector t turns refused) (some : 0 < turns) (steps : Steps clock old new progress) where
   called : t.collections ≡ 0 → ⊥

@@ -4,7 +4,7 @@ use Rattle.cfs_base.specs.declared.identifier.Puid.{Puid}
 use Rattle.cfs_base.specs.Outside.{Intake}
 
 -- the request lines of a session, and what is known of its sink
-pub record Seat : Type 0 where
+pub record Client : Type 0 where
   pub lines : List (List ℕ)
   pub sink : Intake
 
@@ -16,7 +16,7 @@ pub record Terms (A : Type 0) : Type 0 where
   pub cylinders : ℕ
   pub root : Puid
   pub collections : ℕ
-  pub seats : List Seat
+  pub clients : List Client
 
 abbrev pub nothing : {A : Type 0} → Terms A
 nothing = record {
@@ -25,5 +25,5 @@ nothing = record {
   cylinders = 0;
   root = record { block = 2; word = 0 };
   collections = 0;
-  seats = [];
+  clients = [];
 }

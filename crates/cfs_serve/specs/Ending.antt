@@ -1,6 +1,6 @@
 -- How a service ended: why its core stopped, what ended its collector, and what spoiled it.
 use Rattle.std.specs.Prelude.{◌≡◌, ◌||◌, ◌<◌, ℕ, Bool, true, false, List, [], ◌∷◌, ◌++◌, Option, Some, None, is_none}
-use Rattle.std.specs.Prelude.{option_map, option_and_then}
+use Rattle.std.specs.Prelude.{option_map, option_and_then, option_to_list}
 use Rattle.std.specs.List.{list_any, list_all}
 use Rattle.cfs_base.specs.declared.refusal.Damage.{Damage}
 use Rattle.cfs_core.specs.Asked.{stopped_by}
@@ -17,7 +17,7 @@ use Rattle.cfs_serve.specs.declared.report.VolumeFault.TheVariants as refusals
 
 -- nothing was served
 abbrev pub not_begun : Ending
-not_begun = record { stop = None; refused = None }
+not_begun = record { stop = None; refused = None; last = None }
 
 abbrev pub moment_in : Option Stop → Option ℕ
 moment_in stop = option_map (λ (s : Stop). s.moment) stop
@@ -26,10 +26,6 @@ abbrev pub damage_in : Option Stop → Option Damage
 damage_in stop = option_and_then (λ (s : Stop). s.damage) stop
 
 -- ---- why the core stopped
-
-abbrev pub listed : Option Stop → List Stop
-listed None = []
-listed (Some stop) = stop ∷ []
 
 -- The stop that an event tells. Of a leave, and of a step of the collector, it tells the moment alone, and not this
 -- damage.
@@ -42,11 +38,11 @@ told_stop damage event = None
 -- all that a trail tells
 abbrev pub stops_in : Option Damage → List Event → List Stop
 stops_in damage [] = []
-stops_in damage (e ∷ trail) = listed (told_stop damage e) ++ stops_in damage trail
+stops_in damage (e ∷ trail) = option_to_list (told_stop damage e) ++ stops_in damage trail
 
 -- These events were made: a core that stopped stays so, and of one that ran one of them tells why it stopped.
 abbrev pub Stops : Option Stop → Option Stop → List Event → Type 0
-Stops before after made = listed after ≡ listed before ++ stops_in (damage_in after) made
+Stops before after made = option_to_list after ≡ option_to_list before ++ stops_in (damage_in after) made
 
 -- ---- why the collector was done
 

@@ -1,5 +1,6 @@
 -- What a service begins on.
 use Rattle.std.specs.Prelude.{◌≡◌, ℕ, ◌/◌, IsTrue, Option, Some, None}
+use Rattle.cfs_audit.specs.Verdict.{root_of}
 use Rattle.cfs_base.specs.declared.disk.Disk.{Ghosts}
 use Rattle.ufs_model.specs.Graph.{Graph, fresh_graph}
 use Rattle.vol_image.specs.Sound.{IsSound, IsSoundAs}
@@ -9,7 +10,6 @@ use Rattle.cfs_recover.specs.declared.fault.RecoverFault.TheVariants as whys
 use Rattle.cfs_serve.specs.declared.report.VolumeFault.{VolumeFault}
 use Rattle.cfs_serve.specs.declared.report.VolumeFault.TheVariants as faults
 use Rattle.cfs_serve.specs.Words.{Asked, Audits, Formats, InFile, InMemory, Nothing, Place, Serves, Shows, Spins}
-use Rattle.cfs_serve.specs.Words.{root_of}
 
 -- the cylinders of the volume, the graphs that it may read as, and that it is known to be no sound one
 pub record Ground : Type 1 where

@@ -17,14 +17,14 @@ use Rattle.ufs_model.specs.Printed.{printed, printed_replies}
 use Rattle.cfs_script.specs.NameTable.{names_of}
 use Rattle.cfs_ports.specs.Port.{Reading, IsNew, Replied}
 use Rattle.cfs_serve.specs.Calls.{Tally}
-use Rattle.cfs_serve.specs.Charter.{Seat, Terms}
+use Rattle.cfs_serve.specs.Charter.{Client, Terms}
 use Rattle.cfs_serve.specs.Events.{BreaksOff, events_of, is_of, is_sessions}
 use Rattle.cfs_core.specs.declared.collecting.CollectFault.{CollectFault}
-use Rattle.cfs_serve.specs.Journal.{IsStamped, Kept, Steps, recorded}
+use Rattle.cfs_serve.specs.Journal.{IsStamped, Journaled, Steps, recorded}
 use Rattle.cfs_serve.specs.declared.journal.Progress.{Progress}
 
 pub record Hearing (A : Type 0) : Type 0 where
-  pub journal : Kept A
+  pub journal : Journaled A
   pub ports : List Reading
   -- the turns that the collector may make now, none where it rests; all that it has left, and how many events of it
   -- there is room for
@@ -49,23 +49,23 @@ IsLeave i true leaves = (stopped : Option ℕ) × (leaves ≡ events.Leave i sto
 -- Session i: its events are the turns of its script as far as it was read, and then one leave where it has left, which
 -- it does at the script's end or once its sink failed. Its sink has taken its replies; where it failed, all but the
 -- last, and some beginning of that one.
-pub record IsSession (root : Puid) (i : ℕ) (seat : Seat) (p : Reading) (trail : List Event) : Type 0 where
+pub record IsSession (root : Puid) (i : ℕ) (client : Client) (p : Reading) (trail : List Event) : Type 0 where
   pub leaves : List Event
   pub split : events_of i trail ≡ turns_in i trail ++ leaves
   pub left : IsLeave i p.has_left leaves
-  pub turned : (more : List Event) → turns_from all_forms i (no_names root) seat.lines (turns_in i trail ++ more)
+  pub turned : (more : List Event) → turns_from all_forms i (no_names root) client.lines (turns_in i trail ++ more)
       ≡ turns_in i trail ++ turns_from all_forms i (names_of p.names) p.lines more
-  pub counted : length (turns_in i trail) + length p.lines ≡ length seat.lines
+  pub counted : length (turns_in i trail) + length p.lines ≡ length client.lines
   pub ended : p.has_left ≡ true → p.failed ≡ false → p.lines ≡ []
-  pub replied : Replied seat.sink p.sink (printed_replies i trail) (not p.failed)
-  pub broken : p.failed ≡ true → BreaksOff i seat.sink p.sink (turns_in i trail)
+  pub replied : Replied client.sink p.sink (printed_replies i trail) (not p.failed)
+  pub broken : p.failed ≡ true → BreaksOff i client.sink p.sink (turns_in i trail)
 
 -- So it is with each session, and no event is of a session without a script; where no collection is called for, each is
 -- of one.
 pub record AreHeard {A : Type 0} (t : Terms A) (trail : List Event) (ports : List Reading) : Type 0 where
-  pub count : length ports ≡ length t.seats
-  pub each : (k : ℕ) (seat : Seat) (p : Reading) → slice_get t.seats k ≡ Some seat → slice_get ports k ≡ Some p
-      → IsSession t.root k seat p trail
+  pub count : length ports ≡ length t.clients
+  pub each : (k : ℕ) (client : Client) (p : Reading) → slice_get t.clients k ≡ Some client → slice_get ports k ≡ Some p
+      → IsSession t.root k client p trail
   pub none : (k : ℕ) → length ports ≤ k → events_of k trail ≡ []
   pub sessions : t.collections ≡ 0 → list_all is_sessions trail ≡ true
 
@@ -118,7 +118,7 @@ pub record Departs (i : ℕ) (p q : Reading) (e : Event) : Type 0 where
   pub port : q ≡ record p { has_left = true }
 
 -- session i made one event, by its port
-pub record Moves {A : Type 0} (i : ℕ) (old new : Kept A) (p q : Reading) : Type 0 where
+pub record Moves {A : Type 0} (i : ℕ) (old new : Journaled A) (p q : Reading) : Type 0 where
   pub event : Event
   pub recorded : new.events ≡ old.events ++ event ∷ []
   pub room : new.room + 1 ≡ old.room
@@ -163,11 +163,11 @@ is_done_in (p ∷ ports) turns zero = p.has_left
 is_done_in (p ∷ ports) turns (suc w) = is_done_in ports turns w
 
 -- and how many turns has it left?
-abbrev pub left_in : List Reading → (turns w : ℕ) → ℕ
-left_in [] turns zero = turns
-left_in [] turns (suc w) = 0
-left_in (p ∷ ports) turns zero = turns_left p
-left_in (p ∷ ports) turns (suc w) = left_in ports turns w
+abbrev pub turns_left_in : List Reading → (turns w : ℕ) → ℕ
+turns_left_in [] turns zero = turns
+turns_left_in [] turns (suc w) = 0
+turns_left_in (p ∷ ports) turns zero = turns_left p
+turns_left_in (p ∷ ports) turns (suc w) = turns_left_in ports turns w
 
 -- there is no worker beyond the collector
 pub done_beyond : (ports : List Reading) (turns w : ℕ) → suc (length ports) ≤ w → is_done_in ports turns w ≡ true
@@ -176,7 +176,7 @@ done_beyond [] turns (suc w) beyond = refl
 done_beyond (p ∷ ports) turns zero beyond = absurd (not-suc-le-zero beyond)
 done_beyond (p ∷ ports) turns (suc w) beyond = done_beyond ports turns w (le_of_suc-le-suc beyond)
 
-pub none_beyond : (ports : List Reading) (turns w : ℕ) → suc (length ports) ≤ w → left_in ports turns w ≡ 0
+pub none_beyond : (ports : List Reading) (turns w : ℕ) → suc (length ports) ≤ w → turns_left_in ports turns w ≡ 0
 none_beyond [] turns zero beyond = absurd (not-suc-le-zero beyond)
 none_beyond [] turns (suc w) beyond = refl
 none_beyond (p ∷ ports) turns zero beyond = absurd (not-suc-le-zero beyond)
@@ -185,21 +185,21 @@ none_beyond (p ∷ ports) turns (suc w) beyond = none_beyond ports turns w (le_o
 -- ---- as a service is made
 
 -- nothing was read of the session
-pub record IsFresh (root : Puid) (seat : Seat) (p : Reading) : Type 0 where
-  pub lines : p.lines ≡ seat.lines
-  pub sink : p.sink ≡ seat.sink
+pub record IsFresh (root : Puid) (client : Client) (p : Reading) : Type 0 where
+  pub lines : p.lines ≡ client.lines
+  pub sink : p.sink ≡ client.sink
   pub new : IsNew root p
 
 pub record AreFresh {A : Type 0} (t : Terms A) (ports : List Reading) : Type 0 where
-  pub count : length ports ≡ length t.seats
-  pub each : (k : ℕ) (seat : Seat) (p : Reading) → slice_get t.seats k ≡ Some seat → slice_get ports k ≡ Some p
-      → IsFresh t.root seat p
+  pub count : length ports ≡ length t.clients
+  pub each : (k : ℕ) (client : Client) (p : Reading) → slice_get t.clients k ≡ Some client → slice_get ports k ≡ Some p
+      → IsFresh t.root client p
 
 abbrev pub AreNew : Puid → List Reading → Type 0
 AreNew root ports = (k : ℕ) (p : Reading) → slice_get ports k ≡ Some p → IsNew root p
 
-abbrev pub seat_of : Reading → Seat
-seat_of p = record { lines = p.lines; sink = p.sink }
+abbrev pub client_of : Reading → Client
+client_of p = record { lines = p.lines; sink = p.sink }
 
 -- the charter of a service by this server and these ports
 abbrev pub charter_of : {A : Type 0} → A → (seed cylinders : ℕ) → Puid → (collections : ℕ) → List Reading → Terms A
@@ -210,27 +210,27 @@ charter_of server seed cylinders root collections ports =
       cylinders = cylinders;
       root = root;
       collections = collections;
-      seats = map seat_of ports;
+      clients = map client_of ports;
     }
 
 -- ---- what it comes to
 
 -- A session that has left: its events are turns of its script, all of them or else its sink failed, and then its leave;
 -- its sink has taken the replies.
-pub record IsOver (root : Puid) (trail : List Event) (i : ℕ) (seat : Seat) (after : Intake)
+pub record IsOver (root : Puid) (trail : List Event) (i : ℕ) (client : Client) (after : Intake)
     (failed : Bool) : Type 0 where
-  pub turns : turns_in i trail ≡ turns_from all_forms i (no_names root) seat.lines (turns_in i trail)
-  pub answered : failed ≡ false → length (turns_in i trail) ≡ length seat.lines
+  pub turns : turns_in i trail ≡ turns_from all_forms i (no_names root) client.lines (turns_in i trail)
+  pub answered : failed ≡ false → length (turns_in i trail) ≡ length client.lines
   pub stopped : Option ℕ
   pub leaves : events_of i trail ≡ turns_in i trail ++ events.Leave i stopped ∷ []
-  pub replied : Replied seat.sink after (printed_replies i trail) (not failed)
-  pub broken : failed ≡ true → BreaksOff i seat.sink after (turns_in i trail)
+  pub replied : Replied client.sink after (printed_replies i trail) (not failed)
+  pub broken : failed ≡ true → BreaksOff i client.sink after (turns_in i trail)
 
 -- So it is with each of them, and no event is of another session; where no collection is called for, of nobody else.
-pub record AreOver (root : Puid) (collections : ℕ) (seats : List Seat) (trail : List Event)
+pub record AreOver (root : Puid) (collections : ℕ) (clients : List Client) (trail : List Event)
     (ports : List Reading) : Type 0 where
-  pub count : length ports ≡ length seats
-  pub each : (k : ℕ) (seat : Seat) (p : Reading) → slice_get seats k ≡ Some seat → slice_get ports k ≡ Some p
-      → IsOver root trail k seat p.sink p.failed
-  pub none : (k : ℕ) → length seats ≤ k → events_of k trail ≡ []
+  pub count : length ports ≡ length clients
+  pub each : (k : ℕ) (client : Client) (p : Reading) → slice_get clients k ≡ Some client → slice_get ports k ≡ Some p
+      → IsOver root trail k client p.sink p.failed
+  pub none : (k : ℕ) → length clients ≤ k → events_of k trail ≡ []
   pub sessions : collections ≡ 0 → list_all is_sessions trail ≡ true

@@ -22,7 +22,7 @@ use Rattle.cfs_core.specs.declared.kernel.Stop.{Stop}
 use Rattle.cfs_serve.specs.declared.journal.Progress.{Progress}
 use Rattle.cfs_serve.specs.declared.journal.Progress.TheVariants as progresses
 
-pub record Kept (A : Type 0) : Type 0 where
+pub record Journaled (A : Type 0) : Type 0 where
   pub server : A
   pub events : List Event
   -- the disk's moment as each was recorded
@@ -34,7 +34,7 @@ pub record Kept (A : Type 0) : Type 0 where
   pub failed : Bool
 
 -- one event more was recorded, with the disk's moment as it is now
-abbrev pub IsStamped : {A : Type 0} → (A → ℕ) → Kept A → Kept A → Type 0
+abbrev pub IsStamped : {A : Type 0} → (A → ℕ) → Journaled A → Journaled A → Type 0
 IsStamped clock old new = new.moments ≡ old.moments ++ clock new.server ∷ []
 
 -- The trail is a legal run on this graph, and the server stands for the state after it; on a disk each answer is exact;
@@ -91,7 +91,7 @@ pub record HasEnded {A : Type 0} (faults : A → ℕ) (t : Terms A) (server : A)
       t.collections ending trail
 
 -- a server that stopped stays so
-abbrev pub StaysStopped : {A : Type 0} → (A → Option Stop) → Kept A → Kept A → Type 0
+abbrev pub StaysStopped : {A : Type 0} → (A → Option Stop) → Journaled A → Journaled A → Type 0
 StaysStopped stop old new = (s : Stop) → stop old.server ≡ Some s → stop new.server ≡ Some s
 
 -- one event was recorded, or none
@@ -126,7 +126,7 @@ pub record AreCounted {A : Type 0} (faults : A → ℕ) (stands : A → State �
 -- A turn made an event, or none. The count didn't fall in it; where the event has a Disk reply it rose, and so it did
 -- where the event tells a stop of a server that began on a sound volume.
 pub record Raises {A : Type 0} (faults : A → ℕ) (stands : A → State → Type 0) (t : Terms A)
-    (old new : Kept A) : Type 0 where
+    (old new : Journaled A) : Type 0 where
   pub made : Option Event
   pub recorded : new.events ≡ old.events ++ recorded made
   pub later : faults old.server ≤ faults new.server
@@ -143,7 +143,7 @@ Lasts {A} stands clock lasts t server trail moments = (begun : A) (graph : Graph
     → lasts begun t.seed graph [] (clock begun ∷ []) → lasts server t.seed graph trail (clock begun ∷ moments)
 
 -- a session was answered, and its port wrote the reply
-pub record Serves {A : Type 0} (old new : Kept A) (who : ℕ) (request : Request) (name : Option (List ℕ))
+pub record Answered {A : Type 0} (old new : Journaled A) (who : ℕ) (request : Request) (name : Option (List ℕ))
     (p q : Reading) : Type 0 where
   pub reply : Reply
   pub answered : Answers p q name reply
@@ -179,7 +179,7 @@ refusal_in progress = None
 
 -- It is an event of no session, recorded with the disk's moment; and there is none where nothing is told to be
 -- recorded.
-pub record Steps {A : Type 0} (clock : A → ℕ) (old new : Kept A) (progress : Progress) : Type 0 where
+pub record Steps {A : Type 0} (clock : A → ℕ) (old new : Journaled A) (progress : Progress) : Type 0 where
   pub event : Option Event
   pub events : new.events ≡ old.events ++ recorded event
   pub nobody : (e : Event) → event ≡ Some e → (k : ℕ) → is_of k e ≡ false

@@ -1,4 +1,3 @@
-pub mod Told
 pub mod Limits
 pub mod Pages
 pub mod Report

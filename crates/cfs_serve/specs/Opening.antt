@@ -13,12 +13,12 @@ use Rattle.cfs_serve.specs.declared.report.Cause.TheVariants as causes
 use Rattle.cfs_serve.specs.declared.report.VolumeFault.TheVariants as faults
 use Rattle.cfs_serve.specs.declared.volume.Refused.{Refused}
 
-abbrev pub told_of : RecoverFault → Cause
-told_of whys.Disk = causes.Disk None
-told_of whys.NotVolume = causes.Volume faults.NotVolume
-told_of (whys.Version found) = causes.Volume (faults.Version found)
-told_of (whys.Damaged d) = causes.Volume (faults.Damaged d)
-told_of whys.Memory = causes.Memory
+abbrev pub opening_cause : RecoverFault → Cause
+opening_cause whys.Disk = causes.Disk None
+opening_cause whys.NotVolume = causes.Volume faults.NotVolume
+opening_cause (whys.Version found) = causes.Volume (faults.Version found)
+opening_cause (whys.Damaged d) = causes.Volume (faults.Damaged d)
+opening_cause whys.Memory = causes.Memory
 
 -- a fault that an honest disk has, and then it holds no sound volume; a failed call only where one failed; else want of
 -- memory

@@ -1,6 +1,6 @@
 -- A service: what it comes to, by what it begins on, its sources, its sinks, the report and the trail.
-use Rattle.std.specs.Prelude.{◌≡◌, ℕ, ◌-◌, ◌*◌, ◌<◌, ◌≤◌, ◌⊎◌, Bool, true, false, List, [], length, map, filter}
-use Rattle.std.specs.Prelude.{Option, Some, None}
+use Rattle.std.specs.Prelude.{◌≡◌, ℕ, ◌+◌, ◌-◌, ◌*◌, ◌<◌, ◌≤◌, ◌⊎◌, Bool, true, false, List, [], length, map, filter}
+use Rattle.std.specs.Prelude.{Option, Some, None, if◌then◌else◌}
 use Rattle.std.specs.List.{list_any, list_all}
 use Rattle.cfs_base.specs.Outside.{Intake, Supply}
 use Rattle.cfs_base.specs.declared.identifier.Puid.{Puid}
@@ -11,11 +11,12 @@ use Rattle.ufs_model.specs.Run.{replay}
 use Rattle.ufs_model.specs.Script.{request_lines}
 use Rattle.vol_image.specs.Sound.{graph_blocks}
 use Rattle.cfs_core.specs.declared.collecting.CollectFault.TheVariants as faults
+use Rattle.cfs_core.specs.declared.kernel.Status.{Status}
 use Rattle.cfs_core.specs.StandsFor.{is_sweeping}
 use Rattle.cfs_serve.specs.Calls.{AreExact}
 use Rattle.cfs_ports.specs.Port.{Reading}
-use Rattle.cfs_serve.specs.Charter.{Seat}
-use Rattle.cfs_serve.specs.Ending.{EndsSo, IsWanting, cause_of, damage_in, not_begun}
+use Rattle.cfs_serve.specs.Charter.{Client}
+use Rattle.cfs_serve.specs.Ending.{EndsSo, IsWanting, cause_of, damage_in, moment_in, not_begun}
 use Rattle.cfs_serve.specs.Events.{begins_in, finishes_in, is_calm, is_reply}
 use Rattle.cfs_serve.specs.Ground.{Ground}
 use Rattle.cfs_serve.specs.Hall.{AreOver}
@@ -43,6 +44,18 @@ abbrev pub AreCounted : (sessions : ℕ) → List Event → Counts → Type 0
 AreCounted sessions trail counts =
     (counts.sessions ≡ sessions) × (counts.replies ≡ length (filter is_reply trail))
     × (counts.collections ≡ finishes_in trail)
+
+-- Whatever disk it is: what is counted of objects and of Free is what the core told last. That status tells the stop,
+-- and of a core that runs the collections of the trail.
+pub record TellsLast (collections : ℕ) (ending : Ending) (trail : List Event) (counts : Counts) : Type 0 where
+  pub status : Status
+  pub is : ending.last ≡ Some status
+  pub objects : counts.objects ≡ status.objects
+  pub free : counts.free ≡ status.free
+  pub stop : (status.stopped ≡ moment_in ending.stop) × (status.damage ≡ damage_in ending.stop)
+  pub called : status.called ≡ collections
+  pub finished : ending.stop ≡ None → status.finished ≡ finishes_in trail
+  pub running : ending.stop ≡ None → begins_in trail ≡ finishes_in trail + (if status.running then 1 else 0)
 
 -- what is Free is all but the map of each cylinder, the label, and the blocks of the objects
 abbrev pub free_of : (cylinders : ℕ) → Graph → ℕ
@@ -74,17 +87,18 @@ pub record IsRunFrom (cylinders seed collections : ℕ) (graph : Graph) (rose : 
 abbrev pub has_broken : List Reading → Bool
 has_broken ports = list_any (λ p. p.failed) ports
 
--- The sessions of these seats were served, and left their ports so.
-pub record IsPlayed (ground : Ground) (seed collections : ℕ) (rose : Type 0) (seats : List Seat) (ports : List Reading)
+-- The sessions of these clients were served, and left their ports so.
+pub record IsPlayed (ground : Ground) (seed collections : ℕ) (rose : Type 0) (clients : List Client) (ports : List Reading)
     (counts : Counts) (cause : Cause) (ending : Ending) (trail : List Event) : Type 0 where
   -- the root index is that of each graph that the volume may read as
   pub root : Puid
   pub rooted : (graph : Graph) → ground.reads graph → graph.root ≡ root
   pub run : (graph : Graph) → ground.reads graph → IsRunFrom ground.cylinders seed collections graph rose
-      (length seats) counts cause trail
+      (length clients) counts cause trail
   -- all events of sessions are theirs
-  pub over : AreOver root collections seats trail ports
-  pub counted : AreCounted (length seats) trail counts
+  pub over : AreOver root collections clients trail ports
+  pub counted : AreCounted (length clients) trail counts
+  pub last : TellsLast collections ending trail counts
   pub ends : EndsSo rose collections ending trail
   -- no more collections began than were called for
   pub few : begins_in trail ≤ collections
@@ -96,11 +110,11 @@ pub record IsPlayed (ground : Ground) (seed collections : ℕ) (rose : Type 0) (
   pub undamaged : (graph : Graph) → ground.reads graph → damage_in ending.stop ≡ None
   pub spoiled : cause ≡ cause_of ending trail (has_broken ports)
 
--- The sessions of these scripts and sinks have these seats, and their sinks are so as they have left.
-pub record AreSeated (scripts : List (List ℕ)) (sinks after : List Intake) (seats : List Seat)
+-- The sessions of these scripts and sinks have these clients, and their sinks are so as they have left.
+pub record AreClients (scripts : List (List ℕ)) (sinks after : List Intake) (clients : List Client)
     (ports : List Reading) : Type 0 where
-  pub lines : map (λ s. s.lines) seats ≡ map request_lines scripts
-  pub begun : map (λ s. s.sink) seats ≡ sinks
+  pub lines : map (λ s. s.lines) clients ≡ map request_lines scripts
+  pub begun : map (λ s. s.sink) clients ≡ sinks
   pub left : map (λ p. p.sink) ports ≡ after
 
 -- nothing was served: no event, and no sink took a byte
@@ -135,10 +149,10 @@ pub record ServesSources (ground : Ground) (seed collections : ℕ) (rose : Type
   pub counts : Counts
   pub cause : Cause
   pub told : report ≡ record { counts = Some counts; cause = cause }
-  pub seats : List Seat
+  pub clients : List Client
   pub ports : List Reading
-  pub seated : AreSeated scripts sinks after seats ports
-  pub played : IsPlayed ground seed collections rose seats ports counts cause ending trail
+  pub matched : AreClients scripts sinks after clients ports
+  pub played : IsPlayed ground seed collections rose clients ports counts cause ending trail
 
 -- nothing was served, for this cause
 pub record ServesNone (ground : Ground) (rose : Type 0) (sources sources_after : List Supply)

@@ -2,7 +2,6 @@
 use Rattle.std.specs.Prelude.{ℕ, List, [], ◌++◌, codes, Option, Some, None}
 use Rattle.std.specs.Fmt.{decimal}
 use Rattle.cfs_base.specs.declared.refusal.Damage.{Damage}
-use Rattle.cfs_serve.specs.Told.{told}
 use Rattle.cfs_serve.specs.declared.report.Counts.{Counts}
 use Rattle.cfs_serve.specs.declared.report.Cause.{Cause}
 use Rattle.cfs_serve.specs.declared.report.Cause.TheVariants as causes
@@ -10,6 +9,10 @@ use Rattle.cfs_serve.specs.declared.report.Report.{Report}
 use Rattle.cfs_serve.specs.declared.report.VolumeFault.{VolumeFault}
 use Rattle.cfs_serve.specs.declared.report.VolumeFault.TheVariants as faults
 use Rattle.cfs_serve.specs.Pages.{page_text}
+
+-- a line of a word and a number
+abbrev pub numbered : List ℕ → ℕ → List ℕ
+numbered word number = word ++ codes " " ++ decimal number ++ codes "\n"
 
 abbrev pub status_of : Cause → ℕ
 status_of causes.Nothing = 0
@@ -28,20 +31,20 @@ status_of (causes.Illegal event) = 8
 
 abbrev pub served_text : Counts → List ℕ
 served_text c =
-    told (codes "sessions") c.sessions ++ told (codes "replies") c.replies
-    ++ told (codes "collections") c.collections ++ told (codes "objects") c.objects
+    numbered (codes "sessions") c.sessions ++ numbered (codes "replies") c.replies
+    ++ numbered (codes "collections") c.collections ++ numbered (codes "objects") c.objects
 
 abbrev pub counts_text : Option Counts → List ℕ
 counts_text None = []
-counts_text (Some c) = served_text c ++ told (codes "free") c.free
+counts_text (Some c) = served_text c ++ numbered (codes "free") c.free
 
 -- what is wrong with a volume; of a damage the block and its code
 abbrev pub damage_text : Damage → List ℕ
-damage_text d = (codes "volume damaged " ++ decimal d.block) ++ told (codes "") d.code
+damage_text d = (codes "volume damaged " ++ decimal d.block) ++ numbered (codes "") d.code
 
 abbrev pub fault_text : VolumeFault → List ℕ
 fault_text faults.NotVolume = codes "volume not-volume\n"
-fault_text (faults.Version found) = told (codes "volume version") found
+fault_text (faults.Version found) = numbered (codes "volume version") found
 fault_text (faults.Damaged d) = damage_text d
 
 abbrev pub cause_text : Cause → List ℕ
@@ -50,20 +53,20 @@ cause_text (causes.Page page) = []
 cause_text causes.Words = codes "words\n"
 cause_text (causes.Volume fault) = fault_text fault
 cause_text (causes.Disk None) = codes "disk\n"
-cause_text (causes.Disk (Some moment)) = told (codes "disk") moment
+cause_text (causes.Disk (Some moment)) = numbered (codes "disk") moment
 cause_text causes.Sink = codes "sink\n"
-cause_text (causes.Source i) = told (codes "source") i
+cause_text (causes.Source i) = numbered (codes "source") i
 cause_text causes.Memory = codes "memory\n"
-cause_text (causes.Long i) = told (codes "long") i
+cause_text (causes.Long i) = numbered (codes "long") i
 cause_text causes.LongTotal = codes "long total\n"
-cause_text (causes.Legal n) = told (codes "legal") n
-cause_text (causes.BadLine line) = told (codes "bad line") line
-cause_text (causes.Illegal event) = told (codes "illegal") event
+cause_text (causes.Legal n) = numbered (codes "legal") n
+cause_text (causes.BadLine line) = numbered (codes "bad line") line
+cause_text (causes.Illegal event) = numbered (codes "illegal") event
 
 -- the line of the cause, and the status; or the page
 abbrev pub ending_text : Cause → List ℕ
 ending_text (causes.Page page) = page_text page
-ending_text cause = cause_text cause ++ told (codes "status") (status_of cause)
+ending_text cause = cause_text cause ++ numbered (codes "status") (status_of cause)
 
 abbrev pub report_text : Report → List ℕ
 report_text r = counts_text r.counts ++ ending_text r.cause

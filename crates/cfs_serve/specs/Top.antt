@@ -35,12 +35,12 @@ use Rattle.cfs_serve.specs.Ending.{EndsSo, IsWanting, cause_of, damage_in, not_b
 use Rattle.cfs_serve.specs.Events.{BreaksOff, begins_in, events_of, finishes_in, is_calm, is_sessions, tells_damage}
 use Rattle.cfs_serve.specs.Events.{wants_memory}
 use Rattle.cfs_serve.specs.Ground.{Ground}
-use Rattle.cfs_serve.specs.Played.{AreCounted, HasNone, IsStop, counts_of, free_of}
+use Rattle.cfs_serve.specs.Played.{AreCounted, HasNone, TellsLast, IsStop, counts_of, free_of}
 use Rattle.cfs_serve.specs.Text.{IsText, last_cause, text_of}
 use Rattle.cfs_serve.specs.Scripts.{AreShort, AreWithin, Had, IsFirst, faults_of, lines_in}
 use Rattle.cfs_serve.specs.Whole.{HasPlaces, RoseIn, TellsMade}
 use Rattle.cfs_serve.specs.Words.{Asked, Format, Service, Formats, Shows, Nothing, IfServes, collections_of, is_format}
-use Rattle.cfs_serve.specs.Words.{is_audit, is_service, most_bytes}
+use Rattle.cfs_serve.specs.Words.{is_audit, is_service, most_in_source}
 
 -- ---- what is outside
 
@@ -242,7 +242,7 @@ MemoryWanting short cause text old new = (last_cause short cause ≡ causes.Memo
 abbrev pub IsOver : Asked → Cause → (old new : Outside) → Type 0
 IsOver asked (causes.Long n) old new =
     (n < length old.sources)
-    × ((scripts : List (List ℕ)) → HadLeft old scripts → most_bytes asked < length (slice_index_or scripts n []))
+    × ((scripts : List (List ℕ)) → HadLeft old scripts → most_in_source asked < length (slice_index_or scripts n []))
     × IsFirst old.sources new.sources n
 IsOver asked causes.LongTotal old new =
     (scripts : List (List ℕ)) → HadLeft old scripts → AreShort scripts × (most_lines < lines_in scripts)
@@ -332,6 +332,8 @@ pub record Did (asked : Asked) (ground : Ground) (old new : Outside) (told : Rep
   pub spoiled : WasServed told → told.cause ≡ cause_of ending trail fell
   -- whatever volume it is, the report counts the sessions, the replies and the finished collections of the trail
   pub counts : IfSome told.counts (AreCounted (length old.sources) trail)
+  -- and tells of objects and of Free what the core told last, which is handed back
+  pub last : IfSome told.counts (TellsLast (collections_of asked) ending trail)
   -- no more collections began than were called for
   pub few : begins_in trail ≤ collections_of asked
   -- the collector was done at a refusal, or as many are finished as were called for

@@ -18,10 +18,10 @@ use Rattle.cfs_serve.specs.declared.report.Report.{Report}
 use Rattle.cfs_serve.specs.Ending.{not_begun}
 use Rattle.cfs_serve.specs.Ground.{Ground, opened}
 use Rattle.cfs_ports.specs.Port.{Reading}
-use Rattle.cfs_serve.specs.Charter.{Seat}
+use Rattle.cfs_serve.specs.Charter.{Client}
 use Rattle.cfs_serve.specs.Events.{tells_disk, tells_fault}
 use Rattle.cfs_serve.specs.Journal.{Rise, faults_after, first_fault}
-use Rattle.cfs_serve.specs.Played.{AreSeated, IsPlayed, ServesNothing}
+use Rattle.cfs_serve.specs.Played.{AreClients, IsPlayed, ServesNothing}
 
 -- the core stands for a root index of empty slots on so many cylinders; no word was drawn, it hasn't stopped, and no
 -- collection was called for
@@ -42,14 +42,14 @@ ground_at g core = record {
   faulty = λ fault. ⊥;
 }
 
--- The sessions of these seats were served by a core, which is over, and left their ports so; its disk is handed back.
-pub record ServesSessions {D : Type 0} (g : Ghosts D) (core : Kernel D) (collections : ℕ) (seats : List Seat)
+-- The sessions of these clients were served by a core, which is over, and left their ports so; its disk is handed back.
+pub record ServesSessions {D : Type 0} (g : Ghosts D) (core : Kernel D) (collections : ℕ) (clients : List Client)
     (ports : List Reading) (report : Report) (ending : Ending) (trail : List Event) (moments : List ℕ)
     (disk : D) : Type 0 where
   pub counts : Counts
   pub cause : Cause
   pub told : report ≡ record { counts = Some counts; cause = cause }
-  pub played : IsPlayed (ground_at g core) core.words.seed collections (Rose (g.faults core.disk) (g.faults disk)) seats
+  pub played : IsPlayed (ground_at g core) core.words.seed collections (Rose (g.faults core.disk) (g.faults disk)) clients
       ports
       counts cause ending trail
   pub later : g.faults core.disk ≤ g.faults disk
@@ -74,18 +74,18 @@ pub record IsUnserved {D : Type 0} (core : Kernel D) (before after : List Readin
   pub disk_is : disk ≡ core.disk
 
 -- the sessions of these scripts were
-pub record ServesSeated {D : Type 0} (g : Ghosts D) (core : Kernel D) (collections : ℕ) (scripts : List (List ℕ))
+pub record ServesCliented {D : Type 0} (g : Ghosts D) (core : Kernel D) (collections : ℕ) (scripts : List (List ℕ))
     (sinks after : List Intake) (report : Report) (ending : Ending) (trail : List Event) (moments : List ℕ)
     (disk : D) : Type 0 where
-  pub seats : List Seat
+  pub clients : List Client
   pub ports : List Reading
-  pub seated : AreSeated scripts sinks after seats ports
-  pub serves : ServesSessions g core collections seats ports report ending trail moments disk
+  pub matched : AreClients scripts sinks after clients ports
+  pub serves : ServesSessions g core collections clients ports report ending trail moments disk
 
 -- the scripts are served, or memory was wanting before
 abbrev pub ServesScripts : {D : Type 0} → Ghosts D → Kernel D → (collections : ℕ) → List (List ℕ)
     → (sinks after : List Intake)
     → Report → Ending → List Event → List ℕ → D → Type 0
 ServesScripts g core collections scripts sinks after report ending trail moments disk =
-    ServesSeated g core collections scripts sinks after report ending trail moments disk
+    ServesCliented g core collections scripts sinks after report ending trail moments disk
     ⊎ (ServesNothing sinks after report ending trail causes.Memory × (disk ≡ core.disk))

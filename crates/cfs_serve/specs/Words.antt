@@ -3,9 +3,7 @@ use Rattle.std.specs.Prelude.{ℕ, ◌+◌, ◌*◌, ◌%◌, Bool, true, false,
 use Rattle.std.specs.Prelude.{[], ◌∷◌, length, filter, map, String, string_bytes, Option, Some, None, codes}
 use Rattle.std.specs.List.{list_all}
 use Rattle.std.specs.Str.{bytes_eq}
-use Rattle.cfs_base.specs.declared.identifier.Puid.{Puid}
 use Rattle.ufs_model.specs.Spoken.{Reading, Is, Unbound, Bad, number_in}
-use Rattle.ufs_model.specs.Word.{word}
 use Rattle.cfs_serve.specs.declared.page.Page.{Page}
 use Rattle.cfs_serve.specs.declared.page.Page.TheVariants as pages
 use Rattle.cfs_serve.specs.Limits.{most_collections, most_cylinders, most_file_cylinders, most_pair_cylinders}
@@ -275,14 +273,10 @@ is_audit (Serves service) = false
 is_audit Nothing = false
 
 -- the bytes of the longest source
-abbrev pub most_bytes : Asked → ℕ
-most_bytes (Shows page) = most_script
-most_bytes (Formats format) = most_script
-most_bytes (Audits trail) = most_trail
-most_bytes (Spins spin) = most_script
-most_bytes (Serves service) = most_script
-most_bytes Nothing = most_script
-
--- the identifier of the root index of a new volume
-abbrev pub root_of : ℕ → Puid
-root_of seed = record { block = 2; word = word seed 0 }
+abbrev pub most_in_source : Asked → ℕ
+most_in_source (Shows page) = most_script
+most_in_source (Formats format) = most_script
+most_in_source (Audits trail) = most_trail
+most_in_source (Spins spin) = most_script
+most_in_source (Serves service) = most_script
+most_in_source Nothing = most_script

@@ -3,15 +3,18 @@ ghost use Rattle.std.specs.Prelude.{◌≡◌};
 ghost use Rattle.cfs_serve.specs.Ending as spec;
 
 use crate::report::{Cause, VolumeFault};
-use cfs_core::{CollectFault, Stop};
+use cfs_core::{CollectFault, Status, Stop};
 
-/// Why the core stopped, and what ended the collector before as many collections were finished as were called for.
+/// Why the core stopped, what ended the collector before as many collections were finished as were called for, and what
+/// the core told of itself last.
 #[derive(Clone, Copy, Debug, PartialEq, Eq)]
 pub struct Ending {
     /// Nothing where the core runs.
     pub stop: Option<Stop>,
     /// The refusal at which the collector was done.
     pub refused: Option<CollectFault>,
+    /// The core's status once each session had left and the collector was done; nothing where nothing was served.
+    pub last: Option<Status>,
 }
 
 impl Ending {
@@ -22,6 +25,7 @@ impl Ending {
         Ending {
             stop: None,
             refused: None,
+            last: None,
         }
     }
 

@@ -8,7 +8,7 @@ ghost use Rattle.cfs_serve.specs.Ending.{IsWanting};
 ghost use Rattle.cfs_serve.specs.Journal.{AreCounted, HasEnded, IsKept, IsRun, IsStamped, IsTold, Lasts};
 ghost use Rattle.cfs_serve.specs.Journal.{Raises, StaysStopped, first_fault};
 ghost use Rattle.cfs_serve.specs.Hall.{AreFresh, AreHeard, IsSessionTurn, IsStep, IsTurn};
-ghost use Rattle.cfs_serve.specs.Hall.{Moves, has_left_at, is_done_in, left_in, turns_left, turns_left_at};
+ghost use Rattle.cfs_serve.specs.Hall.{Moves, has_left_at, is_done_in, turns_left_in, turns_left, turns_left_at};
 
 use crate::ending::Ending;
 use crate::journal::{Charter, Journal, Progress};
@@ -228,7 +228,7 @@ impl<A: Server, J: Charter<A>, K: Sink> Hall<A, J, K> {
     /// How many turns it has left.
     #[tactic(auto, using(crate::proofs::Workers::session_left, crate::proofs::Workers::collector_left))]
     fn rest_of(&self, worker: u32) -> u64
-        ensures { result ≡ left_in self.now.ports self.now.turns worker }
+        ensures { result ≡ turns_left_in self.now.ports self.now.turns worker }
     {
         if worker as usize == self.ports.len() {
             self.turns_now()
@@ -254,6 +254,7 @@ impl<A: Server, J: Charter<A>, K: Sink> Hall<A, J, K> {
     /// The server, the trail, the ports and how it ended.
     pub fn into_parts(self) -> Parts<A, K>
         ensures size { A.cylinders result.server ≡ J.charter.cylinders }
+        ensures called { (A.tally result.server).called ≡ J.charter.collections }
         ensures run { IsRun A.stands A.has_stopped A.is_damaged A.tally J.charter result.server result.trail.events }
         ensures lasts { Lasts A.stands A.clock A.lasts J.charter result.server result.trail.events
             result.trail.moments }
@@ -291,6 +292,7 @@ impl<A: Server, J: Charter<A>, K: Sink> Hall<A, J, K> {
             ending: Ending {
                 stop,
                 refused: rest.refused,
+                last: None,
             },
         }
     }
@@ -319,14 +321,14 @@ impl<A: Server, J: Charter<A>, K: Sink> Hall<A, J, K> {
 #[tactic(auto, using(crate::proofs::Workers::as_many))]
 impl<A: Server, J: Charter<A>, K: Sink> Machine for Hall<A, J, K> {
     ghost use Rattle.std.specs.Prelude.{suc, length};
-    ghost use Rattle.cfs_serve.specs.Hall.{IsTurn, done_beyond, is_done_in, left_in, none_beyond};
+    ghost use Rattle.cfs_serve.specs.Hall.{IsTurn, done_beyond, is_done_in, turns_left_in, none_beyond};
     ghost use Rattle.cfs_serve.specs.Journal.{Raises};
 
     ghost worker_count = { λ h. suc (length h.ports) };
 
     ghost done = { λ h w. is_done_in h.ports h.turns w };
 
-    ghost left = { λ h w. left_in h.ports h.turns w };
+    ghost left = { λ h w. turns_left_in h.ports h.turns w };
 
     ghost turned = { λ old w new. IsTurn A.clock w old new × Raises A.faults A.stands J.charter old.journal
         new.journal };

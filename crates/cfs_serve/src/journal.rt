@@ -11,7 +11,7 @@ ghost use Rattle.cfs_serve.specs.Events.{tells_disk, wants_memory};
 ghost use Rattle.cfs_serve.specs.Calls.{Passes, Spends, SpendsOne, Tally, event_by, refusal_by};
 ghost use Rattle.cfs_serve.specs.Ending.{IsWanting, Stops, TellsStop};
 ghost use Rattle.cfs_serve.specs.Events.{finishes_in};
-ghost use Rattle.cfs_serve.specs.Journal.{IsKept, IsRun, IsStamped, IsTold, Lasts, Raises, Serves, is_made};
+ghost use Rattle.cfs_serve.specs.Journal.{IsKept, IsRun, IsStamped, IsTold, Lasts, Raises, Answered, is_made};
 ghost use Rattle.cfs_serve.specs.Journal.{StaysStopped};
 ghost use Rattle.cfs_serve.specs.Journal.{Steps, is_quiet_fault, is_recorded, recorded, refusal_in, stamps};
 
@@ -73,9 +73,9 @@ impl<A: Server, J: Charter<A>> Model for Journal<A, J> {
     ghost use Rattle.cfs_serve.specs.Events.{tells_disk, wants_memory};
     ghost use Rattle.std.specs.Prelude.{None};
     ghost use Rattle.cfs_serve.specs.Ending.{Stops};
-    ghost use Rattle.cfs_serve.specs.Journal.{Kept, IsKept, IsRun, IsTold, Lasts};
+    ghost use Rattle.cfs_serve.specs.Journal.{Journaled, IsKept, IsRun, IsTold, Lasts};
 
-    ghost Value = { Kept A };
+    ghost Value = { Journaled A };
 
     ghost view = { λ j. record {
       server = j.server;
@@ -157,7 +157,7 @@ impl<A: Server, J: Charter<A>> Journal<A, J> {
         requires room { 0 < self.old.room }
         requires few { length self.old.events < 4294967295 }
         requires name { HasRoom name port.old.names.room }
-        ensures serves { Serves self.old self.new session request name port.old port.new }
+        ensures answered { Answered self.old self.new session request name port.old port.new }
         ensures stamped { IsStamped A.clock self.old self.new }
         ensures stays { StaysStopped A.stop self.old self.new }
         ensures raised { Raises A.faults A.stands J.charter self.old self.new }
@@ -212,7 +212,7 @@ impl<A: Server, J: Charter<A>> Journal<A, J> {
     {
         let made = self.server.collect(alloc);
         let moment = self.server.moment();
-        let (event, progress) = told_of(made);
+        let (event, progress) = progress_of(made);
         push_some(&mut self.trail, event, moment);
         progress
     }
@@ -225,6 +225,7 @@ impl<A: Server, J: Charter<A>> Journal<A, J> {
         ensures failed { result.3 ≡ list_any tells_disk self.events }
         ensures stops { Stops None (A.stop self.server) self.events }
         ensures size { A.cylinders self.server ≡ J.charter.cylinders }
+        ensures called { (A.tally self.server).called ≡ J.charter.collections }
         ensures run { IsRun A.stands A.has_stopped A.is_damaged A.tally J.charter self.server self.events }
         ensures lasts { Lasts A.stands A.clock A.lasts J.charter self.server self.events result.1.moments }
         ensures told { IsTold A.faults A.has_stopped A.is_damaged J.charter self.server self.events }
@@ -274,7 +275,7 @@ fn starved_at(why: Unread, before: bool) -> bool
 }
 
 /// The event of a step of the collector, if it is one, and how far it came.
-fn told_of(made: Result<Step, CollectFault>) -> (Option<Event>, Progress)
+fn progress_of(made: Result<Step, CollectFault>) -> (Option<Event>, Progress)
     ensures event { result.0 ≡ event_by made }
     ensures none { is_recorded result.1 ≡ false → event_by made ≡ None }
     ensures idle { result.1 ≡ Progress.Idle → made ≡ Ok Step.Idle }

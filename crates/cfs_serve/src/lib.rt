@@ -5,6 +5,7 @@
 
 mod audit;
 mod cached;
+mod clients;
 mod ending;
 mod hall;
 mod journal;
@@ -18,7 +19,6 @@ mod rest;
 mod run;
 mod script;
 mod scripts;
-mod seats;
 mod server;
 mod serving;
 mod spin;

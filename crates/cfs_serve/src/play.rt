@@ -1,29 +1,26 @@
 //! A service.
-ghost use Rattle.std.specs.Prelude.{◌≡◌, ◌⊎◌, ◌<◌, ◌≤◌, ◌+◌, ◌*◌, [], None, Some, false, filter, length, map, sum};
+ghost use Rattle.std.specs.Prelude.{◌≡◌, ◌⊎◌, ◌<◌, ◌≤◌, ◌+◌, ◌*◌, [], None, Some, filter, length, map};
 ghost use Rattle.std.specs.List.{sum_by};
-ghost use Rattle.cfs_core.specs.StandsFor.{Serves, is_sweeping};
-ghost use Rattle.ufs_model.specs.State.{State};
 ghost use Rattle.cfs_serve.specs.Disks.{ServesVolume};
 ghost use Rattle.cfs_serve.specs.Ending.{cause_by, not_begun};
 ghost use Rattle.cfs_serve.specs.Events as spec;
 ghost use Rattle.cfs_serve.specs.Ground.{ground_on, new_ground};
-ghost use Rattle.cfs_serve.specs.Hall.{AreNew, seat_of, turns_left};
+ghost use Rattle.cfs_serve.specs.Hall.{AreNew, client_of, turns_left};
 ghost use Rattle.cfs_serve.specs.Played as played;
-ghost use Rattle.cfs_serve.specs.Played.{free_of};
 ghost use Rattle.cfs_serve.specs.Scripts.{lines_in};
 ghost use Rattle.cfs_serve.specs.Volume.{IsUnserved, ServesScripts, ServesSessions};
 ghost use Rattle.cfs_serve.specs.Whole.{AsksSessions};
 
+use crate::clients::{make_ports, take_sinks};
 use crate::ending::Ending;
 use crate::hall::{Parts, Unserved};
 use crate::report::{Cause, Counts, Report};
 use crate::scripts::{Scripts, read_scripts};
-use crate::seats::{make_ports, take_sinks};
 use crate::server::images_are_whole;
 use crate::serving::serve;
 use crate::volume::{Refused, new_volume, open_volume};
 use cfs_base::{Disk, Gate, Sink, Source};
-use cfs_core::Core;
+use cfs_core::{Core, Status};
 use cfs_ports::Port;
 use cfs_trail::Trail;
 use std::alloc::Global;
@@ -103,9 +100,9 @@ fn has_broken<K: Sink>(ports: &[Port<K>]) -> bool
     ports.iter().any(|port| port.has_failed())
 }
 
-/// The report on sessions that were served.
-fn report_on<D: Disk>(
-    core: &Core<D>,
+/// The report on sessions that were served, by the core's last status.
+fn report_on(
+    last: Status,
     trail: &Trail,
     ending: Ending,
     sessions: u64,
@@ -113,28 +110,24 @@ fn report_on<D: Disk>(
     broken: bool,
     starved: bool,
 ) -> Report
-    ensures told { result ≡ record {
+    ensures { result ≡ record {
       counts = Some (record {
         sessions = sessions;
         replies = length (filter spec.is_reply trail.now.events);
         collections = length (filter spec.is_finish trail.now.events);
-        objects = length core.now.names.named;
-        free = sum core.now.space.free;
+        objects = last.objects;
+        free = last.free;
       });
       cause = cause_by ending failed broken starved;
     } }
-    ensures free { (s : State) → Serves D.Disk core.now s → is_sweeping s.collection ≡ false → s.grants ≡ []
-        → sum core.now.space.free ≡ free_of (length core.now.space.free) s.graph }
 {
-    let status = core.status();
-    core.has_room();
     Report {
         counts: Some(Counts {
             sessions,
             replies: count_replies(trail),
             collections: count_finished(trail),
-            objects: u64::from(status.objects),
-            free: u64::from(status.free),
+            objects: u64::from(last.objects),
+            free: u64::from(last.free),
         }),
         cause: ending.cause(failed, broken, starved),
     }
@@ -174,7 +167,7 @@ fn serve_ports<D: Disk + Send, K: Sink + Send, G: Gate + Sync, R: Threads + Wait
     requires runs { core.stop ≡ None }
     requires words { core.words.drawn ≡ 0 }
     requires idle { core.collections ≡ record { collector = None; called = 0; finished = 0 } }
-    ensures { ServesSessions D.Disk core collections (map seat_of ports.items) result.1.items result.0.report
+    ensures { ServesSessions D.Disk core collections (map client_of ports.items) result.1.items result.0.report
         result.0.ending result.0.trail.events result.0.trail.moments result.2
         ⊎ IsUnserved core ports.items result.1.items result.0.report result.0.ending result.0.trail.events result.2 }
 {
@@ -211,7 +204,13 @@ fn serve_ports<D: Disk + Send, K: Sink + Send, G: Gate + Sync, R: Threads + Wait
     } = parts;
     let broken = has_broken(ports.as_slice());
     let sessions = ports.len() as u64;
-    let report = report_on(&server, &trail, ending, sessions, failed, broken, starved);
+    let last = server.status();
+    server.has_room();
+    let report = report_on(last, &trail, ending, sessions, failed, broken, starved);
+    let ending = Ending {
+        last: Some(last),
+        ..ending
+    };
     let played = Played {
         report,
         trail,

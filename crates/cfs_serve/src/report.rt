@@ -3,7 +3,7 @@ ghost use Rattle.std.specs.Prelude.{◌≡◌, ◌++◌, codes};
 ghost use Rattle.cfs_streams.specs.Writing.{WritesWhole};
 ghost use Rattle.std.specs.Fmt.{decimal};
 ghost use Rattle.cfs_serve.specs.Report.{damage_text};
-ghost use Rattle.cfs_serve.specs.Told.{told};
+ghost use Rattle.cfs_serve.specs.Report.{numbered};
 
 use crate::page::Page;
 use cfs_base::{Damage, Failed, Sink};
@@ -123,7 +123,7 @@ impl Cause {
     /// Writes the line of the cause and that of the status.
     fn write_told<K: Sink>(self, sink: &mut K) -> Result<(), Failed>
         ensures { WritesWhole (K.intake sink.old) (K.intake sink.new)
-            (cause_text self ++ told (codes "status") (status_of self)) result }
+            (cause_text self ++ numbered (codes "status") (status_of self)) result }
     {
         self.write_line(sink)?;
         write_number(sink, b"status", u64::from(self.status()))
@@ -144,7 +144,7 @@ impl Cause {
 
 /// Writes a line of a word and a number.
 pub(crate) fn write_number<K: Sink>(sink: &mut K, word: &[u8], number: u64) -> Result<(), Failed>
-    ensures { WritesWhole (K.intake sink.old) (K.intake sink.new) (told word.now number) result }
+    ensures { WritesWhole (K.intake sink.old) (K.intake sink.new) (numbered word.now number) result }
 {
     let mut digits = Buffer::new();
     write_whole(sink, word)?;

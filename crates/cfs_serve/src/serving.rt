@@ -6,7 +6,7 @@ ghost use Rattle.cfs_serve.specs.Calls.{IsTallied};
 ghost use Rattle.cfs_serve.specs.Ending.{EndsSo, IsWanting};
 ghost use Rattle.cfs_core.specs.declared.collecting.CollectFault.TheVariants as faults;
 ghost use Rattle.cfs_serve.specs.Events.{begins_in, finishes_in, tells_disk, tells_fault, wants_memory};
-ghost use Rattle.cfs_serve.specs.Hall.{AllLeft, AreFresh, AreHeard, AreNew, AreOver, seat_of, turns_left};
+ghost use Rattle.cfs_serve.specs.Hall.{AllLeft, AreFresh, AreHeard, AreNew, AreOver, client_of, turns_left};
 ghost use Rattle.cfs_serve.specs.Journal.{AreCounted, HasEnded, IsKept, IsRun, IsRunOn, IsTold, Lasts, Rise};
 ghost use Rattle.cfs_serve.specs.Journal.{faults_after, first_fault};
 ghost use Rattle.ufs_model.specs.Graph.{Graph};
@@ -62,6 +62,7 @@ fn serve_so<
     requires sessions { length ports.items ≤ 64 }
     requires most { collections ≤ 1000 }
     ensures size { IfOk result (λ p. A.cylinders p.server ≡ J.charter.cylinders) }
+    ensures called { IfOk result (λ p. (A.tally p.server).called ≡ J.charter.collections) }
     ensures run { IfOk result (λ p. IsRun A.stands A.has_stopped A.is_damaged A.tally J.charter p.server
         p.trail.events) }
     ensures lasts { IfOk result (λ p. Lasts A.stands A.clock A.lasts J.charter p.server p.trail.events
@@ -137,7 +138,8 @@ pub fn serve<A: Server + Send, K: Sink + Send, G: Gate + Sync, R: Threads + Wait
         → A.lasts server (A.seed server) graph [] (A.clock server ∷ [])
         → A.lasts p.server (A.seed server) graph p.trail.events (A.clock server ∷ p.trail.moments)) }
     ensures size { IfOk result (λ p. A.cylinders p.server ≡ A.cylinders server) }
-    ensures over { IfOk result (λ p. AreOver root collections (map seat_of ports.items) p.trail.events p.ports.items) }
+    ensures called { IfOk result (λ p. (A.tally p.server).called ≡ collections) }
+    ensures over { IfOk result (λ p. AreOver root collections (map client_of ports.items) p.trail.events p.ports.items) }
     ensures starved { IfOk result (λ p. p.starved ≡ list_any wants_memory p.trail.events) }
     ensures failed { IfOk result (λ p. p.failed ≡ list_any tells_disk p.trail.events) }
     // Whatever disk it is, no more collections began than were called for. Where no step was refused, as many are

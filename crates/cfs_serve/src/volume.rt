@@ -2,7 +2,7 @@
 ghost use Rattle.std.specs.Prelude.{◌≡◌, ◌*◌, ◌≤◌, IfErr, IfOk, IfSome, IsTrue, None, length};
 ghost use Rattle.cfs_core.specs.Opened.{IsOpened};
 ghost use Rattle.cfs_serve.specs.Disks.{IsLater};
-ghost use Rattle.cfs_serve.specs.Opening.{IsRefusal, disk_of, told_of};
+ghost use Rattle.cfs_serve.specs.Opening.{IsRefusal, disk_of, opening_cause};
 ghost use Rattle.cfs_recover.specs.Recovered.{LeavesSinceBarrier};
 ghost use Rattle.vol_image.specs.Sound.{IsSound, IsSoundAs};
 ghost use Rattle.ufs_model.specs.Graph.{Graph};
@@ -37,7 +37,7 @@ pub(crate) struct Refused<D> {
 
 /// What is to be told of a volume that was not opened.
 fn told_by(why: RecoverFault) -> Cause
-    ensures { result ≡ told_of why }
+    ensures { result ≡ opening_cause why }
 {
     match why {
         RecoverFault::Disk => Cause::Disk(None),

@@ -5,6 +5,7 @@ use Rattle.std.specs.Fmt.{decimal}
 use Rattle.std.specs.Int.{w32, w64, to_be_bytes, to_le_bytes}
 use Rattle.hex.specs.Hex.{encode_lower}
 use Rattle.rand_chacha.specs.ChaCha.{word_at, key_of}
+use Rattle.ufs_model.specs.Script.{LF}
 use Rattle.cfs_workload.specs.declared.act.Left.{Left}
 use Rattle.cfs_workload.specs.declared.act.Left.TheVariants.{Nothing, File, Index}
 use Rattle.cfs_workload.specs.declared.act.Act.{Act}
@@ -58,21 +59,21 @@ left_after acts.Write left = left
 left_after acts.Read left = left
 left_after acts.Size left = left
 
--- ---- lines. The object of slot s is named os, and all lie in the session's own index
+-- ---- lines, without their ends. The object of slot s is named os, and all lie in the session's own index
 
 abbrev pub line_of : Act → (slot size word : ℕ) → List ℕ
 line_of acts.CreateNormal slot size word =
-    codes "create-file o" ++ (decimal slot ++ (codes " normal 00 top " ++ (decimal slot ++ codes "\n")))
+    codes "create-file o" ++ (decimal slot ++ (codes " normal 00 top " ++ decimal slot))
 line_of acts.CreateSpecial slot size word =
-    codes "create-file o" ++ (decimal slot ++ (codes " special 2e top " ++ (decimal slot ++ codes "\n")))
+    codes "create-file o" ++ (decimal slot ++ (codes " special 2e top " ++ decimal slot))
 line_of acts.CreateIndex slot size word =
-    codes "create-index o" ++ (decimal slot ++ (codes " 64 top " ++ (decimal slot ++ codes "\n")))
-line_of acts.Delete slot size word = codes "delete top " ++ (decimal slot ++ codes "\n")
-line_of acts.Resize slot size word = codes "resize o" ++ (decimal slot ++ (codes " " ++ (decimal size ++ codes "\n")))
+    codes "create-index o" ++ (decimal slot ++ (codes " 64 top " ++ decimal slot))
+line_of acts.Delete slot size word = codes "delete top " ++ decimal slot
+line_of acts.Resize slot size word = codes "resize o" ++ (decimal slot ++ (codes " " ++ decimal size))
 line_of acts.Write slot size word =
-    codes "write o" ++ (decimal slot ++ (codes " 0 " ++ (encode_lower (to_be_bytes w32 word) ++ codes "\n")))
-line_of acts.Read slot size word = codes "read o" ++ (decimal slot ++ codes " 0 1\n")
-line_of acts.Size slot size word = codes "size o" ++ (decimal slot ++ codes "\n")
+    codes "write o" ++ (decimal slot ++ (codes " 0 " ++ encode_lower (to_be_bytes w32 word)))
+line_of acts.Read slot size word = codes "read o" ++ (decimal slot ++ codes " 0 1")
+line_of acts.Size slot size word = codes "size o" ++ decimal slot
 
 -- what is asked at a place, where the slots have this left in them
 abbrev pub act_at : (seed session place : ℕ) → List Left → Act
@@ -88,14 +89,14 @@ left_at seed session place left =
     let slot = slot_in (word_of seed session place) in
     set left slot (left_after (act_at seed session place left) (get_or left slot Nothing))
 
--- so many lines from a place on
+-- so many lines from a place on, each with its end
 abbrev pub lines_from : (seed session place count : ℕ) → List Left → List ℕ
 lines_from seed session place zero left = []
 lines_from seed session place (suc count) left =
-    line_at seed session place left ++ lines_from seed session (place + 1) count (left_at seed session place left)
+    line_at seed session place left ++ LF ∷ lines_from seed session (place + 1) count (left_at seed session place left)
 
 -- the first line makes the session's own index, in the slot of its number; then come so many lines
 abbrev pub script : (seed session count : ℕ) → List ℕ
 script seed session count =
-    codes "create-index top 64 root " ++ (decimal session ++ codes "\n")
-    ++ lines_from seed session 0 count (replicate 64 Nothing)
+    (codes "create-index top 64 root " ++ decimal session)
+    ++ LF ∷ lines_from seed session 0 count (replicate 64 Nothing)

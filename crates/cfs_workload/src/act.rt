@@ -73,7 +73,7 @@ pub fn left_after(act: Act, left: Left) -> Left
     }
 }
 
-/// Its line, for this slot, this size in bytes and this word.
+/// Its line without its end, for this slot, this size in bytes and this word.
 pub fn line_of(
     alloc: Global,
     act: Act,
@@ -84,14 +84,14 @@ pub fn line_of(
     ensures { IfOk result (λ line. string_bytes line ≡ line_of act slot size word) }
 {
     match act {
-        Act::CreateNormal => { format!(in alloc; "create-file o{slot} normal 00 top {slot}\n") }
-        Act::CreateSpecial => { format!(in alloc; "create-file o{slot} special 2e top {slot}\n") }
-        Act::CreateIndex => format!(in alloc; "create-index o{slot} 64 top {slot}\n"),
-        Act::Delete => format!(in alloc; "delete top {slot}\n"),
-        Act::Resize => format!(in alloc; "resize o{slot} {size}\n"),
+        Act::CreateNormal => format!(in alloc; "create-file o{slot} normal 00 top {slot}"),
+        Act::CreateSpecial => format!(in alloc; "create-file o{slot} special 2e top {slot}"),
+        Act::CreateIndex => format!(in alloc; "create-index o{slot} 64 top {slot}"),
+        Act::Delete => format!(in alloc; "delete top {slot}"),
+        Act::Resize => format!(in alloc; "resize o{slot} {size}"),
         Act::Write => write_line(alloc, slot, word),
-        Act::Read => format!(in alloc; "read o{slot} 0 1\n"),
-        Act::Size => format!(in alloc; "size o{slot}\n"),
+        Act::Read => format!(in alloc; "read o{slot} 0 1"),
+        Act::Size => format!(in alloc; "size o{slot}"),
     }
 }
 
@@ -100,5 +100,5 @@ fn write_line(alloc: Global, slot: usize, word: u32) -> Result<String, AllocErro
     ensures { IfOk result (λ line. string_bytes line ≡ line_of acts.Write slot 0 word) }
 {
     let digits = hex::encode(alloc, word.to_be_bytes())?;
-    format!(in alloc; "write o{slot} 0 {digits}\n")
+    format!(in alloc; "write o{slot} 0 {digits}")
 }

@@ -48,8 +48,9 @@ pub fn script(alloc: Global, seed: u64, session: u32, count: u64) -> Result<Vec<
     requires { session < 4 }
     ensures { IfOk result (λ text. text.items ≡ script seed session count) }
 {
-    let first = format!(in alloc; "create-index top 64 root {session}\n")?;
+    let first = format!(in alloc; "create-index top 64 root {session}")?;
     let mut text = Vec::from_slice(alloc, first.as_bytes())?;
+    text.push(b'\n')?;
     let mut left = [Left::Nothing; SLOTS];
     'lines: for place in 0..count {
         let word = word_of(seed, session, place);
@@ -57,6 +58,7 @@ pub fn script(alloc: Global, seed: u64, session: u32, count: u64) -> Result<Vec<
         let act = act_of(word % 8, left[slot]);
         let line = line_of(alloc, act, slot, size_in(word), word)?;
         text.extend_from_slice(line.as_bytes())?;
+        text.push(b'\n')?;
         left[slot] = left_after(act, left[slot]);
     }
     Ok(text)

@@ -28,7 +28,7 @@ pub record Commits {D : Type 0} (g : Ghosts D) (wrote : Bool) (d2 d3 : D) (k2 k3
   pub refusal : IfErr r (IsCommitRefusal g now.at wrote d2 d3 k3)
   pub untried : IfErr r (λ e. e ≡ refused.Disk false → (k3 ≡ k2) × OnlyReads g 241 d2 d3)
   pub cylinders : length k3.free ≡ length k2.free
-  pub left : k3.left ≡ k2.left
+  pub left : OnOk r (k3.left ≡ None)
   pub calls : MakesAtMost g 93137 46452 d2 d3
 
 -- with more calls
@@ -112,7 +112,7 @@ module _ {D : Type 0} (g : Ghosts D) (at floor : ℕ) (change : Change) (d0 : D)
     full = λ graph ds id f may is. (let no : true ≡ false = sym is ∙ spare in cc);
     begun = λ graph ds id f may is. inr (wider g d0 d1 Nothing _ reads.images (λ c none. absurd none));
     sound = sound;
-    ends = record { refused = why; untried = λ is. (kept, reads_within g d0 d1 n 31093 few reads); cylinders = ap (λ (k : Kept). length k.free) kept; left = ap (λ (k : Kept). k.left) kept; calls = makes_then g d0 d1 d1 n 0 124230 0 0 61938 (reads_make g d0 d1 n reads) (reads_make g d1 d1 0 (reads_none g d1)) (omega (arith, few)) (omega arith) };
+    ends = record { refused = why; untried = λ is. (kept, reads_within g d0 d1 n 31093 few reads); cylinders = ap (λ (k : Kept). length k.free) kept; left = tt; calls = makes_then g d0 d1 d1 n 0 124230 0 0 61938 (reads_make g d0 d1 n reads) (reads_make g d1 d1 0 (reads_none g d1)) (omega (arith, few)) (omega arith) };
   }
 
 -- ---- a draft begun
@@ -169,7 +169,7 @@ module _ {D : Type 0} (g : Ghosts D) (at floor : ℕ) (change : Change) (d0 d1 :
       );
       begun = λ graph ds id f may is. inr (images _ graph (drafts graph ds id f may).leaves (λ c h. h));
       sound = λ graph ds id f may. (drafts graph ds id f may).sound;
-      ends = record { refused = from_refusal g at floor change d0 k0 d2 k2 e why; untried = by e ends.untried why spared; cylinders = ends.cylinders ∙ ap (λ (k : Kept). length k.free) kept; left = ends.left ∙ ap (λ (k : Kept). k.left) kept; calls = makes_then g d0 d1 d2 1 31092 124230 0 15486 61938 (reads_make g d0 d1 1 reads) ends.calls (omega arith) (omega arith) };
+      ends = record { refused = from_refusal g at floor change d0 k0 d2 k2 e why; untried = by e ends.untried why spared; cylinders = ends.cylinders ∙ ap (λ (k : Kept). length k.free) kept; left = tt; calls = makes_then g d0 d1 d2 1 31092 124230 0 15486 61938 (reads_make g d0 d1 1 reads) ends.calls (omega arith) (omega arith) };
     }
       where
         why : IsRefusal g at floor d0 d2 k2 e
@@ -258,7 +258,7 @@ module _ {D : Type 0} (g : Ghosts D) (at floor : ℕ) (change : Change) (d0 d1 :
             full = λ graph ds id f may. tt;
             begun = λ graph ds id f may. tt;
             sound = λ graph ds id f may. tt;
-            ends = record { refused = tt; untried = tt; cylinders = cs.cylinders ∙ ends.cylinders ∙ ap (λ (k : Kept). length k.free) kept; left = cs.left ∙ ends.left ∙ ap (λ (k : Kept). k.left) kept; calls = all cs.calls };
+            ends = record { refused = tt; untried = tt; cylinders = cs.cylinders ∙ ends.cylinders ∙ ap (λ (k : Kept). length k.free) kept; left = cs.left; calls = all cs.calls };
           }
           by (Err x) cs = record {
             done = λ graph ds id f may. tt;
@@ -268,7 +268,7 @@ module _ {D : Type 0} (g : Ghosts D) (at floor : ℕ) (change : Change) (d0 d1 :
             full = λ graph ds id f may is. absurd (not_full x cs.refusal is);
             begun = λ graph ds id f may is. inl (omega (arith, (drafts graph ds id f may).room, free_same, need_is f));
             sound = λ graph ds id f may. let m = drafts graph ds id f may in cs.sound graph _ id (objects.File f) (changed_draft change (begun f)) m.becomes.steps.store may.has.there m.becomes.is_open none_created (left_one graph ds id f may);
-            ends = record { refused = from_commit g at floor change d0 k0 d2 d3 k2 k3 31093 15486 wrote x first (why cs.refusal); untried = untried_commit g at floor change d0 k0 d2 d3 k2 k3 31093 15486 wrote x first (why cs.refusal) cs.untried; cylinders = cs.cylinders ∙ ends.cylinders ∙ ap (λ (k : Kept). length k.free) kept; left = cs.left ∙ ends.left ∙ ap (λ (k : Kept). k.left) kept; calls = all cs.calls };
+            ends = record { refused = from_commit g at floor change d0 k0 d2 d3 k2 k3 31093 15486 wrote x first (why cs.refusal); untried = untried_commit g at floor change d0 k0 d2 d3 k2 k3 31093 15486 wrote x first (why cs.refusal) cs.untried; cylinders = cs.cylinders ∙ ends.cylinders ∙ ap (λ (k : Kept). length k.free) kept; left = tt; calls = all cs.calls };
           }
             where
               why : IsCommitRefusal g now.at wrote d2 d3 k3 x → IsCommitRefusal g at wrote d2 d3 k3 x

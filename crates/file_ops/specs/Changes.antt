@@ -1,6 +1,6 @@
 -- A file changed: a normal one in place, a special one beside itself as one commit.
 use Rattle.std.specs.Prelude.{◌≡◌, ◌⊎◌, ℕ, ◌+◌, ◌-◌, ◌/◌, ◌<◌, ◌≤◌, ◌||◌, Bool, true, false, List, [], length, sum}
-use Rattle.std.specs.Prelude.{Result, IfErr, OnOk}
+use Rattle.std.specs.Prelude.{None, Result, IfErr, OnOk}
 use Rattle.cfs_base.specs.Calls.{HasStopped, MakesAtMost, OnlyReads}
 use Rattle.cfs_base.specs.Codes.{no_root, too_full}
 use Rattle.cfs_base.specs.Disk.{Image, block_at}
@@ -165,7 +165,8 @@ pub record EndsChange {D : Type 0} (g : Ghosts D) (at : ℕ) (kind : FileKind) (
   -- where nothing was tried all is as it was, after Full and want of memory too
   pub untried : IfErr result (λ e. is_untried e ≡ true → (after ≡ before) × OnlyReads g 31093 old new)
   pub cylinders : length after.free ≡ length before.free
-  pub left : after.left ≡ before.left
+  -- once it is done nothing of it is unfinished
+  pub left : OnOk result (after.left ≡ None)
   pub calls : MakesAtMost g 124230 61938 old new
 
 -- The file of this kind with its root at a block is changed.

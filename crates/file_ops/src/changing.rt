@@ -1,5 +1,5 @@
 //! A file changed, in place or beside itself.
-ghost use Rattle.std.specs.Prelude.{◌≡◌, ◌≢◌, ◌+◌, ◌*◌, ◌<◌, ◌≤◌, length};
+ghost use Rattle.std.specs.Prelude.{◌≡◌, ◌≢◌, ◌+◌, ◌*◌, ◌<◌, ◌≤◌, length, None};
 ghost use Rattle.file_ops.specs.Changes as spec;
 ghost use Rattle.normal_files.specs.Standing.{IsRootAt};
 ghost use Rattle.ufs_model.specs.declared.change.Change.TheVariants.{Overwrite, SetSize};
@@ -32,6 +32,8 @@ pub fn write<D: Disk>(
     requires some { at.0 ≢ 0 }
     requires on_disk { at.0 < D.blocks disk.old }
     requires size { D.blocks disk.old ≡ 64 * length space.old.free }
+    // No commit is unfinished.
+    requires left { space.old.left ≡ None }
     requires least { 1 ≤ length bytes.now }
     requires most { length bytes.now ≤ 4096 }
     requires inside { offset + length bytes.now ≤ 7864320 }
@@ -64,6 +66,8 @@ pub fn resize<D: Disk>(
     requires some { at.0 ≢ 0 }
     requires on_disk { at.0 < D.blocks disk.old }
     requires size { D.blocks disk.old ≡ 64 * length space.old.free }
+    // No commit is unfinished.
+    requires left { space.old.left ≡ None }
     requires limit { size ≤ 7864320 }
     ensures { spec.ChangesFile D.Disk at.0 kind floor (SetSize size) disk.old disk.new space.old space.new result }
 {

@@ -42,6 +42,7 @@ fn commit<D: Disk>(
 ) -> Result<(), Refused>
     requires on_disk { draft.at < D.blocks disk.old }
     requires size { D.blocks disk.old ≡ 64 * length space.old.free }
+    requires left { space.old.left ≡ None }
     ensures done { (graph : Graph) (ds : List Opened) (id : Puid) (o : Object) (d : drafts.Draft)
         → StoreHas D.Disk graph ds disk.old space.old → object_at graph id ≡ Some o → IsOpen ds id draft d
         → draft.created ≡ None → OnOk result (Committed D.Disk graph ds id d.object None disk.old disk.new space.new) }
@@ -55,7 +56,7 @@ fn commit<D: Disk>(
     ensures untried { IfErr result (λ e. e ≡ refused.Disk false
         → (space.new ≡ space.old) × OnlyReads D.Disk 241 disk.old disk.new) }
     ensures cylinders { length space.new.free ≡ length space.old.free }
-    ensures left { space.new.left ≡ space.old.left }
+    ensures left { OnOk result (space.new.left ≡ None) }
     ensures calls { MakesAtMost D.Disk 93137 46452 disk.old disk.new }
 {
     if space.free() == 0 {
@@ -83,6 +84,7 @@ pub(crate) fn write_beside<D: Disk>(
     requires some { at.0 ≢ 0 }
     requires on_disk { at.0 < D.blocks disk.old }
     requires size { D.blocks disk.old ≡ 64 * length space.old.free }
+    requires left { space.old.left ≡ None }
     requires least { 1 ≤ length bytes.now }
     requires most { length bytes.now ≤ 4096 }
     requires inside { offset + length bytes.now ≤ 7864320 }
@@ -117,6 +119,7 @@ pub(crate) fn resize_beside<D: Disk>(
     requires some { at.0 ≢ 0 }
     requires on_disk { at.0 < D.blocks disk.old }
     requires size { D.blocks disk.old ≡ 64 * length space.old.free }
+    requires left { space.old.left ≡ None }
     requires limit { size ≤ 7864320 }
     ensures { spec.ChangesFile D.Disk at.0 kinds.Special floor (SetSize size) disk.old disk.new space.old space.new
         result }

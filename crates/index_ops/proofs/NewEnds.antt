@@ -1,5 +1,5 @@
 -- How the making of an object ends, and the root of a new one.
-use Rattle.index_ops.proofs.Words.{◌≡◌, ◌⊎◌, inl, inr, ⊎_elim, ℕ, ◌+◌, ◌/◌, ◌≤◌, false, List, [], ◌∷◌, length, Option, Ok, Err, refl, sym, ◌∙◌, ap, subst, arith, Result, replicate, HasTried, MakesAtMost, OnlyReads, Image, Nothing, after_try, refused_by, trouble_after_try, Leaves, Ghosts, Puid, Kind, Refused, Trouble, makes_then, reads_make, reads_then, reads_within, tried_then, then, wider, IsLeastFree, Kept, intended, named, Ends, IsRefusal, IsTrouble, is_damaged, is_full, Swap, makes_more, ends_then_err, ends_then_ok, trouble_after_tried, refusal_after_reads, refusal_of, Graph, Index, Object, bare_object, Holds, bare_index, bare_normal, bare_special, Opened, ChangesOnly, of_owners}
+use Rattle.index_ops.proofs.Words.{◌≡◌, ◌⊎◌, inl, inr, ⊎_elim, ℕ, ◌+◌, ◌/◌, ◌≤◌, false, List, [], ◌∷◌, length, Option, None, Ok, Err, refl, sym, ◌∙◌, ap, subst, arith, Result, replicate, HasTried, MakesAtMost, OnlyReads, Image, Nothing, after_try, refused_by, trouble_after_try, Leaves, Ghosts, Puid, Kind, Refused, Trouble, makes_then, reads_make, reads_then, reads_within, tried_then, then, wider, IsLeastFree, Kept, intended, named, Ends, IsRefusal, IsTrouble, is_damaged, is_full, Swap, makes_more, ends_then_err, ends_then_ok, trouble_after_tried, refusal_after_reads, refusal_of, Graph, Index, Object, bare_object, Holds, bare_index, bare_normal, bare_special, Opened, ChangesOnly, of_owners}
 use Rattle.cfs_base.specs.declared.kind.Place.TheVariants.{Root}
 use Rattle.index_ops.specs.Changes.{HasSlot, IsIndexRefusal, IsOneLeaf, Takes, leaf_and_node}
 use Rattle.index_ops.specs.Creates.{Creates, IsBare, IsOpenMap, MakeEnds, MayBeMade, PutsObject, made_of, with_made}
@@ -23,12 +23,12 @@ module _ {D : Type 0} (g : Ghosts D) (at slot : ℕ) (d0 : D) (k0 : Kept) where
     memory = λ same. (kept, reads_within g d0 d1 n 9 few reads);
     untried = λ same. (kept, reads_within g d0 d1 n 9 few reads);
     cylinders = ap (λ (k : Kept). length k.free) kept;
-    left = ap (λ (k : Kept). k.left) kept;
+    left = tt;
     calls = makes_more g d0 d1 n 0 42 24 (omega (arith, few)) (omega arith) (reads_make g d0 d1 n reads);
   }
 
   -- made after reads, or not
-  module _ (d2 d3 : D) (k1 k3 : Kept) (c : ℕ) (root : roots.Root) (reads : OnlyReads g 2 d0 d2) (kept : k1 ≡ k0) (cylinders : length k3.free ≡ length k1.free) (left : k3.left ≡ k1.left) (made : MakesAtMost g 40 24 d2 d3)
+  module _ (d2 d3 : D) (k1 k3 : Kept) (c : ℕ) (root : roots.Root) (reads : OnlyReads g 2 d0 d2) (kept : k1 ≡ k0) (cylinders : length k3.free ≡ length k1.free) (made : MakesAtMost g 40 24 d2 d3)
       (least : (graph : Graph) (ds : List Opened) (id : Puid) (i : Index) → HasSlot g graph ds d0 k0 at id i slot → IsLeastFree (g.content d0) c) where
     abbrev Ends3 : Result Puid Refused → Type 0
     Ends3 r = (graph : Graph) (ds : List Opened) (id : Puid) (i : Index) → HasSlot g graph ds d0 k0 at id i slot → MakeEnds g graph ds id i slot (named c root.word) (bare_object root) d2 d3 k3 r
@@ -41,8 +41,8 @@ module _ {D : Type 0} (g : Ghosts D) (at slot : ℕ) (d0 : D) (k0 : Kept) where
     all : MakesAtMost g 42 24 d0 d3
     all = makes_then g d0 d2 d3 2 40 42 0 24 24 (reads_make g d0 d2 2 reads) made (omega arith) (omega arith)
 
-    pub made_done : (p : Puid) → p ≡ named c root.word → Ends3 (Ok p) → PutsObject g at slot (bare_object root) root.word d0 d3 k0 k3 (Ok p)
-    made_done p is ends = record {
+    pub made_done : (p : Puid) → k3.left ≡ None → p ≡ named c root.word → Ends3 (Ok p) → PutsObject g at slot (bare_object root) root.word d0 d3 k0 k3 (Ok p)
+    made_done p left is ends = record {
       done = λ graph ds id i has.
           let done = (ends graph ds id i has).done in (
             ap (λ (x : Puid). x.word) is,
@@ -61,7 +61,7 @@ module _ {D : Type 0} (g : Ghosts D) (at slot : ℕ) (d0 : D) (k0 : Kept) where
       memory = tt;
       untried = tt;
       cylinders = cylinders ∙ ap (λ (k : Kept). length k.free) kept;
-      left = left ∙ ap (λ (k : Kept). k.left) kept;
+      left = left;
       calls = all;
     }
 
@@ -74,7 +74,7 @@ module _ {D : Type 0} (g : Ghosts D) (at slot : ℕ) (d0 : D) (k0 : Kept) where
       memory = λ same. absurd (subst (IsRefusal g at 0 d2 d3 k3) same why.0);
       untried = λ same. let two = untried same in (two.0 ∙ kept, reads_then g d0 d2 d3 2 3 9 reads two.1 (omega arith));
       cylinders = cylinders ∙ ap (λ (k : Kept). length k.free) kept;
-      left = left ∙ ap (λ (k : Kept). k.left) kept;
+      left = tt;
       calls = all;
     }
 

@@ -188,7 +188,7 @@ module _ {D : Type 0} (g : Ghosts D) (at slot : ℕ) (what : Option Puid) (d0 : 
     memory = λ same. (kept, reads_within g d0 d1 n 9 few reads);
     untried = λ same. (kept, reads_within g d0 d1 n 9 few reads);
     cylinders = ap (λ (k : Kept). length k.free) kept;
-    left = ap (λ (k : Kept). k.left) kept;
+    left = tt;
     calls = makes_more g d0 d1 n 0 38 22 (omega (arith, few)) (omega arith) (reads_make g d0 d1 n reads);
   }
 
@@ -217,7 +217,7 @@ module _ {D : Type 0} (g : Ghosts D) (at slot : ℕ) (what : Option Puid) (d0 : 
       memory = λ same. absurd (subst (IsRefusal g at 0 d0 d2 k2) same why);
       untried = λ same. let two = ends.untried same in (two.0, reads_then g d0 d1 d2 1 8 9 reads two.1 (omega arith));
       cylinders = ends.cylinders;
-      left = ends.left;
+      left = tt;
       calls = makes_then g d0 d1 d2 1 8 38 0 4 22 (reads_make g d0 d1 1 reads) ends.calls (omega arith) (omega arith);
     }
       where
@@ -228,7 +228,7 @@ module _ {D : Type 0} (g : Ghosts D) (at slot : ℕ) (what : Option Puid) (d0 : 
         why = refusal_after_reads g at d0 d1 d2 k2 0 1 e reads (subst (λ (n : ℕ). IsRefusal g n 0 d1 d2 k2 e) here ends.refused)
 
     -- filled, and committed or not
-    module _ (d3 : D) (k3 : Kept) (put : Option Swap) (ended : Ends {A = Option Swap} g was.at 0 8 4 (leaf_takes was (slot / 64)) d1 d2 k1 k2 (Ok put)) (tried : HasTried g d1 d2) (cylinders : length k3.free ≡ length k2.free) (left : k3.left ≡ k2.left)
+    module _ (d3 : D) (k3 : Kept) (put : Option Swap) (ended : Ends {A = Option Swap} g was.at 0 8 4 (leaf_takes was (slot / 64)) d1 d2 k1 k2 (Ok put)) (tried : HasTried g d1 d2) (cylinders : length k3.free ≡ length k2.free)
         (commit : MakesAtMost g 29 18 d2 d3)
         (leaves : (graph : Graph) (ds : List Opened) (id : Puid) (i : Index) → HasSlot g graph ds d0 k0 at id i slot → Leaves g d1 d2 (λ c. Holds c graph) × Leaves g d2 d3 (IsOldOrNew graph graph id (index_with i slot what))) where
       ends : Ends {A = Option Swap} g was.at 0 8 4 (leaf_takes was (slot / 64)) d1 d2 k0 k2 (Ok put)
@@ -246,9 +246,9 @@ module _ {D : Type 0} (g : Ghosts D) (at slot : ℕ) (what : Option Puid) (d0 : 
           let two = leaves graph ds id i has in
           then g d0 d2 d3 P P (then g d0 d1 d2 P (λ c. Holds c graph) (wider g d0 d1 Nothing P reads.images (λ c none. absurd none)) two.0 (λ c h. inl h)) two.1 (λ c h. h)
 
-      pub ok_commit : ((graph : Graph) (ds : List Opened) (id : Puid) (i : Index) → HasSlot g graph ds d0 k0 at id i slot → Changes g graph ds id (index_with i slot what) d0 d3 k3)
+      pub ok_commit : k3.left ≡ None → ((graph : Graph) (ds : List Opened) (id : Puid) (i : Index) → HasSlot g graph ds d0 k0 at id i slot → Changes g graph ds id (index_with i slot what) d0 d3 k3)
           → ((graph : Graph) (ds : List Opened) (id : Puid) (i : Index) → HasSlot g graph ds d0 k0 at id i slot → ChangesLeaf g (slot / 64) at what d0 d3) → PutsSlot g at slot what d0 d3 k0 k3 (Ok tt)
-      ok_commit done leaf = record { done = done; leaf = leaf; leaves = images; sound = λ graph ds id i has. tt; refused = tt; memory = tt; untried = tt; cylinders = cylinders ∙ ends.cylinders; left = left ∙ ends.left; calls = all }
+      ok_commit left done leaf = record { done = done; leaf = leaf; leaves = images; sound = λ graph ds id i has. tt; refused = tt; memory = tt; untried = tt; cylinders = cylinders ∙ ends.cylinders; left = left; calls = all }
 
       pub err_commit : (t : Trouble) → IsTrouble g at d2 d3 k3 t → ((graph : Graph) (ds : List Opened) (id : Puid) (i : Index) → HasSlot g graph ds d0 k0 at id i slot → is_damage t ≡ false)
           → PutsSlot g at slot what d0 d3 k0 k3 (Err (refused_by (trouble_after_try t)))
@@ -262,12 +262,12 @@ module _ {D : Type 0} (g : Ghosts D) (at slot : ℕ) (what : Option Puid) (d0 : 
         memory = λ same. absurd (no_memory (trouble_after_try t) same);
         untried = λ same. absurd (tried_disk t same);
         cylinders = cylinders ∙ ends.cylinders;
-        left = left ∙ ends.left;
+        left = tt;
         calls = all;
       }
 
   -- nothing was to be done
-  module _ (d1 d2 d3 : D) (k2 : Kept) (reads : OnlyReads g 1 d0 d1) (more : OnlyReads g 2 d1 d2) (kept : k2 ≡ k0) (none : what ≡ None) where
+  module _ (d1 d2 d3 : D) (k2 : Kept) (reads : OnlyReads g 1 d0 d1) (more : OnlyReads g 2 d1 d2) (kept : k2 ≡ k0) (finished : k0.left ≡ None) (none : what ≡ None) where
     both : OnlyReads g 3 d0 d2
     both = reads_then g d0 d1 d2 1 2 3 reads more (omega arith)
 
@@ -301,7 +301,7 @@ module _ {D : Type 0} (g : Ghosts D) (at slot : ℕ) (what : Option Puid) (d0 : 
           memory = tt;
           untried = tt;
           cylinders = ap (λ (k : Kept). length k.free) kept;
-          left = ap (λ (k : Kept). k.left) kept;
+          left = ap (λ (k : Kept). k.left) kept ∙ finished;
           calls = calls is.calls;
         }
         by (Err e) is = record {
@@ -313,6 +313,6 @@ module _ {D : Type 0} (g : Ghosts D) (at slot : ℕ) (what : Option Puid) (d0 : 
           memory = λ same. (let no : refused.Disk true ≡ refused.Memory = sym is.refused ∙ same in cc);
           untried = λ same. (let no : refused.Disk true ≡ refused.Disk false = sym is.refused ∙ same in cc);
           cylinders = ap (λ (k : Kept). length k.free) kept;
-          left = ap (λ (k : Kept). k.left) kept;
+          left = tt;
           calls = calls is.calls;
         }

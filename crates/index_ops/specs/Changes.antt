@@ -119,5 +119,6 @@ pub record PutsSlot {D : Type 0} (g : Ghosts D) (at slot : ℕ) (what : Option P
   pub memory : IfErr result (λ e. e ≡ refusals.Memory → (after ≡ before) × OnlyReads g 9 old new)
   pub untried : IfErr result (λ e. e ≡ refusals.Disk false → (after ≡ before) × OnlyReads g 9 old new)
   pub cylinders : length after.free ≡ length before.free
-  pub left : after.left ≡ before.left
+  -- once it is done nothing of it is unfinished
+  pub left : OnOk result (after.left ≡ None)
   pub calls : MakesAtMost g 38 22 old new

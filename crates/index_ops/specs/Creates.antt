@@ -1,6 +1,6 @@
 -- An object made, and its identifier put into a slot of an index, as one commit.
 use Rattle.std.specs.Prelude.{◌≡◌, ◌⊎◌, ℕ, ◌/◌, ◌%◌, ◌≤◌, List, [], ◌∷◌, length, replicate, set, true, false, IfErr}
-use Rattle.std.specs.Prelude.{IfOk, OnOk, Result, Some}
+use Rattle.std.specs.Prelude.{IfOk, None, OnOk, Result, Some}
 use Rattle.cfs_base.specs.Calls.{MakesAtMost, OnlyReads}
 use Rattle.cfs_base.specs.Codes.{no_entry}
 use Rattle.cfs_base.specs.Disk.{Image}
@@ -126,5 +126,6 @@ pub record PutsObject {D : Type 0} (g : Ghosts D) (at slot : ℕ) (made : Object
   pub memory : IfErr result (λ e. e ≡ refusals.Memory → (after ≡ before) × OnlyReads g 9 old new)
   pub untried : IfErr result (λ e. e ≡ refusals.Disk false → (after ≡ before) × OnlyReads g 9 old new)
   pub cylinders : length after.free ≡ length before.free
-  pub left : after.left ≡ before.left
+  -- once it is done nothing of it is unfinished
+  pub left : OnOk result (after.left ≡ None)
   pub calls : MakesAtMost g 42 24 old new

@@ -34,6 +34,7 @@ fn put<D: Disk>(
     requires some { index.0 ≢ 0 }
     requires on_disk { index.0 < D.blocks disk.old }
     requires size { D.blocks disk.old ≡ 64 * length space.old.free }
+    requires left { space.old.left ≡ None }
     requires few { slot < 983040 }
     requires slot { IsSlot what }
     requires room { 3 ≤ sum space.old.free }
@@ -82,6 +83,8 @@ pub fn retain<D: Disk>(
     requires some { index.0 ≢ 0 }
     requires on_disk { index.0 < D.blocks disk.old }
     requires size { D.blocks disk.old ≡ 64 * length space.old.free }
+    // No commit is unfinished.
+    requires left { space.old.left ≡ None }
     requires few { slot < 983040 }
     requires id { id.block ≢ 0 }
     // Full exactly where 3 and 4 blocks aren't Free; nothing was done then.
@@ -109,6 +112,8 @@ pub fn delete<D: Disk>(
     requires some { index.0 ≢ 0 }
     requires on_disk { index.0 < D.blocks disk.old }
     requires size { D.blocks disk.old ≡ 64 * length space.old.free }
+    // No commit is unfinished.
+    requires left { space.old.left ≡ None }
     requires few { slot < 983040 }
     requires room { 3 ≤ sum space.old.free }
     ensures { spec.PutsSlot D.Disk index.0 slot None disk.old disk.new space.old space.new result }

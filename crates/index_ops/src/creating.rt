@@ -132,6 +132,7 @@ fn make_at<D: Disk>(
     requires at { draft.at < D.blocks disk.old }
     requires on_disk { block.0 < D.blocks disk.old }
     requires size { D.blocks disk.old ≡ 64 * length space.old.free }
+    requires left { space.old.left ≡ None }
     requires room { 4 ≤ sum space.old.free }
     requires within { 8 * slot + 8 ≤ draft.root.size }
     requires begun { draft ≡ begun_at draft.at None draft.own }
@@ -147,7 +148,7 @@ fn make_at<D: Disk>(
     ensures untried { IfErr result (λ e. e ≡ refusals.Disk false → (space.new ≡ space.old)
         × OnlyReads D.Disk 3 disk.old disk.new) }
     ensures cylinders { length space.new.free ≡ length space.old.free }
-    ensures left { space.new.left ≡ space.old.left }
+    ensures left { OnOk result (space.new.left ≡ None) }
     ensures calls { MakesAtMost D.Disk 40 24 disk.old disk.new }
 {
     match make_root(disk, space, block, root) {
@@ -184,6 +185,7 @@ fn make<D: Disk>(
     requires some { index.0 ≢ 0 }
     requires on_disk { index.0 < D.blocks disk.old }
     requires size { D.blocks disk.old ≡ 64 * length space.old.free }
+    requires left { space.old.left ≡ None }
     requires few { slot < 983040 }
     requires room { 4 ≤ sum space.old.free }
     requires root { spec.IsBare root.now }
@@ -238,6 +240,8 @@ pub fn create<D: Disk>(
     requires some { index.0 ≢ 0 }
     requires on_disk { index.0 < D.blocks disk.old }
     requires size { D.blocks disk.old ≡ 64 * length space.old.free }
+    // No commit is unfinished.
+    requires left { space.old.left ≡ None }
     requires few { slot < 983040 }
     requires made { spec.MayBeMade kind fill size }
     // Full exactly where 4 and 4 blocks aren't Free; nothing was done then.

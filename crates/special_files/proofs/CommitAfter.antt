@@ -112,11 +112,16 @@ module _ {a : Image} {g : Graph} {id : Puid} {was o : Object} {s : ℕ} {taken d
   tree_now =
       ap (tree_in (b4 ready)) settled_now.root ∙ same_tree (a3 ready) (b4 ready) (block_at (a3 ready) id.block) (λ path h there. settled_now.inner path h there) ∙ (copy ready).tree ∙ (bit ready).tree ∙ (a1_tree ready)
 
+  -- as the bit is set no block becomes Free
+  pub counts_bit : (kept : Kept) → AreCounts a kept → AreCounts (a2 ready) kept
+  counts_bit kept counts =
+      let c1 : AreCounts (a1 ready) kept = counts_kept (Frame a g) Release dropped a kept ready.dropped_once ((release_may ready) g) counts (λ n e is here. released_free e) in
+      counts_same (a1 ready) kept id.block (a1_root ready).taken.is (with_bit (a1_root ready).taken.is) c1 (a1_root ready).taken.here
+      (subst IsEntry (sym (ap (λ p. with_bit_at p (a1_root ready).taken.is) (a1_root ready).place_is)) (bit_valid (a1_root ready).taken.is (a1_root ready).place_is (entry_in_table (a1 ready) id.block (a1_root ready).taken.is (a1_root ready).taken.here))) (with_bit_free (a1_root ready).taken.is)
+
   pub counts_now : (kept : Kept) → AreCounts a kept → AreCounts (b4 ready) (after_giving (given_all kept dropped) s 1)
   counts_now kept counts =
-      let c1 : AreCounts (a1 ready) kept = counts_kept (Frame a g) Release dropped a kept ready.dropped_once ((release_may ready) g) counts (λ n e is here. released_free e) in
-      let c2 : AreCounts (a2 ready) kept = counts_same (a1 ready) kept id.block (a1_root ready).taken.is (with_bit (a1_root ready).taken.is) c1 (a1_root ready).taken.here
-      (subst IsEntry (sym (ap (λ p. with_bit_at p (a1_root ready).taken.is) (a1_root ready).place_is)) (bit_valid (a1_root ready).taken.is (a1_root ready).place_is (entry_in_table (a1 ready) id.block (a1_root ready).taken.is (a1_root ready).taken.here))) (with_bit_free (a1_root ready).taken.is) in
+      let c2 = counts_bit kept counts in
       let c3 : AreCounts (a3 ready) kept = counts_content (a2 ready) kept id.block (block_at (a2 ready) s) ((real ready) id.block (root ready).taken) c2 in
       let c4 : AreCounts (b1 ready) kept = counts_kept (course ready) Finish taken (a3 ready) kept ready.once (may1 ready) c3 (λ n e is here. finished_free e ((meant_state ready) n e (ready.meant n is)
       (sym ((a3_entry ready) n ((inner_root ready) n ((taken_inner ready) n is)) ∙ (a1_kept ready) n ((taken_not_dropped ready) n is)) ∙ here))) in

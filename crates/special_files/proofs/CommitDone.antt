@@ -1,12 +1,13 @@
 -- A commit from the release of what is dropped to the end.
-use Rattle.std.proofs.Common.{◌≡◌, inl, inr, ⊎_elim, ℕ, ◌≤◌, true, false, List, [], ◌∷◌, ◌++◌, length, set, Ok, Err, Some, refl, sym, ◌∙◌, ap, subst, arith, Option}
-use Rattle.special_files.proofs.Words.{AreCounts, CarriedOut, Carries, ChangesBit, ChangesOnly, ClearBit, Course, Fails, Flip, Flips, Frame, Ghosts, Graph, HasItsBlocks, Holds, IfErr, Image, IsCommitted, IsCourse, IsEntered, IsErrAnd, IsMapTrouble, IsOldOrNew, IsOn, IsReady, IsSettled, Keeps, Kept, Leaves, MakesAtMost, MayFlip, Object, OnOk, Puid, Release, Result, SetBit, Tells, Trouble, bit_set, block_at, carries_ended, carries_framed, entry_in, false_from_ne_true, flipped, flips, frames_hold, given_all, in_image, is_damage, is_fixed, is_meant_for, is_of, is_taken, keeps_frame, keeps_settled, named, not_label, not_map, of_owners, on_holds, option_to_list, reserved, root_placed, same_or_not, settling, taken_apart, the_entry, then, tree_in, trouble_after_try, wider, with_bit, with_entry, with_object}
-use Rattle.cfs_base.specs.Calls.{HasStopped}
-use Rattle.cfs_base.specs.declared.refusal.Trouble.TheVariants as trouble
+use Rattle.std.proofs.Common.{◌≡◌, inl, inr, ⊎_elim, ℕ, ◌≤◌, true, false, List, [], ◌∷◌, ◌++◌, length, Ok, None, Some, sym, ◌∙◌, ap, subst, arith, Option}
+use Rattle.special_files.proofs.Words.{AreCounts, CarriedOut, Carries, ChangesBit, ChangesOnly, Flips, Frame, Ghosts, Graph, HasItsBlocks, Holds, IfErr, Image, IsEntered, IsMapTrouble, IsOldOrNew, IsOn, IsReady, IsSettled, Keeps, Kept, Leaves, MakesAtMost, MayFlip, Object, Puid, Release, Result, SetBit, Trouble, bit_set, block_at, carries_framed, entry_in, false_from_ne_true, flipped, flips, frames_hold, in_image, is_damage, is_fixed, is_meant_for, is_of, is_taken, keeps_frame, named, not_label, not_map, of_owners, option_to_list, reserved, root_placed, same_or_not, taken_apart, the_entry, then, tree_in, trouble_after_try, wider, with_bit, with_entry, with_object}
 use Rattle.intentions.proofs.Flips.{flip_is, flipped_append, flipped_block}
 use Rattle.special_files.proofs.CommitRoles.{none_meant, now_has, only_owners}
-use Rattle.special_files.proofs.CommitRuns.{fails_after}
 use Rattle.intentions.proofs.Flips.{no_damage}
+use Rattle.cyl_alloc.specs.Left.{Left}
+use Rattle.intentions.specs.Left.{GoesWith, coming}
+use Rattle.finisher.proofs.Calls.{counts_alike}
+use Rattle.special_files.proofs.CommitLeft.{comes_to, going_begins, left, rest_of}
 use Rattle.special_files.proofs.CommitAfter as after_it
 use Rattle.special_files.proofs.CommitWhole as whole
 
@@ -61,82 +62,59 @@ module _ {D : Type 0} (g : Ghosts D) {graph full : Graph} {at word : ℕ} {was o
     a2_is : g.content d1 ≡ whole.a2 ready
     a2_is = content_is ∙ bit_is
 
-    pub committed1 : IsCommitted (g.content d1) (with_object full (named at word) o) (named at word) o s
-    committed1 = subst (λ (i : Image). IsCommitted i (with_object full (named at word) o) (named at word) o s) (sym a2_is) (whole.bit ready).committed
-
     -- the shadow root is as it was, and so the copy is of it
-    module _ (content : List ℕ) (spelled : block_at (g.content d0) s ≡ content) where
-      pub shadow_now : block_at (g.content d1) s ≡ content
-      shadow_now = ap (λ (i : Image). block_at i s) content_is ∙ flipped_block (flips Release dropped ++ flips SetBit (at ∷ [])) (g.content d0) s (whole.real ready s (whole.shadow ready).taken) ∙ spelled
+    pub shadow_now : (content : List ℕ) → block_at (g.content d0) s ≡ content → block_at (g.content d1) s ≡ content
+    shadow_now content spelled = ap (λ (i : Image). block_at i s) content_is ∙ flipped_block (flips Release dropped ++ flips SetBit (at ∷ [])) (g.content d0) s (whole.real ready s (whole.shadow ready).taken) ∙ spelled
 
-      pub copied_now : (d2 : D) → g.content d2 ≡ set (g.content d1) at content → g.content d2 ≡ set (g.content d1) at (block_at (g.content d1) s)
-      copied_now d2 copied = copied ∙ ap (set (g.content d1) at) (sym shadow_now)
+    -- what is left then, as a space keeps it
+    module _ (before mid : Kept) (counts : AreCounts (g.content d0) before) (same : mid.free ≡ before.free) (rest : List ℕ) (rest_is : rest ≡ rest_of taken dropped created s) (noted : mid.left ≡ Some (record { root = at; shadow = s; rest = rest; copied = false })) (settled : IsSettled g d1) where
+      left_is : mid.left ≡ Some (left ready)
+      left_is = noted ∙ ap (λ (ns : List ℕ). Some (record { root = at; shadow = s; rest = ns; copied = false })) rest_is
 
-    module _ (d2 : D) (copied : g.content d2 ≡ set (g.content d1) at (block_at (g.content d1) s)) (settled2 : IsSettled g d2) where
-      abbrev w : Course
-      w = whole.course ready
+      counts1 : AreCounts (g.content d1) mid
+      counts1 = counts_alike (g.content d1) before mid same (subst (λ (i : Image). AreCounts i before) (sym a2_is) (after_it.counts_bit ready before counts))
 
-      a3_is : g.content d2 ≡ whole.a3 ready
-      a3_is = copied ∙ ap (λ (i : Image). set i at (block_at i s)) a2_is
+      pub goes1 : GoesWith g (with_object full (named at word) o) d1 mid mid.left
+      goes1 = subst (λ (w : Option Left). GoesWith g (with_object full (named at word) o) d1 mid w) (sym left_is) (going_begins ready g d1 mid content_is settled counts1)
 
-      fits : IsCourse w
-      fits = (whole.copy ready).copied
+      module _ (d3 : D) (after : Kept) (none : after.left ≡ None) (settled3 : IsSettled g d3) (goes3 : GoesWith g (with_object full (named at word) o) d3 after after.left) (comes : coming (g.content d3) after.left ≡ coming (g.content d1) mid.left) where
+        abbrev b4 : Image
+        b4 = whole.b4 ready
 
-      keeps2 : Keeps g w d2
-      keeps2 = keeps_settled g w d2 settled2 (subst (IsOn w) (sym a3_is) (whole.begins ready))
+        ends : Carries g (with_object full (named at word) o) d3 × AreCounts (g.content d3) after
+        ends = subst (λ (w : Option Left). GoesWith g (with_object full (named at word) o) d3 after w) none goes3
 
-      abbrev pub plan : List Flip
-      plan = settling taken dropped (option_to_list created) s ++ flips ClearBit (at ∷ [])
+        b4_is : g.content d3 ≡ b4
+        b4_is = sym (ap (coming (g.content d3)) none) ∙ comes ∙ ap (coming (g.content d1)) left_is ∙ comes_to ready g d1 mid content_is settled counts1
 
-      may2 : MayFlip w (g.content d2) plan
-      may2 = subst (λ (i : Image). MayFlip w i plan) (sym a3_is) (whole.all_may ready)
+        b4_holds : Holds b4 (with_object full (named at word) o)
+        b4_holds = subst (λ (i : Image). Holds i (with_object full (named at word) o)) b4_is ends.0.holds
 
-      module _ (d3 : D) (n t : ℕ) where
-        pub settle_leaves : (r : Result (Unit {0}) Trouble) → Flips g n t plan d2 d3 r → Leaves g d2 d3 (λ c. Holds c (with_object full (named at word) o))
-        settle_leaves r f = wider g d2 d3 (IsOn w) (λ c. Holds c (with_object full (named at word) o)) (f.leaves w fits keeps2 may2) (λ c on. on_holds w c fits on)
+        root_apart : is_fixed at ≡ false
+        root_apart = taken_apart (g.content d0) full ready.holds at at (root_placed (g.content d0) (length (g.content d0)) (named at word) was (ready.holds.objects (named at word) was ready.at)).taken
 
-        pub settle_sound : (r : Result (Unit {0}) Trouble) → Flips g n t plan d2 d3 r → IfErr r (λ e. is_damage e ≡ false)
-        settle_sound r f = f.sound w fits keeps2 may2
+        fixed_unowned : (q m : ℕ) → is_fixed m ≡ true → is_of is_taken q (entry_in (g.content d0) m) ≡ false
+        fixed_unowned q m is = false_from_ne_true _ (λ h.
+            let e = the_entry is_taken q (entry_in (g.content d0) m) h in
+            let same = run.holds.fixed m (in_image (g.content d0) graph run.holds m e.0 e.1) is in
+            let no : is_of is_taken q (Some reserved) ≡ true = sym (ap (is_of is_taken q) same) ∙ h in cc)
 
-        module _ (f : Flips g n t plan d2 d3 (Ok tt)) (settled3 : IsSettled g d3) where
-          abbrev b4 : Image
-          b4 = whole.b4 ready
-
-          b4_is : g.content d3 ≡ b4
-          b4_is = f.put settled2.tells ∙ ap (λ (i : Image). flipped i plan) a3_is ∙ whole.all_is ready
-
-          b4_holds : Holds b4 (with_object full (named at word) o)
-          b4_holds = on_holds w b4 fits (whole.b4_on ready)
-
-          root_apart : is_fixed at ≡ false
-          root_apart = taken_apart (g.content d0) full ready.holds at at (root_placed (g.content d0) (length (g.content d0)) (named at word) was (ready.holds.objects (named at word) was ready.at)).taken
-
-          fixed_unowned : (q m : ℕ) → is_fixed m ≡ true → is_of is_taken q (entry_in (g.content d0) m) ≡ false
-          fixed_unowned q m is = false_from_ne_true _ (λ h.
-              let e = the_entry is_taken q (entry_in (g.content d0) m) h in
-              let same = run.holds.fixed m (in_image (g.content d0) graph run.holds m e.0 e.1) is in
-              let no : is_of is_taken q (Some reserved) ≡ true = sym (ap (is_of is_taken q) same) ∙ h in cc)
-
-          pub carried_out : (before : Kept) → CarriedOut g full (named at word) o s created d0 d3 before (given_all (given_all before dropped) (s ∷ []))
-          carried_out before = record {
-            carries = carries_ended g w d3 fits (f.keeps w fits keeps2 may2) settled3;
-            settled = settled3;
-            has = subst (λ (i : Image). HasItsBlocks i at) (sym b4_is) (now_has (g.content d0) b4 at created _ ready.has (after_it.role ready) (after_it.no_bit_now ready) (after_it.tree_now ready) (after_it.new_taken ready));
-            none_meant = λ m. ap (λ (i : Image). is_meant_for i at m) b4_is ∙ none_meant (g.content d0) b4 at created _ ready.has (after_it.role ready) m;
-            made = λ c is. subst (λ (i : Image). IsEntered (g.content d0) i c) (sym b4_is) (after_it.made_now ready c is);
-            only = subst (λ (i : Image). ChangesOnly (λ entry. of_owners (at ∷ option_to_list created) entry) (g.content d0) i) (sym b4_is)
-                (only_owners (g.content d0) b4 at created _ ready.has (after_it.role ready) (after_it.b4_size ready) b4_holds.maps b4_holds.own
-                (after_it.b4_other_block ready 1 (λ zero. cc) (λ same. not_label at root_apart (sym same)))
-                fixed_unowned
-                (λ m loose. ⊎_elim (λ same. inr same) (λ other. inl (after_it.b4_other_block ready m (not_map m loose) other)) (same_or_not m at)));
-            tree = ap (λ (i : Image). tree_in i (block_at i at)) b4_is ∙ after_it.tree_now ready;
-            left = λ m real other. ap (λ (i : Image). block_at i m) b4_is ∙ after_it.b4_other_block ready m real other;
-            counts = λ counts. subst (λ (i : Image). AreCounts i (given_all (given_all before dropped) (s ∷ []))) (sym b4_is) (after_it.counts_now ready before counts);
-          }
-
-        pub done_by : (r : Result (Unit {0}) Trouble) → Flips g n t plan d2 d3 r → OnOk r (IsSettled g d3) → (before : Kept) → OnOk r (CarriedOut g full (named at word) o s created d0 d3 before (given_all (given_all before dropped) (s ∷ [])))
-        done_by (Ok u) f settled before = carried_out f settled before
-        done_by (Err e) f settled before = tt
+        pub carried_out : CarriedOut g full (named at word) o s created d0 d3 before after
+        carried_out = record {
+          carries = ends.0;
+          settled = settled3;
+          has = subst (λ (i : Image). HasItsBlocks i at) (sym b4_is) (now_has (g.content d0) b4 at created _ ready.has (after_it.role ready) (after_it.no_bit_now ready) (after_it.tree_now ready) (after_it.new_taken ready));
+          none_meant = λ m. ap (λ (i : Image). is_meant_for i at m) b4_is ∙ none_meant (g.content d0) b4 at created _ ready.has (after_it.role ready) m;
+          made = λ c is. subst (λ (i : Image). IsEntered (g.content d0) i c) (sym b4_is) (after_it.made_now ready c is);
+          only = subst (λ (i : Image). ChangesOnly (λ entry. of_owners (at ∷ option_to_list created) entry) (g.content d0) i) (sym b4_is)
+              (only_owners (g.content d0) b4 at created _ ready.has (after_it.role ready) (after_it.b4_size ready) b4_holds.maps b4_holds.own
+              (after_it.b4_other_block ready 1 (λ zero. cc) (λ same. not_label at root_apart (sym same)))
+              fixed_unowned
+              (λ m loose. ⊎_elim (λ same. inr same) (λ other. inl (after_it.b4_other_block ready m (not_map m loose) other)) (same_or_not m at)));
+          tree = ap (λ (i : Image). tree_in i (block_at i at)) b4_is ∙ after_it.tree_now ready;
+          left = λ m real other. ap (λ (i : Image). block_at i m) b4_is ∙ after_it.b4_other_block ready m real other;
+          counts = λ counts. ends.1;
+        }
 
 -- ---- one call after another
 
@@ -146,20 +124,3 @@ module _ {D : Type 0} (g : Ghosts D) (graph full : Graph) (id : Puid) (o : Objec
 
 pub makes_more : {D : Type 0} (g : Ghosts D) (old new : D) (n t m s : ℕ) → n ≤ m → t ≤ s → MakesAtMost g n t old new → MakesAtMost g m s old new
 makes_more g old new n t m s le lt is = record { later = is.later; keeps = is.keeps; same = is.same; faults = is.faults; calls = omega (arith, is.calls); tries = omega (arith, is.tries); no_fewer = is.no_fewer }
-
-pub fails_then : {D : Type 0} (g : Ghosts D) (at : ℕ) (old mid new : D) (kept : Kept) (n t m s : ℕ) → MakesAtMost g n t old mid → (Tells g old → Tells g mid) → MakesAtMost g m s mid new → (r : Result (Unit {0}) Trouble) → IfErr r (Fails g at mid new kept) → IfErr r (Fails g at old new kept)
-fails_then g at old mid new kept n t m s first on second (Ok u) is = tt
-fails_then g at old mid new kept n t m s first on second (Err e) is = fails_after g at old mid new kept n t m s first on second e is
-
--- a call that tried a write or barrier, and failed
-module _ {D : Type 0} (g : Ghosts D) (old new : D) where
-  pub tried_sound : (t : Trouble) → t ≡ trouble.Disk true → is_damage t ≡ false
-  tried_sound t is = ap is_damage is
-
-  pub tried_fails : (at : ℕ) (kept : Kept) (t : Trouble) → t ≡ trouble.Disk true → HasStopped g true old new → Fails g at old new kept t
-  tried_fails at kept t is stopped = subst (Fails g at old new kept) (sym is) (refl, stopped.failed)
-
--- what a refused call owes of a result
-pub passed_done : {A : Type 0} (P : Type 0) (r : Result A Trouble) (t : Trouble) → IsErrAnd r (λ e. e ≡ t) → OnOk r P
-passed_done P (Ok x) t is = absurd is
-passed_done P (Err e) t is = tt

@@ -247,9 +247,6 @@ finish_tried g at old mid new kept n t m s first on second tried (Err e) is = fa
 
 -- ---- nothing is done
 
-pub nothing_left : {D : Type 0} (g : Ghosts D) (d : D) (P : Image → Type 0) → Leaves g d d P
-nothing_left g d P = record { later = omega arith; since = λ k c le h. inl h; now = λ c h. inl h }
-
 pub nothing_made : {D : Type 0} (g : Ghosts D) (d : D) (n t : ℕ) → MakesAtMost g n t d d
 nothing_made g d n t = record { later = omega arith; keeps = λ k c le was. was; same = record { size = refl; honesty = refl; telling = refl }; faults = omega arith; calls = omega arith; tries = omega arith; no_fewer = omega arith }
 

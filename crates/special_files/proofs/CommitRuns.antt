@@ -1,6 +1,6 @@
 -- Entries changed by one call after another.
 use Rattle.std.proofs.Common.{◌≡◌, inl, ℕ, ◌+◌, ◌≤◌, false, List, [], ◌∷◌, ◌++◌, length, take, drop, get_or, Ok, Err, refl, sym, ◌∙◌, ap, subst, arith, ◌*◌, ◌<◌}
-use Rattle.special_files.proofs.Words.{Change, ChangesBit, ChangesEntry, Course, Fails, Flip, Flips, Ghosts, Image, IsBadMap, IsCourse, IsErrAnd, IsMapTrouble, IsOn, Keeps, Kept, Leaves, MakesAtMost, MayFlip, NoMap, OnlyReads, Result, Tells, Trouble, changed, entry_in, flipped, flips, makes_then, map_of, some_entry, still_tells, take-append-drop, take_more, then, trouble_after_try, trouble_had_tried}
+use Rattle.special_files.proofs.Words.{Change, ChangesEntry, Course, Fails, Flip, Flips, Ghosts, Image, IsBadMap, IsCourse, IsErrAnd, IsMapTrouble, IsOn, Keeps, Kept, Leaves, MakesAtMost, MayFlip, NoMap, OnlyReads, Result, Tells, Trouble, changed, entry_in, flipped, flips, makes_then, map_of, some_entry, still_tells, take-append-drop, take_more, then, trouble_after_try, trouble_had_tried}
 use Rattle.cfs_base.specs.declared.refusal.Trouble.TheVariants as trouble
 use Rattle.cfs_base.proofs.Calls.{failed_since}
 use Rattle.intentions.proofs.Flips.{flip_is, flipped_append, flips_append, may_first, may_then, no_damage}
@@ -134,28 +134,3 @@ module _ {D : Type 0} (g : Ghosts D) (how : Change) (blocks : List ℕ) (i : ℕ
 pub flips_passed : {D : Type 0} (g : Ghosts D) (n t : ℕ) (xs : List Flip) (old new : D) (r : Result (Unit {0}) Trouble) (e : Trouble) → IsErrAnd r (λ k. k ≡ e) → Flips g n t xs old new (Err e) → Flips g n t xs old new r
 flips_passed g n t xs old new (Ok u) e is flips = absurd is
 flips_passed g n t xs old new (Err k) e is flips = subst (λ (x : Trouble). Flips g n t xs old new (Err x)) (sym is) flips
-
--- ---- the commit bit
-
-module _ {D : Type 0} (g : Ghosts D) (n : ℕ) (how : Change) (old new : D) where
-  pub bit_done : ChangesBit g n (λ e. changed how e) old new (Ok (tt {0})) → Flips g 4 3 (flips how (n ∷ [])) old new (Ok tt)
-  bit_done is = record {
-    put = λ tells. (let e = some_entry (g.content old) n (is.whole tells) in is.put tells e.0 e.1 ∙ sym (flip_is (g.content old) (record { block = n; how = how }) e.0 e.1));
-    tells = λ tells. (is.settled tells).tells;
-    keeps = λ w fits keeps may. is.keeps w may.0.0 fits keeps may.0.1 may.0.2;
-    leaves = λ w fits keeps may. is.leaves w may.0.0 fits keeps may.0.1 may.0.2;
-    sound = λ w fits keeps may. tt;
-    fails = λ at kept. tt;
-    calls = is.calls;
-  }
-
-  pub bit_failed : n < g.blocks old → (t : Trouble) → ChangesBit {A = Unit {0}} g n (λ e. changed how e) old new (Err t) → Flips g 4 3 (flips how (n ∷ [])) old new (Err (trouble_after_try t))
-  bit_failed below t is = record {
-    put = λ tells. tt;
-    tells = λ tells. tt;
-    keeps = λ w fits keeps may. tt;
-    leaves = λ w fits keeps may. is.leaves w may.0.0 fits keeps may.0.1 may.0.2;
-    sound = λ w fits keeps may. no_damage g n how old new w fits keeps may.0.0 may.0.1 t is.refused;
-    fails = λ at kept. map_fails g at n old new kept below t is.refused is.unless_tried;
-    calls = is.calls;
-  }

@@ -155,9 +155,9 @@ module _ {D : Type 0} (g : Ghosts D) (graph : Graph) (ds : List Opened) (id : Pu
       let full = with_made graph made in
       let stands = full_ready made makes in
       record {
-        done = on_ok r (f.done graph full id.word was o amid.carries stands) (committed made makes d2 k2);
-        leaves = then g d0 d1 d2 (IsOldOrNew graph full id o) (IsOldOrNew graph full id o) (wider g d0 d1 (λ x. Holds x graph) (IsOldOrNew graph full id o) amid.leaves (λ x h. inl h)) (f.leaves graph full id.word was o amid.carries stands) (λ x h. h);
-        sound = f.sound graph full id.word was o amid.carries stands;
+        done = on_ok r (f.done graph full id.word was o amid.carries amid.counts stands) (committed made makes d2 k2);
+        leaves = then g d0 d1 d2 (IsOldOrNew graph full id o) (IsOldOrNew graph full id o) (wider g d0 d1 (λ x. Holds x graph) (IsOldOrNew graph full id o) amid.leaves (λ x h. inl h)) (f.leaves graph full id.word was o amid.carries amid.counts stands) (λ x h. h);
+        sound = f.sound graph full id.word was o amid.carries amid.counts stands;
       }
 
 -- a commit that was refused with the objects as they were

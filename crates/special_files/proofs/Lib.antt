@@ -6,6 +6,7 @@ pub mod ChangedTrees
 pub mod CommitAbort
 pub mod CommitAfter
 pub mod CommitDirect
+pub mod CommitLeft
 pub mod CommitDone
 pub mod CommitDraft
 pub mod CommitEntries

@@ -136,12 +136,15 @@ pub record CarriedOut {D : Type 0} (g : Ghosts D) (graph : Graph) (id : Puid) (o
 pub record Finishes {D : Type 0} (g : Ghosts D) (at s : ℕ) (taken dropped : List ℕ) (created : Option ℕ) (old new : D)
     (before after : Kept) (result : Result (Unit {0}) Trouble) : Type 0 where
   pub done : (graph full : Graph) (word : ℕ) (was o : Object) → Carries g graph old
+      → AreCounts (g.content old) before
       → IsReady (g.content old) full (named at word) was o s taken dropped created
       → OnOk result (CarriedOut g full (named at word) o s created old new before after)
   pub leaves : (graph full : Graph) (word : ℕ) (was o : Object) → Carries g graph old
+      → AreCounts (g.content old) before
       → IsReady (g.content old) full (named at word) was o s taken dropped created
       → Leaves g old new (IsOldOrNew graph full (named at word) o)
   pub sound : (graph full : Graph) (word : ℕ) (was o : Object) → Carries g graph old
+      → AreCounts (g.content old) before
       → IsReady (g.content old) full (named at word) was o s taken dropped created
       → IfErr result (λ t. is_damage t ≡ false)
 

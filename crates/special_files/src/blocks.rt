@@ -1,13 +1,14 @@
-//! A list of blocks with room for each node and leaf of an object.
-ghost use Rattle.std.specs.Prelude.{◌≡◌, ◌<◌, ◌∷◌, ◌++◌, [], length, IfOk};
+//! A list of blocks with room for all entries that a commit changes past its bit.
+ghost use Rattle.std.specs.Prelude.{◌≡◌, ◌+◌, ◌<◌, ◌≤◌, ◌∷◌, ◌++◌, [], length, IfOk};
 ghost use Rattle.std.specs.List.{All};
 
 use cfs_base::NoMemory;
 use std::alloc::Global;
 use std::marker::Model;
 
-/// The nodes and leaves that an object may have: 120 nodes, with 128 leaves each.
-pub const MOST: usize = 15_480;
+/// The nodes and leaves that an object may have, 120 nodes with 128 leaves each, of the object as it was and as it is
+/// to be; a root that is made; and the shadow root.
+pub const MOST: usize = 30_962;
 
 /// Blocks of an object. Clauses see the list of their numbers.
 #[derive(Debug, Drop)]
@@ -23,7 +24,7 @@ impl Model for Blocks {
 
     ghost view = { λ a. a.items.items };
 
-    ghost invariant = { λ a. 15480 ≤ vec_capacity a.items };
+    ghost invariant = { λ a. 30962 ≤ vec_capacity a.items };
 }
 
 impl Blocks {
@@ -37,7 +38,7 @@ impl Blocks {
 
     /// One block more.
     pub fn add(&mut self, block: u32)
-        requires { length self.old < 15480 }
+        requires { length self.old < 30962 }
         ensures { self.new ≡ self.old ++ block ∷ [] }
     {
         let _ = self.items.push(block);
@@ -53,5 +54,22 @@ impl Blocks {
         ensures { result.now ≡ self.now }
     {
         self.items.as_slice()
+    }
+
+    /// These blocks more.
+    pub fn add_all(&mut self, blocks: &[u32])
+        requires { length self.old + length blocks.now ≤ 30962 }
+        ensures { self.new ≡ self.old ++ blocks.now }
+    {
+        for block in blocks {
+            self.add(*block);
+        }
+    }
+
+    /// The list, for a space to keep.
+    pub fn into_rest(self) -> cyl_alloc::Blocks
+        ensures { result ≡ self }
+    {
+        cyl_alloc::Blocks::new(self.items)
     }
 }

@@ -1,5 +1,6 @@
 //! A draft committed.
-ghost use Rattle.std.specs.Prelude.{◌≡◌, ◌≢◌, ◌<◌, ◌+◌, ◌*◌, ℕ, false, length, Option, Some, IfErr};
+ghost use Rattle.std.specs.Prelude.{◌≡◌, ◌≢◌, ◌<◌, ◌≤◌, ◌+◌, ◌*◌, ◌++◌, ◌∷◌, [], ℕ, false, length, option_to_list};
+ghost use Rattle.std.specs.Prelude.{Option, None, Some, IfErr, OnOk};
 ghost use Rattle.std.specs.List.{All};
 ghost use Rattle.cfs_base.specs.Calls.{HasTried, MakesAtMost};
 ghost use Rattle.cfs_base.specs.Disk.{block_at};
@@ -11,57 +12,71 @@ ghost use Rattle.special_files.specs.Refusal.{IsTrouble};
 ghost use Rattle.special_files.specs.View.{View};
 
 use crate::blocks::Blocks;
-use crate::carry::carry_out;
+use crate::carry::decide;
 use crate::changed::changed;
-use crate::flips::give_all;
 use crate::leaf::write_own;
 use block_tree::Root;
 use cfs_base::{Block, BlockNo, Disk, Trouble};
 use cyl_alloc::Space;
+use finisher::finish_written;
 
-/// Makes a draft its object, whose shadow root was written with this content, and counts the blocks that are Free
-/// again.
+/// The entries that a commit changes past its bit, the shadow root's as the last.
+fn rest_of(
+    taken: Blocks,
+    dropped: &[u32],
+    created: Option<BlockNo>,
+    shadow: BlockNo,
+) -> cyl_alloc::Blocks
+    requires few { length taken + length dropped.now ≤ 30960 }
+    ensures { result ≡ taken ++ (dropped.now ++ (option_to_list (number_of created) ++ shadow.0 ∷ [])) }
+{
+    let mut rest = taken;
+    rest.add_all(dropped);
+    if let Some(block) = created {
+        rest.add(block.0);
+    }
+    rest.add(shadow.0);
+    rest.into_rest()
+}
+
+/// Makes a draft its object, whose shadow root was written with this content: the commit bit is set, the commit is
+/// kept, and then it is carried out.
 pub(crate) fn finish<D: Disk>(
     disk: &mut D,
     space: &mut Space,
     at: BlockNo,
     shadow: BlockNo,
     content: &Block,
-    taken: &[u32],
+    taken: Blocks,
     dropped: &[u32],
     created: Option<BlockNo>,
 ) -> Result<(), Trouble>
     requires size { D.blocks disk.old ≡ 64 * length space.old.free }
     requires on_disk { at.0 < D.blocks disk.old }
     requires shadow_on_disk { shadow.0 < D.blocks disk.old }
-    requires taken_on_disk { All (λ n. n < D.blocks disk.old) taken.now }
+    requires taken_on_disk { All (λ n. n < D.blocks disk.old) taken }
     requires dropped_on_disk { All (λ n. n < D.blocks disk.old) dropped.now }
     requires created_on_disk { (n : ℕ) → number_of created ≡ Some n → n < D.blocks disk.old }
+    requires left { space.old.left ≡ None }
+    requires few { length taken + length dropped.now ≤ 30960 }
     ensures finishes { block_at (D.content disk.old) shadow.0 ≡ content.now
-        → spec.Finishes D.Disk at.0 shadow.0 taken.now dropped.now (number_of created) disk.old disk.new
+        → spec.Finishes D.Disk at.0 shadow.0 taken dropped.now (number_of created) disk.old disk.new
         space.old space.new result }
     ensures fails { IfErr result (spec.Fails D.Disk at.0 disk.old disk.new space.new) }
     ensures cylinders { length space.new.free ≡ length space.old.free }
-    ensures left { space.new.left ≡ space.old.left }
-    ensures calls { MakesAtMost D.Disk (2 * length taken.now + 4 * length dropped.now + 14)
-        (length taken.now + 2 * length dropped.now + 10) disk.old disk.new }
+    ensures left { OnOk result (space.new.left ≡ None) }
+    ensures calls { MakesAtMost D.Disk (2 * length taken + 4 * length dropped.now + 14)
+        (length taken + 2 * length dropped.now + 10) disk.old disk.new }
 {
-    match carry_out(
-        disk,
-        space.known(),
-        at,
-        shadow,
-        content,
-        taken,
-        dropped,
-        created,
-    ) {
-        Ok(()) => {
-            give_all(space, dropped);
-            space.gave(shadow, 1);
-            Ok(())
-        }
-        Err(trouble) => Err(trouble),
+    match decide(disk, space.known(), at, dropped) {
+        Ok(()) => {}
+        Err(trouble) => return Err(trouble),
+    }
+    let rest = rest_of(taken, dropped, created, shadow);
+    space.note(at, shadow, rest);
+    match finish_written(disk, space, at, content) {
+        Ok(()) => Ok(()),
+        Err(trouble) => Err(trouble.after_try()),
     }
 }
 
@@ -73,7 +88,7 @@ pub(crate) fn commit_begun<D: Disk>(
     shadow: BlockNo,
     own: &Root,
     root: &Root,
-    taken: &mut Blocks,
+    mut taken: Blocks,
     dropped: &mut Blocks,
     created: Option<BlockNo>,
 ) -> Result<(), Trouble>
@@ -81,6 +96,7 @@ pub(crate) fn commit_begun<D: Disk>(
     requires size { D.blocks disk.old ≡ 64 * length space.old.free }
     requires shadow_on_disk { shadow.0 < D.blocks disk.old }
     requires created_on_disk { (n : ℕ) → number_of created ≡ Some n → n < D.blocks disk.old }
+    requires left { space.old.left ≡ None }
     ensures commits { (was : Drafting) (v : View D.Disk disk.old space.old was) (made : Option spec.Making)
         → spec.AreParts was at.0 (Some shadow.0) own.now root.now (number_of created)
         → spec.Makes (D.content disk.old) (number_of created) made
@@ -90,7 +106,7 @@ pub(crate) fn commit_begun<D: Disk>(
     // No device call comes before the first try.
     ensures untried { IfErr result (λ t. t ≢ troubles.Disk false) }
     ensures cylinders { length space.new.free ≡ length space.old.free }
-    ensures left { space.new.left ≡ space.old.left }
+    ensures left { OnOk result (space.new.left ≡ None) }
     ensures calls { MakesAtMost D.Disk 93135 46451 disk.old disk.new }
 {
     let content = root.encode();
@@ -98,7 +114,7 @@ pub(crate) fn commit_begun<D: Disk>(
         Ok(()) => {}
         Err(_) => return Err(Trouble::Disk { tried: true }),
     }
-    match changed(disk, at, own, root, taken, dropped) {
+    match changed(disk, at, own, root, &mut taken, dropped) {
         Ok(()) => {}
         Err(trouble) => return Err(trouble.after_try()),
     }
@@ -108,7 +124,7 @@ pub(crate) fn commit_begun<D: Disk>(
         at,
         shadow,
         &content,
-        taken.as_slice(),
+        taken,
         dropped.as_slice(),
         created,
     )

@@ -58,7 +58,7 @@ pub(crate) fn commit_listed<D: Disk>(
     space: &mut Space,
     at: BlockNo,
     root: &Root,
-    taken: &[u32],
+    taken: Blocks,
     dropped: &[u32],
     created: Option<BlockNo>,
 ) -> Result<(), Trouble>
@@ -66,22 +66,24 @@ pub(crate) fn commit_listed<D: Disk>(
     requires on_disk { at.0 < D.blocks disk.old }
     requires size { D.blocks disk.old ≡ 64 * length space.old.free }
     requires room { 1 ≤ sum space.old.free }
-    requires taken_on_disk { All (λ n. n < D.blocks disk.old) taken.now }
+    requires taken_on_disk { All (λ n. n < D.blocks disk.old) taken }
     requires dropped_on_disk { All (λ n. n < D.blocks disk.old) dropped.now }
     requires created_on_disk { (n : ℕ) → number_of created ≡ Some n → n < D.blocks disk.old }
+    requires left { space.old.left ≡ None }
+    requires few { length taken + length dropped.now ≤ 30960 }
     ensures commits { (was : Drafting) (v : View D.Disk disk.old space.old was) (made : Option spec.Making)
         → spec.AreParts was at.0 None was.own root.now (number_of created)
         → spec.Makes (D.content disk.old) (number_of created) made
-        → IsChanged (D.content disk.old) v.id (opened_as v.id was v.draft) taken.now dropped.now
+        → IsChanged (D.content disk.old) v.id (opened_as v.id was v.draft) taken dropped.now
         → spec.CommitEnds D.Disk v.graph v.ds v.id v.draft.object made disk.old disk.new space.new result }
     ensures refused { IfErr result (IsTrouble D.Disk at.0 disk.old disk.new space.new) }
     ensures made { OnOk result (HasTried D.Disk disk.old disk.new) }
     ensures untried { IfErr result (λ t. t ≡ troubles.Disk false
         → (space.new ≡ space.old) × OnlyReads D.Disk 1 disk.old disk.new) }
     ensures cylinders { length space.new.free ≡ length space.old.free }
-    ensures left { space.new.left ≡ space.old.left }
-    ensures calls { MakesAtMost D.Disk (2 * length taken.now + 4 * length dropped.now + 17)
-        (length taken.now + 2 * length dropped.now + 12) disk.old disk.new }
+    ensures left { OnOk result (space.new.left ≡ None) }
+    ensures calls { MakesAtMost D.Disk (2 * length taken + 4 * length dropped.now + 17)
+        (length taken + 2 * length dropped.now + 12) disk.old disk.new }
 {
     let shadow = match claim_shadow(disk, space, at) {
         Ok(block) => block,
@@ -102,7 +104,7 @@ pub(crate) fn commit_direct<D: Disk>(
     at: BlockNo,
     own: &Root,
     root: &Root,
-    taken: &mut Blocks,
+    mut taken: Blocks,
     dropped: &mut Blocks,
     created: Option<BlockNo>,
 ) -> Result<(), Trouble>
@@ -111,6 +113,7 @@ pub(crate) fn commit_direct<D: Disk>(
     requires size { D.blocks disk.old ≡ 64 * length space.old.free }
     requires room { 1 ≤ sum space.old.free }
     requires created_on_disk { (n : ℕ) → number_of created ≡ Some n → n < D.blocks disk.old }
+    requires left { space.old.left ≡ None }
     ensures commits { (was : Drafting) (v : View D.Disk disk.old space.old was) (made : Option spec.Making)
         → spec.AreParts was at.0 None own.now root.now (number_of created)
         → spec.Makes (D.content disk.old) (number_of created) made
@@ -120,20 +123,12 @@ pub(crate) fn commit_direct<D: Disk>(
     ensures untried { IfErr result (λ t. t ≡ troubles.Disk false
         → (space.new ≡ space.old) × OnlyReads D.Disk 241 disk.old disk.new) }
     ensures cylinders { length space.new.free ≡ length space.old.free }
-    ensures left { space.new.left ≡ space.old.left }
+    ensures left { OnOk result (space.new.left ≡ None) }
     ensures calls { MakesAtMost D.Disk 93137 46452 disk.old disk.new }
 {
-    match changed(disk, at, own, root, taken, dropped) {
+    match changed(disk, at, own, root, &mut taken, dropped) {
         Ok(()) => {}
         Err(trouble) => return Err(trouble),
     }
-    commit_listed(
-        disk,
-        space,
-        at,
-        root,
-        taken.as_slice(),
-        dropped.as_slice(),
-        created,
-    )
+    commit_listed(disk, space, at, root, taken, dropped.as_slice(), created)
 }

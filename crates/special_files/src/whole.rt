@@ -65,7 +65,7 @@ fn commit_parts<D: Disk>(
     shadow: Option<BlockNo>,
     own: &Root,
     root: &Root,
-    taken: &mut Blocks,
+    taken: Blocks,
     dropped: &mut Blocks,
     created: Option<BlockNo>,
 ) -> Result<(), Trouble>
@@ -73,6 +73,7 @@ fn commit_parts<D: Disk>(
     requires on_disk { at.0 < D.blocks disk.old }
     requires size { D.blocks disk.old ≡ 64 * length space.old.free }
     requires room { number_of shadow ≡ None → 1 ≤ sum space.old.free }
+    requires left { space.old.left ≡ None }
     ensures commits { (was : Drafting) (v : View D.Disk disk.old space.old was) (made : Option spec.Making)
         → spec.AreParts was at.0 (number_of shadow) own.now root.now (number_of created)
         → spec.Makes (D.content disk.old) (number_of created) made
@@ -83,7 +84,7 @@ fn commit_parts<D: Disk>(
     ensures untried { IfErr result (λ t. t ≡ troubles.Disk false
         → (space.new ≡ space.old) × OnlyReads D.Disk 241 disk.old disk.new) }
     ensures cylinders { length space.new.free ≡ length space.old.free }
-    ensures left { space.new.left ≡ space.old.left }
+    ensures left { OnOk result (space.new.left ≡ None) }
     ensures calls { MakesAtMost D.Disk 93137 46452 disk.old disk.new }
 {
     match part_on_disk(disk, at, created) {
@@ -118,6 +119,8 @@ impl Draft {
         requires on_disk { self.at < D.blocks disk.old }
         requires size { D.blocks disk.old ≡ 64 * length space.old.free }
         requires room { self.shadow ≡ None → 1 ≤ sum space.old.free }
+        // No commit is kept.
+        requires left { space.old.left ≡ None }
         // The store has the object, and the one that is made with it, and nothing waits.
         ensures done { (graph : Graph) (ds : List Opened) (id : Puid) (o : Object) (d : drafts.Draft)
             (made : Option spec.Making) → StoreHas D.Disk graph ds disk.old space.old → object_at graph id ≡ Some o
@@ -141,20 +144,20 @@ impl Draft {
         ensures untried { IfErr result (λ t. t ≡ troubles.Disk false
             → (space.new ≡ space.old) × OnlyReads D.Disk 241 disk.old disk.new) }
         ensures cylinders { length space.new.free ≡ length space.old.free }
-        ensures left { space.new.left ≡ space.old.left }
+        ensures left { OnOk result (space.new.left ≡ None) }
         ensures calls { MakesAtMost D.Disk 93137 46452 disk.old disk.new }
     {
-        let draft = &mut self;
+        let taken = self.taken;
         commit_parts(
             disk,
             space,
-            draft.at,
-            draft.shadow,
-            &draft.own,
-            &draft.root,
-            &mut draft.taken,
-            &mut draft.dropped,
-            draft.created,
+            self.at,
+            self.shadow,
+            &self.own,
+            &self.root,
+            taken,
+            &mut self.dropped,
+            self.created,
         )
     }
 
@@ -169,6 +172,7 @@ impl Draft {
         requires on_disk { self.at < D.blocks disk.old }
         requires size { D.blocks disk.old ≡ 64 * length space.old.free }
         requires room { 1 ≤ sum space.old.free }
+        requires left { space.old.left ≡ None }
         requires direct { self.shadow ≡ None }
         requires near { IsNearSwap (D.blocks disk.old) self swap }
         ensures commits { (graph : Graph) (ds : List Opened) (id : Puid) (o : Object) (d : drafts.Draft)
@@ -179,27 +183,27 @@ impl Draft {
         ensures refused { IfErr result (IsTrouble D.Disk self.at disk.old disk.new space.new) }
         ensures made { OnOk result (HasTried D.Disk disk.old disk.new) }
         ensures cylinders { length space.new.free ≡ length space.old.free }
-        ensures left { space.new.left ≡ space.old.left }
+        ensures left { OnOk result (space.new.left ≡ None) }
         ensures calls { MakesAtMost D.Disk 29 18 disk.old disk.new }
     {
-        let draft = &mut self;
-        match part_on_disk(disk, draft.at, draft.created) {
+        let mut taken = self.taken;
+        match part_on_disk(disk, self.at, self.created) {
             Ok(()) => {}
             Err(trouble) => return Err(trouble),
         }
         let number = (swap.leaf / 128) as usize;
-        let own = draft.own.nodes[number];
-        let node = draft.root.nodes[number];
-        list_two(&mut draft.taken, node, own, swap.is, swap.was);
-        list_two(&mut draft.dropped, own, node, swap.was, swap.is);
+        let own = self.own.nodes[number];
+        let node = self.root.nodes[number];
+        list_two(&mut taken, node, own, swap.is, swap.was);
+        list_two(&mut self.dropped, own, node, swap.was, swap.is);
         commit_listed(
             disk,
             space,
-            draft.at,
-            &draft.root,
-            draft.taken.as_slice(),
-            draft.dropped.as_slice(),
-            draft.created,
+            self.at,
+            &self.root,
+            taken,
+            self.dropped.as_slice(),
+            self.created,
         )
     }
 }

@@ -1,5 +1,5 @@
 //! A small volume in memory, with the calls of the store on it.
-ghost use Rattle.std.specs.Prelude.{◌≡◌, ◌*◌, ◌<◌, ◌≤◌, true, length, sum};
+ghost use Rattle.std.specs.Prelude.{◌≡◌, ◌*◌, ◌<◌, ◌≤◌, true, length, sum, None};
 ghost use Rattle.cfs_fakes.specs.Memory.{contents};
 ghost use Rattle.index_ops.specs.Creates.{MayBeMade};
 
@@ -10,6 +10,7 @@ use cfs_base::{
 use cfs_fakes::{MemoryDisk, Seen, Watched};
 use cyl_alloc::Space;
 use file_ops::{read, read_root, resize, write};
+use finisher::finish_all;
 use index_ops::{create, delete, retain, retrieve};
 use special_files::Draft;
 use std::alloc::Global;
@@ -88,11 +89,12 @@ impl Volume {
         self.disk.seen = Seen::nothing();
     }
 
-    /// Whether so many blocks are there and Free that no call asks for more.
+    /// Whether so many blocks are there and Free that no call asks for more, and no commit is unfinished.
     fn is_ready(&self) -> bool
-        ensures { result ≡ true → (8 < length (contents self.now.disk.lower)) × (8 ≤ sum self.now.space.free) }
+        ensures { result ≡ true → (8 < length (contents self.now.disk.lower)) × (8 ≤ sum self.now.space.free)
+            × (self.now.space.left ≡ None) }
     {
-        self.disk.blocks() > 8 && self.space.free() >= 8
+        self.disk.blocks() > 8 && self.space.free() >= 8 && self.space.unfinished() == 0
     }
 
     /// Makes an object, and puts it into a slot of the root index.
@@ -228,15 +230,19 @@ impl Volume {
         draft.resize(&mut self.disk, &mut self.space, size, 4)
     }
 
-    /// Commits a draft, or aborts it.
+    /// Commits a draft, and finishes what is left of that, or aborts it.
     pub fn end(&mut self, draft: Draft, commits: bool) -> Result<(), Trouble> {
         if draft.at().0 >= self.disk.blocks() || self.space.free() == 0 {
             return Err(Trouble::Disk { tried: false });
         }
-        if commits {
-            return draft.commit(&mut self.disk, &mut self.space);
+        if !commits {
+            return draft.abort(&mut self.disk, &mut self.space);
         }
-        draft.abort(&mut self.disk, &mut self.space)
+        if self.space.unfinished() > 0 {
+            return Err(Trouble::Disk { tried: false });
+        }
+        draft.commit(&mut self.disk, &mut self.space)?;
+        finish_all(&mut self.disk, &mut self.space)
     }
 
     /// Reads so many bytes of a draft.

@@ -5,30 +5,30 @@ use Rattle.ufs_model.specs.declared.asked.Request.TheVariants as asks
 use Rattle.ufs_model.specs.declared.asked.Reply.TheVariants as replies
 use Rattle.ufs_model.specs.declared.asked.Event.TheVariants as events
 use Rattle.trail_text.proofs.Clear.{line_cut}
-use Rattle.trail_text.proofs.WordsBack.{and_3, back_8, back_32, byte_back, bytes_back, commit_back, grant_back, grant_digits_back, id_back, kind_back, mode_back, number_back, ref_back, unread_back}
+use Rattle.trail_text.proofs.WordsBack.{all_1, all_2, all_3, and_3, back_8, back_32, byte_back, bytes_back, commit_back, grant_back, grant_digits_back, id_back, kind_back, mode_back, number_back, ref_back, unread_back}
 
 request_back : (request : Request) (more : List (List ℕ)) → request_within request ≡ true
     → request_read (request_words request ++ more) ≡ request
 request_back (asks.CreateFile kind fill index slot) more h =
-    let parts = and_3 (in_8 fill) (ref_within index) (in_64 slot) h in rw (kind_back kind, byte_back fill parts.0, ref_back index parts.1, number_back slot parts.2) refl
+    let parts = all_3 (in_8 fill) (ref_within index) (in_64 slot) h in rw (kind_back kind, byte_back fill parts.0, ref_back index parts.1, number_back slot parts.2) refl
 request_back (asks.CreateIndex slots index slot) more h =
-    let parts = and_3 (in_64 slots) (ref_within index) (in_64 slot) h in rw (number_back slots parts.0, ref_back index parts.1, number_back slot parts.2) refl
+    let parts = all_3 (in_64 slots) (ref_within index) (in_64 slot) h in rw (number_back slots parts.0, ref_back index parts.1, number_back slot parts.2) refl
 request_back (asks.Retain index slot id) more h =
-    let parts = and_3 (ref_within index) (in_64 slot) (id_within id) h in rw (ref_back index parts.0, number_back slot parts.1, id_back id parts.2) refl
+    let parts = all_3 (ref_within index) (in_64 slot) (id_within id) h in rw (ref_back index parts.0, number_back slot parts.1, id_back id parts.2) refl
 request_back (asks.Retrieve index slot) more h =
-    let parts = and_parts (ref_within index) (in_64 slot) h in rw (ref_back index parts.0, number_back slot parts.1) refl
+    let parts = all_2 (ref_within index) (in_64 slot) h in rw (ref_back index parts.0, number_back slot parts.1) refl
 request_back (asks.Delete index slot) more h =
-    let parts = and_parts (ref_within index) (in_64 slot) h in rw (ref_back index parts.0, number_back slot parts.1) refl
-request_back (asks.Slots index) more h = rw (ref_back index h) refl
-request_back (asks.OpenFor id mode) more h = rw (id_back id h, mode_back mode) refl
-request_back (asks.Close grant commit) more h = rw (grant_back grant h, commit_back commit) refl
+    let parts = all_2 (ref_within index) (in_64 slot) h in rw (ref_back index parts.0, number_back slot parts.1) refl
+request_back (asks.Slots index) more h = rw (ref_back index (all_1 h)) refl
+request_back (asks.OpenFor id mode) more h = rw (id_back id (all_1 h), mode_back mode) refl
+request_back (asks.Close grant commit) more h = rw (grant_back grant (all_1 h), commit_back commit) refl
 request_back (asks.Read file offset count) more h =
-    let parts = and_3 (ref_within file) (in_64 offset) (in_64 count) h in rw (ref_back file parts.0, number_back offset parts.1, number_back count parts.2) refl
+    let parts = all_3 (ref_within file) (in_64 offset) (in_64 count) h in rw (ref_back file parts.0, number_back offset parts.1, number_back count parts.2) refl
 request_back (asks.Write file offset bytes) more h =
-    let parts = and_3 (ref_within file) (in_64 offset) (bytes_within bytes) h in rw (ref_back file parts.0, number_back offset parts.1, bytes_back bytes parts.2) refl
-request_back (asks.Size file) more h = rw (ref_back file h) refl
+    let parts = all_3 (ref_within file) (in_64 offset) (bytes_within bytes) h in rw (ref_back file parts.0, number_back offset parts.1, bytes_back bytes parts.2) refl
+request_back (asks.Size file) more h = rw (ref_back file (all_1 h)) refl
 request_back (asks.Resize file size) more h =
-    let parts = and_parts (ref_within file) (in_64 size) h in rw (ref_back file parts.0, number_back size parts.1) refl
+    let parts = all_2 (ref_within file) (in_64 size) h in rw (ref_back file parts.0, number_back size parts.1) refl
 
 -- ---- an ok has the form that its request asks for
 
@@ -62,12 +62,12 @@ any_back n h =
 reply_back : (request : Request) (reply : Reply) → reply_within reply ≡ true → reply_shaped request reply ≡ true
     → reply_read request (reply_words reply) ≡ reply
 reply_back request replies.Done h i = ok_done request [] i
-reply_back request (replies.Id id) h i = rw i (ap (λ (x : Puid). replies.Id x) (id_back id h))
-reply_back request (replies.Grant t) h i = rw (ok_grant request (id_digits t.draw t.word) i, grant_digits_back t h) refl
-reply_back request (replies.Number n) h i = rw (ok_number request (decimal n) i, number_back n h) refl
-reply_back request (replies.Content bytes) h i = rw (ok_content request (encode_lower bytes) (and_parts (wants_content request) (nat_lt 0 (length bytes)) i).0, bytes_back bytes h) refl
+reply_back request (replies.Id id) h i = rw i (ap (λ (x : Puid). replies.Id x) (id_back id (all_1 h)))
+reply_back request (replies.Grant t) h i = rw (ok_grant request (id_digits t.draw t.word) i, grant_digits_back t (all_1 h)) refl
+reply_back request (replies.Number n) h i = rw (ok_number request (decimal n) i, number_back n (all_1 h)) refl
+reply_back request (replies.Content bytes) h i = rw (ok_content request (encode_lower bytes) (and_parts (wants_content request) (nat_lt 0 (length bytes)) i).0, bytes_back bytes (all_1 h)) refl
 reply_back request replies.Memory h i = refl
-reply_back request (replies.Stopped moment) h i = rw (number_back moment h) refl
+reply_back request (replies.Stopped moment) h i = rw (number_back moment (all_1 h)) refl
 reply_back request replies.NoGrant h i = refl
 reply_back request replies.NoObject h i = refl
 reply_back request replies.NotIndex h i = refl
@@ -79,11 +79,11 @@ reply_back request replies.Empty h i = refl
 reply_back request replies.Range h i = refl
 reply_back request replies.Grants h i = refl
 reply_back request (replies.Full n) h i =
-    let parts = and_parts (in_32 n.free) (in_32 n.need) h in rw (back_32 n.free parts.0, back_32 n.need parts.1) refl
+    let parts = all_2 (in_32 n.free) (in_32 n.need) h in rw (back_32 n.free parts.0, back_32 n.need parts.1) refl
 reply_back request (replies.Disk None) h i = refl
-reply_back request (replies.Disk (Some moment)) h i = rw (any_back moment h) refl
+reply_back request (replies.Disk (Some moment)) h i = rw (any_back moment (all_1 h)) refl
 reply_back request (replies.Damaged damage moment) h i =
-    let parts = and_3 (in_32 damage.block) (in_8 damage.code) (in_64 moment) h in rw (back_32 damage.block parts.0, back_8 damage.code parts.1, number_back moment parts.2) refl
+    let parts = all_3 (in_32 damage.block) (in_8 damage.code) (in_64 moment) h in rw (back_32 damage.block parts.0, back_8 damage.code parts.1, number_back moment parts.2) refl
 
 -- ---- events
 

@@ -1,22 +1,13 @@
 -- No word of an event has a space or an end of a line, so its line is cut into its words.
 use Rattle.std.proofs.Common.{◌≡◌, ℕ, zero, suc, ◌/◌, ◌%◌, ◌<◌, ◌^◌, Bool, true, false, not, ◌==◌, List, [], ◌∷◌, ◌++◌, length, get_or, refl, ap, ◌∙◌, arith, Some, None, map, ◌&&◌}
-use Rattle.trail_text.proofs.Words.{All, AllPass-from_list_all, Direct, Event, FileKind, Mode, Puid, Ref, Reply, Request, Through, Tuid, Unread, all_ascii_digits, and_from, and_parts, bytes_within, codes, commit_word, decimal, digits_decimal, encode_lower, event_line, event_within, event_words, grant_word, id_digits, id_within, id_word, in_32, in_64, in_8, is_ascii_digit, join_with_byte, kind_word, list_all, list_all-append, lower_digits, lt-ltb, ltb-true, mode_word, not-true, own, ref_within, ref_word, reply_within, reply_words, request_within, request_words, slice_index, slice_split_at, slice_split_none, to_be_bytes, unread_word, w32, words_in}
+use Rattle.trail_text.proofs.Words.{All, AllPass-from_list_all, Direct, Event, Puid, Ref, Through, Token, Tuid, Unread, all_ascii_digits, and_from, and_parts, bytes_within, codes, decimal, digits_decimal, encode_lower, event_line, event_within, event_words, grant_word, id_digits, id_within, id_word, in_32, in_64, in_8, is_ascii_digit, is_clear, is_within, is_word_byte, join_with_byte, list_all, list_all-append, lower_digits, lt-ltb, ltb-true, not-true, own, ref_word, reply_tokens, reply_within, reply_words, request_tokens, request_within, request_words, slice_index, slice_split_at, slice_split_none, spell, to_be_bytes, unread_word, w32, words_in}
 use Rattle.hex.specs.Hex.{encode_with}
-use Rattle.cfs_base.specs.declared.kind.FileKind.TheVariants as kinds
-use Rattle.cfs_base.specs.declared.kind.Mode.TheVariants as modes
-use Rattle.ufs_model.specs.declared.asked.Request.TheVariants as asks
-use Rattle.ufs_model.specs.declared.asked.Reply.TheVariants as replies
+use Rattle.trail_text.specs.Token as tokens
 use Rattle.ufs_model.specs.declared.asked.Unread.TheVariants as unread
 use Rattle.ufs_model.specs.declared.asked.Event.TheVariants as events
 use Rattle.trail_text.proofs.WordsBack.{and_3}
 
 -- ---- a line is cut into its words
-
-abbrev pub is_word_byte : ℕ → Bool
-is_word_byte c = not (c == 32) && not (c == 10)
-
-abbrev pub is_clear : List ℕ → Bool
-is_clear w = list_all is_word_byte w
 
 not_space : (w : List ℕ) → is_clear w ≡ true → All (λ c. (c == 32) ≡ false) w
 not_space w h k d less =
@@ -82,18 +73,6 @@ clear_ref : (ref : Ref) → Clear (ref_word ref)
 clear_ref (Direct id) = clear_id id.block id.word
 clear_ref (Through t) = clear_grant t
 
-clear_kind : (kind : FileKind) → Clear (kind_word kind)
-clear_kind kinds.Normal = record { is = refl }
-clear_kind kinds.Special = record { is = refl }
-
-clear_mode : (mode : Mode) → Clear (mode_word mode)
-clear_mode modes.Reading = record { is = refl }
-clear_mode modes.Writing = record { is = refl }
-
-clear_commit : (commit : Bool) → Clear (commit_word commit)
-clear_commit true = record { is = refl }
-clear_commit false = record { is = refl }
-
 clear_unread : (why : Unread) → Clear (unread_word why)
 clear_unread unread.Syntax = record { is = refl }
 clear_unread unread.NoName = record { is = refl }
@@ -117,51 +96,21 @@ clear_1 {a} h = and_from (is_clear a) true h.is refl
 pub clear_2 : {a b : List ℕ} → Clear a → Clear b → all_clear (a ∷ b ∷ []) ≡ true
 clear_2 {a} {b} h i = and_from (is_clear a) (all_clear (b ∷ [])) h.is (clear_1 i)
 
-clear_3 : {a b c : List ℕ} → Clear a → Clear b → Clear c → all_clear (a ∷ b ∷ c ∷ []) ≡ true
-clear_3 {a} {b} {c} h i j = and_from (is_clear a) (all_clear (b ∷ c ∷ [])) h.is (clear_2 i j)
+clear_token : (t : Token) → is_within t ≡ true → Clear (spell t)
+clear_token (tokens.Text text clear) h = record { is = clear }
+clear_token (tokens.Number n) h = clear_number n h
+clear_token (tokens.Small n) h = clear_32 n h
+clear_token (tokens.Code n) h = clear_8 n h
+clear_token (tokens.Id id) h = clear_id id.block id.word
+clear_token (tokens.Grant t) h = clear_grant t
+clear_token (tokens.To ref) h = clear_ref ref
+clear_token (tokens.Byte b) h = clear_hex (b ∷ [])
+clear_token (tokens.Hex bytes) h = clear_hex bytes
 
-clear_request : (request : Request) → request_within request ≡ true → all_clear (request_words request) ≡ true
-clear_request (asks.CreateFile kind fill index slot) h =
-    clear_0 (encode_lower (fill ∷ []) ∷ ref_word index ∷ decimal slot ∷ []) (clear_kind kind) (clear_3 (clear_hex (fill ∷ [])) (clear_ref index) (clear_number slot (and_3 (in_8 fill) (ref_within index) (in_64 slot) h).2))
-clear_request (asks.CreateIndex slots index slot) h =
-    let parts = and_3 (in_64 slots) (ref_within index) (in_64 slot) h in clear_3 (clear_number slots parts.0) (clear_ref index) (clear_number slot parts.2)
-clear_request (asks.Retain index slot id) h =
-    clear_3 (clear_ref index) (clear_number slot (and_3 (ref_within index) (in_64 slot) (id_within id) h).1) (clear_id id.block id.word)
-clear_request (asks.Retrieve index slot) h = clear_2 (clear_ref index) (clear_number slot (and_parts (ref_within index) (in_64 slot) h).1)
-clear_request (asks.Delete index slot) h = clear_2 (clear_ref index) (clear_number slot (and_parts (ref_within index) (in_64 slot) h).1)
-clear_request (asks.Slots index) h = clear_1 (clear_ref index)
-clear_request (asks.OpenFor id mode) h = clear_2 (clear_id id.block id.word) (clear_mode mode)
-clear_request (asks.Close grant commit) h = clear_2 (clear_grant grant) (clear_commit commit)
-clear_request (asks.Read file offset count) h =
-    let parts = and_3 (ref_within file) (in_64 offset) (in_64 count) h in clear_3 (clear_ref file) (clear_number offset parts.1) (clear_number count parts.2)
-clear_request (asks.Write file offset bytes) h =
-    clear_3 (clear_ref file) (clear_number offset (and_3 (ref_within file) (in_64 offset) (bytes_within bytes) h).1) (clear_hex bytes)
-clear_request (asks.Size file) h = clear_1 (clear_ref file)
-clear_request (asks.Resize file size) h = clear_2 (clear_ref file) (clear_number size (and_parts (ref_within file) (in_64 size) h).1)
-
-clear_reply : (reply : Reply) → reply_within reply ≡ true → all_clear (reply_words reply) ≡ true
-clear_reply replies.Done h = refl
-clear_reply (replies.Id id) h = clear_1 (clear_id id.block id.word)
-clear_reply (replies.Grant t) h = clear_1 (clear_id t.draw t.word)
-clear_reply (replies.Number n) h = clear_1 (clear_number n h)
-clear_reply (replies.Content bytes) h = clear_1 (clear_hex bytes)
-clear_reply replies.Memory h = refl
-clear_reply (replies.Stopped moment) h = clear_1 (clear_number moment h)
-clear_reply replies.NoGrant h = refl
-clear_reply replies.NoObject h = refl
-clear_reply replies.NotIndex h = refl
-clear_reply replies.NotFile h = refl
-clear_reply replies.ReadOnly h = refl
-clear_reply replies.Locked h = refl
-clear_reply replies.Slot h = refl
-clear_reply replies.Empty h = refl
-clear_reply replies.Range h = refl
-clear_reply replies.Grants h = refl
-clear_reply (replies.Full n) h = let parts = and_parts (in_32 n.free) (in_32 n.need) h in clear_2 (clear_32 n.free parts.0) (clear_32 n.need parts.1)
-clear_reply (replies.Disk None) h = refl
-clear_reply (replies.Disk (Some moment)) h = clear_1 (clear_number moment h)
-clear_reply (replies.Damaged damage moment) h =
-    let parts = and_3 (in_32 damage.block) (in_8 damage.code) (in_64 moment) h in clear_3 (clear_32 damage.block parts.0) (clear_8 damage.code parts.1) (clear_number moment parts.2)
+-- so it is with those of a request and of a reply
+clear_tokens : (ts : List Token) → list_all is_within ts ≡ true → all_clear (map spell ts) ≡ true
+clear_tokens [] h = refl
+clear_tokens (t ∷ ts) h = let two = and_parts (is_within t) (list_all is_within ts) h in clear_0 (map spell ts) (clear_token t two.0) (clear_tokens ts two.1)
 
 clear_event : (event : Event) → event_within event ≡ true → all_clear (event_words event) ≡ true
 clear_event (events.Unread who why) h = clear_2 (clear_32 who h) (clear_unread why)
@@ -169,7 +118,7 @@ clear_event (events.Ask who request reply) h =
     let parts = and_3 (in_32 who) (request_within request) (reply_within reply) h in
     clear_0 (request_words request ++ codes "=" ∷ reply_words reply) (clear_32 who parts.0)
     (list_all-append is_clear (request_words request) (codes "=" ∷ reply_words reply)
-    ∙ and_from (all_clear (request_words request)) (all_clear (codes "=" ∷ reply_words reply)) (clear_request request parts.1) (clear_reply reply parts.2))
+    ∙ and_from (all_clear (request_words request)) (all_clear (codes "=" ∷ reply_words reply)) (clear_tokens (request_tokens request) parts.1) (clear_tokens (reply_tokens reply) parts.2))
 clear_event (events.Leave who None) h = clear_1 (clear_32 who h)
 clear_event (events.Leave who (Some moment)) h =
     let parts = and_parts (in_32 who) (in_64 moment) h in clear_2 (clear_32 who parts.0) (clear_number moment parts.1)

@@ -11,6 +11,16 @@ and_3 true true false h = absurd (false≢true h)
 and_3 true false z h = absurd (false≢true h)
 and_3 false y z h = absurd (false≢true h)
 
+-- what is said of the words of a request or of a reply, each
+pub all_1 : {x : Bool} → (x && true) ≡ true → x ≡ true
+all_1 {x} h = (and_parts x true h).0
+
+pub all_2 : (x y : Bool) → (x && (y && true)) ≡ true → (x ≡ true) × (y ≡ true)
+all_2 x y h = let two = and_parts x (y && true) h in (two.0, all_1 two.1)
+
+pub all_3 : (x y z : Bool) → (x && (y && (z && true))) ≡ true → (x ≡ true) × (y ≡ true) × (z ≡ true)
+all_3 x y z h = let two = and_parts x (y && (z && true)) h in let rest = all_2 y z two.1 in (two.0, rest.0, rest.1)
+
 -- ---- numbers
 
 pub number_back : (n : ℕ) → in_64 n ≡ true → number_read (decimal n) ≡ n

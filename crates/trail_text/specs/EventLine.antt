@@ -1,16 +1,11 @@
 -- The line of an event, without its end.
-use Rattle.std.specs.Prelude.{ℕ, Bool, true, false, List, [], ◌∷◌, ◌++◌, length, map, codes, Some, None}
+use Rattle.std.specs.Prelude.{◌≡◌, refl, ℕ, Bool, true, false, List, [], ◌∷◌, ◌++◌, length, map, codes, Some, None}
 use Rattle.std.specs.List.{join_with_byte}
 use Rattle.std.specs.Fmt.{decimal}
-use Rattle.hex.specs.Hex.{encode_lower}
-use Rattle.cfs_base.specs.declared.identifier.Puid.{Puid}
-use Rattle.cfs_base.specs.declared.identifier.Tuid.{Tuid}
 use Rattle.cfs_base.specs.declared.kind.FileKind.{FileKind}
 use Rattle.cfs_base.specs.declared.kind.FileKind.TheVariants as kinds
 use Rattle.cfs_base.specs.declared.kind.Mode.{Mode}
 use Rattle.cfs_base.specs.declared.kind.Mode.TheVariants as modes
-use Rattle.ufs_model.specs.declared.asked.Ref.{Ref}
-use Rattle.ufs_model.specs.declared.asked.Ref.TheVariants.{Direct, Through}
 use Rattle.ufs_model.specs.declared.asked.Request.{Request}
 use Rattle.ufs_model.specs.declared.asked.Request.TheVariants as asks
 use Rattle.ufs_model.specs.declared.asked.Reply.{Reply}
@@ -19,31 +14,33 @@ use Rattle.ufs_model.specs.declared.asked.Unread.{Unread}
 use Rattle.ufs_model.specs.declared.asked.Unread.TheVariants as unread
 use Rattle.ufs_model.specs.declared.asked.Event.{Event}
 use Rattle.ufs_model.specs.declared.asked.Event.TheVariants as events
-use Rattle.ufs_model.specs.Printed.{id_digits}
+use Rattle.trail_text.specs.Token.{Token, Text, Number, Small, Code, Id, Grant, To, Byte, Hex, id_word, is_clear, spell}
 
--- ---- words: numbers are decimal, bytes and identifiers hexadecimal in lower case, and a grant is marked by a `g`
-
-abbrev pub id_word : Puid → List ℕ
-id_word id = id_digits id.block id.word
-
-abbrev pub grant_word : Tuid → List ℕ
-grant_word t = codes "g" ++ id_digits t.draw t.word
-
-abbrev pub ref_word : Ref → List ℕ
-ref_word (Direct id) = id_word id
-ref_word (Through t) = grant_word t
+-- ---- words of the grammar
 
 abbrev pub kind_word : FileKind → List ℕ
 kind_word kinds.Normal = codes "normal"
 kind_word kinds.Special = codes "special"
 
+pub kind_clear : (kind : FileKind) → is_clear (kind_word kind) ≡ true
+kind_clear kinds.Normal = refl
+kind_clear kinds.Special = refl
+
 abbrev pub mode_word : Mode → List ℕ
 mode_word modes.Reading = codes "read"
 mode_word modes.Writing = codes "write"
 
+pub mode_clear : (mode : Mode) → is_clear (mode_word mode) ≡ true
+mode_clear modes.Reading = refl
+mode_clear modes.Writing = refl
+
 abbrev pub commit_word : Bool → List ℕ
 commit_word true = codes "commit"
 commit_word false = codes "abort"
+
+pub commit_clear : (commit : Bool) → is_clear (commit_word commit) ≡ true
+commit_clear true = refl
+commit_clear false = refl
 
 abbrev pub unread_word : Unread → List ℕ
 unread_word unread.Syntax = codes "syntax"
@@ -52,45 +49,60 @@ unread_word unread.Memory = codes "memory"
 
 -- ---- requests as they are asked, without the name that a reply binds, and replies as they are written
 
+abbrev pub request_tokens : Request → List Token
+request_tokens (asks.CreateFile kind fill index slot) =
+    Text (codes "create-file") refl ∷ Text (kind_word kind) (kind_clear kind) ∷ Byte fill ∷ To index ∷ Number slot
+    ∷ []
+request_tokens (asks.CreateIndex slots index slot) =
+    Text (codes "create-index") refl ∷ Number slots ∷ To index ∷ Number slot ∷ []
+request_tokens (asks.Retain index slot id) = Text (codes "retain") refl ∷ To index ∷ Number slot ∷ Id id ∷ []
+request_tokens (asks.Retrieve index slot) = Text (codes "retrieve") refl ∷ To index ∷ Number slot ∷ []
+request_tokens (asks.Delete index slot) = Text (codes "delete") refl ∷ To index ∷ Number slot ∷ []
+request_tokens (asks.Slots index) = Text (codes "slots") refl ∷ To index ∷ []
+request_tokens (asks.OpenFor id mode) =
+    Text (codes "open") refl ∷ Id id ∷ Text (mode_word mode) (mode_clear mode) ∷ []
+request_tokens (asks.Close grant commit) =
+    Text (codes "close") refl ∷ Grant grant ∷ Text (commit_word commit) (commit_clear commit) ∷ []
+request_tokens (asks.Read file offset count) = Text (codes "read") refl ∷ To file ∷ Number offset ∷ Number count ∷ []
+request_tokens (asks.Write file offset bytes) = Text (codes "write") refl ∷ To file ∷ Number offset ∷ Hex bytes ∷ []
+request_tokens (asks.Size file) = Text (codes "size") refl ∷ To file ∷ []
+request_tokens (asks.Resize file size) = Text (codes "resize") refl ∷ To file ∷ Number size ∷ []
+
+abbrev pub ok : List Token → List Token
+ok tokens = Text (codes "ok") refl ∷ tokens
+
+abbrev pub no : (why : List ℕ) → is_clear why ≡ true → List Token → List Token
+no why clear tokens = Text (codes "no") refl ∷ Text why clear ∷ tokens
+
+abbrev pub reply_tokens : Reply → List Token
+reply_tokens replies.Done = ok []
+reply_tokens (replies.Id id) = ok (Id id ∷ [])
+reply_tokens (replies.Grant t) = ok (Id (record { block = t.draw; word = t.word }) ∷ [])
+reply_tokens (replies.Number n) = ok (Number n ∷ [])
+reply_tokens (replies.Content bytes) = ok (Hex bytes ∷ [])
+reply_tokens replies.Memory = no (codes "memory") refl []
+reply_tokens (replies.Stopped moment) = no (codes "stopped") refl (Number moment ∷ [])
+reply_tokens replies.NoGrant = no (codes "grant") refl []
+reply_tokens replies.NoObject = no (codes "object") refl []
+reply_tokens replies.NotIndex = no (codes "not-index") refl []
+reply_tokens replies.NotFile = no (codes "not-file") refl []
+reply_tokens replies.ReadOnly = no (codes "read-only") refl []
+reply_tokens replies.Locked = no (codes "locked") refl []
+reply_tokens replies.Slot = no (codes "slot") refl []
+reply_tokens replies.Empty = no (codes "empty") refl []
+reply_tokens replies.Range = no (codes "range") refl []
+reply_tokens replies.Grants = no (codes "grants") refl []
+reply_tokens (replies.Full n) = no (codes "full") refl (Small n.free ∷ Small n.need ∷ [])
+reply_tokens (replies.Disk None) = no (codes "disk") refl []
+reply_tokens (replies.Disk (Some moment)) = no (codes "disk") refl (Number moment ∷ [])
+reply_tokens (replies.Damaged damage moment) =
+    no (codes "damaged") refl (Small damage.block ∷ Code damage.code ∷ Number moment ∷ [])
+
 abbrev pub request_words : Request → List (List ℕ)
-request_words (asks.CreateFile kind fill index slot) =
-    codes "create-file" ∷ kind_word kind ∷ encode_lower (fill ∷ []) ∷ ref_word index ∷ decimal slot ∷ []
-request_words (asks.CreateIndex slots index slot) =
-    codes "create-index" ∷ decimal slots ∷ ref_word index ∷ decimal slot ∷ []
-request_words (asks.Retain index slot id) = codes "retain" ∷ ref_word index ∷ decimal slot ∷ id_word id ∷ []
-request_words (asks.Retrieve index slot) = codes "retrieve" ∷ ref_word index ∷ decimal slot ∷ []
-request_words (asks.Delete index slot) = codes "delete" ∷ ref_word index ∷ decimal slot ∷ []
-request_words (asks.Slots index) = codes "slots" ∷ ref_word index ∷ []
-request_words (asks.OpenFor id mode) = codes "open" ∷ id_word id ∷ mode_word mode ∷ []
-request_words (asks.Close grant commit) = codes "close" ∷ grant_word grant ∷ commit_word commit ∷ []
-request_words (asks.Read file offset count) = codes "read" ∷ ref_word file ∷ decimal offset ∷ decimal count ∷ []
-request_words (asks.Write file offset bytes) = codes "write" ∷ ref_word file ∷ decimal offset ∷ encode_lower bytes ∷ []
-request_words (asks.Size file) = codes "size" ∷ ref_word file ∷ []
-request_words (asks.Resize file size) = codes "resize" ∷ ref_word file ∷ decimal size ∷ []
+request_words request = map spell (request_tokens request)
 
 abbrev pub reply_words : Reply → List (List ℕ)
-reply_words replies.Done = codes "ok" ∷ []
-reply_words (replies.Id id) = codes "ok" ∷ id_word id ∷ []
-reply_words (replies.Grant t) = codes "ok" ∷ id_digits t.draw t.word ∷ []
-reply_words (replies.Number n) = codes "ok" ∷ decimal n ∷ []
-reply_words (replies.Content bytes) = codes "ok" ∷ encode_lower bytes ∷ []
-reply_words replies.Memory = codes "no" ∷ codes "memory" ∷ []
-reply_words (replies.Stopped moment) = codes "no" ∷ codes "stopped" ∷ decimal moment ∷ []
-reply_words replies.NoGrant = codes "no" ∷ codes "grant" ∷ []
-reply_words replies.NoObject = codes "no" ∷ codes "object" ∷ []
-reply_words replies.NotIndex = codes "no" ∷ codes "not-index" ∷ []
-reply_words replies.NotFile = codes "no" ∷ codes "not-file" ∷ []
-reply_words replies.ReadOnly = codes "no" ∷ codes "read-only" ∷ []
-reply_words replies.Locked = codes "no" ∷ codes "locked" ∷ []
-reply_words replies.Slot = codes "no" ∷ codes "slot" ∷ []
-reply_words replies.Empty = codes "no" ∷ codes "empty" ∷ []
-reply_words replies.Range = codes "no" ∷ codes "range" ∷ []
-reply_words replies.Grants = codes "no" ∷ codes "grants" ∷ []
-reply_words (replies.Full n) = codes "no" ∷ codes "full" ∷ decimal n.free ∷ decimal n.need ∷ []
-reply_words (replies.Disk None) = codes "no" ∷ codes "disk" ∷ []
-reply_words (replies.Disk (Some moment)) = codes "no" ∷ codes "disk" ∷ decimal moment ∷ []
-reply_words (replies.Damaged damage moment) =
-    codes "no" ∷ codes "damaged" ∷ decimal damage.block ∷ decimal damage.code ∷ decimal moment ∷ []
+reply_words reply = map spell (reply_tokens reply)
 
 -- ---- events
 

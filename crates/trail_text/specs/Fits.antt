@@ -1,69 +1,23 @@
 -- Which events fit a line of the trail.
-use Rattle.std.specs.Prelude.{ℕ, ◌^◌, Bool, true, false, ◌&&◌, nat_lt, List, [], ◌∷◌, length, Some, None}
+use Rattle.std.specs.Prelude.{Bool, true, false, ◌&&◌, nat_lt, length, Some, None}
 use Rattle.std.specs.List.{list_all}
-use Rattle.cfs_base.specs.declared.identifier.Puid.{Puid}
-use Rattle.cfs_base.specs.declared.identifier.Tuid.{Tuid}
-use Rattle.ufs_model.specs.declared.asked.Ref.{Ref}
-use Rattle.ufs_model.specs.declared.asked.Ref.TheVariants.{Direct, Through}
 use Rattle.ufs_model.specs.declared.asked.Request.{Request}
 use Rattle.ufs_model.specs.declared.asked.Request.TheVariants as asks
 use Rattle.ufs_model.specs.declared.asked.Reply.{Reply}
 use Rattle.ufs_model.specs.declared.asked.Reply.TheVariants as replies
 use Rattle.ufs_model.specs.declared.asked.Event.{Event}
 use Rattle.ufs_model.specs.declared.asked.Event.TheVariants as events
-use Rattle.std.specs.Ordering.{is_lt}
-use Rattle.ufs_model.specs.Identifier.{puid_cmp}
-
--- ---- how wide numbers are
-
-abbrev pub in_8 : ℕ → Bool
-in_8 n = nat_lt n (2 ^ 8)
-
-abbrev pub in_32 : ℕ → Bool
-in_32 n = nat_lt n (2 ^ 32)
-
-abbrev pub in_64 : ℕ → Bool
-in_64 n = nat_lt n (2 ^ 64)
-
-abbrev pub id_within : Puid → Bool
-id_within id = in_32 id.block && in_32 id.word
-
-abbrev pub grant_within : Tuid → Bool
-grant_within t = in_32 t.draw && in_32 t.word
-
-abbrev pub ref_within : Ref → Bool
-ref_within (Direct id) = id_within id
-ref_within (Through t) = grant_within t
+use Rattle.ufs_model.specs.Identifier.{ids_rise}
+use Rattle.trail_text.specs.EventLine.{reply_tokens, request_tokens}
+use Rattle.trail_text.specs.Token.{id_within, in_32, in_64, is_within}
 
 -- ---- numbers within their widths, as those of every event in the server are
 
-abbrev pub bytes_within : List ℕ → Bool
-bytes_within bytes = list_all in_8 bytes
-
 abbrev pub request_within : Request → Bool
-request_within (asks.CreateFile kind fill index slot) = in_8 fill && ref_within index && in_64 slot
-request_within (asks.CreateIndex slots index slot) = in_64 slots && ref_within index && in_64 slot
-request_within (asks.Retain index slot id) = ref_within index && in_64 slot && id_within id
-request_within (asks.Retrieve index slot) = ref_within index && in_64 slot
-request_within (asks.Delete index slot) = ref_within index && in_64 slot
-request_within (asks.Slots index) = ref_within index
-request_within (asks.OpenFor id mode) = id_within id
-request_within (asks.Close grant commit) = grant_within grant
-request_within (asks.Read file offset count) = ref_within file && in_64 offset && in_64 count
-request_within (asks.Write file offset bytes) = ref_within file && in_64 offset && bytes_within bytes
-request_within (asks.Size file) = ref_within file
-request_within (asks.Resize file size) = ref_within file && in_64 size
+request_within request = list_all is_within (request_tokens request)
 
 abbrev pub reply_within : Reply → Bool
-reply_within (replies.Id id) = id_within id
-reply_within (replies.Grant t) = grant_within t
-reply_within (replies.Number n) = in_64 n
-reply_within (replies.Content bytes) = bytes_within bytes
-reply_within (replies.Stopped moment) = in_64 moment
-reply_within (replies.Full n) = in_32 n.free && in_32 n.need
-reply_within (replies.Disk (Some moment)) = in_64 moment
-reply_within (replies.Damaged damage moment) = in_32 damage.block && in_8 damage.code && in_64 moment
-reply_within reply = true
+reply_within reply = list_all is_within (reply_tokens reply)
 
 abbrev pub event_within : Event → Bool
 event_within (events.Unread who why) = in_32 who
@@ -120,15 +74,6 @@ reply_shaped request reply = true
 abbrev pub request_shaped : Request → Bool
 request_shaped (asks.Write file offset bytes) = nat_lt 0 (length bytes)
 request_shaped request = true
-
--- each identifier is above the one before it
-abbrev pub rise_from : Puid → List Puid → Bool
-rise_from last [] = true
-rise_from last (id ∷ ids) = is_lt (puid_cmp last id) && rise_from id ids
-
-abbrev pub ids_rise : List Puid → Bool
-ids_rise [] = true
-ids_rise (id ∷ ids) = rise_from id ids
 
 abbrev pub event_shaped : Event → Bool
 event_shaped (events.Ask who request reply) = request_shaped request && reply_shaped request reply

@@ -1,3 +1,4 @@
+pub mod Token
 pub mod EventLine
 pub mod Fits
 pub mod Spaced

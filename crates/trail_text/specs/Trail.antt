@@ -6,7 +6,7 @@ use Rattle.ufs_model.specs.Script.{LF}
 use Rattle.ufs_model.specs.declared.asked.Event.{Event}
 use Rattle.trail_text.specs.declared.ends.Opening.{Opening}
 use Rattle.trail_text.specs.EventLine.{event_line}
-use Rattle.trail_text.specs.Fits.{in_8, in_64}
+use Rattle.trail_text.specs.Token.{in_8, in_64}
 use Rattle.trail_text.specs.Likely.{number_read, read_32, word_at}
 
 -- the first line, for 1 to 1,024 cylinders, and the last

@@ -20,4 +20,3 @@ pub use fault::TrailFault;
 pub use laws::lines_tell_events;
 pub use print::print_event;
 pub use read::read_event;
-pub use shape::fits;

@@ -1,9 +1,11 @@
 //! Events as lines.
-ghost use Rattle.std.specs.Prelude.{◌≡◌, ◌++◌, ◌∷◌, IfOk, OnOk, codes, map};
+ghost use Rattle.std.specs.Prelude.{◌≡◌, ◌++◌, ◌∷◌, IfOk, OnOk, codes, map, true};
+ghost use Rattle.std.specs.List.{list_all};
 ghost use Rattle.std.specs.String.{string_bytes};
 ghost use Rattle.ufs_model.specs.declared.asked.Event.TheVariants as events;
 ghost use Rattle.trail_text.specs.EventLine.{event_line, unread_word};
-ghost use Rattle.trail_text.specs.Spaced.{letters, spaced};
+ghost use Rattle.trail_text.specs.Fits.{event_within};
+ghost use Rattle.trail_text.specs.Spaced.{letters, spaced, word_within};
 
 use crate::print_reply::put_reply;
 use crate::print_request::put_request;
@@ -16,14 +18,19 @@ use ufs_model::{Event, Reply, Request, Unread};
 pub fn print_event(alloc: Global, event: &Event) -> Result<String, NoMemory>
     ensures { IfOk result (λ line. string_bytes line ≡ event_line event.now) }
 {
+    print_within(alloc, event)
+}
+
+/// The same, and the event is within its widths.
+pub fn print_within(alloc: Global, event: &Event) -> Result<String, NoMemory>
+    ensures line { IfOk result (λ line. string_bytes line ≡ event_line event.now) }
+    ensures within { IfOk result (λ line. event_within event.now ≡ true) }
+{
     match event {
         Event::Unread { session, why } => line_of(
             alloc,
             "unread",
-            &[
-                Word::Number(u64::from(*session)),
-                Word::Text(unread_word(*why)),
-            ],
+            &[Word::Small(*session), Word::Text(unread_word(*why))],
         ),
         Event::Ask {
             session,
@@ -33,14 +40,14 @@ pub fn print_event(alloc: Global, event: &Event) -> Result<String, NoMemory>
         Event::Leave {
             session,
             stopped: None,
-        } => line_of(alloc, "leave", &[Word::Number(u64::from(*session))]),
+        } => line_of(alloc, "leave", &[Word::Small(*session)]),
         Event::Leave {
             session,
             stopped: Some(moment),
         } => line_of(
             alloc,
             "leave",
-            &[Word::Number(u64::from(*session)), Word::Number(*moment)],
+            &[Word::Small(*session), Word::Number(*moment)],
         ),
         Event::Began => line_of(alloc, "began", &[]),
         Event::Vanish { ids } => print_vanish(alloc, ids.as_slice()),
@@ -51,7 +58,8 @@ pub fn print_event(alloc: Global, event: &Event) -> Result<String, NoMemory>
 
 /// The line of these words.
 pub fn line_of(alloc: Global, verb: &str, words: &[Word<'_>]) -> Result<String, NoMemory>
-    ensures { IfOk result (λ line. string_bytes line ≡ verb.now ++ spaced (map letters words.now)) }
+    ensures line { IfOk result (λ line. string_bytes line ≡ verb.now ++ spaced (map letters words.now)) }
+    ensures within { IfOk result (λ line. list_all word_within words.now ≡ true) }
 {
     let mut line = String::from_str(alloc, verb)?;
     put_words(&mut line, words)?;
@@ -64,9 +72,10 @@ fn print_ask(
     request: &Request,
     reply: &Reply,
 ) -> Result<String, NoMemory>
-    ensures { IfOk result (λ line. string_bytes line ≡ event_line (events.Ask session request.now reply.now)) }
+    ensures line { IfOk result (λ line. string_bytes line ≡ event_line (events.Ask session request.now reply.now)) }
+    ensures within { IfOk result (λ line. event_within (events.Ask session request.now reply.now) ≡ true) }
 {
-    let mut line = line_of(alloc, "ask", &[Word::Number(u64::from(session))])?;
+    let mut line = line_of(alloc, "ask", &[Word::Small(session)])?;
     put_request(&mut line, request)?;
     put_words(&mut line, &[Word::Text("=")])?;
     put_reply(&mut line, reply)?;
@@ -74,7 +83,8 @@ fn print_ask(
 }
 
 fn print_vanish(alloc: Global, ids: &[Puid]) -> Result<String, NoMemory>
-    ensures { IfOk result (λ line. string_bytes line ≡ event_line (events.Vanish ids.now)) }
+    ensures line { IfOk result (λ line. string_bytes line ≡ event_line (events.Vanish ids.now)) }
+    ensures within { IfOk result (λ line. event_within (events.Vanish ids.now) ≡ true) }
 {
     let mut line = line_of(alloc, "vanish", &[Word::Number(ids.len() as u64)])?;
     'ids: for id in ids {

@@ -1,8 +1,10 @@
 //! Replies as they stand in a line.
-ghost use Rattle.std.specs.Prelude.{◌≡◌, ◌++◌, ◌∷◌, [], OnOk, codes, map};
+ghost use Rattle.std.specs.Prelude.{◌≡◌, ◌&&◌, ◌++◌, ◌∷◌, [], OnOk, codes, map, true};
+ghost use Rattle.std.specs.List.{list_all};
 ghost use Rattle.std.specs.String.{string_bytes};
 ghost use Rattle.trail_text.specs.EventLine.{reply_words};
-ghost use Rattle.trail_text.specs.Spaced.{letters, spaced};
+ghost use Rattle.trail_text.specs.Fits.{reply_within};
+ghost use Rattle.trail_text.specs.Spaced.{letters, spaced, word_within};
 
 use crate::word::{Word, put_words};
 use cfs_base::{NoMemory, Puid};
@@ -10,16 +12,18 @@ use ufs_model::Reply;
 
 /// Puts an ok behind the line.
 fn put_ok(line: &mut String, word: Word<'_>) -> Result<(), NoMemory>
-    ensures { OnOk result (string_bytes line.new
+    ensures line { OnOk result (string_bytes line.new
         ≡ string_bytes line.old ++ spaced (codes "ok" ∷ letters word.entry ∷ [])) }
+    ensures within { OnOk result ((word_within word.entry && true) ≡ true) }
 {
     put_words(line, &[Word::Text("ok"), word])
 }
 
 /// Puts a refusal behind the line.
 fn put_no(line: &mut String, why: &str, numbers: &[Word<'_>]) -> Result<(), NoMemory>
-    ensures { OnOk result (string_bytes line.new
+    ensures line { OnOk result (string_bytes line.new
         ≡ string_bytes line.old ++ spaced (codes "no" ∷ why.now ∷ map letters numbers.now)) }
+    ensures within { OnOk result (list_all word_within numbers.now ≡ true) }
 {
     put_words(line, &[Word::Text("no"), Word::Text(why)])?;
     put_words(line, numbers)
@@ -27,7 +31,8 @@ fn put_no(line: &mut String, why: &str, numbers: &[Word<'_>]) -> Result<(), NoMe
 
 /// Puts the reply behind the line.
 pub fn put_reply(line: &mut String, reply: &Reply) -> Result<(), NoMemory>
-    ensures { OnOk result (string_bytes line.new ≡ string_bytes line.old ++ spaced (reply_words reply.now)) }
+    ensures line { OnOk result (string_bytes line.new ≡ string_bytes line.old ++ spaced (reply_words reply.now)) }
+    ensures within { OnOk result (reply_within reply.now ≡ true) }
 {
     match reply {
         Reply::Done => put_words(line, &[Word::Text("ok")]),
@@ -56,10 +61,7 @@ pub fn put_reply(line: &mut String, reply: &Reply) -> Result<(), NoMemory>
         Reply::Full(need) => put_no(
             line,
             "full",
-            &[
-                Word::Number(u64::from(need.free)),
-                Word::Number(u64::from(need.need)),
-            ],
+            &[Word::Small(need.free), Word::Small(need.need)],
         ),
         Reply::Disk { doubt: None } => put_no(line, "disk", &[]),
         Reply::Disk {
@@ -69,8 +71,8 @@ pub fn put_reply(line: &mut String, reply: &Reply) -> Result<(), NoMemory>
             line,
             "damaged",
             &[
-                Word::Number(u64::from(damage.block)),
-                Word::Number(u64::from(damage.code)),
+                Word::Small(damage.block),
+                Word::Code(damage.code),
                 Word::Number(*moment),
             ],
         ),

@@ -1,7 +1,8 @@
 //! Requests as they stand in a line.
-ghost use Rattle.std.specs.Prelude.{◌≡◌, ◌++◌, OnOk};
+ghost use Rattle.std.specs.Prelude.{◌≡◌, ◌++◌, OnOk, true};
 ghost use Rattle.std.specs.String.{string_bytes};
 ghost use Rattle.trail_text.specs.EventLine.{commit_word, kind_word, mode_word, request_words};
+ghost use Rattle.trail_text.specs.Fits.{request_within};
 ghost use Rattle.trail_text.specs.Spaced.{spaced};
 
 use crate::word::{Word, put_words};
@@ -34,7 +35,8 @@ fn commit_word(commit: bool) -> &'static str
 
 /// Puts the request behind the line.
 pub fn put_request(line: &mut String, request: &Request) -> Result<(), NoMemory>
-    ensures { OnOk result (string_bytes line.new ≡ string_bytes line.old ++ spaced (request_words request.now)) }
+    ensures line { OnOk result (string_bytes line.new ≡ string_bytes line.old ++ spaced (request_words request.now)) }
+    ensures within { OnOk result (request_within request.now ≡ true) }
 {
     match request {
         Request::CreateFile {

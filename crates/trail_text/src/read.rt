@@ -9,13 +9,13 @@ ghost use Rattle.trail_text.specs.Read.{IsLineOf, IsNoLine, texts};
 ghost use Rattle.trail_text.specs.declared.fault.TrailFault.TheVariants as faults;
 
 use crate::fault::TrailFault;
-use crate::print::print_event;
+use crate::print::print_within;
 use crate::read_reply::reply_in;
 use crate::read_request::{request_in, words_taken};
 use crate::read_word::{
     id_in, number_if_any, number_in, number_in_32, word_at, words_from, words_in,
 };
-use crate::shape::fits;
+use crate::shape::is_shaped;
 use cfs_base::{Ids, NoMemory};
 use std::alloc::Global;
 use ufs_model::{Event, Unread};
@@ -51,11 +51,8 @@ fn event_of(alloc: Global, line: &[u8]) -> Result<Option<Event>, NoMemory>
 fn is_line_of(alloc: Global, line: &[u8], event: &Event) -> Result<bool, NoMemory>
     ensures { IfOk result (λ is. is ≡ (fits event.now && bytes_eq line.now (event_line event.now))) }
 {
-    if !fits(event) {
-        return Ok(false);
-    }
-    let printed = print_event(alloc, event)?;
-    Ok(line == printed.as_bytes())
+    let printed = print_within(alloc, event)?;
+    Ok(is_shaped(event) && line == printed.as_bytes())
 }
 
 /// The one event that these words can be of.

@@ -17,13 +17,13 @@ lines-preserved c =
 pub returns-in-Illegal : goal.returns-in-Illegal
 returns-in-Illegal c =
     let judged = subst (λ (v : Judged). IsJudged c.lines.follower c.in-Some.next.line.now v c.judge.new.follower) c.in-Illegal.is c.in_ok-judge.ensures in
-    illegal_here (ended (opening_line c.args.opening) ++ c.args.text.now) c.lines.rest.now c.in-Some.next.line.now c.in-Some.next.rest.now c.args.opening c.lines.events c.lines.follower c.lines.invariant c.in-Some.ensures.text
+    illegal_here (ended (opening_line c.args.opening) ++ c.args.text.now) c.lines.rest.now c.args.opening c.lines.events c.lines.follower c.lines.invariant c.in-Some.next.line.now c.in-Some.next.rest.now c.in-Some.ensures.text
     judged.0 judged.1 judged.2
 
 pub returns-in-NoEvent : goal.returns-in-NoEvent
 returns-in-NoEvent c =
     let none = subst (λ (v : Judged). IsJudged c.lines.follower c.in-Some.next.line.now v c.judge.new.follower) c.in-NoEvent.is c.in_ok-judge.ensures in
-    last_verdict (ended (opening_line c.args.opening) ++ c.args.text.now) c.lines.rest.now c.in-Some.next.line.now c.in-Some.next.rest.now c.args.opening c.lines.events c.lines.follower c.lines.invariant c.in-Some.ensures.text
+    last_verdict (ended (opening_line c.args.opening) ++ c.args.text.now) c.lines.rest.now c.args.opening c.lines.events c.lines.follower c.lines.invariant c.in-Some.next.line.now c.in-Some.next.rest.now c.in-Some.ensures.text
     c.in-Some.ensures.line c.lines_tell_events.ensures.ends c.lines_tell_events.ensures.status_ends none c.last.result c.last.ensures
 
 pub returns : goal.returns

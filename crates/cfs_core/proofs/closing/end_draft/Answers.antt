@@ -1,13 +1,14 @@
-use Rattle.std.proofs.Common.{None, sym, subst, arith}
+use Rattle.std.proofs.Common.{None, sym, ◌∙◌, subst, arith}
 use Rattle.cfs_core.specs.Drafts.{EndsDraft}
 use Rattle.cfs_core.proofs.Readied.{never_none, ready_for}
+use Rattle.intentions.proofs.Changes.{all_ok}
 use Rattle.cfs_core.proofs.Went.{fewer_calls}
 use Rattle.cfs_core.proofs.closing.end_draft.Goals as goal
 
 pub commit-requires : goal.commit-requires
 commit-requires g c =
     let ready = ready_for _ c.args.draft c.requires.ready in
-    record { on_disk = ready.on_disk; size = c.requires.size; room = λ none. never_none c.args.draft.shadow ready.shadow.0 none ready.shadow.1 }
+    record { on_disk = ready.on_disk; size = c.requires.size; room = λ none. never_none c.args.draft.shadow ready.shadow.0 none ready.shadow.1; left = c.requires.left }
 
 pub abort-requires : goal.abort-requires
 abort-requires g c = record { on_disk = (ready_for _ c.args.draft c.requires.ready).on_disk; size = c.requires.size }
@@ -38,6 +39,6 @@ returns-else-commit g c = subst (λ b. EndsDraft g.D.Disk b c.args.draft c.args.
   tried = c.abort.ensures.tried;
   refused = c.abort.ensures.refused;
   cylinders = c.abort.ensures.cylinders;
-  left = c.abort.ensures.left;
+  left = all_ok c.abort.result (c.abort.ensures.left ∙ c.requires.left);
   calls = fewer_calls g.D.Disk 31205 15483 93137 46452 c.args.disk.now c.abort.new.disk (omega arith) (omega arith) c.abort.ensures.calls;
 })

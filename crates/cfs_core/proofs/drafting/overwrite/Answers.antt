@@ -1,5 +1,8 @@
-use Rattle.std.proofs.Common.{length, arith}
+use Rattle.std.proofs.Common.{[], ◌∷◌, length, arith}
 use Rattle.cfs_core.proofs.Words.{need_beside, Overwrite}
+use Rattle.cfs_core.specs.Claimed.{claims_in_draft}
+use Rattle.cfs_core.proofs.Claimed.{claims_all}
+use Rattle.cfs_core.proofs.Seated.{on_ok}
 use Rattle.cfs_core.proofs.Rewritten.{few_leaves, spared_so, told_of_full, untried_so}
 use Rattle.cfs_core.proofs.Went.{fewer_calls}
 use Rattle.cfs_core.proofs.drafting.overwrite.Goals as goal
@@ -11,6 +14,7 @@ returns g c =
       alters = λ graph ds id d knows. record {
         done = c.write.ensures.written graph ds id knows.object d knows.file knows.store knows.there knows.is_open knows.is_file;
         room = c.write.ensures.room ds id d knows.is_open;
+        order = on_ok c.write.result (claims_all (claims_in_draft (Overwrite c.args.offset c.args.bytes.now) d c.args.draft.now) (id.block ∷ []) (g.D.Disk.content c.args.disk.now) (g.D.Disk.content c.write.new.disk)) (c.write.ensures.order graph ds id knows.object d knows.store knows.there knows.is_open);
         leaves = c.write.ensures.leaves graph ds id knows.object d knows.store knows.there knows.is_open;
         full = told_of_full g.D.Disk 0 0 0 0 c.args.disk.now c.write.new.disk c.args.space.now c.write.new.space c.args.draft.now c.write.new.self (need_beside (Overwrite c.args.offset c.args.bytes.now) d c.args.draft.now) c.write.result (c.write.ensures.full ds id d knows.is_open);
         sound = c.write.ensures.sound graph ds id knows.object d knows.store knows.there knows.is_open;

@@ -1,4 +1,8 @@
 use Rattle.std.proofs.Common.{arith}
+use Rattle.cfs_core.proofs.Words.{SetSize}
+use Rattle.cfs_core.specs.Claimed.{claims_in_draft}
+use Rattle.cfs_core.proofs.Claimed.{claims_dropped}
+use Rattle.cfs_core.proofs.Seated.{on_ok}
 use Rattle.cfs_core.proofs.Rewritten.{resized_stays, spared_one, untried_so}
 use Rattle.cfs_core.proofs.drafting.set_size.Goals as goal
 
@@ -9,6 +13,7 @@ returns g c =
       alters = λ graph ds id d knows. record {
         done = c.resize.ensures.resized graph ds id knows.object d knows.file knows.store knows.there knows.is_open knows.is_file;
         room = c.resize.ensures.room graph ds id knows.object d knows.file knows.store knows.there knows.is_open knows.is_file;
+        order = on_ok c.resize.result (claims_dropped id.block (claims_in_draft (SetSize c.args.size) d c.args.draft.now) (g.D.Disk.content c.args.disk.now) (g.D.Disk.content c.resize.new.disk)) (c.resize.ensures.order graph ds id knows.object d knows.file knows.store knows.there knows.is_open knows.is_file);
         leaves = c.resize.ensures.leaves graph ds id knows.object d knows.store knows.there knows.is_open;
         full = c.resize.ensures.full graph ds id knows.object d knows.file knows.store knows.there knows.is_open knows.is_file;
         sound = c.resize.ensures.sound graph ds id knows.object d knows.store knows.there knows.is_open;

@@ -8,6 +8,7 @@ returns-then-not-wanted-clause-begins g c = record {
   ends = λ graph ds id o store same at shut. (c.if-not-wanted.true, refl, refl);
   ready = tt;
   cause = tt;
+  left = refl;
   calls = nothing_made g.D.Disk c.args.disk.now 3 1;
 }
 
@@ -23,12 +24,14 @@ returns-in-Ok-clause-begins g c =
           steps = c.in-Ok.ensures.steps graph ds id o store same at (shut wants);
           opened = begun_open id o ds c.args.at.0 begun.0 draft begun.1 same (shut wants);
           bare = ap (λ (w : Drafting). w.created) begun.1;
+          least = c.in-Ok.ensures.least graph ds id o store same at (shut wants);
           leaves = c.begin.ensures.leaves graph ds id o store same at;
           free = c.in-Ok.ensures.floor;
         },
       );
       ready = (wants, ap (λ (w : Drafting). w.at) begun.1, (begun.0, ap (λ (w : Drafting). w.shadow) begun.1), ap (λ (w : Drafting). w.created) begun.1);
       cause = tt;
+      left = c.begin.ensures.left;
       calls = c.begin.ensures.calls;
     }
 
@@ -40,5 +43,6 @@ returns-in-Err-clause-begins g c =
           (c.in-Err.ensures.sound graph ds id o store same at) (c.begin.ensures.leaves graph ds id o store same at);
       ready = tt;
       cause = c.in-Err.ensures.refused;
+      left = c.begin.ensures.left;
       calls = c.begin.ensures.calls;
     }

@@ -1,5 +1,5 @@
-use Rattle.std.proofs.Common.{ℕ, ◌+◌, ◌*◌, ◌≤◌, List, sym, ◌∙◌, subst, arith}
-use Rattle.cfs_recover.proofs.Words.{block_at, changed, map_spelling}
+use Rattle.std.proofs.Common.{ℕ, ◌+◌, ◌*◌, ◌≤◌, List, sym, ◌∙◌, ap, subst, arith}
+use Rattle.cfs_recover.proofs.Words.{block_at, changed, Kept, map_spelling}
 use Rattle.cfs_recover.proofs.TidyCylinders.{free_most, given_here, given_others, given_size, written_here, written_others}
 use Rattle.cfs_recover.proofs.tidy.tidy_cylinder.Goals as goal
 
@@ -24,6 +24,9 @@ returns-clause-counts g c k other = given_others c.args.space.now c.gave.new.sel
 
 pub returns-clause-size : goal.returns-clause-size
 returns-clause-size g c = given_size c.args.space.now c.gave.new.self c.args.cylinder c.free_count.result c.gave.ensures.given
+
+pub returns-clause-left : goal.returns-clause-left
+returns-clause-left g c = ap (λ (k : Kept). k.left) c.gave.ensures.given
 
 pub returns-clause-differs : goal.returns-clause-differs
 returns-clause-differs g c inside was =

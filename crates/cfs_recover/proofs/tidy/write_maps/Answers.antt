@@ -1,4 +1,4 @@
-use Rattle.std.proofs.Common.{◌≡◌, ℕ, ◌+◌, ◌*◌, ◌<◌, ◌≤◌, List, [], length, get_or, sym, ◌∙◌, ap, subst, arith}
+use Rattle.std.proofs.Common.{◌≡◌, ℕ, ◌+◌, ◌*◌, ◌<◌, ◌≤◌, List, [], length, get_or, refl, sym, ◌∙◌, ap, subst, arith}
 use Rattle.cfs_recover.proofs.Words.{HasTidied, Image, IsMapIn, MapEntry, Tidies, block_at, changed_maps, makes_then, map_spelling}
 use Rattle.cfs_recover.proofs.Keepings.{keeps_begin, keeps_lead, makes_none}
 use Rattle.cfs_recover.proofs.TidyCylinders.{changed_more, map_in, none_counted, none_size, the_map, tidied_more}
@@ -9,6 +9,7 @@ pub loop-cylinder-init : goal.loop-cylinder-init
 loop-cylinder-init g c = record {
   calls = makes_none g.D.Disk c.args.disk.now 0 0;
   size = none_size (length c.args.maps.now) c.args.space.now.free c.requires.none;
+  left = refl;
   zero = λ k le. none_counted (length c.args.maps.now) k c.args.space.now.free c.requires.none;
   keeps = λ a graph settled is tidying are. (
     keeps_begin g.D.Disk (Tidies a graph) c.args.disk.now settled (subst (Tidies a graph) (sym is) (tidies_begin a graph tidying.holds)),
@@ -31,6 +32,7 @@ loop-cylinder-preserved g c =
     record {
       calls = makes_then g.D.Disk c.args.disk.now c.loop-cylinder.disk c.tidy_cylinder.new.disk n 1 (n + 1) n 1 (n + 1) before.calls done.calls (omega arith) (omega arith);
       size = done.size ∙ before.size;
+      left = done.left ∙ before.left;
       zero = λ k le. done.counts k (λ same. absurd (omega (arith, same, le))) ∙ before.zero k (omega (arith, le));
       keeps = λ a graph settled is tidying are.
           let were = before.keeps a graph settled is tidying are in

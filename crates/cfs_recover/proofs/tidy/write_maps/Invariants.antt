@@ -6,6 +6,7 @@ abbrev pub invariant-loop-cylinder : goal.invariant-loop-cylinder
 invariant-loop-cylinder g l = record {
   calls : MakesAtMost g.D.Disk l.cylinder l.cylinder l.initial.disk l.disk;
   size : length l.space.free ≡ length l.maps;
+  left : l.space.left ≡ l.initial.space.left;
   zero : (k : ℕ) → l.cylinder ≤ k → get_or l.space.free k 0 ≡ 0;
   keeps : (a : Image) (graph : Graph) → IsSettled g.D.Disk l.initial.disk → g.D.Disk.content l.initial.disk ≡ a → IsTidying a graph l.held → AreMapsOf a l.maps
       → Keeps g.D.Disk (Tidies a graph) l.initial.disk l.disk × AreTidied (g.D.Disk.content l.disk) l.maps l.held l.space.free l.cylinder

@@ -1,5 +1,5 @@
 use Rattle.std.proofs.Common.{rules, ◌≡◌, ◌≢◌, ◌+◌, ◌-◌, ◌*◌, ◌<◌, ◌≤◌, ℕ, length, refl, sym, ap, subst, arith, below_more}
-use Rattle.cfs_recover.proofs.Words.{Ghosts, IsGoodAt, IsInPlace, OnlyReads, Spot, SpotFault, add-mul, levels_below, reads_of, reads_then, reads_within, width, leaf_limit, leaf_pointers}
+use Rattle.cfs_recover.proofs.Words.{Ghosts, IsGoodAt, IsInPlace, OnlyReads, Spot, SpotFault, add-mul, levels_below, reads_by_height, reads_then, reads_within, width, leaf_limit, leaf_pointers}
 use Rattle.cfs_recover.proofs.Good.{all_on, good_leaf, good_with}
 use Rattle.cfs_recover.proofs.Noting.{grows_then}
 use Rattle.cfs_recover.proofs.Objects.{node_pointers_of, spot_fault}
@@ -45,7 +45,7 @@ walk_twig-returns-in_err-node-clause-told g t c image done walks has =
     (c.in_err-node.ensures.told image c.args.owner done c.args.root.now walks.stored walks.walk has c.if-twig-eq0.false) (λ d wrong. wrong)
 
 pub walk_twig-returns-in_err-node-clause-reads : goal.walk_twig-returns-in_err-node-clause-reads
-walk_twig-returns-in_err-node-clause-reads g t c = reads_within g.D.Disk _ _ 1 (reads_of c.args.twig.height) (reads_some c.args.twig.height) c.in_err-node.ensures.reads
+walk_twig-returns-in_err-node-clause-reads g t c = reads_within g.D.Disk _ _ 1 (reads_by_height c.args.twig.height) (reads_some c.args.twig.height) c.in_err-node.ensures.reads
 
 pub walk_twig-walk_below-requires : goal.walk_twig-walk_below-requires
 walk_twig-walk_below-requires g t c =
@@ -59,9 +59,9 @@ walk_twig-walk_below-requires g t c =
     let smaller : 2 * (c.args.twig.height - 1) + 1 < 2 * c.args.twig.height = omega (arith, c.if-twig-eq0.false) in
     search rules
 
-node_reads : {D : Type 0} (g : Ghosts D) (old mid new : D) (h count : ℕ) → h ≢ 0 → count ≡ leaf_pointers.count → OnlyReads g 1 old mid → OnlyReads g (count * reads_of (h - 1)) mid new → OnlyReads g (reads_of h) old new
+node_reads : {D : Type 0} (g : Ghosts D) (old mid new : D) (h count : ℕ) → h ≢ 0 → count ≡ leaf_pointers.count → OnlyReads g 1 old mid → OnlyReads g (count * reads_by_height (h - 1)) mid new → OnlyReads g (reads_by_height h) old new
 node_reads g old mid new h count more is one two =
-    reads_then g old mid new 1 (leaf_pointers.count * reads_of (h - 1)) (reads_of h) one (subst (λ (n : ℕ). OnlyReads g (n * reads_of (h - 1)) mid new) is two) (omega (arith, reads_more h more))
+    reads_then g old mid new 1 (leaf_pointers.count * reads_by_height (h - 1)) (reads_by_height h) one (subst (λ (n : ℕ). OnlyReads g (n * reads_by_height (h - 1)) mid new) is two) (omega (arith, reads_more h more))
 
 pub walk_twig-returns-in_err-walk_below-clause-reads : goal.walk_twig-returns-in_err-walk_below-clause-reads
 walk_twig-returns-in_err-walk_below-clause-reads g t c =
@@ -116,7 +116,7 @@ walk_below-returns-in_err-walk_twig-clause-told g t c image done walks has =
 pub walk_below-loop-place-preserved-then-block-eq0 : goal.walk_below-loop-place-preserved-then-block-eq0
 walk_below-loop-place-preserved-then-block-eq0 g t c =
     let j = c.loop-place.place in
-    let r = reads_of c.args.at.height in
+    let r = reads_by_height c.args.at.height in
     let before = c.loop-place.invariant in
     record {
       reads = reads_within g.D.Disk c.args.disk.now c.loop-place.disk (j * r) ((j + 1) * r) (omega (arith, add-mul j 1 r)) before.reads;
@@ -129,7 +129,7 @@ walk_below-loop-place-preserved-then-block-eq0 g t c =
 pub walk_below-loop-place-preserved : goal.walk_below-loop-place-preserved
 walk_below-loop-place-preserved g t c =
     let j = c.loop-place.place in
-    let r = reads_of c.args.at.height in
+    let r = reads_by_height c.args.at.height in
     let before = c.loop-place.invariant in
     let grows = c.in_ok-walk_twig.ensures.grows in
     record {

@@ -1,5 +1,5 @@
 use Rattle.std.proofs.Common.{◌+◌, ◌*◌, ℕ}
-use Rattle.cfs_recover.proofs.Words.{AreGoodBelow, Grows, HasPointers, Image, OnlyReads, Walks, reads_of}
+use Rattle.cfs_recover.proofs.Words.{AreGoodBelow, Grows, HasPointers, Image, OnlyReads, Walks, reads_by_height}
 use Rattle.cfs_recover.proofs.walk_below.+levels.Given as goal
 
 abbrev pub decreases-walk_twig : goal.decreases-walk_twig
@@ -10,7 +10,7 @@ decreases-walk_below g l = 2 * l.at.height + 1
 
 abbrev pub invariant-walk_below-loop-place : goal.invariant-walk_below-loop-place
 invariant-walk_below-loop-place g l = record {
-  reads : OnlyReads g.D.Disk (l.place * reads_of l.at.height) l.initial.disk l.disk;
+  reads : OnlyReads g.D.Disk (l.place * reads_by_height l.at.height) l.initial.disk l.disk;
   grows : Grows l.initial.walk l.walk;
   told : (image : Image) (done : ℕ) → Walks g.D.Disk l.initial.disk image l.maps l.initial.walk done → HasPointers image l.owner l.root l.at l.pointers
       → Walks g.D.Disk l.disk image l.maps l.walk done × AreGoodBelow image l.owner l.root l.walk l.at l.pointers l.place;

@@ -1,5 +1,5 @@
 use Rattle.std.proofs.Common.{refl}
-use Rattle.cfs_recover.proofs.Words.{id_of, leaf_in, shown, shown_tree}
+use Rattle.cfs_recover.proofs.Words.{id_of, leaf_in, object_shown, shown_tree}
 use Rattle.cfs_recover.proofs.Refused.{stored_on, told_on}
 use Rattle.cfs_recover.proofs.Taking.{is_copy, kind_is, object_taken, root_kept, top_pointers}
 use Rattle.cfs_recover.proofs.walk_object.walk_object.Goals as goal
@@ -37,7 +37,7 @@ returns-clause-told g c image label done walks standing has next =
       record {
         stored = all.0.stored;
         maps_are = walks.maps_are;
-        walk = c.learn.ensures.told image done (shown image id head.root) all.0.walk
+        walk = c.learn.ensures.told image done (object_shown image id head.root) all.0.walk
             (record { item = item; here = grows.found done item (c.hold.ensures.grows.found done item next); is = refl })
             (kind_is head.root (leaf_in (shown_tree image item.block)))
             (object_taken image id head opened c.walk_below.new.walk all.1 (λ n below. (walks.stored.blocks n below).long) (grows.held item.block c.hold.ensures.held));

@@ -2,8 +2,8 @@ use Rattle.std.proofs.Common.{◌≡◌, ◌∙◌, ℕ, ◌+◌, ◌-◌, ◌*�
 use Rattle.collector_steps.specs.Left.{most_steps}
 use Rattle.cfs_core.specs.Left.{events_ahead, steps_ahead}
 use Rattle.cfs_core.specs.declared.collecting.Collections.{Collections}
-use Rattle.cfs_serve.proofs.Cited.{AreOver, Stands, opening, seat_of}
-use Rattle.cfs_serve.proofs.Playing.{IsServed, none_lost, served}
+use Rattle.cfs_serve.proofs.Cited.{AreOver, Stands, draft_blocks, opening, client_of, sum_by}
+use Rattle.cfs_serve.proofs.Playing.{IsServed, IsStatusOf, none_lost, served}
 use Rattle.cfs_serve.proofs.play.serve_ports.Goals as goal
 
 pub serve-requires-clause-new : goal.serve-requires-clause-new
@@ -45,8 +45,18 @@ returns g c =
     let parts = c.in-Ok.parts in
     let facts = c.in-Ok.ensures in
     let trail = parts.trail.events in
-    let over : AreOver c.args.core.root c.args.collections (map seat_of c.args.ports.items) trail parts.ports.items =
-    subst (λ r. AreOver r c.args.collections (map seat_of c.args.ports.items) trail parts.ports.items) c.root-root.ensures facts.over in
+    let last = c.status-last in
+    let last_is : IsStatusOf parts.server last.result = record {
+      objects = last.ensures.objects;
+      free = last.ensures.free;
+      stopped = last.ensures.stopped;
+      damage = last.ensures.damage;
+      running = last.ensures.running;
+      called = last.ensures.called;
+      finished = last.ensures.finished;
+    } in
+    let over : AreOver c.args.core.root c.args.collections (map client_of c.args.ports.items) trail parts.ports.items =
+    subst (λ r. AreOver r c.args.collections (map client_of c.args.ports.items) trail parts.ports.items) c.root-root.ensures facts.over in
     let served_so : IsServed g.D.Disk c.args.collections parts.ending parts.server trail parts.trail.moments c.call_for.new.self = record {
       run = facts.run;
       later = facts.later;
@@ -58,14 +68,16 @@ returns g c =
       tallied = facts.tallied;
       rise = facts.rise;
       size = facts.size;
+      called = facts.called;
       lasts = facts.lasts;
       faults = facts.counted;
       stops = facts.stops;
     } in
     rw c.into_disk-2.ensures (inl (served g.D.Disk c.images_are_whole.ensures.sized c.images_are_whole.ensures.left_sized c.args.core parts.server c.args.ports.items parts.ports.items
-    trail parts.trail.moments c.len-sessions.result parts.ending c.report_on-report.result c.args.collections c.requires.runs
+    trail parts.trail.moments c.len-sessions.result parts.ending c.report_on-report.result last.result last_is c.args.collections c.requires.runs
     (subst (IsServed g.D.Disk c.args.collections parts.ending parts.server trail parts.trail.moments) c.call_for.ensures served_so) over (omega (arith, c.len-sessions.ensures))
-    (rw (c.has_broken-broken.ensures, c.as_slice.ensures.value, facts.failed, facts.starved) at c.report_on-report.ensures.told) c.report_on-report.ensures.free
+    (rw (c.has_broken-broken.ensures, c.as_slice.ensures.value, facts.failed, facts.starved) at c.report_on-report.ensures)
+    (λ s serves calm none. let undrafted : sum_by draft_blocks s.grants ≡ 0 = ap (sum_by draft_blocks) none in omega (arith, c.has_room-2.ensures.room s serves calm, undrafted))
     (λ graph reads. c.runs_survive.ensures.begin c.args.core.words.seed graph c.args.core.disk reads)))
 
 pub returns-in-Err : goal.returns-in-Err

@@ -1,12 +1,12 @@
 use Rattle.std.proofs.Common.{◌∙◌, ◌≡◌, ◌⊎◌, ℕ, List, ap, map, length, inl, inr, sym, subst, arith}
-use Rattle.cfs_serve.proofs.Cited.{AreNew, Ending, Event, Ghosts, Intake, IsUnserved, Kernel, Reading, Report, ServesScripts, ServesSessions, length-map, request_lines, seat_of}
-use Rattle.cfs_serve.proofs.Lists.{new_work, same_length, seat_lines, seat_sinks}
+use Rattle.cfs_serve.proofs.Cited.{AreNew, Ending, Event, Ghosts, Intake, IsUnserved, Kernel, Reading, Report, ServesScripts, ServesSessions, length-map, request_lines, client_of}
+use Rattle.cfs_serve.proofs.Lists.{new_work, same_length, client_lines, client_sinks}
 use Rattle.cfs_serve.proofs.play.serve_scripts.Goals as goal
 
 -- as many ports as scripts, before and after
-as_many : (before after : List Reading) (scripts : List (List ℕ)) → map (λ p. p.lines) before ≡ map request_lines scripts → length after ≡ length (map seat_of before)
+as_many : (before after : List Reading) (scripts : List (List ℕ)) → map (λ p. p.lines) before ≡ map request_lines scripts → length after ≡ length (map client_of before)
     → length after ≡ length scripts
-as_many before after scripts lines count = count ∙ length-map before seat_of ∙ same_length (λ (p : Reading). p.lines) request_lines before scripts lines
+as_many before after scripts lines count = count ∙ length-map before client_of ∙ same_length (λ (p : Reading). p.lines) request_lines before scripts lines
 
 pub returns-in_default-make_ports-clause-count : goal.returns-in_default-make_ports-clause-count
 returns-in_default-make_ports-clause-count g c =
@@ -15,18 +15,18 @@ returns-in_default-make_ports-clause-count g c =
 -- there are as many ports as before
 module _ {D : Type 0} (g : Ghosts D) (core : Kernel D) (collections : ℕ) (before after : List Reading) (report : Report) (ending : Ending) (trail : List Event) (moments : List ℕ) (disk : D) where
   abbrev Ended : Type 0
-  Ended = ServesSessions g core collections (map seat_of before) after report ending trail moments disk ⊎ IsUnserved core before after report ending trail disk
+  Ended = ServesSessions g core collections (map client_of before) after report ending trail moments disk ⊎ IsUnserved core before after report ending trail disk
 
-  same_count : Ended → length after ≡ length (map seat_of before)
+  same_count : Ended → length after ≡ length (map client_of before)
   same_count (inl s) = s.played.over.count
-  same_count (inr u) = ap length u.ports ∙ sym (length-map before seat_of)
+  same_count (inr u) = ap length u.ports ∙ sym (length-map before client_of)
 
   serves : (scripts : List (List ℕ)) (sinks left : List Intake) → map (λ p. p.lines) before ≡ map request_lines scripts → map (λ p. p.sink) before ≡ sinks
       → left ≡ map (λ p. p.sink) after → Ended → ServesScripts g core collections scripts sinks left report ending trail moments disk
   serves scripts sinks left lines begun is (inl s) = inl (record {
-    seats = map seat_of before;
+    clients = map client_of before;
     ports = after;
-    seated = record { lines = seat_lines before ∙ lines; begun = seat_sinks before ∙ begun; left = sym is };
+    matched = record { lines = client_lines before ∙ lines; begun = client_sinks before ∙ begun; left = sym is };
     serves = s;
   })
   serves scripts sinks left lines begun is (inr u) = inr (

@@ -18,7 +18,7 @@ returns-in-Ok g c =
       full = λ graph ds id f may. tt;
       begun = λ graph ds id f may. tt;
       sound = λ graph ds id f may. tt;
-      ends = record { refused = tt; untried = tt; cylinders = e.cylinders; left = e.left; calls = makes_within g.D.Disk c.args.disk.now c.resize.new.disk 31346 15614 124230 61938 (omega arith) (omega arith) e.calls };
+      ends = record { refused = tt; untried = tt; cylinders = e.cylinders; left = e.left ∙ c.requires.left; calls = makes_within g.D.Disk c.args.disk.now c.resize.new.disk 31346 15614 124230 61938 (omega arith) (omega arith) e.calls };
     })
 
 pub returns-in-Err : goal.returns-in-Err
@@ -32,5 +32,5 @@ returns-in-Err g c =
       full = λ graph ds id f may. place_full g.D.Disk _ c.args.at.0 c.args.floor (SetSize c.args.size) c.args.disk.now c.resize.new.disk c.args.space.now c.resize.new.space 0 c.in-Err.error e.refused e.full;
       begun = λ graph ds id f may is. inl (omega (arith, e.begun is));
       sound = λ graph ds id f may. same_damaged c.in-Err.error ∙ (e.resizes (handed may)).sound;
-      ends = record { refused = place_refusal g.D.Disk _ c.args.at.0 c.args.floor (SetSize c.args.size) c.args.disk.now c.resize.new.disk c.args.space.now c.resize.new.space (λ damage is. elim is [ inl file ↦ OfFile file | inr drops ↦ OfDrops drops ]) c.in-Err.error e.refused; untried = λ un. let two = e.untried un in (two.0, reads_within g.D.Disk c.args.disk.now c.resize.new.disk 3 31093 (omega arith) two.1); cylinders = e.cylinders; left = e.left; calls = makes_within g.D.Disk c.args.disk.now c.resize.new.disk 31346 15614 124230 61938 (omega arith) (omega arith) e.calls };
+      ends = record { refused = place_refusal g.D.Disk _ c.args.at.0 c.args.floor (SetSize c.args.size) c.args.disk.now c.resize.new.disk c.args.space.now c.resize.new.space (λ damage is. elim is [ inl file ↦ OfFile file | inr drops ↦ OfDrops drops ]) c.in-Err.error e.refused; untried = λ un. let two = e.untried un in (two.0, reads_within g.D.Disk c.args.disk.now c.resize.new.disk 3 31093 (omega arith) two.1); cylinders = e.cylinders; left = tt; calls = makes_within g.D.Disk c.args.disk.now c.resize.new.disk 31346 15614 124230 61938 (omega arith) (omega arith) e.calls };
     })

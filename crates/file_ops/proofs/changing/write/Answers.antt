@@ -11,7 +11,7 @@ returns-in-Ok g c =
       refused = tt;
       untried = tt;
       cylinders = e.cylinders;
-      left = e.left;
+      left = e.left ∙ c.requires.left;
       calls = makes_within g.D.Disk c.args.disk.now c.write.new.disk 72 43 124230 61938 (omega arith) (omega arith) e.calls;
     } in
     record {
@@ -35,7 +35,7 @@ returns-in-Err g c =
       refused = place_refusal g.D.Disk _ c.args.at.0 c.args.floor (Overwrite c.args.offset c.args.bytes.now) c.args.disk.now c.write.new.disk c.args.space.now c.write.new.space (λ damage is. elim is [ inl file ↦ OfFile file | inr claims ↦ OfClaims claims ]) c.in-Err.error e.refused;
       untried = λ un. let two = e.untried un in (two.0, reads_within g.D.Disk c.args.disk.now c.write.new.disk 72 31093 (omega arith) two.1);
       cylinders = e.cylinders;
-      left = e.left;
+      left = tt;
       calls = makes_within g.D.Disk c.args.disk.now c.write.new.disk 72 43 124230 61938 (omega arith) (omega arith) e.calls;
     } in
     record {

@@ -1,4 +1,4 @@
-use Rattle.file_ops.proofs.Words.{List, refl, Puid, Graph, SetSize, File, Opened}
+use Rattle.file_ops.proofs.Words.{List, refl, ◌∙◌, ap, Kept, Puid, Graph, SetSize, File, Opened}
 use Rattle.file_ops.specs.Changes.{MayChange}
 use Rattle.file_ops.proofs.Beside.{begun, ended, err_change, none_fresh, opens}
 use Rattle.cfs_base.specs.declared.kind.FileKind.TheVariants as kinds
@@ -42,3 +42,6 @@ returns-in-Ok-resize g c =
     r.ends r.stays.at r.stays.shadow r.stays.created c.has_fresh_nodes-wrote.result
     (λ wrote. let some = c.has_fresh_nodes-wrote.ensures.some wrote in (r.told none).tried some.0 some.1) (λ none_now. (r.told none).untried (c.has_fresh_nodes-wrote.ensures.none none_now)) c.commit.new.disk c.commit.new.space c.commit.result
     (record { done = c.commit.ensures.done; leaves = c.commit.ensures.leaves; sound = c.commit.ensures.sound; refusal = c.commit.ensures.refused; untried = c.commit.ensures.untried; cylinders = c.commit.ensures.cylinders; left = c.commit.ensures.left; calls = c.commit.ensures.calls })
+
+pub commit-requires-clause-left : goal.commit-requires-clause-left
+commit-requires-clause-left g c = c.in-Ok-resize.ensures.ends.left ∙ ap (λ (k : Kept). k.left) c.in-Ok.ensures.space ∙ c.requires.left

@@ -1,4 +1,4 @@
-use Rattle.file_ops.proofs.Words.{inl, ◌+◌, ◌-◌, ◌/◌, ◌<◌, true, List, length, Ok, Err, refl, sym, ap, subst, arith, sum, OnlyReads, Puid, reads_within, AreClaimed, reads_none, Drafting, claims_from, Graph, leaves_in, Overwrite, File, Opened}
+use Rattle.file_ops.proofs.Words.{inl, ◌+◌, ◌-◌, ◌/◌, ◌<◌, true, List, length, Ok, Err, refl, sym, ◌∙◌, ap, subst, arith, sum, Kept, OnlyReads, Puid, reads_within, AreClaimed, reads_none, Drafting, claims_from, Graph, leaves_in, Overwrite, File, Opened}
 use Rattle.file_ops.specs.Changes.{MayChange}
 use Rattle.file_ops.proofs.Beside.{any_id, any_open, begun, ended, ends_more, err_change, err_read, opens, short_not, short_why}
 use Rattle.cfs_base.specs.declared.kind.FileKind.TheVariants as kinds
@@ -63,3 +63,6 @@ returns-in-Ok-write g c =
     (ends_more g.D.Disk was.at c.args.floor _ _ (sum c.begin_direct.new.space.free) 31092 15486 d1 c.write.new.disk c.begin_direct.new.space c.write.new.space (Ok (tt {0})) r.ends (omega (arith, c.requires.most)) (omega (arith, c.requires.most)))
     r.stays.at r.stays.shadow r.stays.created true (λ wrote. r.tried c.requires.least) (λ no. cc) c.commit.new.disk c.commit.new.space c.commit.result
     (record { done = c.commit.ensures.done; leaves = c.commit.ensures.leaves; sound = c.commit.ensures.sound; refusal = c.commit.ensures.refused; untried = c.commit.ensures.untried; cylinders = c.commit.ensures.cylinders; left = c.commit.ensures.left; calls = c.commit.ensures.calls })
+
+pub commit-requires-clause-left : goal.commit-requires-clause-left
+commit-requires-clause-left g c = c.in-Ok-write.ensures.ends.left ∙ ap (λ (k : Kept). k.left) c.in-Ok.ensures.space ∙ c.requires.left

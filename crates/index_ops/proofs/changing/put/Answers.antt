@@ -39,7 +39,7 @@ returns-in-Ok-None g c =
     let reads = c.in-Ok.ensures.reads in
     let spared = c.in-Ok-None.ensures.spared c.in-Ok-None.field-0-is in
     let kept = spared.1 ∙ c.in-Ok.ensures.space in
-    ends_settled g.D.Disk c.args.index.0 c.args.slot c.args.what d0 k0 d1 c.fill.new.disk c.settle.new.disk c.fill.new.space reads spared.2 kept (c.in-Ok-None.ensures.empty c.in-Ok-None.field-0-is) c.settle.result c.settle.ensures
+    ends_settled g.D.Disk c.args.index.0 c.args.slot c.args.what d0 k0 d1 c.fill.new.disk c.settle.new.disk c.fill.new.space reads spared.2 kept c.requires.left (c.in-Ok-None.ensures.empty c.in-Ok-None.field-0-is) c.settle.result c.settle.ensures
     (λ graph ds id i has settled store.
     let begun = c.in-Ok.ensures.store graph ds id (objects.Index i) has.store has.root has.there has.shut in
     let open_now = begun_open g.D.Disk graph ds id i c.args.index.0 c.args.slot c.args.what d0 d1 k0 was has c.in-Ok.ensures.begun reads in
@@ -73,6 +73,9 @@ commit_swap-requires-clause-size g c = omega (arith, c.requires.size, c.in-Ok.en
 pub commit_swap-requires-clause-room : goal.commit_swap-requires-clause-room
 commit_swap-requires-clause-room g c = omega (arith, c.requires.room, takes_two c.in-Ok.draft (c.args.slot / 64), c.in-Ok-Some.ensures.ends.takes, ap (λ (k : Kept). sum k.free) c.in-Ok.ensures.space)
 
+pub commit_swap-requires-clause-left : goal.commit_swap-requires-clause-left
+commit_swap-requires-clause-left g c = c.in-Ok-Some.ensures.ends.left ∙ ap (λ (k : Kept). k.left) c.in-Ok.ensures.space ∙ c.requires.left
+
 pub returns-in-Ok-commit_swap : goal.returns-in-Ok-commit_swap
 returns-in-Ok-commit_swap g c =
     let G = g.D.Disk in
@@ -97,8 +100,9 @@ returns-in-Ok-commit_swap g c =
     let is = becomes graph ds id i has in
     c.in-Ok-commit_swap.ensures.commits graph _ id (objects.Index i) (filled_draft i slot what (begun_draft i)) None is.steps.store has.there is.is_open (c.fill.ensures.stays.created ∙ ap (λ (x : Drafting). x.created) begun)
     (rw c.in-Ok-Some.field-0-is at (c.in-Ok-Some.ensures.swaps graph _ id (objects.Index i) (begun_draft i) i (begins graph ds id i has) has.there (opens graph ds id i has) refl (ap (λ (x : Drafting). x.root) begun))) in
-    ok_commit G at slot what d0 k0 d1 d2 c.begin_direct.new.space k2 c.in-Ok.ensures.space was reads d3 k3 _ c.in-Ok-Some.ensures.ends (c.in-Ok-Some.ensures.done (ap is_some c.in-Ok-Some.field-0-is)) c.commit_swap.ensures.cylinders c.commit_swap.ensures.left c.commit_swap.ensures.calls
+    ok_commit G at slot what d0 k0 d1 d2 c.begin_direct.new.space k2 c.in-Ok.ensures.space was reads d3 k3 _ c.in-Ok-Some.ensures.ends (c.in-Ok-Some.ensures.done (ap is_some c.in-Ok-Some.field-0-is)) c.commit_swap.ensures.cylinders c.commit_swap.ensures.calls
     (λ graph ds id i has. (c.fill.ensures.leaves graph _ id (objects.Index i) (begun_draft i) (begins graph ds id i has) has.there (opens graph ds id i has), (ends graph ds id i has).leaves))
+    c.in-Ok-commit_swap.ensures.left
     (λ graph ds id i has. commit_done G graph ds id i at slot what d0 d1 k0 was has begun reads d2 d3 k2 k3 c.fill.new.self (becomes graph ds id i has) (ends graph ds id i has).done)
     (λ graph ds id i has. commit_leaf G graph ds id i at slot what d0 d1 k0 was has begun reads d2 d3 k2 k3 c.fill.new.self (becomes graph ds id i has) (c.in-Ok.ensures.root has.store.carries.tells)
     (c.in-Ok-Some.ensures.order graph _ id (objects.Index i) (begun_draft i) i (begins graph ds id i has) has.there (opens graph ds id i has) refl (ap is_some c.in-Ok-Some.field-0-is))
@@ -129,7 +133,7 @@ returns-in-Err-commit_swap g c =
     c.in-Err-commit_swap.ensures.commits graph _ id (objects.Index i) (filled_draft i slot what (begun_draft i)) None is.steps.store has.there is.is_open (c.fill.ensures.stays.created ∙ ap (λ (x : Drafting). x.created) begun)
     (rw c.in-Ok-Some.field-0-is at (c.in-Ok-Some.ensures.swaps graph _ id (objects.Index i) (begun_draft i) i (begins graph ds id i has) has.there (opens graph ds id i has) refl (ap (λ (x : Drafting). x.root) begun))) in
     subst (λ (e : Refused). PutsSlot G at slot what d0 d3 k0 k3 (Err e)) (sym (c.from.ensures ∙ ap refused_by c.after_try.ensures))
-    (err_commit G at slot what d0 k0 d1 d2 c.begin_direct.new.space k2 c.in-Ok.ensures.space was reads d3 k3 _ c.in-Ok-Some.ensures.ends (c.in-Ok-Some.ensures.done (ap is_some c.in-Ok-Some.field-0-is)) c.commit_swap.ensures.cylinders c.commit_swap.ensures.left c.commit_swap.ensures.calls
+    (err_commit G at slot what d0 k0 d1 d2 c.begin_direct.new.space k2 c.in-Ok.ensures.space was reads d3 k3 _ c.in-Ok-Some.ensures.ends (c.in-Ok-Some.ensures.done (ap is_some c.in-Ok-Some.field-0-is)) c.commit_swap.ensures.cylinders c.commit_swap.ensures.calls
     (λ graph ds id i has. (c.fill.ensures.leaves graph _ id (objects.Index i) (begun_draft i) (begins graph ds id i has) has.there (opens graph ds id i has), (ends graph ds id i has).leaves))
     c.in-Err-commit_swap.trouble (subst (λ (n : ℕ). IsTrouble G n d2 d3 k3 c.in-Err-commit_swap.trouble) (c.fill.ensures.stays.at ∙ ap (λ (x : Drafting). x.at) begun) c.in-Err-commit_swap.ensures.refused)
     (λ graph ds id i has. (ends graph ds id i has).sound))

@@ -1,4 +1,4 @@
-use Rattle.index_ops.proofs.Words.{◌≡◌, ℕ, ◌+◌, ◌*◌, ◌<◌, List, length, true, false, None, Ok, Err, inl, inr, ⊎_elim, sym, ◌∙◌, ap, subst, arith, IfErr, IfOk, Result, MakesAtMost, OnlyReads, Image, Ghosts, Puid, reads_then, tells_on, AreCounts, IsLeastFree, Kept, is_free_in, Refused, named, Drafting, IsRefusal, is_full, store_reads, refusal_after_reads, Graph, Index, Opened, bare_object}
+use Rattle.index_ops.proofs.Words.{◌≡◌, ℕ, ◌+◌, ◌*◌, ◌<◌, List, length, true, false, None, Ok, Err, inl, inr, ⊎_elim, sym, ◌∙◌, ap, subst, arith, IfErr, IfOk, OnOk, Result, MakesAtMost, OnlyReads, Image, Ghosts, Puid, reads_then, tells_on, AreCounts, IsLeastFree, Kept, is_free_in, Refused, named, Drafting, IsRefusal, is_full, store_reads, refusal_after_reads, Graph, Index, Opened, bare_object}
 use Rattle.index_ops.specs.Changes.{HasSlot, short_at}
 use Rattle.index_ops.specs.Creates.{IsOpenMap, MakeEnds, PutsObject}
 use Rattle.index_ops.proofs.NewEnds.{err_reads, made_done, made_err}
@@ -30,13 +30,13 @@ map_before g n old mid before after e reads kept map = record {
       (map.free (tells_on g old mid mid n reads tells) (subst (λ (i : Image). AreCounts i after) (sym reads.content) (subst (AreCounts (g.content old)) (sym kept) counts)));
 }
 
-made_either : {D : Type 0} (g : Ghosts D) (at slot : ℕ) (d0 d2 d3 : D) (k0 k1 k3 : Kept) (n : ℕ) (root : roots.Root) (reads : OnlyReads g 2 d0 d2) (kept : k1 ≡ k0) (cylinders : length k3.free ≡ length k1.free) (left : k3.left ≡ k1.left) (calls : MakesAtMost g 40 24 d2 d3)
-    → ((graph : Graph) (ds : List Opened) (id : Puid) (i : Index) → HasSlot g graph ds d0 k0 at id i slot → IsLeastFree (g.content d0) n) → (r : Result Puid Refused) → IfOk r (λ p. p ≡ named n root.word)
+made_either : {D : Type 0} (g : Ghosts D) (at slot : ℕ) (d0 d2 d3 : D) (k0 k1 k3 : Kept) (n : ℕ) (root : roots.Root) (reads : OnlyReads g 2 d0 d2) (kept : k1 ≡ k0) (cylinders : length k3.free ≡ length k1.free) (calls : MakesAtMost g 40 24 d2 d3)
+    → ((graph : Graph) (ds : List Opened) (id : Puid) (i : Index) → HasSlot g graph ds d0 k0 at id i slot → IsLeastFree (g.content d0) n) → (r : Result Puid Refused) → OnOk r (k3.left ≡ None) → IfOk r (λ p. p ≡ named n root.word)
     → IfErr r (λ e. IsRefusal g at 0 d2 d3 k3 e × (is_full e ≡ false)) → IfErr r (λ e. e ≡ refusals.Disk false → (k3 ≡ k1) × OnlyReads g 3 d2 d3)
     → ((graph : Graph) (ds : List Opened) (id : Puid) (i : Index) → HasSlot g graph ds d0 k0 at id i slot → MakeEnds g graph ds id i slot (named n root.word) (bare_object root) d2 d3 k3 r)
     → PutsObject g at slot (bare_object root) root.word d0 d3 k0 k3 r
-made_either g at slot d0 d2 d3 k0 k1 k3 n root reads kept cylinders left calls least (Ok p) value why untried ends = made_done g at slot d0 k0 d2 d3 k1 k3 n root reads kept cylinders left calls least p value ends
-made_either g at slot d0 d2 d3 k0 k1 k3 n root reads kept cylinders left calls least (Err e) value why untried ends = made_err g at slot d0 k0 d2 d3 k1 k3 n root reads kept cylinders left calls least e why untried ends
+made_either g at slot d0 d2 d3 k0 k1 k3 n root reads kept cylinders calls least (Ok p) left value why untried ends = made_done g at slot d0 k0 d2 d3 k1 k3 n root reads kept cylinders calls least p left value ends
+made_either g at slot d0 d2 d3 k0 k1 k3 n root reads kept cylinders calls least (Err e) left value why untried ends = made_err g at slot d0 k0 d2 d3 k1 k3 n root reads kept cylinders calls least e why untried ends
 
 pub returns-in-Err-least : goal.returns-in-Err-least
 returns-in-Err-least g c =
@@ -53,6 +53,9 @@ returns-in-Err-least g c =
     (⊎_elim (λ r. inl (from_refusal G at c.args.slot d0 d2 k1 c.in-Err-least.error (refusal_after_reads G at d0 d1 d2 k1 0 1 c.in-Err-least.error first r.0) r.1))
     (λ map. inr (map_before G 1 d0 d1 k0 k1 c.in-Err-least.error first c.in-Ok.ensures.space map)) (c.in-Err-least.ensures.refused at))
     (λ graph ds id i has. c.in-Err-least.ensures.sound graph _ (c.in-Ok.ensures.store graph ds id (objects.Index i) has.store has.root has.there has.shut))
+
+pub make_at-requires-clause-left : goal.make_at-requires-clause-left
+make_at-requires-clause-left g c = ap (λ (k : Kept). k.left) c.in-Ok.ensures.space ∙ c.requires.left
 
 pub returns-in-Ok-least : goal.returns-in-Ok-least
 returns-in-Ok-least g c =
@@ -71,8 +74,8 @@ returns-in-Ok-least g c =
     let at_is = ap (λ (x : Drafting). x.at) c.in-Ok.ensures.begun in
     let least1 = λ (graph : Graph) (ds : List Opened) (id : Puid) (i : Index) (has : HasSlot G graph ds d0 k0 at id i c.args.slot).
     let store1 = c.in-Ok.ensures.store graph ds id (objects.Index i) has.store has.root has.there has.shut in c.in-Ok-least.ensures.found store1.carries.tells store1.counts in
-    made_either G at c.args.slot d0 d2 d3 k0 k1 k3 n c.args.root.now reads c.in-Ok.ensures.space c.make_at.ensures.cylinders c.make_at.ensures.left c.make_at.ensures.calls
-    (λ graph ds id i has. subst (λ (x : Image). IsLeastFree x n) first.content (least1 graph ds id i has)) c.make_at.result c.make_at.ensures.value
+    made_either G at c.args.slot d0 d2 d3 k0 k1 k3 n c.args.root.now reads c.in-Ok.ensures.space c.make_at.ensures.cylinders c.make_at.ensures.calls
+    (λ graph ds id i has. subst (λ (x : Image). IsLeastFree x n) first.content (least1 graph ds id i has)) c.make_at.result c.make_at.ensures.left c.make_at.ensures.value
     (subst (λ (a : ℕ). IfErr c.make_at.result (λ e. IsRefusal G a 0 d2 d3 k3 e × (is_full e ≡ false))) at_is c.make_at.ensures.refused) c.make_at.ensures.untried
     (λ graph ds id i has.
     let store1 = c.in-Ok.ensures.store graph ds id (objects.Index i) has.store has.root has.there has.shut in

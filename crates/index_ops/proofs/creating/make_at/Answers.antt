@@ -31,9 +31,6 @@ returns-in-Err-clause-untried g c = (c.in-Err.ensures.ends 0).untried
 pub returns-in-Err-clause-cylinders : goal.returns-in-Err-clause-cylinders
 returns-in-Err-clause-cylinders g c = (c.in-Err.ensures.ends 0).cylinders
 
-pub returns-in-Err-clause-left : goal.returns-in-Err-clause-left
-returns-in-Err-clause-left g c = (c.in-Err.ensures.ends 0).left
-
 pub returns-in-Err-clause-calls : goal.returns-in-Err-clause-calls
 returns-in-Err-clause-calls g c =
     let m = (c.in-Err.ensures.ends 0).calls in
@@ -87,9 +84,6 @@ returns-in-Err-fill-clause-refused g c =
 pub returns-in-Err-fill-clause-cylinders : goal.returns-in-Err-fill-clause-cylinders
 returns-in-Err-fill-clause-cylinders g c = c.in-Err-fill.ensures.ends.cylinders ∙ (c.in-Ok.ensures.ends 0).cylinders
 
-pub returns-in-Err-fill-clause-left : goal.returns-in-Err-fill-clause-left
-returns-in-Err-fill-clause-left g c = c.in-Err-fill.ensures.ends.left ∙ (c.in-Ok.ensures.ends 0).left
-
 pub returns-in-Err-fill-clause-calls : goal.returns-in-Err-fill-clause-calls
 returns-in-Err-fill-clause-calls g c = makes_then g.D.Disk c.args.disk.now c.make_root.new.disk c.fill.new.disk 3 8 40 2 4 24 (c.in-Ok.ensures.ends 0).calls c.in-Err-fill.ensures.ends.calls (omega arith) (omega arith)
 
@@ -101,6 +95,9 @@ commit_swap-requires-clause-size g c = omega (arith, c.requires.size, (c.in-Ok.e
 
 pub commit_swap-requires-clause-room : goal.commit_swap-requires-clause-room
 commit_swap-requires-clause-room g c = omega (arith, c.requires.room, takes_two c.adopt.new.self (c.args.slot / 64), c.in-Ok-Some.ensures.ends.takes, (c.in-Ok.ensures.ends 0).takes)
+
+pub commit_swap-requires-clause-left : goal.commit_swap-requires-clause-left
+commit_swap-requires-clause-left g c = c.in-Ok-Some.ensures.ends.left ∙ (c.in-Ok.ensures.ends 0).left ∙ c.requires.left
 
 pub returns-in-Ok-commit_swap-clause-makes : goal.returns-in-Ok-commit_swap-clause-makes
 returns-in-Ok-commit_swap-clause-makes g c = λ graph ds id i store at here shut least bare.
@@ -141,9 +138,6 @@ returns-in-Ok-commit_swap-clause-makes g c = λ graph ds id i store at here shut
 
 pub returns-in-Ok-commit_swap-clause-cylinders : goal.returns-in-Ok-commit_swap-clause-cylinders
 returns-in-Ok-commit_swap-clause-cylinders g c = c.in-Ok-commit_swap.ensures.cylinders ∙ c.in-Ok-Some.ensures.ends.cylinders ∙ (c.in-Ok.ensures.ends 0).cylinders
-
-pub returns-in-Ok-commit_swap-clause-left : goal.returns-in-Ok-commit_swap-clause-left
-returns-in-Ok-commit_swap-clause-left g c = c.in-Ok-commit_swap.ensures.left ∙ c.in-Ok-Some.ensures.ends.left ∙ (c.in-Ok.ensures.ends 0).left
 
 pub returns-in-Ok-commit_swap-clause-calls : goal.returns-in-Ok-commit_swap-clause-calls
 returns-in-Ok-commit_swap-clause-calls g c =
@@ -205,9 +199,6 @@ returns-in-Err-commit_swap-clause-refused g c =
 
 pub returns-in-Err-commit_swap-clause-cylinders : goal.returns-in-Err-commit_swap-clause-cylinders
 returns-in-Err-commit_swap-clause-cylinders g c = c.in-Err-commit_swap.ensures.cylinders ∙ c.in-Ok-Some.ensures.ends.cylinders ∙ (c.in-Ok.ensures.ends 0).cylinders
-
-pub returns-in-Err-commit_swap-clause-left : goal.returns-in-Err-commit_swap-clause-left
-returns-in-Err-commit_swap-clause-left g c = c.in-Err-commit_swap.ensures.left ∙ c.in-Ok-Some.ensures.ends.left ∙ (c.in-Ok.ensures.ends 0).left
 
 pub returns-in-Err-commit_swap-clause-calls : goal.returns-in-Err-commit_swap-clause-calls
 returns-in-Err-commit_swap-clause-calls g c =

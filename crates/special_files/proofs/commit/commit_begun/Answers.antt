@@ -1,4 +1,4 @@
-use Rattle.std.proofs.Common.{Some, ◌≡◌, ◌≢◌, ℕ, ◌+◌, ◌*◌, ◌<◌, false, List, length, None, refl, sym, ◌∙◌, ap, subst, arith}
+use Rattle.std.proofs.Common.{Some, ◌≡◌, ◌≢◌, ℕ, ◌+◌, ◌*◌, ◌<◌, false, length, None, refl, sym, ◌∙◌, ap, subst, arith}
 use Rattle.special_files.proofs.Words.{All, AreOnDisk, Holds, Image, IsChanged, IsReady, IsTrouble, Trouble, block_at, is_damage, makes_then, number_of, opened_as, reads_make, root_spelling, still_tells, tells_on, then, tree_in, tried_then}
 use Rattle.cfs_base.specs.declared.refusal.Trouble.TheVariants as troubles
 use Rattle.special_files.proofs.Amid.{amid_reads}
@@ -17,7 +17,7 @@ returns-in-Err g c = record {
   made = c.write_own.ensures.tried;
   untried = λ same. cc;
   cylinders = refl;
-  left = refl;
+  left = tt;
   calls = makes_more g.D.Disk c.args.disk.now c.write_own.new.disk 1 1 93135 46451 (omega arith) (omega arith) c.write_own.ensures.calls;
 }
 
@@ -37,7 +37,7 @@ returns-in-Err-changed g c =
       made = tried_then g.D.Disk c.args.disk.now c.write_own.new.disk c.changed.new.disk 240 0 c.write_own.ensures.tried (reads_make g.D.Disk c.write_own.new.disk c.changed.new.disk 240 reads);
       untried = subst (λ (t : Trouble). t ≢ troubles.Disk false) (sym c.after_try.ensures) (tried_apart c.in-Err-changed.trouble);
       cylinders = refl;
-      left = refl;
+      left = tt;
       calls = makes_then g.D.Disk c.args.disk.now c.write_own.new.disk c.changed.new.disk 1 240 93135 1 0 46451 c.write_own.ensures.calls (reads_make g.D.Disk c.write_own.new.disk c.changed.new.disk 240 reads) (omega arith) (omega arith);
     }
 
@@ -49,9 +49,11 @@ finish-requires g c =
       size = size ∙ c.requires.size;
       on_disk = omega (arith, c.requires.on_disk, size);
       shadow_on_disk = omega (arith, c.requires.shadow_on_disk, size);
-      taken_on_disk = subst (λ (k : ℕ). All (λ n. n < k) c.as_slice.result.now) (sym c.changed.ensures.reads.same.size) (below_all _ _ (subst (AreOnDisk (g.D.Disk.blocks c.write_own.new.disk)) (sym c.as_slice.ensures) lists.0));
-      dropped_on_disk = subst (λ (k : ℕ). All (λ n. n < k) c.as_slice-2.result.now) (sym c.changed.ensures.reads.same.size) (below_all _ _ (subst (AreOnDisk (g.D.Disk.blocks c.write_own.new.disk)) (sym c.as_slice-2.ensures) lists.1));
+      taken_on_disk = subst (λ (k : ℕ). All (λ n. n < k) c.changed.new.taken) (sym c.changed.ensures.reads.same.size) (below_all _ _ lists.0);
+      dropped_on_disk = subst (λ (k : ℕ). All (λ n. n < k) c.as_slice.result.now) (sym c.changed.ensures.reads.same.size) (below_all _ _ (subst (AreOnDisk (g.D.Disk.blocks c.write_own.new.disk)) (sym c.as_slice.ensures) lists.1));
       created_on_disk = λ n is. omega (arith, c.requires.created_on_disk n is, size);
+      left = c.requires.left;
+      few = omega (arith, c.in-Ok-changed.ensures.room.0, c.in-Ok-changed.ensures.room.1, ap (length {A = ℕ}) c.as_slice.ensures);
     }
 
 pub returns : goal.returns
@@ -60,17 +62,17 @@ returns g c =
     let reads = c.changed.ensures.reads in
     let room = c.in-Ok-changed.ensures.room in
     let first = makes_then g.D.Disk c.args.disk.now c.write_own.new.disk c.changed.new.disk 1 240 241 1 0 1 c.write_own.ensures.calls (reads_make g.D.Disk c.write_own.new.disk c.changed.new.disk 240 reads) (omega arith) (omega arith) in
-    let calls = makes_then g.D.Disk c.args.disk.now c.changed.new.disk c.finish.new.disk 241 (2 * length c.as_slice.result.now + 4 * length c.as_slice-2.result.now + 14) 93135 1 (length c.as_slice.result.now + 2 * length c.as_slice-2.result.now + 10) 46451 first c.finish.ensures.calls (omega (arith, room.0, room.1, ap (length {A = ℕ}) c.as_slice.ensures, ap (length {A = ℕ}) c.as_slice-2.ensures)) (omega (arith, room.0, room.1, ap (length {A = ℕ}) c.as_slice.ensures, ap (length {A = ℕ}) c.as_slice-2.ensures)) in
-    let tried = tried_then g.D.Disk c.args.disk.now c.write_own.new.disk c.finish.new.disk 93135 46451 c.write_own.ensures.tried (makes_then g.D.Disk c.write_own.new.disk c.changed.new.disk c.finish.new.disk 240 (2 * length c.as_slice.result.now + 4 * length c.as_slice-2.result.now + 14) 93135 0 (length c.as_slice.result.now + 2 * length c.as_slice-2.result.now + 10) 46451 (reads_make g.D.Disk c.write_own.new.disk c.changed.new.disk 240 reads) c.finish.ensures.calls (omega (arith, room.0, room.1, ap (length {A = ℕ}) c.as_slice.ensures, ap (length {A = ℕ}) c.as_slice-2.ensures)) (omega (arith, room.0, room.1, ap (length {A = ℕ}) c.as_slice.ensures, ap (length {A = ℕ}) c.as_slice-2.ensures))) in
+    let calls = makes_then g.D.Disk c.args.disk.now c.changed.new.disk c.finish.new.disk 241 (2 * length c.changed.new.taken + 4 * length c.as_slice.result.now + 14) 93135 1 (length c.changed.new.taken + 2 * length c.as_slice.result.now + 10) 46451 first c.finish.ensures.calls (omega (arith, room.0, room.1, ap (length {A = ℕ}) c.as_slice.ensures)) (omega (arith, room.0, room.1, ap (length {A = ℕ}) c.as_slice.ensures)) in
+    let tried = tried_then g.D.Disk c.args.disk.now c.write_own.new.disk c.finish.new.disk 93135 46451 c.write_own.ensures.tried (makes_then g.D.Disk c.write_own.new.disk c.changed.new.disk c.finish.new.disk 240 (2 * length c.changed.new.taken + 4 * length c.as_slice.result.now + 14) 93135 0 (length c.changed.new.taken + 2 * length c.as_slice.result.now + 10) 46451 (reads_make g.D.Disk c.write_own.new.disk c.changed.new.disk 240 reads) c.finish.ensures.calls (omega (arith, room.0, room.1, ap (length {A = ℕ}) c.as_slice.ensures)) (omega (arith, room.0, room.1, ap (length {A = ℕ}) c.as_slice.ensures))) in
     record {
       commits = λ was v made parts makes.
           let amid = amid1 g.D.Disk v.graph v.ds v.id v.object c.args.disk.now c.write_own.new.disk c.changed.new.disk c.args.space.now was v.draft c.args.shadow.0 c.encode-content.result v.store v.at v.opened parts.shadow_is c.write_own.ensures.images c.in-Ok.ensures.written told c.write_own.ensures.calls.same in
           let lists = c.in-Ok-changed.ensures.changed c.args.space.now was (view (store1 g.D.Disk v.graph v.ds v.id v.object c.args.disk.now c.write_own.new.disk c.changed.new.disk c.args.space.now was v.draft c.args.shadow.0 c.encode-content.result v.store v.at v.opened parts.shadow_is c.write_own.ensures.images c.in-Ok.ensures.written told c.write_own.ensures.calls.same) v.at v.opened) parts.own_is parts.root_is in
-          let ready = ready1 g.D.Disk v.graph v.ds v.id v.object c.args.disk.now c.write_own.new.disk c.changed.new.disk c.args.space.now was v.draft c.args.shadow.0 c.encode-content.result v.store v.at v.opened parts.shadow_is c.write_own.ensures.images c.in-Ok.ensures.written told c.write_own.ensures.calls.same c.as_slice.result.now c.as_slice-2.result.now (c.encode-content.ensures.spelled ∙ ap root_spelling (sym parts.root_is))
-          (subst (λ (ns : List ℕ). IsChanged (g.D.Disk.content c.write_own.new.disk) v.id (opened_as v.id was v.draft) ns c.as_slice-2.result.now) (sym c.as_slice.ensures) (subst (IsChanged (g.D.Disk.content c.write_own.new.disk) v.id (opened_as v.id was v.draft) c.changed.new.taken) (sym c.as_slice-2.ensures) lists)) in
-          commit_ends g.D.Disk v.graph v.ds v.id v.object v.draft.object (opened_as v.id was v.draft) (number_of c.args.created) c.args.disk.now c.changed.new.disk c.args.space.now c.args.space.now c.args.shadow.0 c.as_slice.result.now c.as_slice-2.result.now v.store v.at v.opened.alone parts.created_is
+          let ready = ready1 g.D.Disk v.graph v.ds v.id v.object c.args.disk.now c.write_own.new.disk c.changed.new.disk c.args.space.now was v.draft c.args.shadow.0 c.encode-content.result v.store v.at v.opened parts.shadow_is c.write_own.ensures.images c.in-Ok.ensures.written told c.write_own.ensures.calls.same c.changed.new.taken c.as_slice.result.now (c.encode-content.ensures.spelled ∙ ap root_spelling (sym parts.root_is))
+          (subst (IsChanged (g.D.Disk.content c.write_own.new.disk) v.id (opened_as v.id was v.draft) c.changed.new.taken) (sym c.as_slice.ensures) lists) in
+          commit_ends g.D.Disk v.graph v.ds v.id v.object v.draft.object (opened_as v.id was v.draft) (number_of c.args.created) c.args.disk.now c.changed.new.disk c.args.space.now c.args.space.now c.args.shadow.0 c.changed.new.taken c.as_slice.result.now v.store v.at v.opened.alone parts.created_is
           (amid_reads g.D.Disk v.graph v.ds v.id v.object c.args.disk.now c.args.space.now v.store v.at c.write_own.new.disk c.changed.new.disk c.args.space.now 240 amid reads)
-          (subst (λ (i : Image). IsReady i v.graph v.id v.object v.draft.object c.args.shadow.0 c.as_slice.result.now c.as_slice-2.result.now None) (sym reads.content) ready)
+          (subst (λ (i : Image). IsReady i v.graph v.id v.object v.draft.object c.args.shadow.0 c.changed.new.taken c.as_slice.result.now None) (sym reads.content) ready)
           (ap (λ (i : Image). tree_in i (block_at i c.args.shadow.0)) reads.content ∙ tree1 g.D.Disk v.graph v.ds v.id v.object c.args.disk.now c.write_own.new.disk c.changed.new.disk c.args.space.now was v.draft c.args.shadow.0 c.encode-content.result v.store v.at v.opened parts.shadow_is c.write_own.ensures.images c.in-Ok.ensures.written told c.write_own.ensures.calls.same (c.encode-content.ensures.spelled ∙ ap root_spelling (sym parts.root_is)))
           (λ none. let no : Some c.args.shadow.0 ≡ None = sym parts.shadow_is ∙ none in cc)
           made makes c.args.at.0 (v.opened.at ∙ parts.at_is) c.finish.new.disk c.finish.new.space c.finish.result (c.finish.ensures.finishes (ap (λ (i : Image). block_at i c.args.shadow.0) reads.content ∙ shadow_has g.D.Disk v.graph v.ds v.id v.object c.args.disk.now c.write_own.new.disk c.changed.new.disk c.args.space.now was v.draft c.args.shadow.0 c.encode-content.result v.store v.at v.opened parts.shadow_is c.write_own.ensures.images c.in-Ok.ensures.written told c.write_own.ensures.calls.same));

@@ -24,4 +24,4 @@ returns-clause-commits g c = λ was v made parts makes.
     (c.commit_listed.ensures.commits was (view (store_reads g.D.Disk v.graph v.ds d0 d1 k0 240 v.store reads) v.at v.opened) made
     (record { at_is = parts.at_is; shadow_is = parts.shadow_is; own_is = refl; root_is = parts.root_is; created_is = parts.created_is })
     (subst (λ (i : Image). Makes i (number_of c.args.created) made) (sym reads.content) makes)
-    (rw (reads.content, c.as_slice.ensures, c.as_slice-2.ensures) (c.in-Ok.ensures.changed k0 was v parts.own_is parts.root_is)))
+    (rw (reads.content, c.as_slice.ensures) (c.in-Ok.ensures.changed k0 was v parts.own_is parts.root_is)))

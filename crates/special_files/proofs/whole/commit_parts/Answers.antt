@@ -5,10 +5,10 @@ use Rattle.special_files.proofs.CommitStore.{made_below}
 use Rattle.special_files.proofs.whole.commit_parts.Goals as goal
 
 pub commit_direct-requires : goal.commit_direct-requires
-commit_direct-requires g c = record { some = c.requires.some; on_disk = c.requires.on_disk; size = c.requires.size; room = c.requires.room (ap number_of c.in_default.is); created_on_disk = c.in-Ok.ensures.on_disk }
+commit_direct-requires g c = record { left = c.requires.left; some = c.requires.some; on_disk = c.requires.on_disk; size = c.requires.size; room = c.requires.room (ap number_of c.in_default.is); created_on_disk = c.in-Ok.ensures.on_disk }
 
 pub commit_begun-requires : goal.commit_begun-requires
-commit_begun-requires g c = record { on_disk = c.requires.on_disk; size = c.requires.size; shadow_on_disk = c.in-Ok-is_on_disk.ensures.on_disk; created_on_disk = c.in-Ok.ensures.on_disk }
+commit_begun-requires g c = record { left = c.requires.left; on_disk = c.requires.on_disk; size = c.requires.size; shadow_on_disk = c.in-Ok-is_on_disk.ensures.on_disk; created_on_disk = c.in-Ok.ensures.on_disk }
 
 pub returns-in-Err : goal.returns-in-Err
 returns-in-Err g c = record {
@@ -22,7 +22,7 @@ returns-in-Err g c = record {
   tried = λ some. far_apart c.args.at.0 c.in-Err.trouble c.in-Err.ensures.far.1;
   untried = λ same. absurd (far_apart c.args.at.0 c.in-Err.trouble c.in-Err.ensures.far.1 same);
   cylinders = refl;
-  left = refl;
+  left = tt;
   calls = nothing_made g.D.Disk c.args.disk.now 93137 46452;
 }
 
@@ -37,7 +37,7 @@ returns-in-Err-is_on_disk g c = record {
   tried = λ some. far_apart c.args.at.0 c.in-Err-is_on_disk.trouble c.in-Err-is_on_disk.ensures.far.1;
   untried = λ same. absurd (far_apart c.args.at.0 c.in-Err-is_on_disk.trouble c.in-Err-is_on_disk.ensures.far.1 same);
   cylinders = refl;
-  left = refl;
+  left = tt;
   calls = nothing_made g.D.Disk c.args.disk.now 93137 46452;
 }
 

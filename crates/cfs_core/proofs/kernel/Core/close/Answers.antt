@@ -37,6 +37,7 @@ end-requires g c = record {
   taken = ap (have_draft (is_at c.args.grant.draw)) c.take.ensures.seats ∙ none_taken c.args.grant.draw c.self.inside.seats.seats;
   found = subst (λ gs. IsSome (grant_in gs c.args.who c.args.grant)) (sym (ap grants_in c.take.ensures.seats ∙ grants_with c.args.grant.draw None c.self.inside.seats.seats))
       (subst (λ o. IsSome o) c.find.ensures (is_some_of c.find.result (c.is_none.ensures ∙ ap not c.if-is_none.false)));
+  left = ap (λ x. x.space.left) c.self.view_is ∙ c.requires.left;
 }
 
 pub close_bare-requires : goal.close_bare-requires

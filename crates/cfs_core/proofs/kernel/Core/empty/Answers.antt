@@ -3,7 +3,7 @@ use Rattle.ufs_model.specs.declared.asked.Request.TheVariants as asks
 use Rattle.cfs_core.specs.Calls.{TriesOn}
 use Rattle.cfs_core.specs.Kernel.{Kernel}
 use Rattle.cfs_core.proofs.Putting.{tries_put}
-use Rattle.cfs_core.proofs.Refusing.{delete_out}
+use Rattle.cfs_core.proofs.Refusing.{delete_holds, delete_out}
 use Rattle.cfs_core.proofs.kernel.Core.empty.Goals as goal
 
 pub returns : goal.returns
@@ -13,5 +13,5 @@ returns g c = λ to.
     let request = asks.Delete to c.args.slot in
     let done = tries_put g.D.Disk g.met.D.Disk.left_sized g.met.D.Disk.sized k c.delete.new.disk c.delete.new.space c.args.index c.args.slot None request refl refl refl c.delete.result c.delete.ensures
     (λ s who i serves r. (refl, delete_out k.words.seed s who to c.args.index i c.args.slot r))
-    (λ s who i serves r. ((λ short. let no = short.delete in cc), serves.four)) in
+    (λ s who i serves r. ((λ short. let no = short.delete in cc), serves.four)) (λ s who. (refl, refl)) (λ s who i r goes none. delete_holds k.words.seed s who to c.args.index i c.args.slot r goes) in
     subst (λ x. TriesOn g.D.Disk x new c.args.index c.args.slot request c.done.result) c.self.view_is (subst (λ r. TriesOn g.D.Disk k new c.args.index c.args.slot request r) (sym c.done.ensures) done)

@@ -12,7 +12,7 @@ use Rattle.cfs_core.proofs.Seated.{grants_with}
 use Rattle.cfs_core.proofs.kernel.Core.end.Goals as goal
 
 pub end_draft-requires : goal.end_draft-requires
-end_draft-requires g c = record { ready = subst (λ x. is_ready_for (g.D.Disk.blocks x.disk) c.args.draft ≡ true) (sym c.self.view_is) c.requires.ready; size = c.self.invariant.size }
+end_draft-requires g c = record { ready = subst (λ x. is_ready_for (g.D.Disk.blocks x.disk) c.args.draft ≡ true) (sym c.self.view_is) c.requires.ready; size = c.self.invariant.size; left = ap (λ x. x.space.left) c.self.view_is ∙ c.requires.left }
 
 pub close-requires : goal.close-requires
 close-requires g c = record { undrafted = ap (λ x. have_draft (is_at c.args.grant.draw) x.seats) c.self.view_is ∙ c.requires.taken }

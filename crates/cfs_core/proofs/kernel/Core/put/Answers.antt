@@ -1,4 +1,4 @@
-use Rattle.std.proofs.Common.{inl, inr, Some, refl, sym, subst, arith, sum}
+use Rattle.std.proofs.Common.{◌≡◌, inl, inr, None, Some, refl, sym, subst, arith, sum}
 use Rattle.cfs_core.proofs.Words.{cases_lt}
 use Rattle.ufs_model.specs.declared.asked.Request.TheVariants as asks
 use Rattle.cfs_core.specs.Calls.{TriesOn, done_or}
@@ -19,6 +19,6 @@ returns g c = λ to.
           (tries_full g.D.Disk g.met.D.Disk.left_sized g.met.D.Disk.sized k c.retain.new.disk c.retain.new.space full.1 full.2 c.args.index to c.args.slot c.args.id few)
       | inr enough ↦ tries_put g.D.Disk g.met.D.Disk.left_sized g.met.D.Disk.sized k c.retain.new.disk c.retain.new.space c.args.index c.args.slot (Some c.args.id) request refl refl refl c.retain.result (c.retain.ensures.fills enough)
           (λ s who i serves r. (refl, retain_out k.words.seed s who to c.args.index i c.args.slot c.args.id r))
-          (λ s who i serves r. ((λ short. omega (arith, short.few, enough, retain_need k.words.seed s who to c.args.index i c.args.slot c.args.id r)), omega (arith, enough)))
+          (λ s who i serves r. ((λ short. omega (arith, short.few, enough, retain_need k.words.seed s who to c.args.index i c.args.slot c.args.id r)), omega (arith, enough))) (λ s who. (refl, refl)) (λ s who i r goes none. let no : Some c.args.id ≡ None = none in cc)
     ] in
     subst (λ x. TriesOn g.D.Disk x new c.args.index c.args.slot request c.done.result) c.self.view_is (subst (λ r. TriesOn g.D.Disk k new c.args.index c.args.slot request r) (sym c.done.ensures) done)

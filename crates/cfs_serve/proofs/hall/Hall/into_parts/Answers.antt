@@ -1,4 +1,4 @@
-use Rattle.std.proofs.Common.{◌∙◌, ap}
+use Rattle.std.proofs.Common.{◌∙◌, None, ap}
 use Rattle.cfs_serve.proofs.Cited.{Ending}
 use Rattle.cfs_serve.proofs.Endings.{ends}
 use Rattle.cfs_serve.proofs.hall.Hall.into_parts.Goals as goal
@@ -10,7 +10,7 @@ returns-clause-ends g c =
     let kept = c.self.invariant in
     let server = c.self.inside.journal.server in
     let rest = c.self.inside.rest in
-    let ending : Ending = record { stop = c.stopped-stop.result; refused = rest.refused } in
+    let ending : Ending = record { stop = c.stopped-stop.result; refused = rest.refused; last = None } in
     rw (made.server, made.events) (record {
       later = λ begun at. (made.told.since begun at).later;
       since = λ begun at.

@@ -40,8 +40,8 @@ returns-clause-stays g c =
     let e = events.Ask c.args.session c.args.request c.answer-reply.result in
     rw (← c.self.view_is) (stays (g.A.Server.stop c.self.inside.server) (g.A.Server.stop c.answer-reply.new.self) (e ∷ []) c.answer-reply.ensures.stops)
 
-pub returns-clause-serves : goal.returns-clause-serves
-returns-clause-serves g c = rw (← c.self.view_is) (record { reply = c.answer-reply.result; answered = c.answer.ensures; events = c.push.ensures.events; room = c.push.ensures.room })
+pub returns-clause-answered : goal.returns-clause-answered
+returns-clause-answered g c = rw (← c.self.view_is) (record { reply = c.answer-reply.result; answered = c.answer.ensures; events = c.push.ensures.events; room = c.push.ensures.room })
 
 pub returns-clause-raised : goal.returns-clause-raised
 returns-clause-raised g c =

@@ -16,7 +16,7 @@ invariant_of-self g c =
     let made = c.collect-made.result in
     let did = c.collect-made.ensures in
     let kept = c.self.invariant in
-    rw (c.push_some.ensures.events, c.push_some.ensures.moments, c.told_of-event.ensures.event, c.moment-moment.ensures.clock) (
+    rw (c.push_some.ensures.events, c.push_some.ensures.moments, c.progress_of-event.ensures.event, c.moment-moment.ensures.clock) (
       run_step trail g.A.Asker.stands g.A.Server.has_stopped g.A.Server.is_damaged g.A.Server.tally t old new kept.0 (event_by made) (nobodys made) did.tells.0.stays did.undamaged
           (λ s standing. rw (← kept.1) (did.event s standing)) (λ s standing. rw (← kept.1) (did.tallies s standing)),
       did.seed ∙ kept.1,
@@ -33,18 +33,18 @@ invariant_of-self g c =
     )
 
 pub returns-clause-refusal : goal.returns-clause-refusal
-returns-clause-refusal g c = rw c.told_of-event.ensures.refusal c.collect-made.ensures.stops.1
+returns-clause-refusal g c = rw c.progress_of-event.ensures.refusal c.collect-made.ensures.stops.1
 
 pub returns-clause-steps : goal.returns-clause-steps
 returns-clause-steps g c =
     let made = c.collect-made.result in
     rw (← c.self.view_is) (record {
       event = event_by made;
-      events = rw c.told_of-event.ensures.event at c.push_some.ensures.events;
+      events = rw c.progress_of-event.ensures.event at c.push_some.ensures.events;
       nobody = nobodys made;
-      stamped = rw (c.told_of-event.ensures.event, c.moment-moment.ensures.clock) at c.push_some.ensures.moments;
-      room = rw c.told_of-event.ensures.event at c.push_some.ensures.room;
-      none = c.told_of-event.ensures.none;
+      stamped = rw (c.progress_of-event.ensures.event, c.moment-moment.ensures.clock) at c.push_some.ensures.moments;
+      room = rw c.progress_of-event.ensures.event at c.push_some.ensures.room;
+      none = c.progress_of-event.ensures.none;
     })
 
 pub returns-clause-idle : goal.returns-clause-idle
@@ -56,26 +56,26 @@ returns-clause-idle g c = λ idle.
     let made = c.collect-made.result in
     let did = c.collect-made.ensures in
     let kept = c.self.invariant in
-    let all = rw (c.told_of-event.ensures.idle idle) at did.ends in
+    let all = rw (c.progress_of-event.ensures.idle idle) at did.ends in
     let now = kept_step g.A.Server.clock g.A.Server.has_stopped g.A.Server.tally t trail c.self.inside.trail.moments old new kept.10 did.tells.0.stays kept.7 made did.passes in
-    rw (c.push_some.ensures.events, c.told_of-event.ensures.event)
+    rw (c.push_some.ensures.events, c.progress_of-event.ensures.event)
     (collected_at g.A.Server.clock g.A.Server.has_stopped g.A.Server.tally t (trail ++ recorded (event_by made)) _ new now all.0 (all.1 ∙ did.called ∙ kept.7))
 
 pub returns-clause-spends : goal.returns-clause-spends
-returns-clause-spends g c = λ made. rw (← c.self.view_is) (c.told_of-event.ensures.spends made (g.A.Server.tally c.self.inside.server) (g.A.Server.tally c.collect-made.new.self) c.collect-made.ensures.passes.spends)
+returns-clause-spends g c = λ made. rw (← c.self.view_is) (c.progress_of-event.ensures.spends made (g.A.Server.tally c.self.inside.server) (g.A.Server.tally c.collect-made.new.self) c.collect-made.ensures.passes.spends)
 
 pub returns-clause-raised : goal.returns-clause-raised
 returns-clause-raised g c =
     let made = c.collect-made.result in
     let did = c.collect-made.ensures in
     rw (← c.self.view_is) (step_raised g.A.Asker.stands g.A.Server.has_stopped g.A.Server.is_damaged g.A.Server.tally g.A.Server.faults g.J.Charter.charter _ _ made c.self.invariant.0
-    (rw c.told_of-event.ensures.event at c.push_some.ensures.events) did.tells.0.later did.tells.1 did.halts)
+    (rw c.progress_of-event.ensures.event at c.push_some.ensures.events) did.tells.0.later did.tells.1 did.halts)
 
 pub returns-clause-quiet : goal.returns-clause-quiet
 returns-clause-quiet g c = λ quiet.
-    let is = quiet_made c.collect-made.result (rw c.told_of-event.ensures.refusal at quiet) in
+    let is = quiet_made c.collect-made.result (rw c.progress_of-event.ensures.refusal at quiet) in
     let same : c.push_some.new.trail.events ≡ c.self.inside.trail.events =
-    rw c.told_of-event.ensures.event at c.push_some.ensures.events ∙ ap (λ made. c.self.inside.trail.events ++ recorded (event_by made)) is ∙ append-nil c.self.inside.trail.events in
+    rw c.progress_of-event.ensures.event at c.push_some.ensures.events ∙ ap (λ made. c.self.inside.trail.events ++ recorded (event_by made)) is ∙ append-nil c.self.inside.trail.events in
     rw (← c.self.view_is) (c.collect-made.ensures.tells.1 (ap fails is), same)
 
 pub returns-clause-wanting : goal.returns-clause-wanting
@@ -83,7 +83,7 @@ returns-clause-wanting g c = λ wants.
     let t = g.J.Charter.charter in
     let trail = c.self.inside.trail.events in
     let did = c.collect-made.ensures in
-    let made = wanting_made c.collect-made.result (sym c.told_of-event.ensures.refusal ∙ wants) in
+    let made = wanting_made c.collect-made.result (sym c.progress_of-event.ensures.refusal ∙ wants) in
     let due = rw made at did.ends in
-    rw (c.push_some.ensures.events, c.told_of-event.ensures.event, made, append-nil trail)
+    rw (c.push_some.ensures.events, c.progress_of-event.ensures.event, made, append-nil trail)
     (wanting_at g.A.Server.clock g.A.Server.has_stopped g.A.Server.tally t trail c.self.inside.trail.moments c.self.inside.server c.self.invariant.10 due.0 due.1 due.2 c.self.invariant.7)

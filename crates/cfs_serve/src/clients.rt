@@ -1,4 +1,4 @@
-//! Sessions take their seats, and leave them.
+//! The ports of the clients of a service, from their scripts and sinks, and their sinks when they have left.
 ghost use Rattle.std.specs.Prelude.{◌≡◌, ◌≤◌, ◌+◌, ◌++◌, [], IfNone, IfSome, length, map, reverse, vec_capacity};
 ghost use Rattle.ufs_model.specs.Script.{request_lines};
 ghost use Rattle.cfs_serve.specs.Hall.{AreNew};
@@ -42,7 +42,7 @@ fn stack_ports<K: Sink>(
     let Ok(mut ports) = Vec::with_capacity(alloc, sinks.len()) else {
         return None;
     };
-    'seats: while !scripts.is_empty() {
+    'clients: while !scripts.is_empty() {
         let script = scripts.take_last();
         match script.into_port(alloc, root, sinks.take_last()) {
             Ok(port) => ports.push_reserved(port),

@@ -1,10 +1,10 @@
 use Rattle.std.proofs.Common.{◌++◌, ◌∙◌, ◌≡◌, [], map, ap, refl, sym, length, arith}
 use Rattle.cfs_serve.proofs.Cited.{append-nil, request_lines, reverse}
 use Rattle.cfs_serve.proofs.Lists.{no_new, one_moved, one_new}
-use Rattle.cfs_serve.proofs.seats.stack_ports.Goals as goal
+use Rattle.cfs_serve.proofs.clients.stack_ports.Goals as goal
 
-pub seats-init : goal.seats-init
-seats-init g c =
+pub clients-init : goal.clients-init
+clients-init g c =
     let none : c.in-Ok.ports.items ≡ [] = c.in-Ok.ensures.items in
     record {
       count = c.requires;
@@ -16,14 +16,14 @@ seats-init g c =
       new = rw none (no_new c.args.root);
     }
 
-pub seats-preserved : goal.seats-preserved
-seats-preserved g c =
-    let before = c.seats.invariant in
+pub clients-preserved : goal.clients-preserved
+clients-preserved g c =
+    let before = c.clients.invariant in
     let scripts = c.take_last-script.new.self.items in
     let sinks = c.take_last.new.self.items in
     let script = c.take_last-script.result in
     let sink = c.take_last.result in
-    let ports = c.seats.ports.items in
+    let ports = c.clients.ports.items in
     let port = c.in-Ok-into_port.port in
     let intake = g.K.Sink.intake in
     let made = c.in-Ok-into_port.ensures in

@@ -1,10 +1,10 @@
 use Rattle.std.proofs.Common.{◌≡◌, ◌+◌, ◌≤◌, ◌++◌, length, map}
 use Rattle.cfs_serve.proofs.Cited.{AreNew, request_lines, reverse, vec_capacity}
-use Rattle.cfs_serve.proofs.seats.stack_ports.Given as goal
+use Rattle.cfs_serve.proofs.clients.stack_ports.Given as goal
 
 -- the scripts and sinks that are left, and those of the ports, are those that there were
-abbrev pub invariant-seats : goal.invariant-seats
-invariant-seats g l = record {
+abbrev pub invariant-clients : goal.invariant-clients
+invariant-clients g l = record {
   count : length l.scripts.items ≡ length l.sinks.items;
   room : length l.scripts.items + length l.ports.items ≤ vec_capacity l.ports;
   fits : length l.sinks.items + length l.ports.items ≤ vec_capacity l.sinks;
@@ -14,5 +14,5 @@ invariant-seats g l = record {
   new : AreNew l.root (reverse l.ports.items);
 }
 
-abbrev pub decreases-seats : goal.decreases-seats
-decreases-seats g l = length l.scripts.items
+abbrev pub decreases-clients : goal.decreases-clients
+decreases-clients g l = length l.scripts.items

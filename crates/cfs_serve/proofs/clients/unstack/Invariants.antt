@@ -1,6 +1,6 @@
 use Rattle.std.proofs.Common.{◌≡◌, ◌+◌, ◌≤◌, ◌++◌, length, map}
 use Rattle.cfs_serve.proofs.Cited.{reverse, vec_capacity}
-use Rattle.cfs_serve.proofs.seats.unstack.Given as goal
+use Rattle.cfs_serve.proofs.clients.unstack.Given as goal
 
 -- the sinks that are here, and those of the ports that are left, are those that there were
 abbrev pub invariant-ports : goal.invariant-ports

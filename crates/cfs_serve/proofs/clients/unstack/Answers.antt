@@ -1,7 +1,7 @@
 use Rattle.std.proofs.Common.{◌++◌, ◌∙◌, ap, map, sym, arith}
 use Rattle.cfs_serve.proofs.Cited.{reverse}
 use Rattle.cfs_serve.proofs.Lists.{one_moved}
-use Rattle.cfs_serve.proofs.seats.unstack.Goals as goal
+use Rattle.cfs_serve.proofs.clients.unstack.Goals as goal
 
 pub ports-preserved : goal.ports-preserved
 ports-preserved g c =

@@ -1,6 +1,6 @@
 use Rattle.std.proofs.Common.{◌∙◌, ap, map}
 use Rattle.cfs_serve.proofs.Cited.{reverse, reverse-reverse}
-use Rattle.cfs_serve.proofs.seats.take_sinks.Goals as goal
+use Rattle.cfs_serve.proofs.clients.take_sinks.Goals as goal
 
 pub returns : goal.returns
 returns g c =

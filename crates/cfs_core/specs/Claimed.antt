@@ -1,0 +1,106 @@
+-- Which blocks a request takes that is done, and in what order.
+use Rattle.std.specs.Prelude.{◌≡◌, ◌⊎◌, ℕ, ◌+◌, ◌/◌, if◌then◌else◌, List, [], ◌∷◌, length, Option, None, Some}
+use Rattle.std.specs.Option.{option_map_or}
+use Rattle.cfs_base.specs.Disk.{Image}
+use Rattle.cfs_base.specs.declared.identifier.Puid.{Puid}
+use Rattle.cfs_base.specs.declared.kind.FileKind.TheVariants as kinds
+use Rattle.cfs_base.specs.declared.kind.Place.TheVariants as places
+use Rattle.claims.specs.Claims.{AreClaimed}
+use Rattle.cyl_alloc.specs.Space.{intended}
+use Rattle.cyl_map.specs.Volume.{entry_in}
+use Rattle.cyl_map.specs.declared.entry.MapEntry.{MapEntry}
+use Rattle.file_ops.specs.Changes.{claims_beside}
+use Rattle.index_ops.specs.Changes.{leaf_and_node}
+use Rattle.normal_files.specs.Order as plain
+use Rattle.special_files.specs.Drafting.{Drafting}
+use Rattle.special_files.specs.Order.{claims_anew, claims_of}
+use Rattle.ufs_model.specs.Need.{takes_draft}
+use Rattle.ufs_model.specs.Graph.{object_at}
+use Rattle.ufs_model.specs.Object.{leaves_in, written_anew}
+use Rattle.ufs_model.specs.Outcome.{block_named, creates}
+use Rattle.ufs_model.specs.Refusal.{target}
+use Rattle.ufs_model.specs.State.{State, draft_of, file_seen, named}
+use Rattle.ufs_model.specs.declared.asked.Ref.{Ref}
+use Rattle.ufs_model.specs.declared.asked.Ref.TheVariants.{Direct, Through}
+use Rattle.ufs_model.specs.declared.asked.Reply.{Reply}
+use Rattle.ufs_model.specs.declared.asked.Request.{Request}
+use Rattle.ufs_model.specs.declared.asked.Request.TheVariants as asks
+use Rattle.ufs_model.specs.declared.change.Change.{Change}
+use Rattle.ufs_model.specs.declared.change.Change.TheVariants.{Fill, Overwrite, SetSize}
+use Rattle.ufs_model.specs.declared.object.Draft.{Draft}
+use Rattle.ufs_model.specs.declared.object.File.{File}
+use Rattle.vol_owners.specs.Change.{IsOpenTo, of_owners}
+use Rattle.cfs_core.specs.Kernel.{Seat}
+use Rattle.cfs_core.specs.Seats.{drafting_at}
+
+-- ---- in order
+
+-- From image a on a block is claimed for each of these entries, one after another, each the least-numbered Free one.
+-- After that no entry changes but of Free blocks and of blocks of these owners.
+pub record ClaimsInOrder (claims : List MapEntry) (owners : List ℕ) (a b : Image) : Type 0 where
+  pub mid : Image
+  pub in_order : AreClaimed claims a mid
+  pub rest : (n : ℕ) → (entry_in b n ≡ entry_in mid n)
+      ⊎ (IsOpenTo (of_owners owners) (entry_in mid n) × IsOpenTo (of_owners owners) (entry_in b n))
+
+-- ---- a file that is changed
+
+-- a normal one takes the leaves and nodes that it doesn't hold yet, a special one all that is written anew
+abbrev pub claims_in_place : (at : ℕ) → Change → File → List MapEntry
+claims_in_place at (Overwrite offset bytes) f = plain.claims_of at f offset (length bytes)
+claims_in_place at (SetSize size) f = []
+claims_in_place at (Fill slot what) f = []
+
+abbrev pub claims_in_file : (at : ℕ) → Change → File → List MapEntry
+claims_in_file at change f = elim f.kind [
+  | kinds.Normal ↦ claims_in_place at change f
+  | kinds.Special ↦ claims_beside at change f
+]
+
+-- a draft what isn't fresh of that
+abbrev pub claims_in_draft : Change → Draft → Drafting → List MapEntry
+claims_in_draft (Overwrite offset bytes) d was = claims_of was (offset / 512) (leaves_in (offset + length bytes))
+claims_in_draft (SetSize size) d was = claims_anew was.at (written_anew (SetSize size) d.object d.fresh) d.fresh
+claims_in_draft (Fill slot what) d was = []
+
+abbrev pub drafting_of : List Seat → Ref → Option Drafting
+drafting_of seats (Direct id) = None
+drafting_of seats (Through t) = drafting_at seats t.draw
+
+-- the root block of what a reference goes to
+abbrev pub root_of : State → ℕ → Ref → ℕ
+root_of s who ref = option_map_or (λ (id : Puid). id.block) (named s who ref) 0
+
+-- what is seen through a reference
+abbrev pub claims_through : List Seat → State → ℕ → Ref → Change → List MapEntry
+claims_through seats s who ref change = elim (draft_of s who ref) [
+  | None ↦ claims_in_file (root_of s who ref) change (file_seen s who ref)
+  | Some d ↦ option_map_or (claims_in_draft change d) (drafting_of seats ref) []
+]
+
+-- ---- a request
+
+-- The entries for which it claims blocks, in their order: a new object's root, then leaves, each with its node; and the
+-- shadow root of a draft that is begun. A request that is a commit of its own claims a shadow root last, and gives it
+-- back.
+abbrev pub claims_for : List Seat → State → ℕ → Request → Reply → List MapEntry
+claims_for seats s who (asks.CreateFile kind fill index slot) reply =
+    intended places.Root (block_named reply) ∷ leaf_and_node (slot / 64) (root_of s who index)
+claims_for seats s who (asks.CreateIndex slots index slot) reply =
+    intended places.Root (block_named reply) ∷ leaf_and_node (slot / 64) (root_of s who index)
+claims_for seats s who (asks.Retain index slot id) reply = leaf_and_node (slot / 64) (root_of s who index)
+claims_for seats s who (asks.Delete index slot) reply = leaf_and_node (slot / 64) (root_of s who index)
+claims_for seats s who (asks.OpenFor id mode) reply =
+    if takes_draft mode (object_at s.graph id) then intended places.ShadowRoot id.block ∷ [] else []
+claims_for seats s who (asks.Write file offset bytes) reply = claims_through seats s who file (Overwrite offset bytes)
+claims_for seats s who (asks.Resize file size) reply = claims_through seats s who file (SetSize size)
+claims_for seats s who request reply = []
+
+-- the roots of the object to which it goes, and of one that it makes
+abbrev pub owners_of : State → ℕ → Request → Reply → List ℕ
+owners_of s who request reply =
+    root_of s who (target request) ∷ (if creates request then block_named reply ∷ [] else [])
+
+abbrev pub Takes : List Seat → State → ℕ → Request → Reply → Image → Image → Type 0
+Takes seats s who request reply a b =
+    ClaimsInOrder (claims_for seats s who request reply) (owners_of s who request reply) a b
