@@ -10,3 +10,4 @@ pub mod Steps
 pub mod Nodes
 mod Words
 pub mod Ways
+pub mod Descents

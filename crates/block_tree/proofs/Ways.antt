@@ -26,10 +26,13 @@ sets_node root n y fits small within =
     let now : (j : ℕ) → pointer node_pointers (root_spelling (with_node root n y)) j ≡ get_or (set root.nodes n y) j 0 = λ j. ap (λ (ns : List ℕ). get_or ns j 0) (sym (nodes_of (with_node root n y) (fits_with root n y fits small))) in
     (now n ∙ one.0, λ j apart. now j ∙ one.1 j apart ∙ sym (was j))
 
+pub node_with : (node : Node) (k y : ℕ) → IsNode node → y < 2 ^ 32 → IsNode (with_leaf node k y)
+node_with node k y is small = record { count = length-set node.leaves k y ∙ is.count; fit = All-set (λ p. p < 2 ^ 32) node.leaves k y small is.fit }
+
 pub sets_leaf : (node : Node) (k y : ℕ) → IsNode node → y < 2 ^ 32 → k < leaf_pointers.count → SetsOne (pointer leaf_pointers (node_spelling node)) k y (pointer leaf_pointers (node_spelling (with_leaf node k y)))
 sets_leaf node k y is small within =
     let one = one_set node.leaves k y (omega (arith, within, is.count)) in
-    let is_now : IsNode (with_leaf node k y) = record { count = length-set node.leaves k y ∙ is.count; fit = All-set (λ p. p < 2 ^ 32) node.leaves k y small is.fit } in
+    let is_now = node_with node k y is small in
     let was : (j : ℕ) → pointer leaf_pointers (node_spelling node) j ≡ get_or node.leaves j 0 = λ j. ap (λ (ns : List ℕ). get_or ns j 0) (sym (leaves_of node is)) in
     let now : (j : ℕ) → pointer leaf_pointers (node_spelling (with_leaf node k y)) j ≡ get_or (set node.leaves k y) j 0 = λ j. ap (λ (ns : List ℕ). get_or ns j 0) (sym (leaves_of (with_leaf node k y) is_now)) in
     (now k ∙ one.0, λ j apart. now j ∙ one.1 j apart ∙ sym (was j))

@@ -7,3 +7,5 @@ pub mod Tree
 pub mod Walk
 pub mod Step
 pub mod Way
+pub mod Path
+pub mod Along

@@ -3,6 +3,7 @@
 //! the leaf of the tree that hangs on the root's content.
 #![tactic(auto)]
 
+mod along;
 mod fault;
 mod head;
 mod leaf;
@@ -14,6 +15,7 @@ mod step;
 mod walk;
 mod way;
 
+pub use along::{PLACES, Way};
 pub use fault::TreeFault;
 pub use leaf::{LEAF_LIMIT, leaf_at, leaf_of, node_of, read_leaf};
 pub use node::{LEAVES, Node};

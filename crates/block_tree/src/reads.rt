@@ -1,6 +1,7 @@
 //! The root, the nodes and the leaves of an object, read for calls that tell which block is damaged.
 ghost use Rattle.std.specs.Prelude.{◌≡◌, ◌<◌, ◌≤◌, ℕ, false, length, replicate, IfErr, IfOk, OnOk};
 ghost use Rattle.std.specs.List.{All};
+ghost use Rattle.block_tree.specs.Node.{IsNode};
 ghost use Rattle.block_tree.specs.Pointers.{leaf_pointers, node_pointers, pointers_of, size_limit};
 ghost use Rattle.block_tree.specs.Reads.{HasStoppedBy, IsNear, IsNodeTrouble, IsRootTrouble, is_damage, leaves_at};
 ghost use Rattle.block_tree.specs.Root.{IsRootBlock};
@@ -49,6 +50,7 @@ pub fn read_node<D: Disk>(disk: &mut D, block: u32, holder: BlockNo) -> Result<N
     ensures there { OnOk result (block < D.blocks disk.old) }
     ensures leaves { IfOk result (λ node. All (λ leaf. leaf < D.blocks disk.old) node.leaves) }
     ensures count { IfOk result (λ node. length node.leaves ≡ leaf_pointers.count) }
+    ensures good { IfOk result IsNode }
     ensures refused { IfErr result (IsNodeTrouble D.Disk block holder.0 disk.old disk.new) }
     ensures untried { IfErr result (λ trouble. trouble_had_tried trouble ≡ false) }
     ensures sound { Tells D.Disk disk.old → IsNear (D.blocks disk.old) (D.content disk.old) block

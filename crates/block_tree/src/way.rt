@@ -40,6 +40,7 @@ impl Node {
     pub fn with_leaf(&self, place: u32, block: u32) -> Node
         requires { place < leaf_pointers.count }
         ensures node { result ≡ spec.with_leaf self.now place block }
+        ensures good { IsNode self.now → IsNode result }
         ensures one { IsNode self.now → spec.SetsOne (pointer leaf_pointers (node_spelling self.now)) place block
             (pointer leaf_pointers (node_spelling result)) }
     {

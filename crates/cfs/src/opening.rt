@@ -6,7 +6,7 @@ ghost use Rattle.cfs_serve.specs.Whole.{FitsVolume, HasCylinders, HasDisk, HasPl
 
 use cfs_base::Disk;
 use cfs_host::{FileDisk, FileSink, FileSource, Stream};
-use cfs_serve::{Path, Volume, WordsFault, names};
+use cfs_serve::{Path, Volume, WordsFault, files_named};
 use std::alloc::Global;
 use std::fs::File;
 use std::io::{Stdin, Stdout};
@@ -113,8 +113,8 @@ pub(crate) fn open(rt: &HostRuntime, alloc: Global, words: &[String]) -> Result<
     ensures places { IfOk result (λ o. HasPlaces (asked_in (map string_bytes words.now)) (length o.sources.items)
         (length o.sinks.items)) }
 {
-    let names = match names(alloc, words) {
-        Ok(names) => names,
+    let files = match files_named(alloc, words) {
+        Ok(files) => files,
         Err(WordsFault::Words) => {
             return Ok(Opened {
                 disk: None,
@@ -125,12 +125,12 @@ pub(crate) fn open(rt: &HostRuntime, alloc: Global, words: &[String]) -> Result<
         }
         Err(WordsFault::Memory) => return Err(tell_starved(rt)),
     };
-    let disk = open_volume(rt, &names.volume, names.pair)?;
-    let sources = open_sources(rt, alloc, names.sources.as_slice())?;
-    let sinks = make_sinks(rt, alloc, names.sinks.as_slice())?;
+    let disk = open_volume(rt, &files.volume, files.pair)?;
+    let sources = open_sources(rt, alloc, files.sources.as_slice())?;
+    let sinks = make_sinks(rt, alloc, files.sinks.as_slice())?;
     Ok(Opened {
         disk,
-        pair: names.pair,
+        pair: files.pair,
         sources,
         sinks,
     })

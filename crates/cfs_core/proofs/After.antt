@@ -26,7 +26,7 @@ module _ {D : Type 0} (g : Ghosts D) (n : ℕ) (old : Kernel D) (d : D) (new : K
       event = record { after = is.event.after; step = is.event.step; stores = is.event.stores; strays = subst (λ (i : Image). AddsNoStray i (g.content new.disk) s.graph is.event.after.graph) reads.content is.event.strays; survives = record { crashes = first _ is.event.survives.crashes; now = is.event.survives.now } };
       still = λ all. let was = is.still all in record { same = was.same; most = n + was.most; reads = reads_then g old.disk d new.disk n was.most (n + was.most) reads was.reads (omega arith) };
       owed = subst (λ (i : Image). Owes old.words.seed s who request i (sum old.space.free) reply) reads.content is.owed;
-      taken = λ done. subst (λ (i : Image). Takes old.seats s who request reply i (g.content new.disk)) reads.content (is.taken done);
+      taken = λ done. subst (λ (i : Image). Takes old.handles s who request reply i (g.content new.disk)) reads.content (is.taken done);
     }
 
     pub ends : (r : Result Reply Refused) → EndsSo g mid new s who request r → EndsSo g old new s who request r

@@ -12,10 +12,12 @@ use Rattle.ufs_model.specs.declared.asked.Request.TheVariants as asks
 use Rattle.ufs_model.specs.declared.object.Object.TheVariants as objects
 use Rattle.cfs_core.specs.Calls.{Answers, ByOutcome, ByWant, EndsSo, IsInDoubt, Tries, Undone, done_or}
 use Rattle.cfs_core.specs.Drafts.{AltersDraft, ChangesDraft, KnowsDraft}
-use Rattle.cfs_core.specs.Kernel.{Kernel, Seat, is_ready}
-use Rattle.cfs_core.specs.Looks.{IsDraftCause, content_of, measured}
-use Rattle.cfs_core.specs.Seats.{drafting_at, is_drawn, with_drafting}
-use Rattle.cfs_core.specs.StandsFor.{HasDraftOf, Serves, bare, drafts_of_seats}
+use Rattle.cfs_core.specs.Kernel.{Kernel, Handle, is_ready}
+use Rattle.cfs_core.specs.Looks.{IsDraftCause, content_reply, measured}
+use Rattle.cfs_core.specs.Handles.{drafting_at, is_drawn, with_drafting}
+use Rattle.cfs_core.specs.StandsFor.{HasDraftOf, Serves, bare, drafts_of_handles}
+use Rattle.intentions.proofs.Shown.{store_whole}
+use Rattle.intentions.specs.Left.{StoreIs}
 use Rattle.cfs_core.proofs.Answering.{disk_failed, memory, owes, reads_none, seen as told, tries_so}
 use Rattle.cfs_core.proofs.Drafted.{changed_drafts, changed_have, drawn, has_draft, place_of, special, with_is, written}
 use Rattle.cfs_core.proofs.Ended.{IsHeld, alone_take, block, find_drawn, of_its_draft, open_in, so}
@@ -25,10 +27,12 @@ use Rattle.cfs_core.proofs.Went.{went_done}
 use Rattle.cfs_core.proofs.Filed.{IsChanging}
 use Rattle.cfs_core.proofs.Readied.{ready_at, ready_for}
 use Rattle.cfs_core.proofs.Refusing.{IsSeen}
-use Rattle.cfs_core.proofs.Seated.{grants_with}
+use Rattle.cfs_core.proofs.Handled.{grants_with}
 use Rattle.cfs_core.proofs.Serving.{fits, running, stays}
 use Rattle.cfs_core.proofs.Moved.{HasStepped, IsStepped, four_left, makes_stepped}
-use Rattle.cfs_core.specs.Claimed.{ClaimsInOrder, Takes, claims_for, claims_in_draft, owners_of, claims_in_file, claims_through, root_of}
+use Rattle.cfs_core.specs.Claimed.{ClaimsInOrder, Takes, claims_for, claims_in_draft, commits_alone, is_beside, owners_of, claims_in_file, claims_through, root_reached}
+use Rattle.cfs_core.proofs.Claimed.{takes_alone}
+use Rattle.std.specs.Prelude.{◌&&◌, is_none}
 use Rattle.ufs_model.specs.State.{file_seen}
 use Rattle.std.specs.Option.{option_map_or}
 
@@ -120,10 +124,10 @@ module _ (s : State) (who : ℕ) (t : Tuid) (x : Grant) (d : Draft) (f f0 : File
   size_by : (seed : ℕ) → IsSeen seed s who (asks.Size (Through t)) (measured f)
   size_by seed = inr (rw (found, there) refl, λ b. rw (found, has, file_is) refl)
 
-  read_by : (seed offset count : ℕ) → IsSeen seed s who (asks.Read (Through t) offset count) (content_of f offset count)
+  read_by : (seed offset count : ℕ) → IsSeen seed s who (asks.Read (Through t) offset count) (content_reply f offset count)
   read_by seed offset count = at (is_range (length f.bytes) offset count) refl
     where
-      at : (b : Bool) → is_range (length f.bytes) offset count ≡ b → IsSeen seed s who (asks.Read (Through t) offset count) (content_of f offset count)
+      at : (b : Bool) → is_range (length f.bytes) offset count ≡ b → IsSeen seed s who (asks.Read (Through t) offset count) (content_reply f offset count)
       at true is = inr (rw (found, there, has, file_is, is) refl, λ b. rw (found, has, file_is, is) refl)
       at false is = inl (rw (found, there, has, file_is, is) refl)
 
@@ -152,10 +156,10 @@ none_needed was n is = rw is refl
 
 module _ {D : Type 0} (g : Ghosts D) (k : Kernel D) (s : State) (serves : Serves g k s) (who : ℕ) (t : Tuid) (was : Drafting) (held : IsHeld g k s who t was) where
   abbrev pub ds : List Opened
-  ds = drafts_of_seats k.seats s.grants
+  ds = drafts_of_handles k.handles s.grants
 
   abbrev pub id : Puid
-  id = held.seat.grant.id
+  id = held.handle.grant.id
 
   abbrev pub before : Draft
   before = held.before
@@ -182,8 +186,8 @@ module _ {D : Type 0} (g : Ghosts D) (k : Kernel D) (s : State) (serves : Serves
   pub size_is : was.root.size ≡ length file.bytes
   size_is = sym (file_to_leaves was.root _ file (had.tree.object ∙ file_is)).size
 
-  written_in : is_reading held.seat.grant.mode ≡ false
-  written_in = written who t k.seats s.grants held.seat held.x held.place serves.drafts was before held.drafting held.draft_was
+  written_in : is_reading held.handle.grant.mode ≡ false
+  written_in = written who t k.handles s.grants held.handle held.x held.place serves.drafts was before held.drafting held.draft_was
 
   writes : is_reading held.x.mode ≡ false
   writes = ap is_reading (sym (ap (λ e. e.mode) held.place.here)) ∙ written_in
@@ -193,7 +197,7 @@ module _ {D : Type 0} (g : Ghosts D) (k : Kernel D) (s : State) (serves : Serves
   pub size_told : (seed : ℕ) → IsSeen seed s who (asks.Size (Through t)) (measured file)
   size_told = size_by s who t held.x before file files.0.0 held.found held.draft_was file_is is_file_there
 
-  pub read_told : (seed offset count : ℕ) → IsSeen seed s who (asks.Read (Through t) offset count) (content_of file offset count)
+  pub read_told : (seed offset count : ℕ) → IsSeen seed s who (asks.Read (Through t) offset count) (content_reply file offset count)
   read_told = read_by s who t held.x before file files.0.0 held.found held.draft_was file_is is_file_there
 
   pub write_goes : (offset : ℕ) (bytes : List ℕ) → is_range (length file.bytes) offset (length bytes) ≡ true → refusal_of s who (asks.Write (Through t) offset bytes) ≡ None
@@ -210,7 +214,7 @@ module _ {D : Type 0} (g : Ghosts D) (k : Kernel D) (s : State) (serves : Serves
 
   -- ---- it is changed
 
-  module _ (ready : list_all (is_ready k.names.room) k.seats ≡ true) (change : Change) (request : Request) (is : IsChanging request change) (goes_to : target request ≡ Through t) (goes : refusal_of s who request ≡ None) where
+  module _ (ready : list_all (is_ready k.names.room) k.handles ≡ true) (change : Change) (request : Request) (is : IsChanging request change) (goes_to : target request ≡ Through t) (goes : refusal_of s who request ≡ None) where
     abbrev d : Draft
     d = changed_draft change before
 
@@ -222,33 +226,34 @@ module _ {D : Type 0} (g : Ghosts D) (k : Kernel D) (s : State) (serves : Serves
         ∙ ap (λ (e : Draft). record s { grants = with_draft who t (changed_draft change e) s.grants }) (seen_draft s who t held.x before held.found held.draft_was)
 
     not_normal : is_normal before.object ≡ false
-    not_normal = special who t k.seats s.grants held.seat held.x held.place serves.drafts was before held.drafting held.draft_was
+    not_normal = special who t k.handles s.grants held.handle held.x held.place serves.drafts was before held.drafting held.draft_was
 
     need_is : need_of s who request ≡ missing (written_anew change before.object before.fresh) before.fresh
     need_is = is.need s who ∙ ap (λ to. change_need s who to change) goes_to ∙ need_by s who t held.x before change held.found held.draft_was not_normal
 
     beside_is : need_beside change before was ≡ need_of s who request
     beside_is =
-        let shadow = (ready_for k.names.room was (ready_at k.names.room t.draw k.seats ready was held.at)).shadow in
+        let shadow = (ready_for k.names.room was (ready_at k.names.room t.draw k.handles ready was held.at)).shadow in
         omega (arith, none_needed was shadow.0 shadow.1, need_is)
 
     legal : k.stop ≡ None → next k.words.seed s (events.Ask who request replies.Done) ≡ Some after
     legal none = subst (λ (p : Reply × State). next k.words.seed s (events.Ask who request p.0) ≡ Some p.1) (is.outcome k.words.seed s who 0 ∙ ap (λ (y : State). (replies.Done, y)) changed_is)
         (outcome_legal k.words.seed s who request 0 (running g k s serves none) goes (λ made. let no : true ≡ false = sym made ∙ is.makes in cc))
 
-    takes : (disk : D) → ClaimsInOrder (claims_in_draft change before was) (id.block ∷ []) (g.content k.disk) (g.content disk) → Takes k.seats s who request replies.Done (g.content k.disk) (g.content disk)
+    takes : (disk : D) → ClaimsInOrder (claims_in_draft change before was) (id.block ∷ []) (g.content k.disk) (g.content disk) → Takes k.handles s who request replies.Done (g.content k.disk) (g.content disk)
     takes disk order =
         let here : held.x.id ≡ id = sym (ap (λ e. e.id) held.place.here) in
-        let claims : claims_for k.seats s who request replies.Done ≡ claims_in_draft change before was = is.claims k.seats s who replies.Done ∙ ap (λ to. claims_through k.seats s who to change) goes_to
-        ∙ ap (λ (o : Option Draft). elim o [ None ↦ claims_in_file (root_of s who (Through t)) change (file_seen s who (Through t)) | Some e ↦ option_map_or (claims_in_draft change e) (drafting_at k.seats t.draw) [] ]) (ap (option_and_then (λ (x : Grant). x.draft)) held.found ∙ held.draft_was)
+        let claims : claims_for k.handles s who request replies.Done ≡ claims_in_draft change before was = is.claims k.handles s who replies.Done ∙ ap (λ to. claims_through k.handles s who to change) goes_to
+        ∙ ap (λ (o : Option Draft). elim o [ None ↦ claims_in_file (root_reached s who (Through t)) change (file_seen s who (Through t)) | Some e ↦ option_map_or (claims_in_draft change e) (drafting_at k.handles t.draw) [] ]) (ap (option_and_then (λ (x : Grant). x.draft)) held.found ∙ held.draft_was)
         ∙ ap (λ o. option_map_or (claims_in_draft change before) o []) held.at in
         let owners : owners_of s who request replies.Done ≡ id.block ∷ [] = rw (is.makes, goes_to, held.found) (ap (λ (x : Puid). x.block ∷ []) here) in
-        subst (λ (cs : List MapEntry). ClaimsInOrder cs (owners_of s who request replies.Done) (g.content k.disk) (g.content disk)) (sym claims)
-        (subst (λ (ns : List ℕ). ClaimsInOrder (claims_in_draft change before was) ns (g.content k.disk) (g.content disk)) (sym owners) order)
+        let alone : commits_alone s who request ≡ false = is.alone s who ∙ ap (is_beside s who) goes_to ∙ ap (λ (o : Option Draft). is_none o && not (is_normal (seen s who (Through t)).object)) (ap (option_and_then (λ (x : Grant). x.draft)) held.found ∙ held.draft_was) in
+        takes_alone k.handles s who request replies.Done (g.content k.disk) (g.content disk) alone (subst (λ (cs : List MapEntry). ClaimsInOrder cs (owners_of s who request replies.Done) (g.content k.disk) (g.content disk)) (sym claims)
+        (subst (λ (ns : List ℕ). ClaimsInOrder (claims_in_draft change before was) ns (g.content k.disk) (g.content disk)) (sym owners) order))
 
     module _ (now : Drafting) (disk : D) (space : Kept) where
       abbrev new : Kernel D
-      new = record k { disk = disk; space = space; seats = with_drafting t.draw (Some now) k.seats }
+      new = record k { disk = disk; space = space; handles = with_drafting t.draw (Some now) k.handles }
 
       abbrev it : Opened
       it = opened_as id now d
@@ -269,7 +274,7 @@ module _ {D : Type 0} (g : Ghosts D) (k : Kernel D) (s : State) (serves : Serves
         named = serves.front.names;
         root = refl;
         stop = refl;
-        table = grants_with t.draw (Some now) k.seats ∙ serves.front.grants ∙ sym (bare_with who t d s.grants);
+        table = grants_with t.draw (Some now) k.handles ∙ serves.front.grants ∙ sym (bare_with who t d s.grants);
       }
 
       module _ (becomes : Becomes g s.graph ds id d k.disk disk space now) (left_same : space.left ≡ k.space.left) (shadow : now.shadow ≡ was.shadow) (created : now.created ≡ was.created) (room : need_beside change before was + 4 ≤ sum k.space.free) where
@@ -303,8 +308,8 @@ module _ {D : Type 0} (g : Ghosts D) (k : Kernel D) (s : State) (serves : Serves
             → ClaimsInOrder (claims_in_draft change before was) (id.block ∷ []) (g.content k.disk) (g.content disk) → Answers g k new s who request replies.Done
         altered left_sized wide none leaves order = record {
           event = makes_stepped g k new s after s.graph serves T es has stepped (next_keeps k.words.seed s after (events.Ask who request replies.Done) serves.state (is.speaks who) (legal none))
-              (changed_drafts who t k.seats s.grants held.seat held.x held.place serves.drafts was before held.drafting held.draft_was now d)
-              (changed_have who t k.seats s.grants held.seat held.x held.place serves.drafts was before held.drafting held.draft_was now d
+              (changed_drafts who t k.handles s.grants held.handle held.x held.place serves.drafts was before held.drafting held.draft_was now d)
+              (changed_have who t k.handles s.grants held.handle held.x held.place serves.drafts was before held.drafting held.draft_was now d
               (record { is_open = becomes.is_open; writes = written_in; special = subst (λ (y : Object). is_normal (changed_object change y) ≡ false) (sym file_is) (still_special change file (subst (λ (y : Object). is_normal y ≡ false) file_is not_normal)) })) four
               left_sized wide (events.Ask who request replies.Done) (legal none) refl leaves;
           still = λ all. let no : true ≡ false = sym all in cc;
@@ -317,16 +322,16 @@ module _ {D : Type 0} (g : Ghosts D) (k : Kernel D) (s : State) (serves : Serves
           }));
         }
 
-      -- the seats where it stays as it was
-      unchanged : now ≡ was → with_drafting t.draw (Some now) k.seats ≡ k.seats
+      -- the handles where it stays as it was
+      unchanged : now ≡ was → with_drafting t.draw (Some now) k.handles ≡ k.handles
       unchanged same =
           let place = held.place in
-          with_is who t k.seats s.grants held.seat held.x place (Some now)
-          ∙ ap (λ (w : Option Drafting). place.ss1 ++ record { grant = held.seat.grant; drafting = w } ∷ place.ss2) (ap (λ (w : Drafting). Some w) same ∙ sym held.drafting)
-          ∙ sym place.seats_are
+          with_is who t k.handles s.grants held.handle held.x place (Some now)
+          ∙ ap (λ (w : Option Drafting). place.ss1 ++ record { grant = held.handle.grant; drafting = w } ∷ place.ss2) (ap (λ (w : Drafting). Some w) same ∙ sym held.drafting)
+          ∙ sym place.handles_are
 
       as_it_was : (space ≡ k.space) → now ≡ was → new ≡ record k { disk = disk }
-      as_it_was same before_it = ap (λ (y : Kept). record k { disk = disk; space = y; seats = with_drafting t.draw (Some now) k.seats }) same ∙ ap (λ (ss : List Seat). record k { disk = disk; seats = ss }) (unchanged before_it)
+      as_it_was same before_it = ap (λ (y : Kept). record k { disk = disk; space = y; handles = with_drafting t.draw (Some now) k.handles }) same ∙ ap (λ (ss : List Handle). record k { disk = disk; handles = ss }) (unchanged before_it)
 
       module _ (left_sized : (c : D) (n : ℕ) (i : Image) → g.left_since c n i → length i ≡ g.blocks c) (sized : (c : D) → IsTrue (g.honest c) → length (g.content c) ≡ g.blocks c) (none : k.stop ≡ None)
           (result : Result (Unit {0}) Refused) (changes : ChangesDraft g change k.disk disk k.space space was now result) where
@@ -356,7 +361,7 @@ module _ {D : Type 0} (g : Ghosts D) (k : Kernel D) (s : State) (serves : Serves
           allowed = goes;
           drawn = refl;
           named = refl;
-          grants = grants_with t.draw (Some now) k.seats;
+          grants = grants_with t.draw (Some now) k.handles;
           leaves = wider g k.disk disk _ _ alters.leaves (λ c holds. record { graph = s.graph; may = Undone; fits = fits g k s serves (g.blocks disk) wide; holds = holds });
         }
 
@@ -377,27 +382,27 @@ module _ {D : Type 0} (g : Ghosts D) (k : Kernel D) (s : State) (serves : Serves
 
 -- ---- a grant without a draft
 
-pub undrafted : {D : Type 0} (g : Ghosts D) (k : Kernel D) (s : State) → Serves g k s → (who : ℕ) (t : Tuid) → drafting_at k.seats t.draw ≡ None → draft_of s who (Through t) ≡ None
+pub undrafted : {D : Type 0} (g : Ghosts D) (k : Kernel D) (s : State) → Serves g k s → (who : ℕ) (t : Tuid) → drafting_at k.handles t.draw ≡ None → draft_of s who (Through t) ≡ None
 undrafted g k s serves who t none = at (grant_of s who t) refl
   where
     at : (o : Option Grant) → grant_of s who t ≡ o → option_and_then (λ (x : Grant). x.draft) o ≡ None
     at None found = refl
     at (Some x) found =
-        let two = place_of who t k.seats s.grants x serves.front.grants serves.state.rising found in
-        let is_none : two.0.drafting ≡ None = sym (ap (option_and_then (λ (e : Seat). e.drafting)) (ap (find (is_drawn t.draw)) two.1.seats_are ∙ find_drawn t.draw two.0 two.1.ss2 two.1.ss1 (drawn who t k.seats s.grants two.0 x two.1) two.1.none_first)) ∙ none in
-        bare_seat two.0 x.draft (subst (λ (o : Option Drafting). HasDraftOf (drafts_of_seats k.seats s.grants) two.0 o x.draft) is_none (has_draft who t k.seats s.grants two.0 x two.1 serves.drafts))
+        let two = place_of who t k.handles s.grants x serves.front.grants serves.state.rising found in
+        let is_none : two.0.drafting ≡ None = sym (ap (option_and_then (λ (e : Handle). e.drafting)) (ap (find (is_drawn t.draw)) two.1.handles_are ∙ find_drawn t.draw two.0 two.1.ss2 two.1.ss1 (drawn who t k.handles s.grants two.0 x two.1) two.1.none_first)) ∙ none in
+        bare_handle two.0 x.draft (subst (λ (o : Option Drafting). HasDraftOf (drafts_of_handles k.handles s.grants) two.0 o x.draft) is_none (has_draft who t k.handles s.grants two.0 x two.1 serves.drafts))
       where
-        bare_seat : (here : Seat) (d : Option Draft) → HasDraftOf (drafts_of_seats k.seats s.grants) here None d → d ≡ None
-        bare_seat here None it_has = refl
-        bare_seat here (Some d) it_has = absurd it_has
+        bare_handle : (here : Handle) (d : Option Draft) → HasDraftOf (drafts_of_handles k.handles s.grants) here None d → d ≡ None
+        bare_handle here None it_has = refl
+        bare_handle here (Some d) it_has = absurd it_has
 
 -- ---- calls that only read
 
 module _ {D : Type 0} (g : Ghosts D) (left_sized : (d : D) (t : ℕ) (c : Image) → g.left_since d t c → length c ≡ g.blocks d) (sized : (d : D) → IsTrue (g.honest d) → length (g.content d) ≡ g.blocks d)
-    (k : Kernel D) (who : ℕ) (t : Tuid) (was : Drafting) (drafting : drafting_at k.seats t.draw ≡ Some was) (the : (s : State) → Serves g k s → IsHeld g k s who t was) where
+    (k : Kernel D) (who : ℕ) (t : Tuid) (was : Drafting) (drafting : drafting_at k.handles t.draw ≡ Some was) (the : (s : State) → Serves g k s → IsHeld g k s who t was) where
   pub tries_size : Tries g k k who (asks.Size (Through t)) (Ok (replies.Number was.root.size))
   tries_size = tries_so g left_sized sized 0 k k (reads_none g 0 k.disk) refl who (asks.Size (Through t)) (Ok (replies.Number was.root.size))
-      (λ s serves none. told g left_sized sized 0 k k (reads_none g 0 k.disk) refl s who serves none (asks.Size (Through t)) (replies.Number was.root.size) refl refl refl
+      (λ s serves none. told g left_sized sized 0 k k (reads_none g 0 k.disk) refl s who serves none (asks.Size (Through t)) (replies.Number was.root.size) refl refl refl refl
       (subst (IsSeen k.words.seed s who (asks.Size (Through t))) (ap replies.Number (sym (size_is g k s serves who t was (the s serves)))) (size_told g k s serves who t was (the s serves) k.words.seed)))
       tt tt
 
@@ -405,18 +410,21 @@ module _ {D : Type 0} (g : Ghosts D) (left_sized : (d : D) (t : ℕ) (c : Image)
     abbrev read : Request
     read = asks.Read (Through t) offset count
 
+    whole : (s : State) (serves : Serves g k s) → StoreHas g s.graph (drafts_of_handles k.handles s.grants) k.disk k.space → StoreIs g s.graph (drafts_of_handles k.handles s.grants) k.disk k.space
+    whole s serves store = store_whole g s.graph (drafts_of_handles k.handles s.grants) k.disk k.space serves.left store
+
     pub tries_read : (result : Result Reply Refused)
-        → ((graph : Graph) (ds : List Opened) (space : Kept) (id : Puid) (o : Object) (m : Draft) (f : File) → StoreHas g graph ds k.disk space → object_at graph id ≡ Some o → IsOpen ds id was m → m.object ≡ objects.File f → length f.bytes ≡ was.root.size
-        → IfOk result (λ reply. reply ≡ content_of f offset count))
+        → ((graph : Graph) (ds : List Opened) (space : Kept) (id : Puid) (o : Object) (m : Draft) (f : File) → StoreIs g graph ds k.disk space → object_at graph id ≡ Some o → IsOpen ds id was m → m.object ≡ objects.File f → length f.bytes ≡ was.root.size
+        → IfOk result (λ reply. reply ≡ content_reply f offset count))
         → IfOk result IsPlainReply
-        → ((graph : Graph) (ds : List Opened) (space : Kept) (id : Puid) (o : Object) (m : Draft) → StoreHas g graph ds k.disk space → object_at graph id ≡ Some o → IsOpen ds id was m → IfErr result (λ e. is_damaged e ≡ false))
+        → ((graph : Graph) (ds : List Opened) (space : Kept) (id : Puid) (o : Object) (m : Draft) → StoreIs g graph ds k.disk space → object_at graph id ≡ Some o → IsOpen ds id was m → IfErr result (λ e. is_damaged e ≡ false))
         → IfErr result (IsDraftCause g was.at k.disk d) → Tries g k (record k { disk = d }) who read result
     unfolding knows files
     tries_read (Ok reply) exact plain sound cause = tries_so g left_sized sized n k (record k { disk = d }) reads refl who read (Ok reply)
         (λ s serves none.
         let knows = knows g k s serves who t was (the s serves) in
-        told g left_sized sized n k (record k { disk = d }) reads refl s who serves none read reply refl refl refl
-        (subst (IsSeen k.words.seed s who read) (sym (exact s.graph _ k.space _ knows.object _ knows.file knows.store knows.there knows.is_open knows.is_file (sym (size_is g k s serves who t was (the s serves)))))
+        told g left_sized sized n k (record k { disk = d }) reads refl s who serves none read reply refl refl refl refl
+        (subst (IsSeen k.words.seed s who read) (sym (exact s.graph (drafts_of_handles k.handles s.grants) k.space _ knows.object _ knows.file (whole s serves knows.store) knows.there knows.is_open knows.is_file (sym (size_is g k s serves who t was (the s serves)))))
         (read_told g k s serves who t was (the s serves) k.words.seed offset count)))
         plain tt
     tries_read (Err (refusals.Full need)) exact plain sound cause = absurd cause
@@ -424,20 +432,20 @@ module _ {D : Type 0} (g : Ghosts D) (left_sized : (d : D) (t : ℕ) (c : Image)
         (tries_so g left_sized sized n k (record k { disk = d }) reads refl who read (Err (refusals.Disk false)) (λ s serves none. disk_failed g left_sized sized n k (record k { disk = d }) reads refl s who serves none read) tt cause.1)
     tries_read (Err (refusals.Damaged damage)) exact plain sound cause = tries_so g left_sized sized n k (record k { disk = d }) reads refl who read (Err (refusals.Damaged damage))
         (λ s serves none. let knows = knows g k s serves who t was (the s serves) in
-        let no : true ≡ false = sound s.graph _ k.space _ knows.object _ knows.store knows.there knows.is_open in cc) tt
+        let no : true ≡ false = sound s.graph (drafts_of_handles k.handles s.grants) k.space _ knows.object _ (whole s serves knows.store) knows.there knows.is_open in cc) tt
         (told_of_draft g k (record k { disk = d }) (Some read) was.at (inr (t.draw, was, drafting, refl)) damage reads.same.size (cause k.space))
     tries_read (Err refusals.Memory) exact plain sound cause = tries_so g left_sized sized n k (record k { disk = d }) reads refl who read (Err refusals.Memory)
         (λ s serves none. memory g left_sized sized n k (record k { disk = d }) reads refl s who serves none read) tt tt
 
 -- the whole call, of a grant that has a draft
 pub tries_altered : {D : Type 0} (g : Ghosts D) (left_sized : (d : D) (t : ℕ) (c : Image) → g.left_since d t c → length c ≡ g.blocks d) (sized : (d : D) → IsTrue (g.honest d) → length (g.content d) ≡ g.blocks d)
-    (k : Kernel D) (ready : list_all (is_ready k.names.room) k.seats ≡ true) (who : ℕ) (t : Tuid) (was : Drafting) (drafting : drafting_at k.seats t.draw ≡ Some was) (the : (s : State) → Serves g k s → IsHeld g k s who t was)
+    (k : Kernel D) (ready : list_all (is_ready k.names.room) k.handles ≡ true) (who : ℕ) (t : Tuid) (was : Drafting) (drafting : drafting_at k.handles t.draw ≡ Some was) (the : (s : State) → Serves g k s → IsHeld g k s who t was)
     (change : Change) (request : Request) (is : IsChanging request change) (goes_to : target request ≡ Through t) → ((s : State) → Serves g k s → refusal_of s who request ≡ None)
     → (now : Drafting) (disk : D) (space : Kept) (result : Result (Unit {0}) Refused) → ChangesDraft g change k.disk disk k.space space was now result
-    → Tries g k (record k { disk = disk; space = space; seats = with_drafting t.draw (Some now) k.seats }) who request (done_or result)
+    → Tries g k (record k { disk = disk; space = space; handles = with_drafting t.draw (Some now) k.handles }) who request (done_or result)
 tries_altered g left_sized sized k ready who t was drafting the change request is goes_to goes now disk space result changes = record {
   ends = λ s serves none.
       ends_so g k s serves who t was (the s serves) ready change request is goes_to (goes s serves) now disk space left_sized sized none result changes;
-  went = went_done g k disk space (with_drafting t.draw (Some now) k.seats) changes.calls.same.size changes.calls.faults changes.calls.later request result (λ tried is. rw is at changes.refused)
-      (λ damage met. told_of_draft g k (record k { disk = disk; space = space; seats = with_drafting t.draw (Some now) k.seats }) (Some request) was.at (inr (t.draw, was, drafting, refl)) damage changes.calls.same.size (rw met at changes.refused));
+  went = went_done g k disk space (with_drafting t.draw (Some now) k.handles) changes.calls.same.size changes.calls.faults changes.calls.later request result (λ tried is. rw is at changes.refused)
+      (λ damage met. told_of_draft g k (record k { disk = disk; space = space; handles = with_drafting t.draw (Some now) k.handles }) (Some request) was.at (inr (t.draw, was, drafting, refl)) damage changes.calls.same.size (rw met at changes.refused));
 }

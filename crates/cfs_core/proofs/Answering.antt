@@ -9,15 +9,16 @@ use Rattle.ufs_model.specs.declared.object.Object.TheVariants as objects
 use Rattle.cfs_core.specs.Calls.{Answers, ByOutcome, ByRefusal, EndsSo, IsCause, IsOwed, Makes, Owes, Tries, Went}
 use Rattle.cfs_core.specs.Kernel.{Kernel}
 use Rattle.cfs_core.specs.Looks.{IsCalm, IsCalmCause, Knows, ReachesAll}
-use Rattle.cfs_core.specs.StandsFor.{Serves, drafts_of_seats}
+use Rattle.intentions.proofs.Shown.{shown_whole}
+use Rattle.cfs_core.specs.StandsFor.{Serves, drafts_of_handles}
 use Rattle.cfs_core.specs.Ways.{Reaches, unfit_of}
 use Rattle.cfs_core.proofs.Refusing.{IsSeen}
 use Rattle.cfs_core.specs.Damage.{IsRootHere}
 use Rattle.cfs_core.proofs.Damages.{told_of_read}
 use Rattle.cfs_core.proofs.Went.{went_so}
 use Rattle.cfs_core.proofs.Serving.{running, shut, stays}
-use Rattle.cfs_core.specs.Claimed.{ClaimsInOrder, claims_for, owners_of}
-use Rattle.cfs_core.proofs.Claimed.{claims_none, refused_undone}
+use Rattle.cfs_core.specs.Claimed.{ClaimsInOrder, claims_for, commits_alone, owners_of}
+use Rattle.cfs_core.proofs.Claimed.{claims_none, refused_undone, takes_alone}
 
 -- what is owed is so of a reply in which no device call failed
 pub owes : (seed : ℕ) (s : State) (who : ℕ) (request : Request) (image : Image) (free : ℕ) (reply : Reply) → IsPlainReply reply → IsOwed seed s who request image free reply → Owes seed s who request image free reply
@@ -54,9 +55,9 @@ module _ {D : Type 0} (g : Ghosts D) (left_sized : (d : D) (t : ℕ) (c : Image)
     }
 
     -- what was asked for, or a refusal
-    pub seen : (request : Request) (reply : Reply) → need_of s who request ≡ 0 → creates request ≡ false → claims_for old.seats s who request reply ≡ [] → IsSeen old.words.seed s who request reply → Answers g old new s who request reply
-    seen request reply need makes claims (inl is) = refused request reply is
-    seen request reply need makes claims (inr two) =
+    pub seen : (request : Request) (reply : Reply) → need_of s who request ≡ 0 → creates request ≡ false → claims_for old.handles s who request reply ≡ [] → commits_alone s who request ≡ false → IsSeen old.words.seed s who request reply → Answers g old new s who request reply
+    seen request reply need makes claims alone (inl is) = refused request reply is
+    seen request reply need makes claims alone (inr two) =
         let done = two.1 0 in
         let legal = outcome_legal old.words.seed s who request 0 (running g old s serves none) two.0 (λ made. let no : true ≡ false = sym made ∙ makes in cc) in
         let step : next old.words.seed s (events.Ask who request reply) ≡ Some s = subst (λ (p : Reply × State). next old.words.seed s (events.Ask who request p.0) ≡ Some p.1) done legal in
@@ -70,8 +71,8 @@ module _ {D : Type 0} (g : Ghosts D) (left_sized : (d : D) (t : ℕ) (c : Image)
             reply_is = sym (ap (λ (p : Reply × State). p.0) done);
             room = λ short. omega (arith, short.few, serves.four, need);
           }));
-          taken = λ taken. subst (λ (cs : List MapEntry). ClaimsInOrder cs (owners_of s who request reply) (g.content old.disk) (g.content new.disk)) (sym claims)
-              (claims_none (owners_of s who request reply) (g.content old.disk) (g.content new.disk) reads.content);
+          taken = λ taken. takes_alone old.handles s who request reply (g.content old.disk) (g.content new.disk) alone (subst (λ (cs : List MapEntry). ClaimsInOrder cs (owners_of s who request reply) (g.content old.disk) (g.content new.disk)) (sym claims)
+              (claims_none (owners_of s who request reply) (g.content old.disk) (g.content new.disk) reads.content));
         }
 
     pub disk_failed : (request : Request) → Answers g old new s who request (replies.Disk None)
@@ -85,8 +86,12 @@ module _ {D : Type 0} (g : Ghosts D) (left_sized : (d : D) (t : ℕ) (c : Image)
       → IfOk result IsPlainReply → IfErr result (IsCause g old new (Some request)) → Tries g old new who request result
   tries_so who request result ends plain cause = record {
     ends = ends;
-    went = subst (λ (k : Kernel D). Went g old k request result) (sym same) (went_so g old new.disk old.space old.seats reads.same.size reads.faults reads.images.later request result plain (subst (λ (k : Kernel D). IfErr result (IsCause g old k (Some request))) same cause));
+    went = subst (λ (k : Kernel D). Went g old k request result) (sym same) (went_so g old new.disk old.space old.handles reads.same.size reads.faults reads.images.later request result plain (subst (λ (k : Kernel D). IfErr result (IsCause g old k (Some request))) same cause));
   }
+
+  -- memory is wanted
+  pub tries_want : (who : ℕ) (request : Request) (e : Refused) → e ≡ refusals.Memory → Tries g old new who request (Err e)
+  tries_want who request e is = subst (λ (x : Refused). Tries g old new who request (Err x)) (sym is) (tries_so who request (Err refusals.Memory) (λ s serves none. memory s who serves none request) tt tt)
 
   -- a read that failed, where such an object is
   failed : {A : Type 0} (sort : A → Object) (at : ℕ) (e : Refused) → ((a : A) → Knows g old.disk at (sort a) → is_damaged e ≡ false) → IsCalmCause g at old.disk new.disk e → (who : ℕ) (request : Request) → IsRootHere old (Some request) at
@@ -99,8 +104,8 @@ module _ {D : Type 0} (g : Ghosts D) (left_sized : (d : D) (t : ℕ) (c : Image)
   failed sort at refusals.Memory sound cause who request here knows = tries_so who request (Err refusals.Memory) (λ s serves none. memory s who serves none request) tt tt
 
 -- the store has the object that is reached, of which there is no draft
-pub knows_that : {D : Type 0} (g : Ghosts D) (k : Kernel D) (s : State) → Serves g k s → (id : Puid) (o : Object) → object_at s.graph id ≡ Some o → drafts_of (drafts_of_seats k.seats s.grants) id ≡ [] → Knows g k.disk id.block o
-knows_that g k s serves id o there shut = record { graph = s.graph; drafts = drafts_of_seats k.seats s.grants; space = k.space; id = id; store = serves.store; root = refl; there = there; shut = shut }
+pub knows_that : {D : Type 0} (g : Ghosts D) (k : Kernel D) (s : State) → Serves g k s → (id : Puid) (o : Object) → object_at s.graph id ≡ Some o → drafts_of (drafts_of_handles k.handles s.grants) id ≡ [] → Knows g k.disk id.block o
+knows_that g k s serves id o there shut = record { graph = s.graph; drafts = drafts_of_handles k.handles s.grants; space = k.space; id = id; seen = shown_whole g s.graph (drafts_of_handles k.handles s.grants) k.disk k.space id o id.block serves.left serves.store there refl; shut = shut }
 
 pub known : {D : Type 0} (g : Ghosts D) (k : Kernel D) (s : State) → Serves g k s → (index : Puid) (i : Index) → object_at s.graph index ≡ Some (objects.Index i) → Knows g k.disk index.block (objects.Index i)
 known g k s serves index i there = knows_that g k s serves index (objects.Index i) there (shut g k s serves index i there)
@@ -136,13 +141,13 @@ module _ {D A : Type 0} (g : Ghosts D) (left_sized : (d : D) (t : ℕ) (c : Imag
   pub tries_failed : (e : Refused) → OnlyReads g n k.disk d → ((a : A) → Knows g k.disk id.block (sort a) → is_damaged e ≡ false) → IsCalmCause g id.block k.disk d e → Tries g k (record k { disk = d }) who request (Err e)
   tries_failed e reads sound cause = failed g left_sized sized n k (record k { disk = d }) reads refl sort id.block e sound cause who request (inl reaches.1) knows
 
-  pub tries_seen : (says : A → Reply) (result : Result Reply Refused) → creates request ≡ false → ((s : State) (reply : Reply) → claims_for k.seats s who request reply ≡ []) → IsReplied says → IfOk result IsPlainReply
+  pub tries_seen : (says : A → Reply) (result : Result Reply Refused) → creates request ≡ false → ((s : State) (reply : Reply) → (claims_for k.handles s who request reply ≡ []) × (commits_alone s who request ≡ false)) → IsReplied says → IfOk result IsPlainReply
       → ((a : A) → Knows g k.disk id.block (sort a) → IfOk result (λ reply. reply ≡ says a)) → IsCalm g sort n id.block k.disk d result → Tries g k (record k { disk = d }) who request result
   tries_seen says (Ok reply) makes claims replied plain exact calm = tries_so g left_sized sized n k (record k { disk = d }) calm.reads refl who request (Ok reply)
       (λ s serves none.
       let r = reaches.0 s serves in
       let two = replied s r.0 serves r.1 in
-      subst (Answers g k (record k { disk = d }) s who request) (sym (exact r.0 (knows s serves).1)) (seen g left_sized sized n k (record k { disk = d }) calm.reads refl s who serves none request (says r.0) two.0 makes (claims s (says r.0)) two.1))
+      subst (Answers g k (record k { disk = d }) s who request) (sym (exact r.0 (knows s serves).1)) (seen g left_sized sized n k (record k { disk = d }) calm.reads refl s who serves none request (says r.0) two.0 makes (claims s (says r.0)).0 (claims s (says r.0)).1 two.1))
       plain tt
   tries_seen says (Err e) makes claims replied plain exact calm = tries_failed e calm.reads calm.sound calm.cause
 

@@ -6,7 +6,7 @@ use Rattle.ufs_model.specs.declared.asked.Event.TheVariants as events
 use Rattle.ufs_model.specs.declared.asked.Reply.TheVariants as replies
 use Rattle.cfs_core.specs.declared.collecting.Collections.{Collections}
 use Rattle.cfs_core.specs.declared.kernel.Stop.{Stop}
-use Rattle.cfs_core.specs.Asked.{Asks, Happens, IsShortContent, IsToldCause, stopped_by, told}
+use Rattle.cfs_core.specs.Asked.{Asks, Happens, IsShortContent, IsToldCause, stopped_by, reply_to}
 use Rattle.cfs_core.proofs.Damages.{told_as, told_asked}
 use Rattle.cfs_core.specs.Calls.{Answers, CutShort, EndsSo, IsAsItWas, IsCause, IsInDoubt, MayStand, Owes, Tries, Undone, Whole, leaves_all}
 use Rattle.cfs_core.specs.Kernel.{Kernel}
@@ -32,7 +32,7 @@ plain_short : (reply : Reply) → IsPlainReply reply → IsShortContent reply
 plain_short (replies.Content bytes) plain = plain
 plain_short reply plain = tt
 
-told_short : (refused : Refused) (moment : ℕ) → IsShortContent (told refused moment)
+told_short : (refused : Refused) (moment : ℕ) → IsShortContent (reply_to refused moment)
 told_short (refusals.Full need) moment = tt
 told_short (refusals.Disk false) moment = tt
 told_short (refusals.Disk true) moment = tt
@@ -192,14 +192,14 @@ module _ {D : Type 0} (g : Ghosts D) (left_sized : (d : D) (t : ℕ) (c : Image)
       (subst (λ (more : List Rescue). AreRescued x.collector mid.collections.collector more) (sym (nothing s reply undone))
       (subst (λ (c : Collections). AreRescued x.collector c.collector []) (sym same) (same_rescued x.collector))) serves is
 
-  told_happens : (refused : Refused) (moment : ℕ) (s : State) → mid.stop ≡ None → mid.collections ≡ x → Serves g old s → EndsSo g (roomy g old x ready) mid s who request (Err refused) → Happens g old (stopped_as (told refused moment)) s (events.Ask who request (told refused moment))
+  told_happens : (refused : Refused) (moment : ℕ) (s : State) → mid.stop ≡ None → mid.collections ≡ x → Serves g old s → EndsSo g (roomy g old x ready) mid s who request (Err refused) → Happens g old (stopped_as (reply_to refused moment)) s (events.Ask who request (reply_to refused moment))
   told_happens (refusals.Full need) moment s runs same serves is = refused_so (replies.Full need) s runs same refl serves is
   told_happens (refusals.Disk false) moment s runs same serves is = refused_so (replies.Disk None) s runs same refl serves is
   told_happens (refusals.Disk true) moment s runs same serves is = in_doubt s (moment - 1) serves is
   told_happens (refusals.Damaged damage) moment s runs same serves is = absurd is
   told_happens refusals.Memory moment s runs same serves is = refused_so replies.Memory s runs same refl serves is
 
-  told_owed : (refused : Refused) (moment : ℕ) (s : State) → EndsSo g (roomy g old x ready) mid s who request (Err refused) → Owes old.words.seed s who request (g.content old.disk) (sum old.space.free) (told refused moment)
+  told_owed : (refused : Refused) (moment : ℕ) (s : State) → EndsSo g (roomy g old x ready) mid s who request (Err refused) → Owes old.words.seed s who request (g.content old.disk) (sum old.space.free) (reply_to refused moment)
   told_owed (refusals.Full need) moment s is = is.owed
   told_owed (refusals.Disk false) moment s is = tt
   told_owed (refusals.Disk true) moment s is = tt
@@ -209,37 +209,37 @@ module _ {D : Type 0} (g : Ghosts D) (left_sized : (d : D) (t : ℕ) (c : Image)
   still_roomy : IsAsItWas g (roomy g old x ready) mid → IsAsItWas g (record old { collections = mid.collections }) mid
   still_roomy is = record { same = is.same ∙ ap (λ (c : Collections). record old { disk = mid.disk; collections = c }) (sym (ap (λ (k : Kernel D). k.collections) is.same)); most = is.most; reads = is.reads }
 
-  told_still : (refused : Refused) (moment : ℕ) (s : State) → EndsSo g (roomy g old x ready) mid s who request (Err refused) → leaves_all (told refused moment) ≡ true → IsAsItWas g (record old { collections = mid.collections }) (stopped_as (told refused moment))
+  told_still : (refused : Refused) (moment : ℕ) (s : State) → EndsSo g (roomy g old x ready) mid s who request (Err refused) → leaves_all (reply_to refused moment) ≡ true → IsAsItWas g (record old { collections = mid.collections }) (stopped_as (reply_to refused moment))
   told_still (refusals.Full need) moment s is leaves = still_roomy (is.still leaves)
   told_still (refusals.Disk false) moment s is leaves = still_roomy (is.still leaves)
   told_still (refusals.Disk true) moment s is leaves = absurd (cc leaves)
   told_still (refusals.Damaged damage) moment s is leaves = absurd (cc leaves)
   told_still refusals.Memory moment s is leaves = still_roomy (is.still leaves)
 
-  told_cause : (refused : Refused) → (stop : Option Stop) → IsCause g (roomy g old x ready) mid (Some request) refused → IsToldCause g old (record mid { stop = stop }) request (told refused (g.moment mid.disk))
+  told_cause : (refused : Refused) → (stop : Option Stop) → IsCause g (roomy g old x ready) mid (Some request) refused → IsToldCause g old (record mid { stop = stop }) request (reply_to refused (g.moment mid.disk))
   told_cause (refusals.Full need) stop is = tt
   told_cause (refusals.Disk false) stop is = is
   told_cause (refusals.Disk true) stop is = (is, refl)
   told_cause (refusals.Damaged damage) stop is = (told_as g old mid (record mid { stop = stop }) (Some request) damage refl refl (told_asked g old mid x request damage is), refl)
   told_cause refusals.Memory stop is = tt
 
-  undone : (refused : Refused) (moment : ℕ) → is_done (told refused moment) ≡ false
+  undone : (refused : Refused) (moment : ℕ) → is_done (reply_to refused moment) ≡ false
   undone (refusals.Full need) moment = refl
   undone (refusals.Disk false) moment = refl
   undone (refusals.Disk true) moment = refl
   undone (refusals.Damaged damage) moment = refl
   undone refusals.Memory moment = refl
 
-  pub asks_refused : (refused : Refused) (new : Kernel D) → new ≡ stopped_as (told refused (g.moment mid.disk)) → Tries g (roomy g old x ready) mid who request (Err refused) → Asks g old new who request (told refused (g.moment mid.disk))
-  asks_refused refused new is tries = subst (λ (k : Kernel D). Asks g old k who request (told refused (g.moment mid.disk))) (sym is) (record {
+  pub asks_refused : (refused : Refused) (new : Kernel D) → new ≡ stopped_as (reply_to refused (g.moment mid.disk)) → Tries g (roomy g old x ready) mid who request (Err refused) → Asks g old new who request (reply_to refused (g.moment mid.disk))
+  asks_refused refused new is tries = subst (λ (k : Kernel D). Asks g old k who request (reply_to refused (g.moment mid.disk))) (sym is) (record {
     event = λ s stands. let serves = serves_from g old s none stands in told_happens refused (g.moment mid.disk) s (tries.went.stop ∙ none) tries.went.collections serves (tries.ends s (serves_roomy g old x ready s serves) none);
     still = λ _ s stands. told_still refused (g.moment mid.disk) s (tries.ends s (serves_roomy g old x ready s (serves_from g old s none stands)) none);
     owed = λ _ s stands. told_owed refused (g.moment mid.disk) s (tries.ends s (serves_roomy g old x ready s (serves_from g old s none stands)) none);
     taken = λ _ s stands done. let no : true ≡ false = sym done ∙ undone refused (g.moment mid.disk) in cc;
     stopped = λ stop same. cc;
-    stops = λ _. ap (λ (o : Option Stop). stopped_by (told refused (g.moment mid.disk)) o) (tries.went.stop ∙ none);
+    stops = λ _. ap (λ (o : Option Stop). stopped_by (reply_to refused (g.moment mid.disk)) o) (tries.went.stop ∙ none);
     cause = λ _. told_cause refused _ tries.went.cause;
-    rescued = λ _ s stands. subst (λ (more : List Rescue). AreRescued old.collections.collector mid.collections.collector more) (sym (nothing s (told refused (g.moment mid.disk)) (undone refused (g.moment mid.disk))))
+    rescued = λ _ s stands. subst (λ (more : List Rescue). AreRescued old.collections.collector mid.collections.collector more) (sym (nothing s (reply_to refused (g.moment mid.disk)) (undone refused (g.moment mid.disk))))
         (subst (λ (c : Collections). AreRescued old.collections.collector c.collector []) (sym tries.went.collections) ready);
     called = ap (λ (c : Collections). c.called) tries.went.collections ∙ called;
     finished = ap (λ (c : Collections). c.finished) tries.went.collections ∙ finished;

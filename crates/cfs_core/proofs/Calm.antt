@@ -1,18 +1,19 @@
 -- Calls that only read a file, as the core has them.
 use Rattle.std.proofs.Common.{◌≡◌, ℕ, ◌+◌, ◌≤◌, Bool, true, false, Err, refl, sym, subst, arith}
-use Rattle.cfs_core.proofs.Words.{Ghosts, had_tried, HasStopped, Image, Index, is_damaged, is_range, IsReadRefusal, nat_tests, Object, OnlyReads, reads_then, Refused, refused_by, stopped_after_reads, store_reads, Trouble, trouble_had_tried}
+use Rattle.cfs_core.proofs.Words.{Ghosts, had_tried, HasStopped, Image, Index, is_damaged, is_range, IsReadRefusal, nat_tests, Object, OnlyReads, reads_then, Refused, refused_by, stopped_after_reads, Trouble, trouble_had_tried}
 use Rattle.cfs_base.specs.declared.refusal.Refused.TheVariants as refusals
 use Rattle.cfs_base.specs.declared.refusal.Trouble.TheVariants as trouble
-use Rattle.block_tree.specs.Reads.{is_damage}
+use Rattle.block_tree.specs.Reads.{IsRootTrouble, is_damage}
 use Rattle.normal_files.specs.Refusal.{IsTrouble}
 use Rattle.block_tree.specs.declared.root.Root.{Root}
 use Rattle.cfs_base.specs.Run.{Tells}
 use Rattle.normal_files.specs.Standing.{IsRootAt}
 use Rattle.cfs_core.specs.Looks.{IsCalm, IsCalmCause, Knows}
 use Rattle.cfs_base.proofs.Calls.{tells_on}
+use Rattle.intentions.proofs.Shown.{shown_reads, shown_tells}
 use Rattle.cfs_core.proofs.Answering.{reads_none}
 use Rattle.cfs_core.proofs.Damages.{outside_as, outside_file, outside_slot}
-use Rattle.index_ops.specs.Causes.{IsSlotTrouble}
+use Rattle.index_ops.specs.Causes.{IsSlotTrouble, NoRoot}
 use Rattle.ufs_model.specs.declared.object.Object.TheVariants as objects
 
 -- the store still has the object
@@ -22,15 +23,13 @@ knows_on g n old new at o reads knows = record {
   drafts = knows.drafts;
   space = knows.space;
   id = knows.id;
-  store = store_reads g knows.graph knows.drafts old new knows.space n knows.store reads;
-  root = knows.root;
-  there = knows.there;
+  seen = shown_reads knows.seen new n reads;
   shut = knows.shut;
 }
 
 -- and the block the root that was read of it
 pub rooted : {D : Type 0} (g : Ghosts D) {n at : ℕ} {old mid : D} {root : Root} → OnlyReads g n old mid → (o : Object) → Knows g old at o → (Tells g old → IsRootAt (g.content old) at root) → IsRootAt (g.content mid) at root
-rooted g {at = at} {root = root} reads o knows is = subst (λ (a : Image). IsRootAt a at root) (sym reads.content) (is knows.store.carries.tells)
+rooted g {at = at} {root = root} reads o knows is = subst (λ (a : Image). IsRootAt a at root) (sym reads.content) (is (shown_tells knows.seen))
 
 -- a read that was refused, after others
 pub calm_after : {D A B : Type 0} (g : Ghosts D) (sort : A → Object) (n m k at : ℕ) (old mid new : D) (e : Refused) → OnlyReads g n old mid → OnlyReads g m mid new → n + m ≤ k
@@ -81,3 +80,12 @@ calm_slot g slot at old mid new t first reads sound is = record { reads = reads_
 -- what lies in a range lies within the size, and is no more than is read at once
 pub range_parts : (size offset count : ℕ) → is_range size offset count ≡ true → (1 ≤ count) × (count ≤ 4096) × (offset + count ≤ size)
 range_parts size offset count is = (grind (arith, nat_tests), grind (arith, nat_tests), grind (arith, nat_tests))
+
+-- the root of an index that couldn't be read
+pub calm_root : {D B : Type 0} (g : Ghosts D) (k at : ℕ) (old new : D) (t : Trouble) → OnlyReads g 1 old new → 1 ≤ k → ((i : Index) → Knows g old at (objects.Index i) → is_damaged (refused_by t) ≡ false) → IsRootTrouble g at old new t
+    → IsCalm {B = B} g objects.Index k at old new (Err (refused_by t))
+calm_root g k at old new t reads few sound is = record { reads = reads_then g old old new 0 1 k (reads_none g 0 old) reads few; sound = sound; cause = cause t is }
+  where
+    cause : (u : Trouble) → IsRootTrouble g at old new u → IsCalmCause g at old new (refused_by u)
+    cause (trouble.Disk tried) is = (is.0, subst (λ (b : Bool). HasStopped g b old new) is.0 is.1)
+    cause (trouble.Damaged damage) is = outside_slot g at 0 old damage (NoRoot is.0 is.1)

@@ -7,7 +7,7 @@ use Rattle.ufs_model.specs.declared.asked.Reply.TheVariants as replies
 use Rattle.cfs_core.specs.Calls.{Answers, IsInDoubt, IsShort}
 use Rattle.cfs_core.specs.Claimed.{Takes}
 use Rattle.cfs_core.specs.Kernel.{Kernel}
-use Rattle.cfs_core.specs.StandsFor.{Serves, bare, drafts_of_seats}
+use Rattle.cfs_core.specs.StandsFor.{Serves, bare, drafts_of_handles}
 use Rattle.cfs_core.proofs.Committed.{IsOutcome, LeavesThese, did, in_doubt}
 use Rattle.cfs_core.proofs.Grown.{replaced_blocks}
 use Rattle.cfs_core.proofs.Moved.{IsStepped}
@@ -71,6 +71,6 @@ module _ {D : Type 0} (g : Ghosts D) (left_sized : (d : D) (t : ℕ) (c : Image)
   pub object_in_doubt : IsInDoubt g old new s who request
   object_in_doubt = in_doubt g left_sized sized old new size none s after who 0 request replies.Done serves h n outcome leaves same
 
-  pub object_did : StoreHas g h (drafts_of_seats old.seats s.grants) new.disk new.space → new.space.left ≡ None → ChangesOnly (λ entry. of_owner id.block entry) (g.content old.disk) (g.content new.disk) → Takes old.seats s who request replies.Done (g.content old.disk) (g.content new.disk) → Answers g old new s who request replies.Done
-  object_did store left only takes = did g left_sized sized old new size none s after who 0 request replies.Done serves h n outcome leaves stepped (ap (λ (k : Kernel D). k.seats) same) puts.grants (id.block ∷ [])
+  pub object_did : StoreHas g h (drafts_of_handles old.handles s.grants) new.disk new.space → new.space.left ≡ None → ChangesOnly (λ entry. of_owner id.block entry) (g.content old.disk) (g.content new.disk) → Takes old.handles s who request replies.Done (g.content old.disk) (g.content new.disk) → Answers g old new s who request replies.Done
+  object_did store left only takes = did g left_sized sized old new size none s after who 0 request replies.Done serves h n outcome leaves stepped (ap (λ (k : Kernel D). k.handles) same) puts.grants (id.block ∷ [])
       (record { store = store; only = only; these = of_this s.graph id o; left = left }) tt refl short no_create takes

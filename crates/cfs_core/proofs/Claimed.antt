@@ -12,12 +12,14 @@ use Rattle.cyl_map.specs.declared.state.BlockState.{BlockState}
 use Rattle.cyl_map.specs.declared.state.BlockState.TheVariants as states
 use Rattle.file_ops.specs.Changes.{ClaimsBeside}
 use Rattle.index_ops.specs.Changes as ops
+use Rattle.special_files.specs.Committing.{TakesShadow}
 use Rattle.special_files.specs.Order.{ClaimsAndDrops}
-use Rattle.ufs_model.specs.Refusal.{conditions, first_of}
+use Rattle.ufs_model.specs.Refusal.{conditions, first_of, target}
 use Rattle.vol_owners.specs.Change.{IsOpenTo}
 use Rattle.vol_owners.specs.Owner.{is_of}
 use Rattle.std.proofs.lemmas.Bool.{cases_eq}
-use Rattle.cfs_core.specs.Claimed.{ClaimsInOrder}
+use Rattle.cfs_core.specs.Claimed.{ClaimsInOrder, Takes, claims_for, commits_alone, owners_of, root_reached}
+use Rattle.cfs_core.specs.Kernel.{Handle}
 
 -- ---- what is refused isn't done
 
@@ -77,13 +79,34 @@ claims_meant owners a b only = record { mid = a; in_order = λ m. refl; rest = �
     at n (inl same) = inl same
     at n (inr two) = inr (owned_open owners (entry_in a n) two.0, owned_open owners (entry_in b n) two.1)
 
+-- blocks are claimed, and the object with this root block is committed
+pub record Commits (claims : List MapEntry) (owners : List ℕ) (at : ℕ) (a b : Image) : Type 0 where
+  pub order : ClaimsInOrder claims owners a b
+  pub shadow : TakesShadow at order.mid b
+
+-- a request that isn't a commit of its own
+pub takes_alone : (handles : List Handle) (s : State) (who : ℕ) (request : Request) (reply : Reply) (a b : Image) → commits_alone s who request ≡ false → ClaimsInOrder (claims_for handles s who request reply) (owners_of s who request reply) a b
+    → Takes handles s who request reply a b
+takes_alone handles s who request reply a b none order = record { order = order; shadow = λ yes. let no : true ≡ false = sym yes ∙ none in cc }
+
+-- and one that is
+pub takes_last : (handles : List Handle) (s : State) (who : ℕ) (request : Request) (reply : Reply) (a b : Image) (claims : List MapEntry) (owners : List ℕ) (at : ℕ) → claims_for handles s who request reply ≡ claims → owners_of s who request reply ≡ owners
+    → root_reached s who (target request) ≡ at → Commits claims owners at a b → Takes handles s who request reply a b
+takes_last handles s who request reply a b claims owners at same_claims same_owners same_root is =
+    let x = subst (λ (cs : List MapEntry). Commits cs (owners_of s who request reply) (root_reached s who (target request)) a b) (sym same_claims)
+    (subst (λ (ns : List ℕ). Commits claims ns (root_reached s who (target request)) a b) (sym same_owners) (subst (λ (n : ℕ). Commits claims owners n a b) (sym same_root) is)) in
+    record { order = x.order; shadow = λ yes. x.shadow }
+
 -- nothing changes afterwards
 pub claims_all : (claims : List MapEntry) (owners : List ℕ) (a b : Image) → AreClaimed claims a b → ClaimsInOrder claims owners a b
 claims_all claims owners a b is = record { mid = b; in_order = is; rest = λ n. inl refl }
 
--- an index is committed
-pub claims_then : (claims : List MapEntry) (owners : List ℕ) (a b : Image) → ops.Takes claims owners a b → ClaimsInOrder claims owners a b
-claims_then claims owners a b takes = record { mid = takes.mid; in_order = takes.in_order; rest = takes.only.entries }
+-- an index is
+pub claims_then : (claims : List MapEntry) (at : ℕ) (made : List ℕ) (a b : Image) → ops.Takes claims at made a b → Commits claims (at ∷ made) at a b
+claims_then claims at made a b takes = record {
+  order = record { mid = takes.mid; in_order = takes.in_order; rest = takes.only.entries };
+  shadow = takes.shadow;
+}
 
 -- what a draft drops is Free
 module _ (owner : ℕ) (claims : List MapEntry) (a b : Image) (is : ClaimsAndDrops owner claims a b) where
@@ -96,23 +119,11 @@ module _ (owner : ℕ) (claims : List MapEntry) (a b : Image) (is : ClaimsAndDro
       at n (inr two) = inr (meant_open owner [] (entry_in is.mid n) two.0, inl two.1)
 
 -- a special file is changed beside itself
-module _ (owner : ℕ) (claims : List MapEntry) (a b : Image) (is : ClaimsBeside owner claims a b) where
-  abbrev T : Option MapEntry → Bool
-  T = of_owners (owner ∷ [])
-
-  dropped : ClaimsInOrder claims (owner ∷ []) a is.mid
-  dropped = claims_dropped owner claims a is.mid is.in_order
-
-  pub claims_put : ClaimsInOrder claims (owner ∷ []) a b
-  claims_put = record { mid = dropped.mid; in_order = dropped.in_order; rest = λ n. at n (dropped.rest n) (is.only.entries n) }
-    where
-      at : (n : ℕ) → (entry_in is.mid n ≡ entry_in dropped.mid n) ⊎ (IsOpenTo T (entry_in dropped.mid n) × IsOpenTo T (entry_in is.mid n))
-          → (entry_in b n ≡ entry_in is.mid n) ⊎ (IsOpenTo T (entry_in is.mid n) × IsOpenTo T (entry_in b n))
-          → (entry_in b n ≡ entry_in dropped.mid n) ⊎ (IsOpenTo T (entry_in dropped.mid n) × IsOpenTo T (entry_in b n))
-      at n (inl x) (inl y) = inl (y ∙ x)
-      at n (inl x) (inr y) = inr (subst (IsOpenTo T) x y.0, y.1)
-      at n (inr x) (inl y) = inr (x.0, subst (IsOpenTo T) (sym y) x.1)
-      at n (inr x) (inr y) = inr (x.0, y.1)
+pub claims_put : (owner : ℕ) (claims : List MapEntry) (a b : Image) → ClaimsBeside owner claims a b → Commits claims (owner ∷ []) owner a b
+claims_put owner claims a b is = record {
+  order = record { mid = is.mid; in_order = is.in_order; rest = is.only.entries };
+  shadow = is.shadow;
+}
 
 -- ---- the shadow root of a draft that is begun
 

@@ -8,7 +8,7 @@ use Rattle.ufs_model.specs.declared.object.Object.TheVariants as objects
 use Rattle.cfs_core.specs.Calls.{Answers, ByOutcome, CutShort, IsInDoubt, IsShort, MayStand, Undone, Whole, leaves_all}
 use Rattle.cfs_core.specs.Claimed.{Takes}
 use Rattle.cfs_core.specs.Kernel.{Kernel, grants_in}
-use Rattle.cfs_core.specs.StandsFor.{AreDraftsOf, Serves, drafts_of_seats}
+use Rattle.cfs_core.specs.StandsFor.{AreDraftsOf, Serves, drafts_of_handles}
 use Rattle.cfs_core.proofs.Answering.{owes}
 use Rattle.cfs_core.proofs.Moved.{HasStepped, IsStepped, four_left, stores_stepped, strays_stepped}
 use Rattle.cfs_core.proofs.Serving.{fits, may_fit, running}
@@ -66,7 +66,7 @@ module _ {D : Type 0} (g : Ghosts D) (left_sized : (d : D) (t : ℕ) (c : Image)
     allowed = is.allowed;
     drawn = ap (λ (k : Kernel D). k.words.drawn) same;
     named = ap (λ (k : Kernel D). k.names) same;
-    grants = ap (λ (k : Kernel D). grants_in k.seats) same;
+    grants = ap (λ (k : Kernel D). grants_in k.handles) same;
     leaves = wider g old.disk new.disk _ _ leaves (λ c holds. stood c holds);
   }
     where
@@ -75,23 +75,23 @@ module _ {D : Type 0} (g : Ghosts D) (left_sized : (d : D) (t : ℕ) (c : Image)
       stood c (inl (inr after)) = record { graph = h; may = subst (MayStand old.words.seed s who request) (ap (λ (p : Reply × State). p.1.graph) is.out ∙ is.graph) (Whole b is.names); fits = fits_after; holds = after }
       stood c (inr cut) = record { graph = with_object s.graph cut.id (objects.File cut.file); may = CutShort cut.id cut.was cut.now cut.file cut.changes cut.between; fits = cut.fits; holds = cut.holds }
 
-  module _ (stepped : IsStepped old new s after h) (seats : new.seats ≡ old.seats) (grants : after.grants ≡ s.grants) (rs : List ℕ) (has : HasStepped g old new s h (λ entry. of_owners rs entry) (drafts_of_seats old.seats s.grants)) where
+  module _ (stepped : IsStepped old new s after h) (handles : new.handles ≡ old.handles) (grants : after.grants ≡ s.grants) (rs : List ℕ) (has : HasStepped g old new s h (λ entry. of_owners rs entry) (drafts_of_handles old.handles s.grants)) where
     abbrev drafts : List Opened
-    drafts = drafts_of_seats old.seats s.grants
+    drafts = drafts_of_handles old.handles s.grants
 
     abbrev T : Option MapEntry → Bool
     T entry = of_owners rs entry
 
-    same_drafts : drafts_of_seats new.seats after.grants ≡ drafts
-    same_drafts = ap (λ x. drafts_of_seats x after.grants) seats ∙ ap (λ (gs : List Grant). drafts_of_seats old.seats gs) grants
+    same_drafts : drafts_of_handles new.handles after.grants ≡ drafts
+    same_drafts = ap (λ x. drafts_of_handles x after.grants) handles ∙ ap (λ (gs : List Grant). drafts_of_handles old.handles gs) grants
 
-    have : AreDraftsOf drafts new.seats after.grants
-    have = subst (λ x. AreDraftsOf drafts x after.grants) (sym seats) (subst (λ (gs : List Grant). AreDraftsOf drafts old.seats gs) (sym grants) serves.drafts)
+    have : AreDraftsOf drafts new.handles after.grants
+    have = subst (λ x. AreDraftsOf drafts x after.grants) (sym handles) (subst (λ (gs : List Grant). AreDraftsOf drafts old.handles gs) (sym grants) serves.drafts)
 
     four : 4 ≤ sum new.space.free
     four = four_left g old new s after h serves T drafts has n (omega (arith, is.few)) is.free
 
-    pub did : IsPlainReply reply → leaves_all reply ≡ false → (¬ IsShort s who request (sum old.space.free)) → (creates request ≡ true → IsLeastFree (g.content old.disk) b) → Takes old.seats s who request reply (g.content old.disk) (g.content new.disk) → Answers g old new s who request reply
+    pub did : IsPlainReply reply → leaves_all reply ≡ false → (¬ IsShort s who request (sum old.space.free)) → (creates request ≡ true → IsLeastFree (g.content old.disk) b) → Takes old.handles s who request reply (g.content old.disk) (g.content new.disk) → Answers g old new s who request reply
     did plain changes short least takes = record {
       event = record {
         after = after;

@@ -8,7 +8,7 @@ use Rattle.ufs_model.specs.declared.asked.Reply.TheVariants as replies
 use Rattle.ufs_model.specs.declared.object.Object.TheVariants as objects
 use Rattle.cfs_core.specs.Kernel.{Kernel}
 use Rattle.cfs_core.specs.Makes.{IsMaking}
-use Rattle.cfs_core.specs.StandsFor.{Serves, bare, drafts_of_seats, is_sweeping}
+use Rattle.cfs_core.specs.StandsFor.{Serves, bare, drafts_of_handles, is_sweeping}
 use Rattle.cfs_core.specs.Ways.{Reaches}
 use Rattle.cfs_core.proofs.Changed.{of_this}
 use Rattle.cfs_core.proofs.Committed.{IsOutcome}
@@ -70,7 +70,7 @@ module _ {D : Type 0} (g : Ghosts D) (k : Kernel D) (s : State) (who : ℕ) (ser
   h = with_made s.graph index i slot id o
 
   free_root : is_free_root s.graph b ≡ true
-  free_root = free_is_root (g.content k.disk) s.graph (drafts_of_seats k.seats s.grants) serves.store.account serves.store.ordered b least.free
+  free_root = free_is_root (g.content k.disk) s.graph (drafts_of_handles k.handles s.grants) serves.store.account serves.store.ordered b least.free
 
   pub not_zero : b ≢ 0
   not_zero zero_is = let no = (and_parts (not (b == 0)) (not (has_block s.graph.objects b)) free_root).0 in let is : (b == 0) ≡ true = grind (arith, nat_tests) in both_ways (b == 0) (not-true _ no) is

@@ -19,7 +19,7 @@ use Rattle.collector_steps.specs.Scan.{IsIndexDamage, LeadsPast}
 use Rattle.cyl_alloc.specs.Refusals.{IsNoMap}
 use Rattle.cyl_map.specs.Volume.{entry_in}
 use Rattle.file_ops.specs.Changes as files
-use Rattle.file_ops.specs.Changes.{IsBesideDamage, IsFileDamage, IsPlaceDamage, end_of}
+use Rattle.file_ops.specs.Changes.{IsBesideDamage, IsFileDamage, IsPlaceDamage, least_size}
 use Rattle.index_ops.specs.Causes as causes
 use Rattle.normal_files.specs.Ends as ends
 use Rattle.normal_files.specs.Frees as frees
@@ -127,7 +127,7 @@ module _ {D : Type 0} (g : Ghosts D) (old new : Kernel D) (request : Option Requ
     of_place (files.OfClaims is) = of_claims is
     of_place (files.OfDrops is) = of_drops is
 
-    of_beside : (change : Change) → bytes_wanted request ≡ end_of change → ((r : Request) → request ≡ Some r → is_delete r ≡ false) → IsBesideDamage g at change old.disk new.disk new.space damage → IsDamageTold g old new request damage
+    of_beside : (change : Change) → bytes_wanted request ≡ least_size change → ((r : Request) → request ≡ Some r → is_delete r ≡ false) → IsBesideDamage g at change old.disk new.disk new.space damage → IsDamageTold g old new request damage
     of_beside change bytes kept (files.OfBlock is) = told_of_draft is
     of_beside change bytes kept (files.Short code block why) = Before (NoRoot code (here_so block) (λ tells root is. rw bytes (why tells root (rw block at is))))
     of_beside change bytes kept (files.NoneLeft is) = FewLeft is.code is.block (few request kept)
@@ -136,7 +136,7 @@ module _ {D : Type 0} (g : Ghosts D) (old new : Kernel D) (request : Option Requ
         few None kept = is.none
         few (Some r) kept = inr (kept r refl, is.none)
 
-    pub told_of_file : (kind : FileKind) (change : Change) → bytes_wanted request ≡ end_of change → ((r : Request) → request ≡ Some r → is_delete r ≡ false) → IsFileDamage g at kind change old.disk new.disk new.space damage → IsDamageTold g old new request damage
+    pub told_of_file : (kind : FileKind) (change : Change) → bytes_wanted request ≡ least_size change → ((r : Request) → request ≡ Some r → is_delete r ≡ false) → IsFileDamage g at kind change old.disk new.disk new.space damage → IsDamageTold g old new request damage
     told_of_file kinds.Normal change bytes kept is = of_place is
     told_of_file kinds.Special change bytes kept is = of_beside change bytes kept is
 

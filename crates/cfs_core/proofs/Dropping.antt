@@ -1,29 +1,29 @@
 -- A grant of a session that leaves is dropped.
 use Rattle.std.proofs.Common.{◌≡◌, inl, ℕ, List, [], ◌∷◌, Bool, true, false, cond, not, Some, None, refl, sym, ◌∙◌, ap, subst, arith, ◌==◌, filter}
 use Rattle.cfs_core.proofs.Words.{closed, Drafting, Ghosts, Grant, grant_of, Holds, is_grant, next, outcome_legal, State, Tuid, without_session-without_grant}
-use Rattle.open_table.specs.declared.grant.Grant as seats
+use Rattle.open_table.specs.declared.grant.Grant as handles
 use Rattle.open_table.specs.Grants as tables
 use Rattle.ufs_model.specs.declared.asked.Event.TheVariants as events
 use Rattle.ufs_model.specs.declared.asked.Reply.TheVariants as replies
 use Rattle.ufs_model.specs.declared.asked.Request.TheVariants as asks
-use Rattle.cfs_core.specs.Kernel.{Kernel, Seat, grants_in}
+use Rattle.cfs_core.specs.Kernel.{Kernel, Handle, grants_in}
 use Rattle.cfs_core.specs.Leaving.{GaveUp, GivesUp, ServesFewer, Sheds, of_others}
-use Rattle.cfs_core.specs.Seats.{drafting_at, have_draft, is_at, seats_but, with_drafting}
-use Rattle.cfs_core.specs.StandsFor.{Serves, drafts_of_seats}
+use Rattle.cfs_core.specs.Handles.{drafting_at, have_draft, is_at, handles_but, with_drafting}
+use Rattle.cfs_core.specs.StandsFor.{Serves, drafts_of_handles}
 use Rattle.cfs_core.proofs.Collected.{collection_asked, same_rescued}
 use Rattle.cfs_core.proofs.Damages.{told_of_draft}
 use Rattle.cfs_core.proofs.Ended.{IsHeld, gone_is, held_by, open_in, stores_aborted, strays_aborted}
 use Rattle.cfs_core.proofs.Granted.{close_goes, stores_closed}
-use Rattle.cfs_core.proofs.Seated.{grants_with}
+use Rattle.cfs_core.proofs.Handled.{grants_with}
 use Rattle.cfs_core.proofs.Serving.{none_more, running, nothing_left}
 
 -- ---- lists
 
-pub grants_but : (test : seats.Grant → Bool) (ss : List Seat) → grants_in (seats_but test ss) ≡ filter (λ e. not (test e)) (grants_in ss)
+pub grants_but : (test : handles.Grant → Bool) (ss : List Handle) → grants_in (handles_but test ss) ≡ filter (λ e. not (test e)) (grants_in ss)
 grants_but test [] = refl
-grants_but test (seat ∷ ss) = elim (test seat.grant) as (λ b. grants_in (cond (not b) (seat ∷ seats_but test ss) (seats_but test ss)) ≡ cond (not b) (seat.grant ∷ filter (λ e. not (test e)) (grants_in ss)) (filter (λ e. not (test e)) (grants_in ss))) [
+grants_but test (handle ∷ ss) = elim (test handle.grant) as (λ b. grants_in (cond (not b) (handle ∷ handles_but test ss) (handles_but test ss)) ≡ cond (not b) (handle.grant ∷ filter (λ e. not (test e)) (grants_in ss)) (filter (λ e. not (test e)) (grants_in ss))) [
   | true ↦ grants_but test ss
-  | false ↦ ap (λ rest. seat.grant ∷ rest) (grants_but test ss)
+  | false ↦ ap (λ rest. handle.grant ∷ rest) (grants_but test ss)
 ]
 
 others_stay : (who : ℕ) (t : Tuid) (grants : List Grant) → of_others who (filter (λ x. not (is_grant who t x)) grants) ≡ of_others who grants
@@ -37,22 +37,22 @@ others_stay who t (x ∷ grants) = at (others_stay who t grants) (x.session == w
     at rest false is true mine = (let no : false ≡ true = rw is at mine in cc)
     at rest false is false mine = rw is (ap (λ more. x ∷ more) rest)
 
--- ---- the seat is gone
+-- ---- the handle is gone
 
 module _ {D : Type 0} (g : Ghosts D) (k : Kernel D) (who : ℕ) (t : Tuid) (the : (s : State) → Serves g k s → (x : Grant) × (grant_of s who t ≡ Some x)) where
   step : (s : State) → Serves g k s → k.stop ≡ None → next k.words.seed s (events.Ask who (asks.Close t false) replies.Done) ≡ Some (closed s who t false)
   step s serves none = (let x = the s serves in outcome_legal k.words.seed s who (asks.Close t false) 0 (running g k s serves none) (close_goes 0 s who t false x.0 x.1) (λ made. let no : true ≡ false = sym made in cc))
 
-  seats_others : (ss : List Seat) → tables.without_session (grants_in (seats_but (tables.is_grant who t) ss)) who ≡ tables.without_session (grants_in ss) who
-  seats_others ss = ap (λ gs. tables.without_session gs who) (grants_but (tables.is_grant who t) ss) ∙ without_session-without_grant (grants_in ss) who t
+  handles_others : (ss : List Handle) → tables.without_session (grants_in (handles_but (tables.is_grant who t) ss)) who ≡ tables.without_session (grants_in ss) who
+  handles_others ss = ap (λ gs. tables.without_session gs who) (grants_but (tables.is_grant who t) ss) ∙ without_session-without_grant (grants_in ss) who t
 
   -- it had no draft
-  pub shed_bare : have_draft (is_at t.draw) k.seats ≡ false → Sheds g who k (record k { seats = seats_but (tables.is_grant who t) k.seats })
+  pub shed_bare : have_draft (is_at t.draw) k.handles ≡ false → Sheds g who k (record k { handles = handles_but (tables.is_grant who t) k.handles })
   shed_bare none_drawn = record {
     words = refl;
     names = refl;
     collections = refl;
-    others = seats_others k.seats;
+    others = handles_others k.handles;
     size = refl;
     faults = omega arith;
     later = omega arith;
@@ -71,21 +71,21 @@ module _ {D : Type 0} (g : Ghosts D) (k : Kernel D) (who : ℕ) (t : Tuid) (the 
   }
 
   -- it had one, which was given up
-  module _ (was : Drafting) (drafting : drafting_at k.seats t.draw ≡ Some was) (bare : was.created ≡ None) (new : Kernel D) where
+  module _ (was : Drafting) (drafting : drafting_at k.handles t.draw ≡ Some was) (bare : was.created ≡ None) (new : Kernel D) where
     abbrev mid : Kernel D
-    mid = record k { seats = seats_but (tables.is_grant who t) (with_drafting t.draw None k.seats) }
+    mid = record k { handles = handles_but (tables.is_grant who t) (with_drafting t.draw None k.handles) }
 
     module _ (gives : GivesUp g was mid new) where
       held : (s : State) → Serves g k s → IsHeld g k s who t was
       held s serves = held_by g k s serves who t was drafting (the s serves)
 
-      gave : (s : State) (serves : Serves g k s) → k.stop ≡ None → GaveUp g s.graph (drafts_of_seats k.seats s.grants) (held s serves).seat.grant.id was.created mid new
+      gave : (s : State) (serves : Serves g k s) → k.stop ≡ None → GaveUp g s.graph (drafts_of_handles k.handles s.grants) (held s serves).handle.grant.id was.created mid new
       gave s serves none = gives.ends s.graph _ _ _ _ serves.store (held s serves).there (open_in g k s serves who t was (held s serves)) none
 
-      new_is : (s : State) (serves : Serves g k s) → k.stop ≡ None → new.stop ≡ None → new ≡ record k { disk = new.disk; space = new.space; seats = seats_but (tables.is_grant who t) k.seats }
+      new_is : (s : State) (serves : Serves g k s) → k.stop ≡ None → new.stop ≡ None → new ≡ record k { disk = new.disk; space = new.space; handles = handles_but (tables.is_grant who t) k.handles }
       new_is s serves none runs =
-          gives.same ∙ ap (λ ss. record k { disk = new.disk; space = new.space; seats = ss; stop = new.stop }) (sym (gone_is g k s serves who t was (held s serves) new.disk new.space))
-          ∙ ap (λ o. record k { disk = new.disk; space = new.space; seats = seats_but (tables.is_grant who t) k.seats; stop = o }) (runs ∙ sym none)
+          gives.same ∙ ap (λ ss. record k { disk = new.disk; space = new.space; handles = ss; stop = new.stop }) (sym (gone_is g k s serves who t was (held s serves) new.disk new.space))
+          ∙ ap (λ o. record k { disk = new.disk; space = new.space; handles = handles_but (tables.is_grant who t) k.handles; stop = o }) (runs ∙ sym none)
 
       fewer : (s : State) → Serves g k s → k.stop ≡ None → new.stop ≡ None → ServesFewer g new s who
       fewer s serves none runs =
@@ -104,7 +104,7 @@ module _ {D : Type 0} (g : Ghosts D) (k : Kernel D) (who : ℕ) (t : Tuid) (the 
         words = ap (λ (j : Kernel D). j.words) gives.same;
         names = ap (λ (j : Kernel D). j.names) gives.same;
         collections = ap (λ (j : Kernel D). j.collections) gives.same;
-        others = ap (λ (j : Kernel D). tables.without_session (grants_in j.seats) who) gives.same ∙ seats_others (with_drafting t.draw None k.seats) ∙ ap (λ gs. tables.without_session gs who) (grants_with t.draw None k.seats);
+        others = ap (λ (j : Kernel D). tables.without_session (grants_in j.handles) who) gives.same ∙ handles_others (with_drafting t.draw None k.handles) ∙ ap (λ gs. tables.without_session gs who) (grants_with t.draw None k.handles);
         size = gives.size;
         faults = gives.faults;
         later = gives.later;

@@ -5,28 +5,30 @@ use Rattle.cfs_core.proofs.Words.{IsOpen, IsState, Kept, keys_of-kinds_in, kind_
 use Rattle.cfs_core.proofs.Words.{Trouble, Tuid, wider, with_object, without_draft}
 use Rattle.cfs_base.specs.declared.kind.FileKind.TheVariants as file_kinds
 use Rattle.cfs_base.specs.declared.refusal.Trouble.TheVariants as troubles
+use Rattle.cyl_alloc.specs.Left.{Left}
+use Rattle.intentions.specs.Left.{StoreWith, coming}
 use Rattle.open_table.specs.Grants as tables
-use Rattle.open_table.specs.declared.grant.Grant as seats
+use Rattle.open_table.specs.declared.grant.Grant as handles
 use Rattle.ufs_model.specs.declared.asked.Event.TheVariants as events
 use Rattle.ufs_model.specs.declared.asked.Reply.TheVariants as replies
 use Rattle.ufs_model.specs.declared.asked.Request.TheVariants as asks
 use Rattle.ufs_model.specs.declared.object.Object.TheVariants as objects
 use Rattle.cfs_core.specs.Calls.{AddsNoStray, Answers, ByOutcome, EndsSo, IsInDoubt, MayStand, Owes, Undone, Whole}
 use Rattle.cfs_core.specs.Drafts.{DraftEnds, EndsDraft}
-use Rattle.cfs_core.specs.Kernel.{Kernel, Seat}
-use Rattle.cfs_core.specs.Seats.{drafting_at, is_drawn, seats_but, with_drafting}
-use Rattle.cfs_core.specs.StandsFor.{AreDraftsOf, HasDraftOf, Serves, Stores, drafts_of_seats}
+use Rattle.cfs_core.specs.Kernel.{Kernel, Handle}
+use Rattle.cfs_core.specs.Handles.{drafting_at, is_drawn, handles_but, with_drafting}
+use Rattle.cfs_core.specs.StandsFor.{AreDraftsOf, HasDraftOf, Serves, Stores, drafts_of_handles}
 use Rattle.cfs_core.proofs.Answering.{owes}
 use Rattle.cfs_core.proofs.Changed.{of_this}
 use Rattle.cfs_core.proofs.Drafted.{Place, but_with, drawn, gone_drafts, gone_have, has_draft, opened, place_of}
 use Rattle.cfs_core.proofs.Granted.{close_goes, closed_stepped}
 use Rattle.cfs_core.proofs.Grown.{replaced_blocks}
-use Rattle.cfs_core.proofs.Seated.{grants_with}
+use Rattle.cfs_core.proofs.Handled.{grants_with}
 use Rattle.cfs_core.proofs.Serving.{fits, running}
 use Rattle.cfs_core.proofs.Moved.{HasStepped, IsStepped, fewer_take, four_left, makes_committed, makes_stepped, stores_stepped, strays_stepped}
 use Rattle.cfs_core.proofs.Taken.{replaced_few}
 use Rattle.cfs_core.specs.Claimed.{ClaimsInOrder, owners_of}
-use Rattle.cfs_core.proofs.Claimed.{claims_meant, claims_only}
+use Rattle.cfs_core.proofs.Claimed.{claims_meant, claims_only, takes_alone}
 
 -- what is meant for an object that is there
 pub of_its_draft : (graph : Graph) (id : Puid) → has_block graph.objects id.block ≡ true → IsOfThese (λ entry. of_drafts (id.block ∷ []) entry) graph graph
@@ -38,9 +40,9 @@ of_its_draft graph id there = record {
     owner : (entry : Option MapEntry) → has_number (owner_of entry) (id.block ∷ []) ≡ true → owner_of entry ≡ id.block
     owner entry has = grind (arith, nat_tests)
 
-pub find_drawn : (draw : ℕ) (seat : Seat) (ss2 ss1 : List Seat) → is_drawn draw seat ≡ true → list_any (is_drawn draw) ss1 ≡ false → find (is_drawn draw) (ss1 ++ seat ∷ ss2) ≡ Some seat
-find_drawn draw seat ss2 [] is none = rw is refl
-find_drawn draw seat ss2 (z ∷ ss1) is none = (let two = or_parts (is_drawn draw z) (list_any (is_drawn draw) ss1) none in rw two.0 (find_drawn draw seat ss2 ss1 is two.1))
+pub find_drawn : (draw : ℕ) (handle : Handle) (ss2 ss1 : List Handle) → is_drawn draw handle ≡ true → list_any (is_drawn draw) ss1 ≡ false → find (is_drawn draw) (ss1 ++ handle ∷ ss2) ≡ Some handle
+find_drawn draw handle ss2 [] is none = rw is refl
+find_drawn draw handle ss2 (z ∷ ss1) is none = (let two = or_parts (is_drawn draw z) (list_any (is_drawn draw) ss1) none in rw two.0 (find_drawn draw handle ss2 ss1 is two.1))
 
 kind_alike : (o d : Object) → is_draft_of o d ≡ true → kind_of d ≡ kind_of o
 kind_alike (objects.File f) (objects.File e) is =
@@ -69,45 +71,45 @@ alone_take id e ds is = omega (arith, split ds, ap (sum_by draft_blocks) is, sum
 committed_by : (graph : Graph) (o : Option Grant) (x : Grant) (d : Draft) → o ≡ Some x → x.draft ≡ Some d → committed o graph ≡ with_object graph x.id d.object
 committed_by graph o x d found has = rw (found, has) refl
 
--- The session's grant has a seat, which holds this draft; and the draft is the state's, of an object that is there.
+-- The session's grant has a handle, which holds this draft; and the draft is the state's, of an object that is there.
 pub record IsHeld {D : Type 0} (g : Ghosts D) (k : Kernel D) (s : State) (who : ℕ) (t : Tuid) (was : Drafting) : Type 0 where
-  pub at : drafting_at k.seats t.draw ≡ Some was
+  pub at : drafting_at k.handles t.draw ≡ Some was
   pub x : Grant
   pub found : grant_of s who t ≡ Some x
-  pub seat : Seat
-  pub place : Place who t k.seats s.grants seat x
-  pub drafting : seat.drafting ≡ Some was
+  pub handle : Handle
+  pub place : Place who t k.handles s.grants handle x
+  pub drafting : handle.drafting ≡ Some was
   pub before : Draft
   pub draft_was : x.draft ≡ Some before
   pub object : Object
-  pub there : object_at s.graph seat.grant.id ≡ Some object
+  pub there : object_at s.graph handle.grant.id ≡ Some object
   pub there_x : object_at s.graph x.id ≡ Some object
 
-pub held_by : {D : Type 0} (g : Ghosts D) (k : Kernel D) (s : State) → Serves g k s → (who : ℕ) (t : Tuid) (was : Drafting) → drafting_at k.seats t.draw ≡ Some was → (x : Grant) × (grant_of s who t ≡ Some x) → IsHeld g k s who t was
+pub held_by : {D : Type 0} (g : Ghosts D) (k : Kernel D) (s : State) → Serves g k s → (who : ℕ) (t : Tuid) (was : Drafting) → drafting_at k.handles t.draw ≡ Some was → (x : Grant) × (grant_of s who t ≡ Some x) → IsHeld g k s who t was
 held_by g k s serves who t was drafting found = record {
   at = drafting;
   x = found.0;
   found = found.1;
-  seat = two.0;
+  handle = two.0;
   place = two.1;
   drafting = drafting_is;
   before = there.0;
   draft_was = there.1;
   object = object.0;
-  there = ap (λ (e : seats.Grant). object_at s.graph e.id) two.1.here ∙ object.1;
+  there = ap (λ (e : handles.Grant). object_at s.graph e.id) two.1.here ∙ object.1;
   there_x = object.1;
 }
   where
-    two : (seat : Seat) × Place who t k.seats s.grants seat found.0
-    two = place_of who t k.seats s.grants found.0 serves.front.grants serves.state.rising found.1
+    two : (handle : Handle) × Place who t k.handles s.grants handle found.0
+    two = place_of who t k.handles s.grants found.0 serves.front.grants serves.state.rising found.1
 
     drafting_is : two.0.drafting ≡ Some was
-    drafting_is = sym (ap (option_and_then (λ (e : Seat). e.drafting)) (ap (find (is_drawn t.draw)) two.1.seats_are ∙ find_drawn t.draw two.0 two.1.ss2 two.1.ss1 (drawn who t k.seats s.grants two.0 found.0 two.1) two.1.none_first)) ∙ drafting
+    drafting_is = sym (ap (option_and_then (λ (e : Handle). e.drafting)) (ap (find (is_drawn t.draw)) two.1.handles_are ∙ find_drawn t.draw two.0 two.1.ss2 two.1.ss1 (drawn who t k.handles s.grants two.0 found.0 two.1) two.1.none_first)) ∙ drafting
 
     there : (d : Draft) × (found.0.draft ≡ Some d)
-    there = at two.0.drafting found.0.draft drafting_is (has_draft who t k.seats s.grants two.0 found.0 two.1 serves.drafts)
+    there = at two.0.drafting found.0.draft drafting_is (has_draft who t k.handles s.grants two.0 found.0 two.1 serves.drafts)
       where
-        at : (o : Option Drafting) (d : Option Draft) → o ≡ Some was → HasDraftOf (drafts_of_seats k.seats s.grants) two.0 o d → (e : Draft) × (d ≡ Some e)
+        at : (o : Option Drafting) (d : Option Draft) → o ≡ Some was → HasDraftOf (drafts_of_handles k.handles s.grants) two.0 o d → (e : Draft) × (d ≡ Some e)
         at None d is has = cc
         at (Some o) None is has = absurd has
         at (Some o) (Some d) is has = (d, refl)
@@ -117,10 +119,10 @@ held_by g k s serves who t was drafting found = record {
 
 module _ {D : Type 0} (g : Ghosts D) (k : Kernel D) (s : State) (serves : Serves g k s) (who : ℕ) (t : Tuid) (was : Drafting) (held : IsHeld g k s who t was) where
   abbrev ds : List Opened
-  ds = drafts_of_seats k.seats s.grants
+  ds = drafts_of_handles k.handles s.grants
 
   abbrev id : Puid
-  id = held.seat.grant.id
+  id = held.handle.grant.id
 
   abbrev before : Draft
   before = held.before
@@ -129,7 +131,7 @@ module _ {D : Type 0} (g : Ghosts D) (k : Kernel D) (s : State) (serves : Serves
   object = held.object
 
   pub open_in : IsOpen ds id was before
-  open_in = opened who t k.seats s.grants held.seat held.x held.place serves.drafts was before held.drafting held.draft_was
+  open_in = opened who t k.handles s.grants held.handle held.x held.place serves.drafts was before held.drafting held.draft_was
 
   pub so : is_open_so (Some object) (Some before) ≡ true
   so = subst (λ (o : Option Object). is_open_so o (Some before) ≡ true) held.there_x (subst (λ (o : Option Draft). is_open_so (object_at s.graph held.x.id) o ≡ true) held.draft_was (grant_found s who t held.x serves.state held.found).1)
@@ -147,14 +149,14 @@ module _ {D : Type 0} (g : Ghosts D) (k : Kernel D) (s : State) (serves : Serves
   allowed commit = close_goes 0 s who t commit held.x held.found
 
   -- the grants that are left are the same with and without a commit
-  drafts_left : (commit : Bool) → drafts_of_seats (seats_but (tables.is_grant who t) k.seats) (closed s who t commit).grants ≡ left
-  drafts_left commit = gone_drafts who t k.seats s.grants held.seat held.x held.place serves.drafts was before held.drafting held.draft_was
+  drafts_left : (commit : Bool) → drafts_of_handles (handles_but (tables.is_grant who t) k.handles) (closed s who t commit).grants ≡ left
+  drafts_left commit = gone_drafts who t k.handles s.grants held.handle held.x held.place serves.drafts was before held.drafting held.draft_was
 
-  have_left : (commit : Bool) → AreDraftsOf left (seats_but (tables.is_grant who t) k.seats) (closed s who t commit).grants
-  have_left commit = gone_have who t k.seats s.grants held.seat held.x held.place serves.drafts was before held.drafting held.draft_was
+  have_left : (commit : Bool) → AreDraftsOf left (handles_but (tables.is_grant who t) k.handles) (closed s who t commit).grants
+  have_left commit = gone_have who t k.handles s.grants held.handle held.x held.place serves.drafts was before held.drafting held.draft_was
 
   owners : (commit : Bool) → owners_of s who (asks.Close t commit) replies.Done ≡ id.block ∷ []
-  owners commit = rw held.found (ap (λ (e : seats.Grant). e.id.block ∷ []) (sym held.place.here))
+  owners commit = rw held.found (ap (λ (e : handles.Grant). e.id.block ∷ []) (sym held.place.here))
 
   -- nothing is owed but the outcome
   owed : (commit : Bool) → Owes k.words.seed s who (asks.Close t commit) (g.content k.disk) (sum k.space.free) replies.Done
@@ -168,7 +170,7 @@ module _ {D : Type 0} (g : Ghosts D) (k : Kernel D) (s : State) (serves : Serves
 
   module _ (d : D) (space : Kept) where
     abbrev pub aborted : Kernel D
-    aborted = record k { disk = d; space = space; seats = seats_but (tables.is_grant who t) k.seats }
+    aborted = record k { disk = d; space = space; handles = handles_but (tables.is_grant who t) k.handles }
 
     abbrev T : Option MapEntry → Bool
     T entry = of_drafts (id.block ∷ []) entry
@@ -200,19 +202,19 @@ module _ {D : Type 0} (g : Ghosts D) (k : Kernel D) (s : State) (serves : Serves
             left_sized wide (events.Ask who (asks.Close t false) replies.Done) (legal false none) refl leaves;
         still = λ all. let no : true ≡ false = sym all in cc;
         owed = owed false;
-        taken = λ done. subst (λ (ns : List ℕ). ClaimsInOrder [] ns (g.content k.disk) (g.content d)) (sym (owners false)) (claims_meant (id.block ∷ []) (g.content k.disk) (g.content d) has.only);
+        taken = λ done. takes_alone k.handles s who (asks.Close t false) replies.Done (g.content k.disk) (g.content d) refl (subst (λ (ns : List ℕ). ClaimsInOrder [] ns (g.content k.disk) (g.content d)) (sym (owners false)) (claims_meant (id.block ∷ []) (g.content k.disk) (g.content d) has.only));
       }
 
-    -- what the seats are where it failed
+    -- what the handles are where it failed
     abbrev doubtful : Kernel D
-    doubtful = record k { disk = d; space = space; seats = with_drafting t.draw None k.seats }
+    doubtful = record k { disk = d; space = space; handles = with_drafting t.draw None k.handles }
 
     pub abort_in_doubt : length (g.content k.disk) ≡ g.blocks d → Leaves g k.disk d (λ c. Holds c s.graph) → IsInDoubt g k doubtful s who (asks.Close t false)
     abort_in_doubt wide leaves = record {
       allowed = allowed false;
       drawn = refl;
       named = refl;
-      grants = grants_with t.draw None k.seats;
+      grants = grants_with t.draw None k.handles;
       leaves = wider g k.disk d _ _ leaves (λ c holds. record { graph = s.graph; may = Undone; fits = fits g k s serves (g.blocks d) wide; holds = holds });
     }
 
@@ -222,7 +224,7 @@ module _ {D : Type 0} (g : Ghosts D) (k : Kernel D) (s : State) (serves : Serves
     h = with_object s.graph id before.object
 
     graph_is : (closed s who t true).graph ≡ h
-    graph_is = committed_by s.graph (grant_of s who t) held.x before held.found held.draft_was ∙ ap (λ (e : seats.Grant). with_object s.graph e.id before.object) (sym held.place.here)
+    graph_is = committed_by s.graph (grant_of s who t) held.x before held.found held.draft_was ∙ ap (λ (e : handles.Grant). with_object s.graph e.id before.object) (sym held.place.here)
 
     fresh : ℕ
     fresh = sum_by length before.fresh
@@ -257,8 +259,17 @@ module _ {D : Type 0} (g : Ghosts D) (k : Kernel D) (s : State) (serves : Serves
     U entry = of_owners (id.block ∷ []) entry
 
     module _ (finished : space.left ≡ None) (committed : Committed g s.graph ds id before.object None k.disk d space) where
+      -- nothing is left, so the content is what was to come
+      only_now : ChangesOnly U (g.content k.disk) (g.content d)
+      only_now = subst (ChangesOnly U (g.content k.disk)) (ap (coming (g.content d)) finished) committed.only
+
       holds_now : HasStepped g k aborted s h U left
-      holds_now = record { store = committed.store; only = committed.only; these = of_this s.graph id before.object; left = finished }
+      holds_now = record {
+        store = subst (λ (w : Option Left). StoreWith g h left d space w) finished committed.store;
+        only = only_now;
+        these = of_this s.graph id before.object;
+        left = finished;
+      }
 
       four_now : 4 ≤ sum space.free
       four_now = four_left g k aborted s (closed s who t true) h serves U left holds_now 0 (omega (arith, few, takes)) (omega (arith, serves.four))
@@ -270,7 +281,7 @@ module _ {D : Type 0} (g : Ghosts D) (k : Kernel D) (s : State) (serves : Serves
             left_sized wide (events.Ask who (asks.Close t true) replies.Done) (legal true none) (fits_after wide) committed.settled leaves;
         still = λ all. let no : true ≡ false = sym all in cc;
         owed = owed true;
-        taken = λ done. subst (λ (ns : List ℕ). ClaimsInOrder [] ns (g.content k.disk) (g.content d)) (sym (owners true)) (claims_only (id.block ∷ []) (g.content k.disk) (g.content d) committed.only);
+        taken = λ done. takes_alone k.handles s who (asks.Close t true) replies.Done (g.content k.disk) (g.content d) refl (subst (λ (ns : List ℕ). ClaimsInOrder [] ns (g.content k.disk) (g.content d)) (sym (owners true)) (claims_only (id.block ∷ []) (g.content k.disk) (g.content d) only_now));
       }
 
     pub commit_in_doubt : length (g.content k.disk) ≡ g.blocks d → Leaves g k.disk d (IsOldOrNew s.graph s.graph id before.object) → IsInDoubt g k doubtful s who (asks.Close t true)
@@ -278,7 +289,7 @@ module _ {D : Type 0} (g : Ghosts D) (k : Kernel D) (s : State) (serves : Serves
       allowed = allowed true;
       drawn = refl;
       named = refl;
-      grants = grants_with t.draw None k.seats;
+      grants = grants_with t.draw None k.handles;
       leaves = wider g k.disk d _ _ leaves (λ c holds. ⊎_elim
           (λ was. record { graph = s.graph; may = Undone; fits = fits g k s serves (g.blocks d) wide; holds = was })
           (λ now. record { graph = h; may = subst (MayStand k.words.seed s who (asks.Close t true)) graph_is (Whole 0 (λ made. let no : true ≡ false = sym made in cc)); fits = fits_after wide; holds = now }) holds);
@@ -287,16 +298,16 @@ module _ {D : Type 0} (g : Ghosts D) (k : Kernel D) (s : State) (serves : Serves
   -- ---- as a call ends
 
   module _ (d : D) (space : Kept) where
-    -- with its seat gone once its draft was taken
+    -- with its handle gone once its draft was taken
     abbrev gone : Kernel D
-    gone = record k { disk = d; space = space; seats = seats_but (tables.is_grant who t) (with_drafting t.draw None k.seats) }
+    gone = record k { disk = d; space = space; handles = handles_but (tables.is_grant who t) (with_drafting t.draw None k.handles) }
 
-    pub gone_is : seats_but (tables.is_grant who t) k.seats ≡ seats_but (tables.is_grant who t) (with_drafting t.draw None k.seats)
-    gone_is = sym (but_with who t k.seats s.grants held.seat held.x held.place)
+    pub gone_is : handles_but (tables.is_grant who t) k.handles ≡ handles_but (tables.is_grant who t) (with_drafting t.draw None k.handles)
+    gone_is = sym (but_with who t k.handles s.grants held.handle held.x held.place)
 
     module _ (bare : was.created ≡ None) (left_sized : (c : D) (n : ℕ) (i : Image) → g.left_since c n i → length i ≡ g.blocks c) (wide : length (g.content k.disk) ≡ g.blocks d) (none : k.stop ≡ None) (commit : Bool) where
       pub ended_ok : EndsDraft g commit was k.disk d k.space space (Ok tt) → Answers g k gone s who (asks.Close t commit) replies.Done
-      ended_ok is = subst (λ ss. Answers g k (record k { disk = d; space = space; seats = ss }) s who (asks.Close t commit) replies.Done) gone_is (by commit (is.ends s.graph ds id object before serves.store held.there open_in))
+      ended_ok is = subst (λ ss. Answers g k (record k { disk = d; space = space; handles = ss }) s who (asks.Close t commit) replies.Done) gone_is (by commit (is.ends s.graph ds id object before serves.store held.there open_in))
         where
           by : (b : Bool) → DraftEnds g b s.graph ds id before was k.disk d space (Ok tt) → Answers g k (aborted d space) s who (asks.Close t b) replies.Done
           by true e = commits d space is.left e.done left_sized wide none e.leaves

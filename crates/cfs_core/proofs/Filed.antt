@@ -1,6 +1,6 @@
 -- How a call ends that changes a file which has no draft: a normal one in place, a special one as one commit.
 use Rattle.std.proofs.Common.{◌≡◌, ◌⊎◌, inl, inr, ℕ, ◌+◌, ◌<◌, ◌≤◌, [], length, true, false, cond, Some, None, Result, Ok, Err, IsTrue, refl, sym, ◌∙◌, ap, subst, arith, List, ◌∷◌, nat_lt, sum, Option}
-use Rattle.cfs_core.proofs.Words.{and_parts, blocks_of, byte_may_stand, Change, change_need, change_of, changed, changed_object, ChangesFile, closed_graph, creates, draft_of, drafts_of, each_from, EndsChange, eq-eqb, File, FileKind, Fill, filter-rises, Fits, Ghosts, Graph, has_number, held_levels, here, Holds, HoldsOfEither, Image, in_filter, in_with, index_has_pair, is_among, is_object, is_running}
+use Rattle.cfs_core.proofs.Words.{and_parts, blocks_of, byte_may_stand, Change, change_need, change_of, changed, changed_object, closed_graph, creates, draft_of, drafts_of, each_from, eq-eqb, File, FileKind, Fill, filter-rises, Fits, Ghosts, Graph, has_number, held_levels, here, Holds, HoldsOfEither, Image, in_filter, in_with, index_has_pair, is_among, is_object, is_running}
 use Rattle.cfs_core.proofs.Words.{is_there, IsInside, IsPartly, IsSpeakable, Kept, kind_of, later, Leaves, leaves_in, list_all, MayChange, MayLeave, named, nat_tests, Need, need_for, need_of, next, numbers_rise, Object, object_at, object_at-with_object, object_whole, OnlyReads, Opened, outcome_of, Overwrite, pair_from_index, Puid, Ref, referred, refusal_of, Refused, Request, resized}
 use Rattle.cfs_core.proofs.Words.{rises-with_object, same_puid, same_puid_is, SetSize, State, still_there, target, touched, wider, with_numbers, with_object, withs-rise, written, MapEntry, ChangesOnly, of_owner, Reply, Draft}
 use Rattle.cfs_base.specs.Run.{Tells}
@@ -11,12 +11,13 @@ use Rattle.ufs_model.specs.declared.asked.Reply.TheVariants as replies
 use Rattle.ufs_model.specs.declared.asked.Request.TheVariants as asks
 use Rattle.ufs_model.specs.declared.object.Object.TheVariants as objects
 use Rattle.ufs_model.specs.Graph.{IsClosedGraph}
+use Rattle.cfs_core.specs.Carried.{AltersFile, EndsAltered}
 use Rattle.cfs_core.specs.Calls.{Answers, ByWant, EndsSo, IsInDoubt, IsShort, Tries, Undone, done_or}
 use Rattle.cfs_core.specs.Damage.{bytes_wanted, is_delete}
-use Rattle.file_ops.specs.Changes.{end_of, ClaimsFor, claims_beside}
-use Rattle.cfs_core.specs.Kernel.{Kernel, Seat}
+use Rattle.file_ops.specs.Changes.{least_size, ClaimsFor, claims_beside}
+use Rattle.cfs_core.specs.Kernel.{Kernel, Handle}
 use Rattle.cfs_core.specs.Looks.{Knows, ReachesAll}
-use Rattle.cfs_core.specs.StandsFor.{Serves, drafts_of_seats}
+use Rattle.cfs_core.specs.StandsFor.{Serves, drafts_of_handles}
 use Rattle.cfs_core.specs.Ways.{Reaches}
 use Rattle.cfs_core.proofs.Damages.{told_of_file}
 use Rattle.cfs_core.proofs.Went.{went_done, went_then}
@@ -28,8 +29,10 @@ use Rattle.cfs_core.proofs.Few.{blocks_within}
 use Rattle.cfs_core.proofs.Grown.{replaced_blocks}
 use Rattle.cfs_core.proofs.Refusing.{put_is}
 use Rattle.cfs_core.proofs.Serving.{fits, may_fit, running, serves_on, stays}
-use Rattle.cfs_core.specs.Claimed.{ClaimsInOrder, Takes, claims_for, claims_in_file, claims_through, owners_of, claims_in_place, claims_in_draft, drafting_of, root_of}
-use Rattle.cfs_core.proofs.Claimed.{claims_all, claims_only, claims_put}
+use Rattle.cfs_core.specs.Claimed.{ClaimsInOrder, Takes, claims_for, claims_in_file, claims_through, commits_alone, is_beside, owners_of, claims_in_place, claims_in_draft, drafting_of, root_reached}
+use Rattle.cfs_core.proofs.Claimed.{Commits, claims_all, claims_only, claims_put, takes_alone, takes_last}
+use Rattle.std.specs.Prelude.{not}
+use Rattle.ufs_model.specs.Need.{is_normal}
 use Rattle.normal_files.specs.Order as plain
 use Rattle.ufs_model.specs.State.{file_seen}
 use Rattle.std.specs.Option.{option_map_or}
@@ -42,9 +45,10 @@ pub record IsChanging (request : Request) (change : Change) : Type 0 where
   pub need : (s : State) (who : ℕ) → need_of s who request ≡ change_need s who (target request) change
   pub change_is : change_of request ≡ Some change
   pub makes : creates request ≡ false
-  pub claims : (seats : List Seat) (s : State) (who : ℕ) (reply : Reply) → claims_for seats s who request reply ≡ claims_through seats s who (target request) change
+  pub claims : (handles : List Handle) (s : State) (who : ℕ) (reply : Reply) → claims_for handles s who request reply ≡ claims_through handles s who (target request) change
+  pub alone : (s : State) (who : ℕ) → commits_alone s who request ≡ is_beside s who (target request)
   pub delete : is_delete request ≡ false
-  pub wants : bytes_wanted (Some request) ≡ end_of change
+  pub wants : bytes_wanted (Some request) ≡ least_size change
   pub full : (seed : ℕ) (s : State) (who : ℕ) (n : Need) → is_running s ≡ true → refusal_of s who request ≡ None → n.need ≡ need_of s who request → n.free < n.need + 4
       → next seed s (events.Ask who request (replies.Full n)) ≡ Some s
   pub speaks : (who : ℕ) → IsSpeakable (events.Ask who request replies.Done)
@@ -55,7 +59,8 @@ write_changes to offset bytes small = record {
   need = λ s who. refl;
   change_is = refl;
   makes = refl;
-  claims = λ seats s who reply. refl;
+  claims = λ handles s who reply. refl;
+  alone = λ s who. refl;
   delete = refl;
   wants = refl;
   full = λ seed s who n run goes need few. let less : nat_lt n.free (n.need + 4) ≡ true = grind (arith, nat_tests) in rw (run, goes, eq-eqb n.need _ need, less) refl;
@@ -68,7 +73,8 @@ resize_changes to size = record {
   need = λ s who. refl;
   change_is = refl;
   makes = refl;
-  claims = λ seats s who reply. refl;
+  claims = λ handles s who reply. refl;
+  alone = λ s who. refl;
   delete = refl;
   wants = refl;
   full = λ seed s who n run goes need few. let less : nat_lt n.free (n.need + 4) ≡ true = grind (arith, nat_tests) in rw (run, goes, eq-eqb n.need _ need, less) refl;
@@ -180,14 +186,14 @@ same_need a b is = cc
 
 module _ {D : Type 0} (g : Ghosts D) (left_sized : (d : D) (t : ℕ) (c : Image) → g.left_since d t c → length c ≡ g.blocks d) (sized : (d : D) → IsTrue (g.honest d) → length (g.content d) ≡ g.blocks d)
     (k : Kernel D) (d : D) (space : Kept) (id : Puid) (kind : FileKind) (change : Change) (request : Request) (is : IsChanging request change)
-    (result : Result (Unit {0}) Refused) (changes : ChangesFile g id.block kind 4 change k.disk d k.space space result) where
+    (result : Result (Unit {0}) Refused) (changes : AltersFile g id.block kind 4 change k.disk d k.space space result) where
   abbrev new : Kernel D
   new = record k { disk = d; space = space }
 
-  module _ (s : State) (who : ℕ) (f : File) (serves : Serves g k s) (none : k.stop ≡ None) (reach : Reaches s who request id (objects.File f)) (shut : drafts_of (drafts_of_seats k.seats s.grants) id ≡ []) (kind_is : f.kind ≡ kind) (inside : IsInside change (objects.File f))
+  module _ (s : State) (who : ℕ) (f : File) (serves : Serves g k s) (none : k.stop ≡ None) (reach : Reaches s who request id (objects.File f)) (shut : drafts_of (drafts_of_handles k.handles s.grants) id ≡ []) (kind_is : f.kind ≡ kind) (inside : IsInside change (objects.File f))
       (goes : refusal_of s who request ≡ None) where
     abbrev drafts : List Opened
-    drafts = drafts_of_seats k.seats s.grants
+    drafts = drafts_of_handles k.handles s.grants
 
     abbrev o : Object
     o = changed_object change (objects.File f)
@@ -199,7 +205,7 @@ module _ {D : Type 0} (g : Ghosts D) (left_sized : (d : D) (t : ℕ) (c : Image)
     need = is.need s who ∙ need_told s who (target request) id f kind change reach.name reach.bare reach.there kind_is
 
     size : g.blocks d ≡ g.blocks k.disk
-    size = changes.ends.calls.same.size
+    size = changes.ends.calls.calls.same.size
 
     wide : length (g.content k.disk) ≡ g.blocks d
     wide = sized k.disk serves.store.carries.tells.honest ∙ sym size
@@ -270,37 +276,51 @@ module _ {D : Type 0} (g : Ghosts D) (left_sized : (d : D) (t : ℕ) (c : Image)
       leaves = wider g k.disk d _ _ still (λ c holds. record { graph = s.graph; may = Undone; fits = fits g k s serves (g.blocks d) wide; holds = holds });
     }
 
-    takes : ChangesOnly (λ entry. of_owner id.block entry) (g.content k.disk) (g.content d) → ClaimsFor kind change id.block f (g.content k.disk) (g.content d) → Takes k.seats s who request replies.Done (g.content k.disk) (g.content d)
-    takes only order =
-        subst (λ (cs : List MapEntry). ClaimsInOrder cs (owners_of s who request replies.Done) (g.content k.disk) (g.content d)) (sym (is.claims k.seats s who replies.Done ∙ in_place))
-        (subst (λ (ns : List ℕ). ClaimsInOrder (claims_in_file id.block change f) ns (g.content k.disk) (g.content d)) (sym (rw (is.makes, reach.name) refl)) (by kind change kind_is order))
+    takes : ChangesOnly (λ entry. of_owner id.block entry) (g.content k.disk) (g.content d) → ClaimsFor kind change id.block f (g.content k.disk) (g.content d) → Takes k.handles s who request replies.Done (g.content k.disk) (g.content d)
+    takes only order = elim (by kind change kind_is order) [
+      | inl two ↦ takes_alone k.handles s who request replies.Done (g.content k.disk) (g.content d) (is.alone s who ∙ beside_is ∙ ap not two.1)
+          (subst (λ (cs : List MapEntry). ClaimsInOrder cs (owners_of s who request replies.Done) (g.content k.disk) (g.content d)) (sym claims_are) (subst (λ (ns : List ℕ). ClaimsInOrder (claims_in_file id.block change f) ns (g.content k.disk) (g.content d)) (sym owners_are) two.0))
+      | inr last ↦ takes_last k.handles s who request replies.Done (g.content k.disk) (g.content d) (claims_in_file id.block change f) (id.block ∷ []) id.block claims_are owners_are root_is last
+    ]
       where
-        root_is : root_of s who (target request) ≡ id.block
+        root_is : root_reached s who (target request) ≡ id.block
         root_is = rw reach.name refl
 
         file_is : file_seen s who (target request) ≡ f
         file_is = rw (reach.bare, reach.name, reach.there) refl
 
-        in_place : claims_through k.seats s who (target request) change ≡ claims_in_file id.block change f
+        in_place : claims_through k.handles s who (target request) change ≡ claims_in_file id.block change f
         in_place =
-            ap (λ (o : Option Draft). elim o [ None ↦ claims_in_file (root_of s who (target request)) change (file_seen s who (target request)) | Some e ↦ option_map_or (claims_in_draft change e) (drafting_of k.seats (target request)) [] ]) reach.bare
+            ap (λ (o : Option Draft). elim o [ None ↦ claims_in_file (root_reached s who (target request)) change (file_seen s who (target request)) | Some e ↦ option_map_or (claims_in_draft change e) (drafting_of k.handles (target request)) [] ]) reach.bare
             ∙ ap (λ n. claims_in_file n change (file_seen s who (target request))) root_is ∙ ap (claims_in_file id.block change) file_is
+
+        claims_are : claims_for k.handles s who request replies.Done ≡ claims_in_file id.block change f
+        claims_are = is.claims k.handles s who replies.Done ∙ in_place
+
+        owners_are : owners_of s who request replies.Done ≡ id.block ∷ []
+        owners_are = rw (is.makes, reach.name) refl
+
+        beside_is : is_beside s who (target request) ≡ not (is_normal (objects.File f))
+        beside_is = rw (reach.bare, reach.name, reach.there) refl
+
+        normal_is : f.kind ≡ kinds.Normal → is_normal (objects.File f) ≡ true
+        normal_is at = ap (λ (x : FileKind). elim x [ kinds.Normal ↦ true | kinds.Special ↦ false ]) at
 
         so : (y : Change) (x : FileKind) → f.kind ≡ x → claims_in_file id.block y f ≡ elim x [ kinds.Normal ↦ claims_in_place id.block y f | kinds.Special ↦ claims_beside id.block y f ]
         so y x at = ap (λ (z : FileKind). elim z [ kinds.Normal ↦ claims_in_place id.block y f | kinds.Special ↦ claims_beside id.block y f ]) at
 
-        by : (x : FileKind) (y : Change) → f.kind ≡ x → ClaimsFor x y id.block f (g.content k.disk) (g.content d) → ClaimsInOrder (claims_in_file id.block y f) (id.block ∷ []) (g.content k.disk) (g.content d)
-        by kinds.Normal (Overwrite offset bytes) at claimed = subst (λ (cs : List MapEntry). ClaimsInOrder cs (id.block ∷ []) (g.content k.disk) (g.content d)) (sym (so (Overwrite offset bytes) kinds.Normal at)) (claims_all (plain.claims_of id.block f offset (length bytes)) (id.block ∷ []) (g.content k.disk) (g.content d) claimed)
-        by kinds.Normal (SetSize n) at none = subst (λ (cs : List MapEntry). ClaimsInOrder cs (id.block ∷ []) (g.content k.disk) (g.content d)) (sym (so (SetSize n) kinds.Normal at)) (claims_only (id.block ∷ []) (g.content k.disk) (g.content d) only)
-        by kinds.Normal (Fill slot what) at none = subst (λ (cs : List MapEntry). ClaimsInOrder cs (id.block ∷ []) (g.content k.disk) (g.content d)) (sym (so (Fill slot what) kinds.Normal at)) (claims_only (id.block ∷ []) (g.content k.disk) (g.content d) only)
-        by kinds.Special y at beside = subst (λ (cs : List MapEntry). ClaimsInOrder cs (id.block ∷ []) (g.content k.disk) (g.content d)) (sym (so y kinds.Special at)) (claims_put id.block (claims_beside id.block y f) (g.content k.disk) (g.content d) beside)
+        by : (x : FileKind) (y : Change) → f.kind ≡ x → ClaimsFor x y id.block f (g.content k.disk) (g.content d) → (ClaimsInOrder (claims_in_file id.block y f) (id.block ∷ []) (g.content k.disk) (g.content d) × (is_normal (objects.File f) ≡ true)) ⊎ Commits (claims_in_file id.block y f) (id.block ∷ []) id.block (g.content k.disk) (g.content d)
+        by kinds.Normal (Overwrite offset bytes) at claimed = inl (subst (λ (cs : List MapEntry). ClaimsInOrder cs (id.block ∷ []) (g.content k.disk) (g.content d)) (sym (so (Overwrite offset bytes) kinds.Normal at)) (claims_all (plain.claims_of id.block f offset (length bytes)) (id.block ∷ []) (g.content k.disk) (g.content d) claimed), normal_is at)
+        by kinds.Normal (SetSize n) at none = inl (subst (λ (cs : List MapEntry). ClaimsInOrder cs (id.block ∷ []) (g.content k.disk) (g.content d)) (sym (so (SetSize n) kinds.Normal at)) (claims_only (id.block ∷ []) (g.content k.disk) (g.content d) only), normal_is at)
+        by kinds.Normal (Fill slot what) at none = inl (subst (λ (cs : List MapEntry). ClaimsInOrder cs (id.block ∷ []) (g.content k.disk) (g.content d)) (sym (so (Fill slot what) kinds.Normal at)) (claims_only (id.block ∷ []) (g.content k.disk) (g.content d) only), normal_is at)
+        by kinds.Special y at beside = inr (subst (λ (cs : List MapEntry). Commits cs (id.block ∷ []) id.block (g.content k.disk) (g.content d)) (sym (so y kinds.Special at)) (claims_put id.block (claims_beside id.block y f) (g.content k.disk) (g.content d) beside))
 
     did_so : (r : Result (Unit {0}) Refused) → r ≡ result → EndsSo g k new s who request (done_or r)
     did_so (Ok u) same =
         let done = rw (← same) at (changes.done s.graph drafts id f has) in
         let free = rw (← same) at (changes.room s.graph drafts id f has) in
         object_did g left_sized sized k new size refl none s after who request serves id (objects.File f) o reach.there (same_kinds change f) (need_for kind change f) more goes is.makes (is.speaks who) out
-        (record { graph = refl; grants = refl; drawn = refl; stopped = refl; sweeping = refl }) (roomy free) free (left free) done.store (rw (← same) at changes.ends.left) done.only
+        (record { graph = refl; grants = refl; drawn = refl; stopped = refl; sweeping = refl }) (roomy free) free (left free) done.store done.left done.only
         (takes done.only (rw (← same) at (changes.order s.graph drafts id f has)))
     did_so (Err (refusals.Full n)) same = let told = (rw (← same) at (changes.full s.graph drafts id f has)) refl in full n (same_need n _ told.0, told.1) ((rw (← same) at changes.ends.untried) refl)
     did_so (Err (refusals.Disk false)) same = let two = (rw (← same) at changes.ends.untried) refl in disk_failed g left_sized sized 31093 k new two.1 (as_it_was two) s who serves none request
@@ -314,7 +334,7 @@ module _ {D : Type 0} (g : Ghosts D) (left_sized : (d : D) (t : ℕ) (c : Image)
 -- a call that read the size first, or nothing
 pub tries_changed : {D : Type 0} (g : Ghosts D) (left_sized : (d : D) (t : ℕ) (c : Image) → g.left_since d t c → length c ≡ g.blocks d) (sized : (d : D) → IsTrue (g.honest d) → length (g.content d) ≡ g.blocks d)
     (n : ℕ) (k : Kernel D) (mid d : D) (space : Kept) → OnlyReads g n k.disk mid → (id : Puid) (kind : FileKind) (change : Change) (request : Request) → IsChanging request change
-    → (result : Result (Unit {0}) Refused) → (Tells g k.disk → ChangesFile g id.block kind 4 change mid d k.space space result) → EndsChange g id.block kind 4 change mid d k.space space result → (who : ℕ) → ReachesAll g objects.File k who request id
+    → (result : Result (Unit {0}) Refused) → (Tells g k.disk → AltersFile g id.block kind 4 change mid d k.space space result) → EndsAltered g id.block kind 4 change mid d k.space space result → (who : ℕ) → ReachesAll g objects.File k who request id
     → ((s : State) (f : File) → Serves g k s → Reaches s who request id (objects.File f) → Knows g k.disk id.block (objects.File f) → (f.kind ≡ kind) × IsInside change (objects.File f) × (refusal_of s who request ≡ None))
     → Tries g k (record k { disk = d; space = space }) who request (done_or result)
 tries_changed g left_sized sized n k mid d space reads id kind change request is result changes end who reaches goes = record {
@@ -324,6 +344,6 @@ tries_changed g left_sized sized n k mid d space reads id kind change request is
       ends g n k mid (record k { disk = d; space = space }) reads request s who (done_or result)
       (did g left_sized sized (record k { disk = mid }) d space id kind change request is result (changes serves.store.carries.tells) s who r.0 (serves_on g n k (record k { disk = mid }) reads refl s serves) none r.1 r.2 may.0 may.1 may.2);
   went = went_then g n k mid (record k { disk = d; space = space }) reads request (done_or result)
-      (went_done g (record k { disk = mid }) d space k.seats end.calls.same.size end.calls.faults end.calls.later request result (λ tried is. rw is at end.refused)
-      (λ damage met. told_of_file g (record k { disk = mid }) (record k { disk = d; space = space }) (Some request) id.block (inl reaches.1) damage end.calls.same.size sized end.calls.same.honesty kind change is.wants (λ r same. let one : request ≡ r = cc in ap is_delete (sym one) ∙ is.delete) (rw met at end.refused)));
+      (went_done g (record k { disk = mid }) d space k.handles end.calls.calls.same.size end.calls.calls.faults end.calls.calls.later request result (λ tried is. rw is at end.refused)
+      (λ damage met. told_of_file g (record k { disk = mid }) (record k { disk = d; space = space }) (Some request) id.block (inl reaches.1) damage end.calls.calls.same.size sized end.calls.calls.same.honesty kind change is.wants (λ r same. let one : request ≡ r = cc in ap is_delete (sym one) ∙ is.delete) (rw met at end.refused)));
 }

@@ -5,7 +5,7 @@ use Rattle.cfs_base.specs.declared.refusal.Trouble.TheVariants as troubles
 use Rattle.cfs_base.specs.declared.refusal.Damage.{Damage}
 use Rattle.special_files.specs.Refusal.{IsDamage}
 use Rattle.cfs_core.specs.declared.kernel.Stop.{Stop}
-use Rattle.cfs_core.specs.Asked.{stopped_by, told}
+use Rattle.cfs_core.specs.Asked.{stopped_by, reply_to}
 use Rattle.cfs_core.specs.Kernel.{Kernel}
 use Rattle.cfs_core.specs.Leaving.{GivesUp}
 
@@ -31,7 +31,7 @@ module _ {D : Type 0} (g : Ghosts D) (was : Drafting) (k : Kernel D) (d : D) (sp
   -- it stops
   pub not_given_up : (e : Trouble) → e ≢ troubles.Disk false → IsTrouble g was.at k.disk d space e
       → ((graph : Graph) (ds : List Opened) (id : Puid) (o : Object) (dr : Draft) → StoreHas g graph ds k.disk k.space → object_at graph id ≡ Some o → IsOpen ds id was dr → is_damage e ≡ false)
-      → GivesUp g was k (record k { disk = d; space = space; stop = stopped_by (told (refused_by e) (g.moment d)) k.stop })
+      → GivesUp g was k (record k { disk = d; space = space; stop = stopped_by (reply_to (refused_by e) (g.moment d)) k.stop })
   not_given_up e tried why sound = at e tried why sound
     where
       with_stop : (stop : Stop) → (stop.damage ≡ None → HasFailed g k.disk d × (stop.moment ≡ g.moment d - 1)) → ((damage : Damage) → stop.damage ≡ Some damage → IsDamage g was.at k.disk d space damage × (stop.moment ≡ g.moment d))
@@ -55,7 +55,7 @@ module _ {D : Type 0} (g : Ghosts D) (was : Drafting) (k : Kernel D) (d : D) (sp
 
       at : (t : Trouble) → t ≢ troubles.Disk false → IsTrouble g was.at k.disk d space t
           → ((graph : Graph) (ds : List Opened) (id : Puid) (o : Object) (dr : Draft) → StoreHas g graph ds k.disk k.space → object_at graph id ≡ Some o → IsOpen ds id was dr → is_damage t ≡ false)
-          → GivesUp g was k (record k { disk = d; space = space; stop = stopped_by (told (refused_by t) (g.moment d)) k.stop })
+          → GivesUp g was k (record k { disk = d; space = space; stop = stopped_by (reply_to (refused_by t) (g.moment d)) k.stop })
       at (troubles.Disk true) first is calm = with_stop _ (λ none. (is.failed, refl)) (λ damage none. let no : None ≡ Some damage = none in cc) (λ graph ds id o dr store there opened. refl)
       at (troubles.Disk false) first is calm = absurd (first refl)
       at (troubles.Damaged damage) first is calm = with_stop _ (λ none. let no : Some damage ≡ None = none in cc) (λ other same. (let one : damage ≡ other = cc in subst (IsDamage g was.at k.disk d space) one is, refl)) (λ graph ds id o dr store there opened. let no : true ≡ false = calm graph ds id o dr store there opened in cc)

@@ -7,17 +7,17 @@ use Rattle.ufs_model.specs.declared.asked.Event.TheVariants as events
 use Rattle.ufs_model.specs.declared.asked.Reply.TheVariants as replies
 use Rattle.ufs_model.specs.declared.asked.Request.TheVariants as asks
 use Rattle.cfs_core.specs.Calls.{Answers, ByOutcome, Tries}
-use Rattle.cfs_core.specs.Kernel.{Kernel, Seat, is_drawn_by}
-use Rattle.cfs_core.specs.Seats.{have_draft, is_at, is_drawn, seats_but}
+use Rattle.cfs_core.specs.Kernel.{Kernel, Handle, is_drawn_by}
+use Rattle.cfs_core.specs.Handles.{have_draft, is_at, is_drawn, handles_but}
 use Rattle.cfs_core.specs.StandsFor.{Serves, Stores}
 use Rattle.cfs_core.proofs.Answering.{owes}
 use Rattle.cfs_core.proofs.Moved.{IsStepped}
 use Rattle.cfs_core.proofs.Regranted.{KeepsDrafts, but_keeps, but_table, draft_none, drawn_more, makes_after, stores_after}
-use Rattle.cfs_core.proofs.Seated.{none_of_grant}
+use Rattle.cfs_core.proofs.Handled.{none_of_grant}
 use Rattle.cfs_core.proofs.Went.{went_so}
 use Rattle.cfs_core.proofs.Serving.{running}
 use Rattle.cfs_core.specs.Claimed.{owners_of}
-use Rattle.cfs_core.proofs.Claimed.{claims_none}
+use Rattle.cfs_core.proofs.Claimed.{claims_none, takes_alone}
 
 -- ---- why a grant isn't acquired
 
@@ -56,7 +56,7 @@ module _ (seed : ℕ) (s : State) (who : ℕ) (t : Tuid) (commit : Bool) where
 
 -- the state without it, of which these are the objects
 pub closed_stepped : {D : Type 0} (g : Ghosts D) (k : Kernel D) (s : State) → Serves g k s → (who : ℕ) (t : Tuid) (commit : Bool) (d : D) (space : Kept) (h : Graph) → (closed s who t commit).graph ≡ h → h.root ≡ s.graph.root → kinds_of h ≡ kinds_of s.graph
-    → IsStepped k (record k { disk = d; space = space; seats = seats_but (tables.is_grant who t) k.seats }) s (closed s who t commit) h
+    → IsStepped k (record k { disk = d; space = space; handles = handles_but (tables.is_grant who t) k.handles }) s (closed s who t commit) h
 closed_stepped g k s serves who t commit d space h graph rooted kinds = record {
   graph = graph;
   rooted = rooted;
@@ -66,43 +66,43 @@ closed_stepped g k s serves who t commit d space h graph rooted kinds = record {
   named = serves.front.names ∙ sym kinds;
   root = refl;
   stop = refl;
-  table = but_table (tables.is_grant who t) k.seats s.grants serves.front.grants;
+  table = but_table (tables.is_grant who t) k.handles s.grants serves.front.grants;
 }
 
--- where its seat has no draft
-module _ {D : Type 0} (g : Ghosts D) (k : Kernel D) (s : State) (serves : Serves g k s) (who : ℕ) (t : Tuid) (commit : Bool) (x : Grant) (found : grant_of s who t ≡ Some x) (bare : have_draft (is_at t.draw) k.seats ≡ false) where
-  abbrev left : List Seat
-  left = seats_but (tables.is_grant who t) k.seats
+-- where its handle has no draft
+module _ {D : Type 0} (g : Ghosts D) (k : Kernel D) (s : State) (serves : Serves g k s) (who : ℕ) (t : Tuid) (commit : Bool) (x : Grant) (found : grant_of s who t ≡ Some x) (bare : have_draft (is_at t.draw) k.handles ≡ false) where
+  abbrev left : List Handle
+  left = handles_but (tables.is_grant who t) k.handles
 
-  none_of_it : have_draft (tables.is_grant who t) k.seats ≡ false
-  none_of_it = none_of_grant who t k.seats bare
+  none_of_it : have_draft (tables.is_grant who t) k.handles ≡ false
+  none_of_it = none_of_grant who t k.handles bare
 
   closed_graph : (closed s who t commit).graph ≡ s.graph
   closed_graph = at commit
     where
       kept : committed (grant_of s who t) s.graph ≡ s.graph
-      kept = let none = draft_none _ who t k.seats s.grants serves.front.grants serves.drafts none_of_it x found in rw (found, none) refl
+      kept = let none = draft_none _ who t k.handles s.grants serves.front.grants serves.drafts none_of_it x found in rw (found, none) refl
 
       at : (b : Bool) → (closed s who t b).graph ≡ s.graph
       at true = kept
       at false = refl
 
-  stepped : IsStepped k (record k { seats = left }) s (closed s who t commit) s.graph
+  stepped : IsStepped k (record k { handles = left }) s (closed s who t commit) s.graph
   stepped = closed_stepped g k s serves who t commit k.disk k.space s.graph closed_graph refl refl
 
-  keeps : KeepsDrafts k.seats left s.grants (closed s who t commit).grants
-  keeps = but_keeps (tables.is_grant who t) _ k.seats s.grants serves.front.grants serves.drafts none_of_it
+  keeps : KeepsDrafts k.handles left s.grants (closed s who t commit).grants
+  keeps = but_keeps (tables.is_grant who t) _ k.handles s.grants serves.front.grants serves.drafts none_of_it
 
-  pub stores_closed : Stores g (record k { seats = left }) (closed s who t commit)
+  pub stores_closed : Stores g (record k { handles = left }) (closed s who t commit)
   stores_closed = stores_after g k left s (closed s who t commit) serves stepped (closed_keeps s who t commit serves.state) keeps
 
   pub answers_closed : ((d : D) (t : ℕ) (c : Image) → g.left_since d t c → length c ≡ g.blocks d) → ((d : D) → IsTrue (g.honest d) → length (g.content d) ≡ g.blocks d) → k.stop ≡ None
-      → Answers g k (record k { seats = left }) s who (asks.Close t commit) replies.Done
+      → Answers g k (record k { handles = left }) s who (asks.Close t commit) replies.Done
   answers_closed left_sized sized none = record {
     event = makes_after g k left s (closed s who t commit) serves stepped (closed_keeps s who t commit serves.state) keeps left_sized (sized k.disk serves.store.carries.tells.honest)
         (events.Ask who (asks.Close t commit) replies.Done) (outcome_legal k.words.seed s who (asks.Close t commit) 0 (running g k s serves none) goes (λ made. let no : true ≡ false = sym made in cc));
     still = λ all. let no : false ≡ true = all in cc;
-    taken = λ done. claims_none (owners_of s who (asks.Close t commit) replies.Done) (g.content k.disk) (g.content k.disk) refl;
+    taken = λ done. takes_alone k.handles s who (asks.Close t commit) replies.Done (g.content k.disk) (g.content k.disk) refl (claims_none (owners_of s who (asks.Close t commit) replies.Done) (g.content k.disk) (g.content k.disk) refl);
     owed = owes k.words.seed s who (asks.Close t commit) (g.content k.disk) (sum k.space.free) replies.Done tt
         (ByOutcome goes (record { block = 0; least = λ made. let no : true ≡ false = sym made in cc; reply_is = refl; room = λ short. omega (arith, short.few, serves.four) }));
   }
@@ -111,16 +111,16 @@ module _ {D : Type 0} (g : Ghosts D) (k : Kernel D) (s : State) (serves : Serves
       goes = close_goes 0 s who t commit x found
 
 pub tries_closed : {D : Type 0} (g : Ghosts D) → ((d : D) (t : ℕ) (c : Image) → g.left_since d t c → length c ≡ g.blocks d) → ((d : D) → IsTrue (g.honest d) → length (g.content d) ≡ g.blocks d)
-    → (k : Kernel D) (who : ℕ) (t : Tuid) (commit : Bool) → have_draft (is_at t.draw) k.seats ≡ false → ((s : State) → Serves g k s → (x : Grant) × (grant_of s who t ≡ Some x))
-    → Tries g k (record k { seats = seats_but (tables.is_grant who t) k.seats }) who (asks.Close t commit) (Ok replies.Done)
+    → (k : Kernel D) (who : ℕ) (t : Tuid) (commit : Bool) → have_draft (is_at t.draw) k.handles ≡ false → ((s : State) → Serves g k s → (x : Grant) × (grant_of s who t ≡ Some x))
+    → Tries g k (record k { handles = handles_but (tables.is_grant who t) k.handles }) who (asks.Close t commit) (Ok replies.Done)
 tries_closed g left_sized sized k who t commit bare the = record {
   ends = λ s serves none. let x = the s serves in answers_closed g k s serves who t commit x.0 x.1 bare left_sized sized none;
-  went = went_so g k k.disk k.space (seats_but (tables.is_grant who t) k.seats) refl (omega arith) (omega arith) (asks.Close t commit) (Ok replies.Done) tt tt;
+  went = went_so g k k.disk k.space (handles_but (tables.is_grant who t) k.handles) refl (omega arith) (omega arith) (asks.Close t commit) (Ok replies.Done) tt tt;
 }
 
 -- ---- what is drawn next is of no grant yet
 
-pub not_drawn : (ss : List Seat) (n draw : ℕ) → draw ≡ n + 1 → list_all (is_drawn_by n) ss ≡ true → list_any (is_drawn draw) ss ≡ false
+pub not_drawn : (ss : List Handle) (n draw : ℕ) → draw ≡ n + 1 → list_all (is_drawn_by n) ss ≡ true → list_any (is_drawn draw) ss ≡ false
 not_drawn [] n draw next is = refl
 not_drawn (x ∷ ss) n draw next is =
     let two = and_parts (is_drawn_by n x) (list_all (is_drawn_by n) ss) is in
@@ -129,7 +129,7 @@ not_drawn (x ∷ ss) n draw next is =
     apart : (d n m : ℕ) → m ≡ n + 1 → nat_le d n ≡ true → (m == d) ≡ false
     apart d n m next le = grind (arith, nat_tests)
 
-pub drawn_push : (ss : List Seat) (x : Seat) (n m : ℕ) → m ≡ n + 1 → x.grant.tuid.draw ≡ m → list_all (is_drawn_by n) ss ≡ true → list_all (is_drawn_by m) (ss ++ x ∷ []) ≡ true
+pub drawn_push : (ss : List Handle) (x : Handle) (n m : ℕ) → m ≡ n + 1 → x.grant.tuid.draw ≡ m → list_all (is_drawn_by n) ss ≡ true → list_all (is_drawn_by m) (ss ++ x ∷ []) ≡ true
 drawn_push ss x n m next draw is = list_all-append (is_drawn_by m) ss (x ∷ []) ∙ rw (drawn_more ss n m next is, last x.grant.tuid.draw m draw) refl
   where
     last : (d m : ℕ) → d ≡ m → nat_le d m ≡ true

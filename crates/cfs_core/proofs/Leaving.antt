@@ -1,7 +1,7 @@
 -- A session's grants are dropped, one after the other, and then it has left.
 use Rattle.std.proofs.Common.{◌≡◌, inl, inr, ℕ, List, [], ◌∷◌, length, Bool, true, false, cond, not, Option, Some, None, IsTrue, refl, sym, ◌∙◌, ap, subst, arith, ◌==◌, find, map, option_map}
 use Rattle.cfs_core.proofs.Words.{after_leave, Ghosts, Grant, Holds, Image, Leaves, loose, State, stopped_at, then, without_session-none}
-use Rattle.open_table.specs.declared.grant.Grant as seats
+use Rattle.open_table.specs.declared.grant.Grant as handles
 use Rattle.open_table.specs.Grants as tables
 use Rattle.ufs_model.specs.declared.asked.Event.TheVariants as events
 use Rattle.cfs_core.specs.declared.kernel.Stop.{Stop}
@@ -96,14 +96,14 @@ module _ {D : Type 0} (g : Ghosts D) (who : ℕ) where
 
   -- ---- none of its grants is left
 
-  none_left : (gs : List seats.Grant) (grants : List Grant) → gs ≡ map bare grants → tables.first_of gs who ≡ None → of_others who grants ≡ grants
+  none_left : (gs : List handles.Grant) (grants : List Grant) → gs ≡ map bare grants → tables.first_of gs who ≡ None → of_others who grants ≡ grants
   none_left [] [] table none = refl
   none_left [] (x ∷ grants) table none = cc
   none_left (y ∷ gs) [] table none = cc
   none_left (y ∷ gs) (x ∷ grants) table none =
       let head : y ≡ bare x = cc in
       let tail : gs ≡ map bare grants = cc in
-      at (y.session == who) (ap (λ (e : seats.Grant). e.session == who) head) none (λ h. none_left gs grants tail h)
+      at (y.session == who) (ap (λ (e : handles.Grant). e.session == who) head) none (λ h. none_left gs grants tail h)
     where
       at : (b : Bool) → b ≡ (x.session == who) → cond b (Some y) (find (λ e. e.session == who) gs) ≡ None → (find (λ e. e.session == who) gs ≡ None → of_others who grants ≡ grants)
           → cond (not (x.session == who)) (x ∷ of_others who grants) (of_others who grants) ≡ x ∷ grants
@@ -120,13 +120,13 @@ module _ {D : Type 0} (g : Ghosts D) (who : ℕ) where
   -- ---- the session has left
 
   module _ (left_sized : (d : D) (t : ℕ) (c : Image) → g.left_since d t c → length c ≡ g.blocks d) (sized : (d : D) → IsTrue (g.honest d) → length (g.content d) ≡ g.blocks d)
-      (old new : Kernel D) (sheds : Sheds g who old new) (none : tables.first_of (grants_in new.seats) who ≡ None) (s : State) where
+      (old new : Kernel D) (sheds : Sheds g who old new) (none : tables.first_of (grants_in new.handles) who ≡ None) (s : State) where
     -- what any core says then, that stopped so
     front_left : IsFront old s → IsFront new (record (after_leave s who) { stopped = option_map (λ stop. stop.moment) new.stop })
     front_left front = record {
       drawn = front.drawn ∙ sym (ap (λ w. w.drawn) sheds.words);
       names = ap (λ n. n.named) sheds.names ∙ front.names;
-      grants = sym (without_session-none (grants_in new.seats) who none) ∙ sheds.others ∙ ap (λ gs. tables.without_session gs who) front.grants ∙ others_bare s.grants;
+      grants = sym (without_session-none (grants_in new.handles) who none) ∙ sheds.others ∙ ap (λ gs. tables.without_session gs who) front.grants ∙ others_bare s.grants;
       stopped = refl;
     }
 
@@ -145,7 +145,7 @@ module _ {D : Type 0} (g : Ghosts D) (who : ℕ) where
     left_stands stands None was None is =
         let serves = subst (Stands g old s) was stands in
         let fewer = sheds.serves s serves was is in
-        let all : fewer.grants ≡ of_others who s.grants = sym (none_left (grants_in new.seats) fewer.grants fewer.serves.front.grants none) ∙ fewer.others in
+        let all : fewer.grants ≡ of_others who s.grants = sym (none_left (grants_in new.handles) fewer.grants fewer.serves.front.grants none) ∙ fewer.others in
         record {
           after = after_leave s who;
           step = refl;

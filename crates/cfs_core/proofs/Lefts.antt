@@ -8,14 +8,14 @@ use Rattle.cfs_core.specs.declared.collecting.Collections.{Collections}
 use Rattle.cfs_core.specs.declared.collecting.Step.{Step}
 use Rattle.cfs_core.specs.declared.collecting.Step.TheVariants as steps
 use Rattle.cfs_core.specs.Kernel.{marks_in, runs, sweeps_in}
-use Rattle.cfs_core.specs.Left.{AddsOne, GoesOn, RunsBy, events_of, steps_of, to_begin}
+use Rattle.cfs_core.specs.Left.{AddsOne, GoesOn, RunsBy, events_due, steps_of, to_begin}
 use Rattle.cfs_core.specs.Rescues.{AreRescued, HasRescued, while_marking}
 use Rattle.collector_marks.specs.Kept.{Marked, blocks_of, colours_of}
 
 -- ---- a step
 
 -- nothing is left of a collection that doesn't run
-at_rest : (o : Option Collecting) → runs o ≡ false → (steps_of o ≡ 0) × (events_of o ≡ 0)
+at_rest : (o : Option Collecting) → runs o ≡ false → (steps_of o ≡ 0) × (events_due o ≡ 0)
 at_rest None none = (refl, refl)
 at_rest (Some k) none = by k.phase refl none
   where
@@ -32,7 +32,7 @@ count_of b c is = ap {B = ℕ} (λ r. cond r 1 0) is
 
 -- that of a collection that runs, and runs on
 pub goes_within : (blocks : ℕ) (c d : Collections) (step : Step) (event : Option Event) → d.called ≡ c.called → d.finished ≡ c.finished → runs c.collector ≡ true → runs d.collector ≡ true → RunsBy step true true
-    → steps_of d.collector < steps_of c.collector → events_of d.collector + length (option_to_list event) ≡ events_of c.collector → GoesOn blocks c d step event
+    → steps_of d.collector < steps_of c.collector → events_due d.collector + length (option_to_list event) ≡ events_due c.collector → GoesOn blocks c d step event
 goes_within blocks c d step event called finished before after by less events =
     let same : to_begin d ≡ to_begin c = omega (arith, called, finished, count_of true c before, count_of true d after) in
     let steps = ap (λ n. n * most_steps blocks) same in
@@ -51,7 +51,7 @@ goes_begun blocks c d l called finished before more there phase less =
     let one : to_begin c ≡ to_begin d + 1 = omega (arith, called, finished, more, count_of false c before, count_of true d now) in
     let steps = ap (λ n. n * most_steps blocks) one ∙ add-mul (to_begin d) 1 (most_steps blocks) in
     let its = ap steps_of there in
-    let events : events_of d.collector ≡ 2 = ap events_of there ∙ ap events_left phase in
+    let events : events_due d.collector ≡ 2 = ap events_due there ∙ ap events_left phase in
     record {
       runs_by = (before, now);
       fewer = λ no. omega (arith, steps, one-mul (most_steps blocks), its, less, rest.0);
@@ -68,7 +68,7 @@ goes_ended blocks c d k l called finished was there swept idle =
     let same : to_begin d ≡ to_begin c = omega (arith, called, finished, count_of true c before, count_of false d now) in
     let steps = ap (λ n. n * most_steps blocks) same in
     let last : steps_of c.collector ≡ 1 = ap steps_of was ∙ ap (λ p. left_in p k) swept in
-    let events : events_of c.collector ≡ 1 = ap events_of was ∙ ap events_left swept in
+    let events : events_due c.collector ≡ 1 = ap events_due was ∙ ap events_left swept in
     record {
       runs_by = (before, now);
       fewer = λ no. omega (arith, steps, last, rest.0);
@@ -107,7 +107,7 @@ rescued_left k l more is = subst (λ p. left_in p l ≤ left_in k.phase k + leng
     at (phases.Roots c) = omega (arith, volume)
     at phases.Swept = omega arith
 
-rescued_runs : (o p : Option Collecting) (more : List Rescue) → AreRescued o p more → (runs p ≡ runs o) × (steps_of p ≤ steps_of o + length more) × (events_of p ≡ events_of o)
+rescued_runs : (o p : Option Collecting) (more : List Rescue) → AreRescued o p more → (runs p ≡ runs o) × (steps_of p ≤ steps_of o + length more) × (events_due p ≡ events_due o)
 rescued_runs None None more is = (refl, omega arith, refl)
 rescued_runs (Some k) (Some l) more is = (ap (λ p. marks_in p || sweeps_in p) is.phase, rescued_left k l more is, ap events_left is.phase)
 rescued_runs None (Some l) more is = absurd is

@@ -1,5 +1,5 @@
 mod Words
-mod Seated
+mod Handled
 mod Readied
 pub mod Serving
 mod Ways
@@ -19,6 +19,7 @@ mod Putting
 mod Created
 mod Placed
 mod After
+mod Carried
 mod Filed
 mod Makings
 mod Regranted

@@ -17,7 +17,7 @@ file_making kind fill to slot bytes = record {
   draw = refl;
   need = λ s who. refl;
   delete = refl;
-  claims = λ seats s who reply. refl;
+  claims = λ handles s who reply. refl;
   wants = refl;
   full = λ seed s who free run goes need few. let less : nat_lt free 8 ≡ true = grind (arith, nat_tests) in rw (run, goes, need, less) refl;
   speaks = λ who reply. bytes;
@@ -30,7 +30,7 @@ index_making slots to slot = record {
   draw = refl;
   need = λ s who. refl;
   delete = refl;
-  claims = λ seats s who reply. refl;
+  claims = λ handles s who reply. refl;
   wants = refl;
   full = λ seed s who free run goes need few. let less : nat_lt free 8 ≡ true = grind (arith, nat_tests) in rw (run, goes, need, less) refl;
   speaks = λ who reply. refl;

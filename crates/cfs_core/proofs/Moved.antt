@@ -4,7 +4,7 @@ use Rattle.cfs_core.proofs.Words.{blocks_taken, ChangesOnly, done, draft_blocks,
 use Rattle.cfs_core.specs.declared.kernel.Stop.{Stop}
 use Rattle.cfs_core.specs.Calls.{AddsNoStray, Makes}
 use Rattle.cfs_core.specs.Kernel.{Kernel, grants_in}
-use Rattle.cfs_core.specs.StandsFor.{AreDraftsOf, Serves, Stores, bare, drafts_of_seats, is_sweeping}
+use Rattle.cfs_core.specs.StandsFor.{AreDraftsOf, Serves, Stores, bare, drafts_of_handles, is_sweeping}
 use Rattle.cfs_core.proofs.Serving.{fits, pending}
 
 -- the state afterwards, with these objects
@@ -17,7 +17,7 @@ pub record IsStepped {D : Type 0} (old new : Kernel D) (s after : State) (h : Gr
   pub named : new.names.named ≡ kinds_of h
   pub root : new.root ≡ old.root
   pub stop : new.stop ≡ old.stop
-  pub table : grants_in new.seats ≡ map bare after.grants
+  pub table : grants_in new.handles ≡ map bare after.grants
 
 -- the store has these objects and drafts afterwards, only blocks of objects that are there changed, and no commit is left
 pub record HasStepped {D : Type 0} (g : Ghosts D) (old new : Kernel D) (s : State) (h : Graph) (T : Option MapEntry → Bool) (es : List Opened) : Type 0 where
@@ -36,14 +36,14 @@ fewer_take P (d ∷ ds) = elim (P d) as (λ b. sum_by draft_blocks (cond b (d �
 
 module _ {D : Type 0} (g : Ghosts D) (old new : Kernel D) (s after : State) (h : Graph) (serves : Serves g old s) (T : Option MapEntry → Bool) (es : List Opened) (has : HasStepped g old new s h T es) where
   -- where it takes n blocks more, and so many and four were Free, four still are
-  pub four_left : (n : ℕ) → blocks_taken h es ≤ blocks_taken s.graph (drafts_of_seats old.seats s.grants) + n → n + 4 ≤ sum old.space.free → 4 ≤ sum new.space.free
+  pub four_left : (n : ℕ) → blocks_taken h es ≤ blocks_taken s.graph (drafts_of_handles old.handles s.grants) + n → n + 4 ≤ sum old.space.free → 4 ≤ sum new.space.free
   four_left n few free =
-      let before = room (g.content old.disk) s.graph (drafts_of_seats old.seats s.grants) serves.store.account serves.store.ordered in
+      let before = room (g.content old.disk) s.graph (drafts_of_handles old.handles s.grants) serves.store.account serves.store.ordered in
       let now = room (g.content new.disk) h es has.store.account has.store.ordered in
       let strays = strays_stay T (g.content old.disk) (g.content new.disk) s.graph h has.only has.these in
       omega (arith, before, now, strays, few, free, sum_is (g.content old.disk) old.space serves.store.counts, sum_is (g.content new.disk) new.space has.store.counts, ap (λ (m : ℕ). m / 64) has.only.size)
 
-  module _ (is : IsStepped old new s after h) (state : IsState after) (drafts_are : drafts_of_seats new.seats after.grants ≡ es) (have : AreDraftsOf es new.seats after.grants) (four : 4 ≤ sum new.space.free) where
+  module _ (is : IsStepped old new s after h) (state : IsState after) (drafts_are : drafts_of_handles new.handles after.grants ≡ es) (have : AreDraftsOf es new.handles after.grants) (four : 4 ≤ sum new.space.free) where
     pub stores_stepped : Stores g new after
     stores_stepped = λ c collecting. record {
       front = record {
@@ -54,10 +54,10 @@ module _ {D : Type 0} (g : Ghosts D) (old new : Kernel D) (s after : State) (h :
       };
       state = state;
       root = ap (λ (x : Graph). x.root) is.graph ∙ is.rooted ∙ serves.root ∙ sym is.root;
-      store = subst (λ (x : Graph). StoreHas g x (drafts_of_seats new.seats after.grants) new.disk new.space) (sym is.graph)
+      store = subst (λ (x : Graph). StoreHas g x (drafts_of_handles new.handles after.grants) new.disk new.space) (sym is.graph)
           (subst (λ (ds : List Opened). StoreHas g h ds new.disk new.space) (sym drafts_are) has.store);
       left = has.left;
-      drafts = subst (λ (ds : List Opened). AreDraftsOf ds new.seats after.grants) (sym drafts_are) have;
+      drafts = subst (λ (ds : List Opened). AreDraftsOf ds new.handles after.grants) (sym drafts_are) have;
       swept = λ rests. subst (IsSwept (g.content new.disk)) (sym is.graph)
           (stays_swept T (g.content old.disk) (g.content new.disk) s.graph h has.only has.these (serves.swept (sym is.sweeping ∙ rests)));
       four = four;

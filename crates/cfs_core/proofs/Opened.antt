@@ -7,7 +7,7 @@ use Rattle.cfs_core.proofs.SoundGraph.{sound_graph, root_some}
 
 module _ {D : Type 0} (g : Ghosts D) (before : Image) (d : D) (label : Label) (names : Listing) (space : Kept) (is : IsRecovered g before d label names space) where
   abbrev core : ℕ → Kernel D
-  core seed = record { disk = d; root = label.root; names = names; space = space; words = record { seed = seed; drawn = 0 }; seats = []; collections = record { collector = None; called = 0; finished = 0 }; stop = None }
+  core seed = record { disk = d; root = label.root; names = names; space = space; words = record { seed = seed; drawn = 0 }; handles = []; collections = record { collector = None; called = 0; finished = 0 }; stop = None }
 
   -- no object has block 0
   pub none_at_zero : has_root_in names.named 0 ≡ false

@@ -1,21 +1,21 @@
 -- How an opening ends.
 use Rattle.std.proofs.Common.{◌≡◌, inl, ℕ, ◌+◌, ◌<◌, ◌≤◌, List, [], ◌∷◌, ◌++◌, length, Bool, true, false, cond, get_or, Option, Some, None, Ok, Err, IsTrue, refl, sym, ◌∙◌, ap, subst, arith, IfSome, Result, is_some, map, nat_le, nat_lt, option_to_list, sum}
-use Rattle.cfs_core.proofs.Words.{AcquireFault, begun_at, begun_fresh, block_there, changes_begin, differs, draft_blocks, Drafting, drafts_of, Draws, fault_by, FileKind, first_draft, first_here, first_others, fresh_of, Ghosts, Grant, granted, granted_keeps, Graph, had_tried, has_all_grants, Holds, Image, is_damaged, is_full, is_locked, is_normal, is_reading, is_there, is_unwanted_index, IsOpen}
+use Rattle.cfs_core.proofs.Words.{AcquireFault, begun_at, begun_fresh, block_there, changes_begin, differs, draft_blocks, Drafting, drafts_of, Draws, fault_by, FileKind, first_draft, first_here, first_others, fresh_of, Ghosts, Grant, granted, granted_keeps, Graph, had_tried, has_all_grants, Holds, Image, is_damaged, is_full_refusal, is_locked, is_normal, is_reading, is_there, is_unwanted_index, IsOpen}
 use Rattle.cfs_core.proofs.Words.{IsPlainReply, IsState, Kept, Kind, kind_in, kind_of, Leaves, length-none, list_any, Mode, MOST_GRANTS, nat_tests, need_of, next, Object, object_at, of_draft, one_if, OnlyReads, Opened, opened_as, or_parts, outcome_legal, outcome_of, Puid, Reading, refusal_of, Refused, Reply, Request, same_puid, start_stays, State, sum_by-cons, takes_draft, Tuid}
 use Rattle.cfs_core.proofs.Words.{wanted, wider, word, Writing, MapEntry, stands_for, entry_in, the_draft}
 use Rattle.cfs_base.specs.declared.kind.FileKind.TheVariants as file_kinds
 use Rattle.cfs_base.specs.declared.kind.Kind.TheVariants as kinds
 use Rattle.cfs_base.specs.declared.refusal.Refused.TheVariants as refusals
 use Rattle.open_table.specs.declared.fault.AcquireFault.TheVariants as faults
-use Rattle.open_table.specs.declared.grant.Grant as seats
+use Rattle.open_table.specs.declared.grant.Grant as handles
 use Rattle.ufs_model.specs.declared.asked.Event.TheVariants as events
 use Rattle.ufs_model.specs.declared.asked.Reply.TheVariants as replies
 use Rattle.ufs_model.specs.declared.asked.Request.TheVariants as asks
 use Rattle.ufs_model.specs.declared.object.Object.TheVariants as objects
 use Rattle.cfs_core.specs.Calls.{Answers, ByOutcome, ByWant, EndsSo, IsCause, Owes, Tries, Undone}
-use Rattle.cfs_core.specs.Kernel.{Kernel, Seat, grants_in, is_ready}
-use Rattle.cfs_core.specs.Opening.{Begins, BeginsSo, IsBegun, gets_draft, is_unfit, told_of}
-use Rattle.cfs_core.specs.StandsFor.{HasDraftOf, Serves, bare, drafts_at, drafts_of_seats, is_sweeping}
+use Rattle.cfs_core.specs.Kernel.{Kernel, Handle, grants_in, is_ready}
+use Rattle.cfs_core.specs.Opening.{Begins, BeginsSo, IsBegun, gets_draft, is_unfit, reply_to_fault}
+use Rattle.cfs_core.specs.StandsFor.{HasDraftOf, Serves, bare, drafts_at, drafts_of_handles, is_sweeping}
 use Rattle.cfs_core.proofs.Answering.{disk_failed, memory, owes}
 use Rattle.cfs_core.proofs.Drafted.{others_have}
 use Rattle.cfs_core.proofs.Ended.{of_its_draft}
@@ -23,14 +23,15 @@ use Rattle.cfs_core.proofs.Readied.{for_ready}
 use Rattle.cfs_core.proofs.Regranted.{grants_push, push_drafts, push_have}
 use Rattle.cfs_core.proofs.Granted.{locked_by, many_by, none_by}
 use Rattle.cfs_core.specs.Damage.{IsRootHere}
-use Rattle.special_files.specs.Refusal.{IsRefusalOrMemory}
+use Rattle.special_files.specs.Refusal.{IsRefusal}
+use Rattle.cfs_core.specs.Opening.{IsRefusalOrMemory}
 use Rattle.cfs_core.proofs.Damages.{told_of_draft}
 use Rattle.cfs_core.proofs.Went.{went_so}
 use Rattle.cfs_core.proofs.Serving.{fits, kind_is, named_root, object_listed, running, stays, nothing_left}
 use Rattle.cfs_core.proofs.Ways.{adds_none}
 use Rattle.cfs_core.proofs.Moved.{HasStepped, IsStepped, four_left, makes_stepped}
 use Rattle.cfs_core.specs.Claimed.{ClaimsInOrder, claims_for}
-use Rattle.cfs_core.proofs.Claimed.{claims_none, claims_shadow}
+use Rattle.cfs_core.proofs.Claimed.{claims_none, claims_shadow, takes_alone}
 use Rattle.cyl_alloc.specs.Space.{intended}
 use Rattle.cfs_base.specs.declared.kind.Place.TheVariants as places
 
@@ -132,13 +133,13 @@ module _ {D : Type 0} (g : Ghosts D) (k : Kernel D) (s : State) (serves : Serves
   pub gets_now : (mode : Mode) → takes_draft mode (Some the_object.0) ≡ gets_draft kind mode
   gets_now mode = gets_is the_object.0 kind the_kind mode
 
-pub told_plain : (fault : AcquireFault) → IsPlainReply (told_of fault)
+pub told_plain : (fault : AcquireFault) → IsPlainReply (reply_to_fault fault)
 told_plain (faults.Locked mode) = tt
 told_plain faults.Grants = tt
 
 module _ (s : State) (who : ℕ) (id : Puid) (mode : Mode) (there : is_there s.graph id ≡ true) (fit : is_unwanted_index (wanted (asks.OpenFor id mode)) (object_at s.graph id) ≡ false)
     (m : Option Mode) (count : ℕ) (lock : is_some m ≡ is_locked s who (asks.OpenFor id mode)) (many : nat_le MOST_GRANTS count ≡ has_all_grants s who (asks.OpenFor id mode)) where
-  pub fault_told : (fault : AcquireFault) → fault_by m count ≡ Some fault → refusal_of s who (asks.OpenFor id mode) ≡ Some (told_of fault)
+  pub fault_told : (fault : AcquireFault) → fault_by m count ≡ Some fault → refusal_of s who (asks.OpenFor id mode) ≡ Some (reply_to_fault fault)
   fault_told (faults.Locked held) is = open_locked s who id there mode fit (sym lock ∙ locked_by m count (faults.Locked held) held is refl)
   fault_told faults.Grants is = (let two = many_by m count faults.Grants is refl in open_many s who id there mode fit (sym lock ∙ two.0) (sym many ∙ two.1))
 
@@ -150,19 +151,19 @@ module _ (s : State) (who : ℕ) (id : Puid) (mode : Mode) (there : is_there s.g
 
 -- ---- no grant is on it
 
-pub unopened : (id : Puid) (ss : List Seat) (grants : List Grant) → grants_in ss ≡ map bare grants → list_any (λ x. same_puid id x.id) grants ≡ false → drafts_of (drafts_of_seats ss grants) id ≡ []
+pub unopened : (id : Puid) (ss : List Handle) (grants : List Grant) → grants_in ss ≡ map bare grants → list_any (λ x. same_puid id x.id) grants ≡ false → drafts_of (drafts_of_handles ss grants) id ≡ []
 unopened id [] [] table none = refl
 unopened id [] (x ∷ grants) table none = cc
-unopened id (seat ∷ ss) [] table none = refl
-unopened id (seat ∷ ss) (x ∷ grants) table none =
-    let head : seat.grant ≡ bare x = cc in
+unopened id (handle ∷ ss) [] table none = refl
+unopened id (handle ∷ ss) (x ∷ grants) table none =
+    let head : handle.grant ≡ bare x = cc in
     let tail : grants_in ss ≡ map bare grants = cc in
     let two = or_parts (same_puid id x.id) (list_any (λ y. same_puid id y.id) grants) none in
-    adds_none id seat x ss grants (unopened id ss grants tail two.1) (λ d e has was. differs id seat.grant.id (ap (same_puid id) (ap (λ (e : seats.Grant). e.id) head) ∙ two.0))
+    adds_none id handle x ss grants (unopened id ss grants tail two.1) (λ d e has was. differs id handle.grant.id (ap (same_puid id) (ap (λ (e : handles.Grant). e.id) head) ∙ two.0))
 
 -- one that couldn't be begun
 pub refusal_so : {D : Type 0} (g : Ghosts D) (graph : Graph) (ds : List Opened) (id : Puid) (o : Object) (old new : D) (before after : Kept) (wanted_draft : Bool) → wanted_draft ≡ true → (e : Refused)
-    → (is_full e ≡ true → (e ≡ refusals.Full (record { free = sum before.free; need = 1 })) × (sum before.free < 5) × (new ≡ old)) → (had_tried e ≡ false → (after ≡ before) × OnlyReads g 2 old new)
+    → (is_full_refusal e ≡ true → (e ≡ refusals.Full (record { free = sum before.free; need = 1 })) × (sum before.free < 5) × (new ≡ old)) → (had_tried e ≡ false → (after ≡ before) × OnlyReads g 2 old new)
     → is_damaged e ≡ false → Leaves g old new (λ c. Holds c graph) → BeginsSo g graph ds id o wanted_draft old new before after (Err e)
 refusal_so g graph ds id o old new before after w wants (refusals.Full need) full untried sound leaves = (let is = full refl in let same : need ≡ record { free = sum before.free; need = 1 } = (let both = is.0 in cc) in (wants, same, is.1, (untried refl).1, (untried refl).0))
 refusal_so g graph ds id o old new before after w wants (refusals.Disk true) full untried sound leaves = leaves
@@ -182,7 +183,7 @@ begun_open id o ds at n d is same none = record {
 }
 
 -- a draft that was begun is ready
-pub begun_ready : (blocks : ℕ) (kind : Kind) (grant : seats.Grant) (o : Option Drafting) → IfSome o (λ d. (gets_draft kind grant.mode ≡ true) × (d.at ≡ grant.id.block) × ((n : ℕ) × (d.shadow ≡ Some n)) × (d.created ≡ None)) → grant.id.block < blocks
+pub begun_ready : (blocks : ℕ) (kind : Kind) (grant : handles.Grant) (o : Option Drafting) → IfSome o (λ d. (gets_draft kind grant.mode ≡ true) × (d.at ≡ grant.id.block) × ((n : ℕ) × (d.shadow ≡ Some n)) × (d.created ≡ None)) → grant.id.block < blocks
     → is_ready blocks (record { grant = grant; drafting = o }) ≡ true
 begun_ready blocks kind grant None is less = refl
 begun_ready blocks kind grant (Some d) is less =
@@ -197,7 +198,7 @@ module _ {D : Type 0} (g : Ghosts D) (left_sized : (d : D) (t : ℕ) (c : Image)
   request = asks.OpenFor id mode
 
   abbrev ds : List Opened
-  ds = drafts_of_seats k.seats s.grants
+  ds = drafts_of_handles k.handles s.grants
 
   abbrev after : State
   after = (granted k.words.seed s who id mode).1
@@ -206,7 +207,7 @@ module _ {D : Type 0} (g : Ghosts D) (left_sized : (d : D) (t : ℕ) (c : Image)
   grant = record { tuid = record { draw = s.drawn + 1; word = word k.words.seed (s.drawn + 1) }; session = who; id = id; mode = mode; draft = first_draft mode (object_at s.graph id) }
 
   -- the same as the core has it
-  abbrev shown : seats.Grant
+  abbrev shown : handles.Grant
   shown = record { tuid = tuid; session = who; id = id; mode = mode }
 
   tuid_same : tuid ≡ record { draw = s.drawn + 1; word = word k.words.seed (s.drawn + 1) }
@@ -215,7 +216,7 @@ module _ {D : Type 0} (g : Ghosts D) (left_sized : (d : D) (t : ℕ) (c : Image)
   need_is : need_of s who request ≡ one_if wanted_draft
   need_is = rw there (ap one_if gets)
 
-  claims_are : claims_for k.seats s who request (replies.Grant tuid) ≡ cond wanted_draft (intended places.ShadowRoot id.block ∷ []) []
+  claims_are : claims_for k.handles s who request (replies.Grant tuid) ≡ cond wanted_draft (intended places.ShadowRoot id.block ∷ []) []
   claims_are = rw there (ap (λ b. cond b (intended places.ShadowRoot id.block ∷ []) []) gets)
 
   draft_is : first_draft mode (object_at s.graph id) ≡ cond wanted_draft (Some (record { object = o; fresh = [] })) None
@@ -234,14 +235,14 @@ module _ {D : Type 0} (g : Ghosts D) (left_sized : (d : D) (t : ℕ) (c : Image)
   -- ---- with this draft, if it has one
 
   module _ (drafting : Option Drafting) (d : D) (space : Kept) (words : Draws) (words_are : words ≡ record { seed = k.words.seed; drawn = k.words.drawn + 1 }) where
-    abbrev seat : Seat
-    seat = record { grant = shown; drafting = drafting }
+    abbrev handle : Handle
+    handle = record { grant = shown; drafting = drafting }
 
     abbrev new : Kernel D
-    new = record k { disk = d; space = space; words = words; seats = k.seats ++ seat ∷ [] }
+    new = record k { disk = d; space = space; words = words; handles = k.handles ++ handle ∷ [] }
 
-    table : grants_in (k.seats ++ seat ∷ []) ≡ map bare (s.grants ++ grant ∷ [])
-    table = grants_push k.seats seat ∙ ap (λ gs. gs ++ shown ∷ []) serves.front.grants ∙ ap (λ (t : Tuid). map bare s.grants ++ record { tuid = t; session = who; id = id; mode = mode } ∷ []) tuid_same ∙ sym (map_push s.grants)
+    table : grants_in (k.handles ++ handle ∷ []) ≡ map bare (s.grants ++ grant ∷ [])
+    table = grants_push k.handles handle ∙ ap (λ gs. gs ++ shown ∷ []) serves.front.grants ∙ ap (λ (t : Tuid). map bare s.grants ++ record { tuid = t; session = who; id = id; mode = mode } ∷ []) tuid_same ∙ sym (map_push s.grants)
       where
         map_push : (gs : List Grant) → map bare (gs ++ grant ∷ []) ≡ map bare gs ++ bare grant ∷ []
         map_push [] = refl
@@ -260,8 +261,8 @@ module _ {D : Type 0} (g : Ghosts D) (left_sized : (d : D) (t : ℕ) (c : Image)
       table = table;
     }
 
-    drafts_are : drafts_of_seats (k.seats ++ seat ∷ []) (s.grants ++ grant ∷ []) ≡ drafts_at seat drafting grant.draft ++ ds
-    drafts_are = push_drafts ds seat grant k.seats s.grants serves.drafts
+    drafts_are : drafts_of_handles (k.handles ++ handle ∷ []) (s.grants ++ grant ∷ []) ≡ drafts_at handle drafting grant.draft ++ ds
+    drafts_are = push_drafts ds handle grant k.handles s.grants serves.drafts
 
     state : IsState after
     state = granted_keeps k.words.seed s who id mode serves.state is_there_now
@@ -272,11 +273,11 @@ module _ {D : Type 0} (g : Ghosts D) (left_sized : (d : D) (t : ℕ) (c : Image)
 
   -- none is wanted
   pub opened_bare : wanted_draft ≡ false → (words : Draws) → words ≡ record { seed = k.words.seed; drawn = k.words.drawn + 1 }
-      → Answers g k (record k { words = words; seats = k.seats ++ record { grant = shown; drafting = None } ∷ [] }) s who request (replies.Grant tuid)
+      → Answers g k (record k { words = words; handles = k.handles ++ record { grant = shown; drafting = None } ∷ [] }) s who request (replies.Grant tuid)
   opened_bare bare words words_are =
       let no_draft : first_draft mode (object_at s.graph id) ≡ None = draft_is ∙ ap (λ b. cond b (Some (record { object = o; fresh = [] })) None) bare in
       let free : need_of s who request ≡ 0 = need_is ∙ ap one_if bare in
-      let after_it : Kernel D = record k { words = words; seats = k.seats ++ record { grant = shown; drafting = None } ∷ [] } in
+      let after_it : Kernel D = record k { words = words; handles = k.handles ++ record { grant = shown; drafting = None } ∷ [] } in
       let has : HasStepped g k after_it s s.graph (λ entry. false) ds = record {
         store = serves.store;
         only = changes_begin (λ entry. false) (g.content k.disk) s.graph serves.store.account.holds;
@@ -286,23 +287,23 @@ module _ {D : Type 0} (g : Ghosts D) (left_sized : (d : D) (t : ℕ) (c : Image)
       record {
         event = makes_stepped g k after_it s after s.graph serves (λ entry. false) ds has (stepped None k.disk k.space words words_are) (state None k.disk k.space words words_are)
             (drafts_are None k.disk k.space words words_are)
-            (push_have ds (record { grant = shown; drafting = None }) grant (subst (HasDraftOf ds (record { grant = shown; drafting = None }) None) (sym no_draft) tt) k.seats s.grants serves.drafts) (omega (arith, serves.four))
+            (push_have ds (record { grant = shown; drafting = None }) grant (subst (HasDraftOf ds (record { grant = shown; drafting = None }) None) (sym no_draft) tt) k.handles s.grants serves.drafts) (omega (arith, serves.four))
             left_sized (sized k.disk serves.store.carries.tells.honest) (events.Ask who request (replies.Grant tuid)) legal refl (nothing_left g k.disk (λ c. Holds c s.graph));
         still = λ all. let no : true ≡ false = sym all in cc;
-        taken = λ done. subst (λ (cs : List MapEntry). ClaimsInOrder cs (id.block ∷ []) (g.content k.disk) (g.content k.disk)) (sym (claims_are ∙ ap (λ b. cond b (intended places.ShadowRoot id.block ∷ []) []) bare))
-            (claims_none (id.block ∷ []) (g.content k.disk) (g.content k.disk) refl);
+        taken = λ done. takes_alone k.handles s who request (replies.Grant tuid) (g.content k.disk) (g.content k.disk) refl (subst (λ (cs : List MapEntry). ClaimsInOrder cs (id.block ∷ []) (g.content k.disk) (g.content k.disk)) (sym (claims_are ∙ ap (λ b. cond b (intended places.ShadowRoot id.block ∷ []) []) bare))
+            (claims_none (id.block ∷ []) (g.content k.disk) (g.content k.disk) refl));
         owed = owed None k.disk k.space words words_are (omega (arith, free, serves.four));
       }
 
   -- one is, and was begun
   pub opened_draft : wanted_draft ≡ true → (drafting : Drafting) (d : D) (space : Kept) (words : Draws) → words ≡ record { seed = k.words.seed; drawn = k.words.drawn + 1 } → drafts_of ds id ≡ [] → g.blocks d ≡ g.blocks k.disk → space.left ≡ k.space.left
       → IsBegun g s.graph ds id o k.disk d k.space space drafting
-      → Answers g k (record k { disk = d; space = space; words = words; seats = k.seats ++ record { grant = shown; drafting = Some drafting } ∷ [] }) s who request (replies.Grant tuid)
+      → Answers g k (record k { disk = d; space = space; words = words; handles = k.handles ++ record { grant = shown; drafting = Some drafting } ∷ [] }) s who request (replies.Grant tuid)
   opened_draft wants drafting d space words words_are shut size left begun =
       let it : Opened = opened_as id drafting (record { object = o; fresh = [] }) in
       let has_draft : first_draft mode (object_at s.graph id) ≡ Some (record { object = o; fresh = [] }) = draft_is ∙ ap (λ b. cond b (Some (record { object = o; fresh = [] })) None) wants in
       let need : need_of s who request ≡ 1 = need_is ∙ ap one_if wants in
-      let after_it : Kernel D = record k { disk = d; space = space; words = words; seats = k.seats ++ record { grant = shown; drafting = Some drafting } ∷ [] } in
+      let after_it : Kernel D = record k { disk = d; space = space; words = words; handles = k.handles ++ record { grant = shown; drafting = Some drafting } ∷ [] } in
       let has : HasStepped g k after_it s s.graph (λ entry. of_draft id.block entry) (it ∷ ds) = record {
         store = begun.steps.store;
         only = begun.steps.only;
@@ -314,11 +315,11 @@ module _ {D : Type 0} (g : Ghosts D) (left_sized : (d : D) (t : ℕ) (c : Image)
       record {
         event = makes_stepped g k after_it s after s.graph serves (λ entry. of_draft id.block entry) (it ∷ ds) has (stepped (Some drafting) d space words words_are) (state (Some drafting) d space words words_are)
             (drafts_are (Some drafting) d space words words_are ∙ ap (λ x. drafts_at (record { grant = shown; drafting = Some drafting }) (Some drafting) x ++ ds) has_draft)
-            (push_have (it ∷ ds) (record { grant = shown; drafting = Some drafting }) grant (subst (HasDraftOf (it ∷ ds) (record { grant = shown; drafting = Some drafting }) (Some drafting)) (sym has_draft) (record { is_open = begun.opened; special = special_of mode o (gets ∙ wants); writes = written_of mode o (gets ∙ wants) })) k.seats s.grants (others_have id ds (it ∷ ds) (first_others it ds) k.seats s.grants shut serves.drafts)) four
+            (push_have (it ∷ ds) (record { grant = shown; drafting = Some drafting }) grant (subst (HasDraftOf (it ∷ ds) (record { grant = shown; drafting = Some drafting }) (Some drafting)) (sym has_draft) (record { is_open = begun.opened; special = special_of mode o (gets ∙ wants); writes = written_of mode o (gets ∙ wants) })) k.handles s.grants (others_have id ds (it ∷ ds) (first_others it ds) k.handles s.grants shut serves.drafts)) four
             left_sized (sized k.disk serves.store.carries.tells.honest ∙ sym size) (events.Ask who request (replies.Grant tuid)) legal refl begun.leaves;
         still = λ all. let no : true ≡ false = sym all in cc;
-        taken = λ done. subst (λ (cs : List MapEntry). ClaimsInOrder cs (id.block ∷ []) (g.content k.disk) (g.content d)) (sym (claims_are ∙ ap (λ b. cond b (intended places.ShadowRoot id.block ∷ []) []) wants))
-            (claims_shadow id.block begun.least.0 (g.content k.disk) (g.content d) begun.least.2 (the_shadow begun) begun.steps.only);
+        taken = λ done. takes_alone k.handles s who request (replies.Grant tuid) (g.content k.disk) (g.content d) refl (subst (λ (cs : List MapEntry). ClaimsInOrder cs (id.block ∷ []) (g.content k.disk) (g.content d)) (sym (claims_are ∙ ap (λ b. cond b (intended places.ShadowRoot id.block ∷ []) []) wants))
+            (claims_shadow id.block begun.least.0 (g.content k.disk) (g.content d) begun.least.2 (the_shadow begun) begun.steps.only));
         owed = owed (Some drafting) d space words words_are (omega (arith, need, begun.free));
       }
     where
@@ -361,7 +362,13 @@ module _ {D : Type 0} (g : Ghosts D) (left_sized : (d : D) (t : ℕ) (c : Image)
     not_opened (refusals.Damaged damage) is = absurd is
     not_opened refusals.Memory is = memory g left_sized sized 2 k stays_as is.0 (as_it_was is.1) s who serves none request
 
--- why it couldn't be
+-- why it couldn't be, as the store says it
+pub or_memory : {D : Type 0} (g : Ghosts D) (at floor : ℕ) (old new : D) (kept : Kept) (e : Refused) → IsRefusal g at floor old new kept e → IsRefusalOrMemory g at floor old new kept e
+or_memory g at floor old now kept (refusals.Full need) is = is
+or_memory g at floor old now kept (refusals.Disk was) is = is
+or_memory g at floor old now kept (refusals.Damaged damage) is = is
+or_memory g at floor old now kept refusals.Memory is = tt
+
 begin_cause : {D : Type 0} (g : Ghosts D) (old now : Kernel D) (asked : Option Request) (at : ℕ) → IsRootHere old asked at → g.blocks now.disk ≡ g.blocks old.disk → (e : Refused) → IsRefusalOrMemory g at 4 old.disk now.disk now.space e → IsCause g old now asked e
 begin_cause g old now asked at here size (refusals.Full need) is = tt
 begin_cause g old now asked at here size (refusals.Disk tried) is = is
@@ -374,8 +381,8 @@ module _ {D : Type 0} (g : Ghosts D) (left_sized : (d : D) (t : ℕ) (c : Image)
     (k : Kernel D) (who : ℕ) (id : Puid) (mode : Mode) (kind : Kind) (listed : kind_in k.names.named id ≡ Some kind) (tuid : Tuid) (tuid_is : tuid ≡ record { draw = k.words.drawn + 1; word = word k.words.seed (k.words.drawn + 1) })
     (goes : (s : State) → Serves g k s → (refusal_of s who (asks.OpenFor id mode) ≡ None) × (is_locked s who (asks.OpenFor id mode) ≡ false)) (d : D) (space : Kept) where
   -- where it is to have a draft no grant is on it
-  shut : (s : State) (serves : Serves g k s) → gets_draft kind mode ≡ true → drafts_of (drafts_of_seats k.seats s.grants) id ≡ []
-  shut s serves wants = unopened id k.seats s.grants serves.front.grants (alone mode kind wants (goes s serves).1)
+  shut : (s : State) (serves : Serves g k s) → gets_draft kind mode ≡ true → drafts_of (drafts_of_handles k.handles s.grants) id ≡ []
+  shut s serves wants = unopened id k.handles s.grants serves.front.grants (alone mode kind wants (goes s serves).1)
     where
       alone : (m : Mode) (n : Kind) → gets_draft n m ≡ true → is_locked s who (asks.OpenFor id m) ≡ false → list_any (λ x. same_puid id x.id) s.grants ≡ false
       alone Writing n gets free = free
@@ -384,15 +391,15 @@ module _ {D : Type 0} (g : Ghosts D) (left_sized : (d : D) (t : ℕ) (c : Image)
       alone Reading kinds.Index gets free = cc
 
   begins_so : (result : Result (Option Drafting) Refused) → Begins g id.block (gets_draft kind mode) k.disk d k.space space result → (s : State) (serves : Serves g k s)
-      → BeginsSo g s.graph (drafts_of_seats k.seats s.grants) id (the_object g k s serves id kind listed).0 (gets_draft kind mode) k.disk d k.space space result
+      → BeginsSo g s.graph (drafts_of_handles k.handles s.grants) id (the_object g k s serves id kind listed).0 (gets_draft kind mode) k.disk d k.space space result
   begins_so result begins s serves = (let o = the_object g k s serves id kind listed in begins.ends s.graph _ id o.0 serves.store refl o.1 (shut s serves))
 
   module _ (words : Draws) (words_are : words ≡ record { seed = k.words.seed; drawn = k.words.drawn + 1 }) where
-    abbrev seat_with : Option Drafting → Seat
-    seat_with drafting = record { grant = record { tuid = tuid; session = who; id = id; mode = mode }; drafting = drafting }
+    abbrev handle_with : Option Drafting → Handle
+    handle_with drafting = record { grant = record { tuid = tuid; session = who; id = id; mode = mode }; drafting = drafting }
 
     pub tries_open : (drafting : Option Drafting) → Begins g id.block (gets_draft kind mode) k.disk d k.space space (Ok drafting)
-        → Tries g k (record k { disk = d; space = space; words = words; seats = k.seats ++ seat_with drafting ∷ [] }) who (asks.OpenFor id mode) (Ok (replies.Grant tuid))
+        → Tries g k (record k { disk = d; space = space; words = words; handles = k.handles ++ handle_with drafting ∷ [] }) who (asks.OpenFor id mode) (Ok (replies.Grant tuid))
     tries_open drafting begins = record {
       ends = λ s serves none. ends drafting s serves none (begins_so (Ok drafting) begins s serves);
       went = record {
@@ -409,12 +416,12 @@ module _ {D : Type 0} (g : Ghosts D) (left_sized : (d : D) (t : ℕ) (c : Image)
       };
     }
       where
-        ends : (o : Option Drafting) (s : State) (serves : Serves g k s) → k.stop ≡ None → BeginsSo g s.graph (drafts_of_seats k.seats s.grants) id (the_object g k s serves id kind listed).0 (gets_draft kind mode) k.disk d k.space space (Ok o)
-            → Answers g k (record k { disk = d; space = space; words = words; seats = k.seats ++ seat_with o ∷ [] }) s who (asks.OpenFor id mode) (replies.Grant tuid)
+        ends : (o : Option Drafting) (s : State) (serves : Serves g k s) → k.stop ≡ None → BeginsSo g s.graph (drafts_of_handles k.handles s.grants) id (the_object g k s serves id kind listed).0 (gets_draft kind mode) k.disk d k.space space (Ok o)
+            → Answers g k (record k { disk = d; space = space; words = words; handles = k.handles ++ handle_with o ∷ [] }) s who (asks.OpenFor id mode) (replies.Grant tuid)
         ends None s serves none is =
             let o = the_object g k s serves id kind listed in
-            subst (λ (x : Kept). Answers g k (record k { disk = d; space = x; words = words; seats = k.seats ++ seat_with None ∷ [] }) s who (asks.OpenFor id mode) (replies.Grant tuid)) (sym is.2)
-            (subst (λ (y : D). Answers g k (record k { disk = y; words = words; seats = k.seats ++ seat_with None ∷ [] }) s who (asks.OpenFor id mode) (replies.Grant tuid)) (sym is.1)
+            subst (λ (x : Kept). Answers g k (record k { disk = d; space = x; words = words; handles = k.handles ++ handle_with None ∷ [] }) s who (asks.OpenFor id mode) (replies.Grant tuid)) (sym is.2)
+            (subst (λ (y : D). Answers g k (record k { disk = y; words = words; handles = k.handles ++ handle_with None ∷ [] }) s who (asks.OpenFor id mode) (replies.Grant tuid)) (sym is.1)
             (opened_bare g left_sized sized k who id mode (gets_draft kind mode) tuid tuid_is s serves none o.0 o.1 (gets_now g k s serves id kind listed mode) (goes s serves).0 is.0 words words_are))
         ends (Some drafting) s serves none is =
             let o = the_object g k s serves id kind listed in
@@ -425,6 +432,6 @@ module _ {D : Type 0} (g : Ghosts D) (left_sized : (d : D) (t : ℕ) (c : Image)
   tries_not e begins = record {
     ends = λ s serves none. let o = the_object g k s serves id kind listed in
         not_opened g left_sized sized k who id mode (gets_draft kind mode) tuid tuid_is s serves none o.0 o.1 (gets_now g k s serves id kind listed mode) (goes s serves).0 d space begins.calls.same.size e (begins_so (Err e) begins s serves);
-    went = went_so g k d space k.seats begins.calls.same.size begins.calls.faults begins.calls.later (asks.OpenFor id mode) (Err e) tt
+    went = went_so g k d space k.handles begins.calls.same.size begins.calls.faults begins.calls.later (asks.OpenFor id mode) (Err e) tt
         (begin_cause g k (record k { disk = d; space = space }) (Some (asks.OpenFor id mode)) id.block (inl (named_root k.names.named id kind listed)) begins.calls.same.size e begins.cause);
   }

@@ -1,28 +1,29 @@
 -- What the store says of an object that is made, as the core has it.
 use Rattle.std.proofs.Common.{Bool, ◌≡◌, ◌⊎◌, inl, inr, ⊎_elim, ℕ, ◌+◌, ◌<◌, ◌≤◌, List, [], ◌∷◌, length, true, false, None, Some, Result, Ok, Err, IsTrue, refl, sym, ◌∙◌, ap, subst, arith, ◌==◌, IfErr, sum, ◌/◌}
-use Rattle.cfs_core.proofs.Words.{blocks_of, created, Ghosts, Graph, has_block, has_root_in, HasSlot, HasStopped, Holds, Image, Index, insert_entry, is_damaged, IsIndexRefusal, IsLeastFree, IsOpenMap, Kept, keys_of-kinds_in, Kind, kind_of, kinds_of, list_any, Need, Object, OnlyReads, Puid, puid_cmp, PutsObject, refusal_of, Refused, Reply, Request, State, StoreHas, sum_is, target, wider}
-use Rattle.cfs_core.proofs.Words.{with_made, word, MapEntry, block_named}
+use Rattle.cfs_core.proofs.Words.{blocks_of, created, Ghosts, Graph, has_block, has_root_in, HasSlot, HasStopped, Holds, Image, Index, insert_entry, is_damaged, IsIndexRefusal, IsLeastFree, IsOpenMap, Kept, keys_of-kinds_in, Kind, kind_of, kinds_of, list_any, Need, Object, OnlyReads, Puid, puid_cmp, refusal_of, Refused, Reply, Request, State, StoreHas, sum_is, target, wider}
+use Rattle.cfs_core.proofs.Words.{with_made, word, block_named}
 use Rattle.cfs_base.specs.declared.refusal.Refused.TheVariants as refusals
-use Rattle.special_files.specs.Committing.{named}
+use Rattle.special_files.specs.Committing.{puid_at}
 use Rattle.ufs_model.specs.declared.asked.Reply.TheVariants as replies
 use Rattle.ufs_model.specs.declared.object.Object.TheVariants as objects
 use Rattle.ufs_model.specs.declared.asked.Event.TheVariants as events
+use Rattle.cfs_core.specs.Carried.{PlacesObject}
 use Rattle.cfs_core.specs.Calls.{Answers, ByWant, EndsSo, IsCause, IsInDoubt, IsShort, TriesOn}
 use Rattle.cfs_core.specs.Kernel.{Kernel}
 use Rattle.cfs_core.specs.Damage.{NotOwned}
 use Rattle.cfs_core.specs.Makes.{IsAstray, IsMaking, Names}
 use Rattle.puid_space.specs.Directory.{Listing}
 use Rattle.ufs_model.specs.Outcome.{creates}
-use Rattle.cfs_core.specs.StandsFor.{Serves, drafts_of_seats}
+use Rattle.cfs_core.specs.StandsFor.{Serves, drafts_of_handles}
 use Rattle.cfs_core.specs.Ways.{Reaches}
-use Rattle.cfs_core.proofs.Answering.{disk_failed, memory, reads_none}
+use Rattle.cfs_core.proofs.Answering.{disk_failed, reads_none}
 use Rattle.cfs_core.proofs.Committed.{LeavesThese, did, in_doubt, uncut}
 use Rattle.cfs_core.proofs.Created.{filled_is, inside, least_one, least_there, need_is, no_root, not_zero, outcome, stepped, theirs}
 use Rattle.cfs_core.proofs.Damages.{told_of_making}
 use Rattle.cfs_core.proofs.Went.{cause_of, went_so}
 use Rattle.cfs_core.proofs.Serving.{running, shut, stays}
-use Rattle.cfs_core.specs.Claimed.{ClaimsInOrder, Takes, owners_of}
-use Rattle.cfs_core.proofs.Claimed.{claims_then}
+use Rattle.cfs_core.specs.Claimed.{Takes}
+use Rattle.cfs_core.proofs.Claimed.{claims_then, takes_last}
 use Rattle.index_ops.specs.Changes.{leaf_and_node}
 use Rattle.cyl_alloc.specs.Space.{intended}
 use Rattle.index_ops.specs.Changes as ops
@@ -45,17 +46,21 @@ never_full : {D : Type 0} (g : Ghosts D) (at slot : ℕ) (old new : D) (before a
 never_full g at slot old new before after need (inl none) = none
 never_full g at slot old new before after need (inr map) = let no = map.is in cc
 
+never_wanted : {D : Type 0} (g : Ghosts D) (at slot : ℕ) (old new : D) (before after : Kept) → IsIndexRefusal g at slot old new after refusals.Memory ⊎ IsOpenMap g old before refusals.Memory → ⊥
+never_wanted g at slot old new before after (inl none) = none
+never_wanted g at slot old new before after (inr map) = let no = map.is in cc
+
 module _ {D : Type 0} (g : Ghosts D) (left_sized : (d : D) (t : ℕ) (c : Image) → g.left_since d t c → length c ≡ g.blocks d) (sized : (d : D) → IsTrue (g.honest d) → length (g.content d) ≡ g.blocks d)
     (k : Kernel D) (d : D) (space : Kept) (room : k.names.room ≡ g.blocks k.disk) (index : Puid) (slot : ℕ) (o : Object) (one : blocks_of o ≡ 1) (w : ℕ) (word_is : w ≡ word k.words.seed (k.words.drawn + 1))
-    (r : Result Puid Refused) (puts : PutsObject g index.block slot o w k.disk d k.space space r) (enough : 8 ≤ sum k.space.free) where
+    (r : Result Puid Refused) (puts : PlacesObject g index.block slot o w k.disk d k.space space r) (enough : 8 ≤ sum k.space.free) where
   abbrev mid : Kernel D
   mid = record k { disk = d; space = space }
 
   size : g.blocks d ≡ g.blocks k.disk
-  size = puts.calls.same.size
+  size = puts.calls.calls.same.size
 
   module _ (request : Request) (making : IsMaking request slot o) (s : State) (who : ℕ) (i : Index) (serves : Serves g k s) (none : k.stop ≡ None) (reach : Reaches s who request index (objects.Index i)) (within : slot < length i.slots) (goes : refusal_of s who request ≡ None) where
-    has : HasSlot g s.graph (drafts_of_seats k.seats s.grants) k.disk k.space index.block index i slot
+    has : HasSlot g s.graph (drafts_of_handles k.handles s.grants) k.disk k.space index.block index i slot
     has = record {
       store = serves.store;
       root = refl;
@@ -71,23 +76,22 @@ module _ {D : Type 0} (g : Ghosts D) (left_sized : (d : D) (t : ℕ) (c : Image)
     id_at b = record { block = b; word = word k.words.seed (s.drawn + 1) }
 
     leaves_at : (b : ℕ) → IsLeastFree (g.content k.disk) b → LeavesThese g k.disk d s who request (replies.Id (id_at b)) (with_made s.graph index i slot (id_at b) o)
-    leaves_at b least = uncut g k.disk d s who request (replies.Id (id_at b)) _ (wider g k.disk d _ _ (puts.leaves s.graph (drafts_of_seats k.seats s.grants) index i has) (λ c p. ⊎_elim inl (λ t. inr
-        (subst (λ (q : Puid). Holds c (with_made s.graph index i slot q o)) (ap (λ n. named n w) (least_one (g.content k.disk) t.0 b t.1 least) ∙ ap (λ n. named b n) word_drawn) t.2)) p))
+    leaves_at b least = uncut g k.disk d s who request (replies.Id (id_at b)) _ (wider g k.disk d _ _ (puts.leaves s.graph (drafts_of_handles k.handles s.grants) index i has) (λ c p. ⊎_elim inl (λ t. inr
+        (subst (λ (q : Puid). Holds c (with_made s.graph index i slot q o)) (ap (λ n. puid_at n w) (least_one (g.content k.disk) t.0 b t.1 least) ∙ ap (λ n. puid_at b n) word_drawn) t.2)) p))
 
     short : ¬ IsShort s who request (sum k.space.free)
     short is = omega (arith, is.few, enough, need_is s who index i slot o request making reach)
 
-    takes : (reply : Reply) (b : ℕ) → block_named reply ≡ b → ops.Takes (intended places.Root b ∷ leaf_and_node (slot / 64) index.block) (index.block ∷ b ∷ []) (g.content k.disk) (g.content d) → Takes k.seats s who request reply (g.content k.disk) (g.content d)
+    takes : (reply : Reply) (b : ℕ) → block_named reply ≡ b → ops.Takes (intended places.Root b ∷ leaf_and_node (slot / 64) index.block) index.block (b ∷ []) (g.content k.disk) (g.content d) → Takes k.handles s who request reply (g.content k.disk) (g.content d)
     takes reply b is taken =
-        subst (λ (cs : List MapEntry). ClaimsInOrder cs (owners_of s who request reply) (g.content k.disk) (g.content d)) (sym (making.claims k.seats s who reply ∙ rw (is, reach.name) refl))
-        (subst (λ (ns : List ℕ). ClaimsInOrder (intended places.Root b ∷ leaf_and_node (slot / 64) index.block) ns (g.content k.disk) (g.content d)) (sym (rw (making.makes, is, reach.name) refl))
-        (claims_then (intended places.Root b ∷ leaf_and_node (slot / 64) index.block) (index.block ∷ b ∷ []) (g.content k.disk) (g.content d) taken))
+        takes_last k.handles s who request reply (g.content k.disk) (g.content d) (intended places.Root b ∷ leaf_and_node (slot / 64) index.block) (index.block ∷ b ∷ []) index.block (making.claims k.handles s who reply ∙ rw (is, reach.name) refl) (rw (making.makes, is, reach.name) refl) (rw reach.name refl)
+        (claims_then (intended places.Root b ∷ leaf_and_node (slot / 64) index.block) index.block (b ∷ []) (g.content k.disk) (g.content d) taken)
 
     made : (p : Puid) → r ≡ Ok p → (new : Kernel D) (result : Result Reply Refused) → Names mid new p (kind_of o) result → EndsSo g k new s who request result
     made p is new result names =
-        let two = rw is at (puts.done s.graph (drafts_of_seats k.seats s.grants) index i has) in
+        let two = rw is at (puts.done s.graph (drafts_of_handles k.handles s.grants) index i has) in
         let least = two.1.least in
-        let same : id_at p.block ≡ p = ap (λ n. named p.block n) (sym word_drawn ∙ sym two.0) in
+        let same : id_at p.block ≡ p = ap (λ n. puid_at p.block n) (sym word_drawn ∙ sym two.0) in
         let b = p.block in
         let there = inside g k s who serves index i slot o one request making reach goes enough b least in
         let named_so = names.named (not_zero g k s who serves index i slot o one request making reach goes enough b least) (omega (arith, there, room, sized k.disk serves.store.carries.tells.honest))
@@ -96,10 +100,10 @@ module _ {D : Type 0} (g : Ghosts D) (left_sized : (d : D) (t : ℕ) (c : Image)
         (outcome g k s who serves index i slot o one request making reach goes enough b least) (leaves_at b least) (stepped g k s who serves index i slot o one request making reach goes enough b least d space) refl
         (ap (λ (t : State). t.grants) (filled_is g k s who serves index i slot o one request making reach goes enough b least)) (index.block ∷ b ∷ [])
         (record {
-          store = subst (λ (q : Puid). StoreHas g (with_made s.graph index i slot q o) (drafts_of_seats k.seats s.grants) d space) (sym same) two.1.store;
-          only = two.1.only;
+          store = subst (λ (q : Puid). StoreHas g (with_made s.graph index i slot q o) (drafts_of_handles k.handles s.grants) d space) (sym same) two.1.stands.store;
+          only = two.1.stands.only;
           these = theirs g k s who serves index i slot o one request making reach goes enough b least;
-          left = rw is at puts.left;
+          left = two.1.stands.left;
         })
         tt refl short (λ _. least) (takes (replies.Id (id_at b)) b refl two.1.takes) in
         subst (EndsSo g k new s who request) (sym named_so.0)
@@ -123,16 +127,16 @@ module _ {D : Type 0} (g : Ghosts D) (left_sized : (d : D) (t : ℕ) (c : Image)
     as_it_was : (space ≡ k.space) × OnlyReads g 9 k.disk d → mid ≡ record k { disk = d }
     as_it_was two = ap (λ (x : Kept). record k { disk = d; space = x }) two.0
 
-    failed : (e : Refused) → (e ≡ refusals.Disk false → (space ≡ k.space) × OnlyReads g 9 k.disk d) → (e ≡ refusals.Memory → (space ≡ k.space) × OnlyReads g 9 k.disk d)
+    failed : (e : Refused) → (e ≡ refusals.Disk false → (space ≡ k.space) × OnlyReads g 9 k.disk d)
         → (IsIndexRefusal g index.block slot k.disk d space e ⊎ IsOpenMap g k.disk k.space e) → is_damaged e ≡ false → EndsSo g k mid s who request (Err e)
-    failed (refusals.Full need) untried wants refused sound = absurd (never_full g index.block slot k.disk d k.space space need refused)
-    failed (refusals.Disk false) untried wants refused sound = let two = untried refl in disk_failed g left_sized sized 9 k mid two.1 (as_it_was two) s who serves none request
-    failed (refusals.Disk true) untried wants refused sound = doubtful
-    failed (refusals.Damaged damage) untried wants refused sound = cc
-    failed refusals.Memory untried wants refused sound = let two = wants refl in memory g left_sized sized 9 k mid two.1 (as_it_was two) s who serves none request
+    failed (refusals.Full need) untried refused sound = absurd (never_full g index.block slot k.disk d k.space space need refused)
+    failed (refusals.Disk false) untried refused sound = let two = untried refl in disk_failed g left_sized sized 9 k mid two.1 (as_it_was two) s who serves none request
+    failed (refusals.Disk true) untried refused sound = doubtful
+    failed (refusals.Damaged damage) untried refused sound = cc
+    failed refusals.Memory untried refused sound = absurd (never_wanted g index.block slot k.disk d k.space space refused)
 
     sound_at : (e : Refused) → r ≡ Err e → is_damaged e ≡ false
-    sound_at e is = subst (λ (x : Result Puid Refused). IfErr x (λ f. is_damaged f ≡ false)) is (puts.sound s.graph (drafts_of_seats k.seats s.grants) index i has)
+    sound_at e is = subst (λ (x : Result Puid Refused). IfErr x (λ f. is_damaged f ≡ false)) is (puts.sound s.graph (drafts_of_handles k.handles s.grants) index i has)
 
   module _ (request : Request) (making : IsMaking request slot o) where
     pub tries_made : (p : Puid) → r ≡ Ok p → (new : Kernel D) (result : Result Reply Refused) → Names mid new p (kind_of o) result → TriesOn g k new index slot request result
@@ -142,8 +146,8 @@ module _ {D : Type 0} (g : Ghosts D) (left_sized : (d : D) (t : ℕ) (c : Image)
         plain = names.plain;
         cause = if_astray g k new request p k.names result making.makes refl room names.astray;
         size = ap g.blocks names.disk ∙ size;
-        faults = omega (arith, ap g.faults names.disk, puts.calls.faults);
-        later = omega (arith, ap g.moment names.disk, puts.calls.later);
+        faults = omega (arith, ap g.faults names.disk, puts.calls.calls.faults);
+        later = omega (arith, ap g.moment names.disk, puts.calls.calls.later);
         stop = names.stop;
         collections = names.collections;
         seed = names.seed;
@@ -156,10 +160,9 @@ module _ {D : Type 0} (g : Ghosts D) (left_sized : (d : D) (t : ℕ) (c : Image)
     tries_unmade e is = record {
       ends = λ s who i serves none reach within goes. failed request making s who i serves none reach within goes e
           (subst (λ (x : Result Puid Refused). IfErr x (λ f. f ≡ refusals.Disk false → (space ≡ k.space) × OnlyReads g 9 k.disk d)) is puts.untried)
-          (subst (λ (x : Result Puid Refused). IfErr x (λ f. f ≡ refusals.Memory → (space ≡ k.space) × OnlyReads g 9 k.disk d)) is puts.memory)
           (subst (λ (x : Result Puid Refused). IfErr x (λ f. IsIndexRefusal g index.block slot k.disk d space f ⊎ IsOpenMap g k.disk k.space f)) is puts.refused)
           (sound_at request making s who i serves none reach within goes e is);
-      went = λ named. went_so g k d space k.seats size puts.calls.faults puts.calls.later request (Err e) tt (cause_of g k mid (Some request) e (stopped_so g index.block slot k.disk d k.space space e (rw is at puts.refused))
+      went = λ named. went_so g k d space k.handles size puts.calls.calls.faults puts.calls.calls.later request (Err e) tt (cause_of g k mid (Some request) e (stopped_so g index.block slot k.disk d k.space space e (rw is at puts.refused))
           (λ damage same. told_of_making g k mid (Some request) index.block (inl named) damage size slot making.wants (rw same at (rw is at puts.refused))));
     }
 
@@ -180,5 +183,5 @@ module _ {D : Type 0} (g : Ghosts D) (left_sized : (d : D) (t : ℕ) (c : Image)
           taken = λ done. let no : false ≡ true = done in cc;
           owed = ByWant goes (record { delete = making.delete; few = omega (arith, few, need) }) (ap (λ (n : ℕ). replies.Full (record { free = sum k.space.free; need = n })) (sym need));
         };
-    went = λ named. went_so g k d space k.seats (ap g.blocks same_disk) reads.faults reads.images.later request (Err (refusals.Full (record { free = sum k.space.free; need = 4 }))) tt tt;
+    went = λ named. went_so g k d space k.handles (ap g.blocks same_disk) reads.faults reads.images.later request (Err (refusals.Full (record { free = sum k.space.free; need = 4 }))) tt tt;
   }

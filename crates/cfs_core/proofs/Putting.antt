@@ -1,15 +1,16 @@
 -- What the store says of a slot that is filled or emptied, as the core has it.
-use Rattle.std.proofs.Common.{◌≡◌, inl, ℕ, ◌+◌, ◌*◌, ◌<◌, ◌≤◌, length, true, false, Option, None, Some, Result, Ok, Err, IsTrue, refl, sym, ◌∙◌, ap, subst, arith, sum, ◌⊎◌, inr, List, [], ◌∷◌, is_none, ◌/◌, set}
-use Rattle.cfs_core.proofs.Words.{creates, Ghosts, HasSlot, Image, Index, index_with, IsSpeakable, Kept, Need, OnlyReads, outcome_of, Puid, PutsSlot, Ref, refusal_of, Refused, Request, State, with_object, MapEntry, Object, Holds, StoreHas, slot_of, target, object_at-with_object, same_puid_itself}
+use Rattle.std.proofs.Common.{◌≡◌, inl, ℕ, ◌+◌, ◌*◌, ◌<◌, ◌≤◌, length, true, false, Option, None, Some, Result, Ok, Err, IsTrue, refl, sym, ◌∙◌, ap, subst, arith, sum, ◌⊎◌, inr, [], ◌∷◌, is_none, ◌/◌, set}
+use Rattle.cfs_core.proofs.Words.{creates, Ghosts, HasSlot, Image, Index, index_with, IsSpeakable, Kept, Need, OnlyReads, outcome_of, Puid, Ref, refusal_of, Refused, Request, State, with_object, Object, Holds, StoreHas, slot_of, target, object_at-with_object, same_puid_itself}
 use Rattle.cfs_base.specs.declared.refusal.Refused.TheVariants as refusals
 use Rattle.ufs_model.specs.declared.asked.Event.TheVariants as events
 use Rattle.ufs_model.specs.declared.asked.Reply.TheVariants as replies
 use Rattle.ufs_model.specs.declared.asked.Request.TheVariants as asks
 use Rattle.ufs_model.specs.declared.object.Object.TheVariants as objects
+use Rattle.cfs_core.specs.Carried.{FillsSlot}
 use Rattle.cfs_core.specs.Calls.{ByWant, EndsSo, IsShort, TriesOn, done_or}
 use Rattle.cfs_core.specs.Damage.{bytes_wanted}
 use Rattle.cfs_core.specs.Kernel.{Kernel}
-use Rattle.cfs_core.specs.StandsFor.{Serves, drafts_of_seats}
+use Rattle.cfs_core.specs.StandsFor.{Serves, drafts_of_handles}
 use Rattle.cfs_core.specs.Ways.{Reaches}
 use Rattle.cfs_core.proofs.Answering.{disk_failed, memory, reads_none}
 use Rattle.cfs_core.proofs.Changed.{object_did, object_in_doubt}
@@ -21,26 +22,26 @@ use Rattle.cfs_core.proofs.Went.{went_done, went_so}
 use Rattle.cfs_core.proofs.Serving.{running, shut, stays}
 use Rattle.std.proofs.lemmas.List.{get_or-set_same}
 use Rattle.std.proofs.lemmas.Option.{unwrap_or-slice_get}
-use Rattle.cfs_core.specs.Claimed.{ClaimsInOrder, Takes, claims_for, owners_of, root_of}
-use Rattle.cfs_core.proofs.Claimed.{claims_then}
-use Rattle.index_ops.specs.Changes.{ChangesLeaf, leaf_and_node}
+use Rattle.cfs_core.specs.Claimed.{Takes, claims_for, owners_of, root_reached}
+use Rattle.cfs_core.proofs.Claimed.{Commits, claims_then, takes_last}
+use Rattle.index_ops.specs.Changes.{leaf_and_node}
 use Rattle.vol_image.proofs.Unique.{held_object}
 use Rattle.ufs_model.specs.State.{the_index}
 use Rattle.index_ops.specs.Changes as ops
 
 module _ {D : Type 0} (g : Ghosts D) (left_sized : (d : D) (t : ℕ) (c : Image) → g.left_since d t c → length c ≡ g.blocks d) (sized : (d : D) → IsTrue (g.honest d) → length (g.content d) ≡ g.blocks d)
     (k : Kernel D) (d : D) (space : Kept) (index : Puid) (slot : ℕ) (what : Option Puid) (request : Request) (makes : creates request ≡ false) (bytes : bytes_wanted (Some request) ≡ 8 * slot + 8)
-    (speaks : IsSpeakable (events.Ask 0 request replies.Done)) (result : Result (Unit {0}) Refused) (puts : PutsSlot g index.block slot what k.disk d k.space space result)
+    (speaks : IsSpeakable (events.Ask 0 request replies.Done)) (result : Result (Unit {0}) Refused) (puts : FillsSlot g index.block slot what k.disk d k.space space result)
     (out : (s : State) (who : ℕ) (i : Index) → Serves g k s → Reaches s who request index (objects.Index i)
     → (outcome_of k.words.seed s who request 0 ≡ (replies.Done, (outcome_of k.words.seed s who request 0).1)) × Puts s (outcome_of k.words.seed s who request 0).1 index (index_with i slot what))
     (room : (s : State) (who : ℕ) (i : Index) → Serves g k s → Reaches s who request index (objects.Index i) → (¬ IsShort s who request (sum k.space.free)) × (added_by what + 4 ≤ sum k.space.free))
-    (claims : (s : State) (who : ℕ) → (claims_for k.seats s who request replies.Done ≡ leaf_and_node (slot / 64) (root_of s who (target request))) × (owners_of s who request replies.Done ≡ root_of s who (target request) ∷ []))
+    (claims : (s : State) (who : ℕ) → (claims_for k.handles s who request replies.Done ≡ leaf_and_node (slot / 64) (root_reached s who (target request))) × (owners_of s who request replies.Done ≡ root_reached s who (target request) ∷ []))
     (holds : (s : State) (who : ℕ) (i : Index) → Reaches s who request index (objects.Index i) → refusal_of s who request ≡ None → what ≡ None → is_none (slot_of i slot) ≡ false) where
   abbrev new : Kernel D
   new = record k { disk = d; space = space }
 
   module _ (s : State) (who : ℕ) (i : Index) (serves : Serves g k s) (none : k.stop ≡ None) (reach : Reaches s who request index (objects.Index i)) (inside : slot < length i.slots) (goes : refusal_of s who request ≡ None) where
-    has : HasSlot g s.graph (drafts_of_seats k.seats s.grants) k.disk k.space index.block index i slot
+    has : HasSlot g s.graph (drafts_of_handles k.handles s.grants) k.disk k.space index.block index i slot
     has = record {
       store = serves.store;
       root = refl;
@@ -50,16 +51,16 @@ module _ {D : Type 0} (g : Ghosts D) (left_sized : (d : D) (t : ℕ) (c : Image)
     }
 
     size : g.blocks d ≡ g.blocks k.disk
-    size = puts.calls.same.size
+    size = puts.calls.calls.same.size
 
     speak : (w : ℕ) → IsSpeakable (events.Ask w request replies.Done)
     speak w = speaks
 
     left : LeavesThese g k.disk d s who request replies.Done (with_object s.graph index (index_with i slot what))
-    left = uncut g k.disk d s who request replies.Done _ (puts.leaves s.graph (drafts_of_seats k.seats s.grants) index i has)
+    left = uncut g k.disk d s who request replies.Done _ (puts.leaves s.graph (drafts_of_handles k.handles s.grants) index i has)
 
     -- one that was emptied held something, so the content isn't as it was
-    not_still : {A : Type 0} → StoreHas g (with_object s.graph index (index_with i slot what)) (drafts_of_seats k.seats s.grants) d space → (what ≡ None) × (g.content d ≡ g.content k.disk) → A
+    not_still : {A : Type 0} → StoreHas g (with_object s.graph index (index_with i slot what)) (drafts_of_handles k.handles s.grants) d space → (what ≡ None) × (g.content d ≡ g.content k.disk) → A
     not_still store two =
         let h = with_object s.graph index (index_with i slot what) in
         let one = held_object (g.content k.disk) s.graph h index (objects.Index i) (index_with i slot what) serves.store.account.holds (subst (λ (c : Image). Holds c h) two.1 store.account.holds) reach.there
@@ -67,33 +68,32 @@ module _ {D : Type 0} (g : Ghosts D) (left_sized : (d : D) (t : ℕ) (c : Image)
         let none : slot_of i slot ≡ None = ap (λ (o : Object). slot_of (the_index o) slot) one ∙ unwrap_or-slice_get (set i.slots slot what) slot None ∙ get_or-set_same i.slots slot what None inside ∙ two.0 in
         let no : true ≡ false = sym (ap is_none none) ∙ holds s who i reach goes two.0 in cc
 
-    takes : StoreHas g (with_object s.graph index (index_with i slot what)) (drafts_of_seats k.seats s.grants) d space → ChangesLeaf g (slot / 64) index.block what k.disk d → Takes k.seats s who request replies.Done (g.content k.disk) (g.content d)
+    takes : StoreHas g (with_object s.graph index (index_with i slot what)) (drafts_of_handles k.handles s.grants) d space → ((what ≡ None) × (g.content d ≡ g.content k.disk)) ⊎ ops.Takes (leaf_and_node (slot / 64) index.block) index.block [] (g.content k.disk) (g.content d) → Takes k.handles s who request replies.Done (g.content k.disk) (g.content d)
     takes store leaf =
-        let at : root_of s who (target request) ≡ index.block = rw reach.name refl in
-        subst (λ (cs : List MapEntry). ClaimsInOrder cs (owners_of s who request replies.Done) (g.content k.disk) (g.content d)) (sym ((claims s who).0 ∙ ap (leaf_and_node (slot / 64)) at))
-        (subst (λ (ns : List ℕ). ClaimsInOrder (leaf_and_node (slot / 64) index.block) ns (g.content k.disk) (g.content d)) (sym ((claims s who).1 ∙ ap (λ n. n ∷ []) at)) (by leaf.takes))
+        let at : root_reached s who (target request) ≡ index.block = rw reach.name refl in
+        takes_last k.handles s who request replies.Done (g.content k.disk) (g.content d) (leaf_and_node (slot / 64) index.block) (index.block ∷ []) index.block ((claims s who).0 ∙ ap (leaf_and_node (slot / 64)) at) ((claims s who).1 ∙ ap (λ n. n ∷ []) at) at (by leaf)
       where
-        by : ((what ≡ None) × (g.content d ≡ g.content k.disk)) ⊎ ops.Takes (leaf_and_node (slot / 64) index.block) (index.block ∷ []) (g.content k.disk) (g.content d)
-            → ClaimsInOrder (leaf_and_node (slot / 64) index.block) (index.block ∷ []) (g.content k.disk) (g.content d)
+        by : ((what ≡ None) × (g.content d ≡ g.content k.disk)) ⊎ ops.Takes (leaf_and_node (slot / 64) index.block) index.block [] (g.content k.disk) (g.content d)
+            → Commits (leaf_and_node (slot / 64) index.block) (index.block ∷ []) index.block (g.content k.disk) (g.content d)
         by (inl still) = not_still store still
-        by (inr taken) = claims_then (leaf_and_node (slot / 64) index.block) (index.block ∷ []) (g.content k.disk) (g.content d) taken
+        by (inr taken) = claims_then (leaf_and_node (slot / 64) index.block) index.block [] (g.content k.disk) (g.content d) taken
 
     ends : (r : Result (Unit {0}) Refused) → r ≡ result → EndsSo g k new s who request (done_or r)
-    ends (Ok u) is = let changes = rw (← is) at (puts.done s.graph (drafts_of_seats k.seats s.grants) index i has) in
+    ends (Ok u) is = let changes = rw (← is) at (puts.done s.graph (drafts_of_handles k.handles s.grants) index i has) in
         object_did g left_sized sized k new size refl none s (outcome_of k.words.seed s who request 0).1 who request serves index (objects.Index i) (index_with i slot what) reach.there refl (added_by what) (filled_blocks i slot what) goes makes (speak who)
-        (out s who i serves reach).0 (out s who i serves reach).1 (room s who i serves reach).0 (room s who i serves reach).1 left changes.store (rw (← is) at puts.left) changes.only (takes changes.store (rw (← is) at (puts.leaf s.graph (drafts_of_seats k.seats s.grants) index i has)))
+        (out s who i serves reach).0 (out s who i serves reach).1 (room s who i serves reach).0 (room s who i serves reach).1 left changes.store changes.left changes.only (takes changes.store (rw (← is) at (puts.takes s.graph (drafts_of_handles k.handles s.grants) index i has)))
     ends (Err (refusals.Full need)) is = absurd (rw (← is) at puts.refused)
     ends (Err (refusals.Disk false)) is = let two = (rw (← is) at puts.untried) refl in disk_failed g left_sized sized 9 k new two.1 (ap (λ (x : Kept). record k { disk = d; space = x }) two.0) s who serves none request
     ends (Err (refusals.Disk true)) is = object_in_doubt g left_sized sized k new size refl none s (outcome_of k.words.seed s who request 0).1 who request serves index (objects.Index i) (index_with i slot what) reach.there refl (added_by what) (filled_blocks i slot what) goes makes (speak who)
         (out s who i serves reach).0 (out s who i serves reach).1 (room s who i serves reach).0 (room s who i serves reach).1 left
-    ends (Err (refusals.Damaged damage)) is = let no : true ≡ false = rw (← is) at (puts.sound s.graph (drafts_of_seats k.seats s.grants) index i has) in cc
-    ends (Err refusals.Memory) is = let two = (rw (← is) at puts.memory) refl in memory g left_sized sized 9 k new two.1 (ap (λ (x : Kept). record k { disk = d; space = x }) two.0) s who serves none request
+    ends (Err (refusals.Damaged damage)) is = let no : true ≡ false = rw (← is) at (puts.sound s.graph (drafts_of_handles k.handles s.grants) index i has) in cc
+    ends (Err refusals.Memory) is = absurd (rw (← is) at puts.refused)
 
   pub tries_put : TriesOn g k new index slot request (done_or result)
   tries_put = record {
     ends = λ s who i serves none reach inside goes. ends s who i serves none reach inside goes result refl;
-    went = λ named. went_done g k d space k.seats puts.calls.same.size puts.calls.faults puts.calls.later request result (λ tried is. rw is at puts.refused)
-        (λ damage is. told_of_index g k new (Some request) index.block (inl named) damage puts.calls.same.size slot bytes (rw is at puts.refused));
+    went = λ named. went_done g k d space k.handles puts.calls.calls.same.size puts.calls.calls.faults puts.calls.calls.later request result (λ tried is. rw is at puts.refused)
+        (λ damage is. told_of_index g k new (Some request) index.block (inl named) damage puts.calls.calls.same.size slot bytes (rw is at puts.refused));
   }
 
 -- ---- too few blocks are Free
@@ -122,5 +122,14 @@ module _ {D : Type 0} (g : Ghosts D) (left_sized : (d : D) (t : ℕ) (c : Image)
       owed = ByWant goes (record { delete = refl; few = omega (arith, few, retain_need k.words.seed s who to index i slot id reach) })
           (ap (λ (n : ℕ). replies.Full (record { free = sum k.space.free; need = n })) (sym (retain_need k.words.seed s who to index i slot id reach)));
     };
-    went = λ named. went_so g k d space k.seats (ap g.blocks same_disk) reads.faults reads.images.later request (Err (refusals.Full need)) tt tt;
+    went = λ named. went_so g k d space k.handles (ap g.blocks same_disk) reads.faults reads.images.later request (Err (refusals.Full need)) tt tt;
   }
+
+-- ---- memory is wanted
+
+pub tries_want_on : {D : Type 0} (g : Ghosts D) (left_sized : (d : D) (t : ℕ) (c : Image) → g.left_since d t c → length c ≡ g.blocks d) (sized : (d : D) → IsTrue (g.honest d) → length (g.content d) ≡ g.blocks d)
+    (k : Kernel D) (index : Puid) (slot : ℕ) (request : Request) (e : Refused) → e ≡ refusals.Memory → TriesOn g k k index slot request (Err e)
+tries_want_on g left_sized sized k index slot request e is = subst (λ (x : Refused). TriesOn g k k index slot request (Err x)) (sym is) (record {
+  ends = λ s who i serves none reach inside goes. memory g left_sized sized 0 k k (reads_none g 0 k.disk) refl s who serves none request;
+  went = λ named. went_so g k k.disk k.space k.handles refl (omega arith) (omega arith) request (Err refusals.Memory) tt tt;
+})

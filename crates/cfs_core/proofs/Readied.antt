@@ -1,13 +1,13 @@
 -- Drafts as they stand between two calls.
 use Rattle.std.proofs.Common.{◌≡◌, ℕ, ◌*◌, ◌<◌, List, [], ◌∷◌, ◌++◌, Bool, true, false, cond, ◌&&◌, length, Option, Some, None, refl, sym, ◌∙◌, ap, subst, arith, filter, find, is_none, is_some, nat_lt, option_and_then, option_to_list}
 use Rattle.cfs_core.proofs.Words.{and_parts, Draft, Drafting, Grant, Kept, list_all, list_all-append, Listing, nat_tests, Opened, opened_as, sum_by, sum_by-append, sum_by-cons}
-use Rattle.open_table.specs.declared.grant.Grant as seats
+use Rattle.open_table.specs.declared.grant.Grant as handles
 use Rattle.vol_owners.specs.Room as owners
 use Rattle.cfs_core.specs.declared.collecting.Collections.{Collections}
-use Rattle.cfs_core.specs.Room.{draft_blocks}
-use Rattle.cfs_core.specs.StandsFor.{AreDraftsOf, HasDraftOf, drafts_at, drafts_of_seats}
-use Rattle.cfs_core.specs.Kernel.{IsSized, Seat, is_drawn_by, is_ready, is_ready_for}
-use Rattle.cfs_core.specs.Seats.{drafting_at, is_drawn, seats_but, with_drafting}
+use Rattle.cfs_core.specs.Room.{blocks_of_grant}
+use Rattle.cfs_core.specs.StandsFor.{AreDraftsOf, HasDraftOf, drafts_at, drafts_of_handles}
+use Rattle.cfs_core.specs.Kernel.{IsSized, Handle, is_drawn_by, is_ready, is_ready_for}
+use Rattle.cfs_core.specs.Handles.{drafting_at, is_drawn, handles_but, with_drafting}
 
 pub record IsReadyFor (blocks : ℕ) (d : Drafting) : Type 0 where
   pub on_disk : d.at < blocks
@@ -45,57 +45,57 @@ for_ready blocks d r = at (less d.at blocks r.on_disk) d.shadow r.shadow.1 d.cre
     at below None is p none = cc
     at below (Some s) is (Some c) none = cc
 
--- the draft of a seat is ready where all are
-pub ready_at : (blocks draw : ℕ) (ss : List Seat) → list_all (is_ready blocks) ss ≡ true → (d : Drafting) → drafting_at ss draw ≡ Some d → is_ready_for blocks d ≡ true
+-- the draft of a handle is ready where all are
+pub ready_at : (blocks draw : ℕ) (ss : List Handle) → list_all (is_ready blocks) ss ≡ true → (d : Drafting) → drafting_at ss draw ≡ Some d → is_ready_for blocks d ≡ true
 ready_at blocks draw [] all d is = cc
-ready_at blocks draw (seat ∷ ss) all d is =
-    let two = and_parts (is_ready blocks seat) (list_all (is_ready blocks) ss) all in
-    elim (is_drawn draw seat) as (λ b. option_and_then (λ (e : Seat). e.drafting) (cond b (Some seat) (find (is_drawn draw) ss)) ≡ Some d → is_ready_for blocks d ≡ true) [
-      | true ↦ λ h. here seat.drafting two.0 h
+ready_at blocks draw (handle ∷ ss) all d is =
+    let two = and_parts (is_ready blocks handle) (list_all (is_ready blocks) ss) all in
+    elim (is_drawn draw handle) as (λ b. option_and_then (λ (e : Handle). e.drafting) (cond b (Some handle) (find (is_drawn draw) ss)) ≡ Some d → is_ready_for blocks d ≡ true) [
+      | true ↦ λ h. here handle.drafting two.0 h
       | false ↦ λ h. ready_at blocks draw ss two.1 d h
     ] is
   where
-    here : (o : Option Drafting) → is_ready blocks (record seat { drafting = o }) ≡ true → o ≡ Some d → is_ready_for blocks d ≡ true
+    here : (o : Option Drafting) → is_ready blocks (record handle { drafting = o }) ≡ true → o ≡ Some d → is_ready_for blocks d ≡ true
     here None h same = cc
     here (Some e) h same = let one : e ≡ d = cc in subst (λ (x : Drafting). is_ready_for blocks x ≡ true) one h
 
--- where the draft of one draw is taken, what holds of all seats but for their drafts still does
-pub all_taken : (test : Seat → Bool) (draw : ℕ) → ((seat : Seat) → test seat ≡ true → test (record { grant = seat.grant; drafting = None }) ≡ true) → (ss : List Seat) → list_all test ss ≡ true
+-- where the draft of one draw is taken, what holds of all handles but for their drafts still does
+pub all_taken : (test : Handle → Bool) (draw : ℕ) → ((handle : Handle) → test handle ≡ true → test (record { grant = handle.grant; drafting = None }) ≡ true) → (ss : List Handle) → list_all test ss ≡ true
     → list_all test (with_drafting draw None ss) ≡ true
 all_taken test draw bare [] all = refl
-all_taken test draw bare (seat ∷ ss) all =
-    let two = and_parts (test seat) (list_all test ss) all in
-    elim (is_drawn draw seat) as (λ b. (test (cond b (record { grant = seat.grant; drafting = None }) seat) && list_all test (with_drafting draw None ss)) ≡ true) [
-      | true ↦ rw (bare seat two.0, all_taken test draw bare ss two.1) refl
+all_taken test draw bare (handle ∷ ss) all =
+    let two = and_parts (test handle) (list_all test ss) all in
+    elim (is_drawn draw handle) as (λ b. (test (cond b (record { grant = handle.grant; drafting = None }) handle) && list_all test (with_drafting draw None ss)) ≡ true) [
+      | true ↦ rw (bare handle two.0, all_taken test draw bare ss two.1) refl
       | false ↦ rw (two.0, all_taken test draw bare ss two.1) refl
     ]
 
-pub ready_taken : (blocks draw : ℕ) (ss : List Seat) → list_all (is_ready blocks) ss ≡ true → list_all (is_ready blocks) (with_drafting draw None ss) ≡ true
-ready_taken blocks draw ss all = all_taken (is_ready blocks) draw (λ seat is. refl) ss all
+pub ready_taken : (blocks draw : ℕ) (ss : List Handle) → list_all (is_ready blocks) ss ≡ true → list_all (is_ready blocks) (with_drafting draw None ss) ≡ true
+ready_taken blocks draw ss all = all_taken (is_ready blocks) draw (λ handle is. refl) ss all
 
 -- where another draft that is ready is put in its place
-pub ready_put : (blocks draw : ℕ) (d : Drafting) → is_ready_for blocks d ≡ true → (ss : List Seat) → list_all (is_ready blocks) ss ≡ true → list_all (is_ready blocks) (with_drafting draw (Some d) ss) ≡ true
+pub ready_put : (blocks draw : ℕ) (d : Drafting) → is_ready_for blocks d ≡ true → (ss : List Handle) → list_all (is_ready blocks) ss ≡ true → list_all (is_ready blocks) (with_drafting draw (Some d) ss) ≡ true
 ready_put blocks draw d is [] all = refl
-ready_put blocks draw d is (seat ∷ ss) all =
-    let two = and_parts (is_ready blocks seat) (list_all (is_ready blocks) ss) all in
-    elim (is_drawn draw seat) as (λ b. (is_ready blocks (cond b (record { grant = seat.grant; drafting = Some d }) seat) && list_all (is_ready blocks) (with_drafting draw (Some d) ss)) ≡ true) [
+ready_put blocks draw d is (handle ∷ ss) all =
+    let two = and_parts (is_ready blocks handle) (list_all (is_ready blocks) ss) all in
+    elim (is_drawn draw handle) as (λ b. (is_ready blocks (cond b (record { grant = handle.grant; drafting = Some d }) handle) && list_all (is_ready blocks) (with_drafting draw (Some d) ss)) ≡ true) [
       | true ↦ rw (is, ready_put blocks draw d is ss two.1) refl
       | false ↦ rw (two.0, ready_put blocks draw d is ss two.1) refl
     ]
 
-pub drawn_put : (n draw : ℕ) (what : Option Drafting) (ss : List Seat) → list_all (is_drawn_by n) ss ≡ true → list_all (is_drawn_by n) (with_drafting draw what ss) ≡ true
+pub drawn_put : (n draw : ℕ) (what : Option Drafting) (ss : List Handle) → list_all (is_drawn_by n) ss ≡ true → list_all (is_drawn_by n) (with_drafting draw what ss) ≡ true
 drawn_put n draw what [] all = refl
-drawn_put n draw what (seat ∷ ss) all =
-    let two = and_parts (is_drawn_by n seat) (list_all (is_drawn_by n) ss) all in
-    elim (is_drawn draw seat) as (λ b. (is_drawn_by n (cond b (record { grant = seat.grant; drafting = what }) seat) && list_all (is_drawn_by n) (with_drafting draw what ss)) ≡ true) [
+drawn_put n draw what (handle ∷ ss) all =
+    let two = and_parts (is_drawn_by n handle) (list_all (is_drawn_by n) ss) all in
+    elim (is_drawn draw handle) as (λ b. (is_drawn_by n (cond b (record { grant = handle.grant; drafting = what }) handle) && list_all (is_drawn_by n) (with_drafting draw what ss)) ≡ true) [
       | true ↦ rw (two.0, drawn_put n draw what ss two.1) refl
       | false ↦ rw (two.0, drawn_put n draw what ss two.1) refl
     ]
 
-pub drawn_taken : (n draw : ℕ) (ss : List Seat) → list_all (is_drawn_by n) ss ≡ true → list_all (is_drawn_by n) (with_drafting draw None ss) ≡ true
-drawn_taken n draw ss all = all_taken (is_drawn_by n) draw (λ seat is. is) ss all
+pub drawn_taken : (n draw : ℕ) (ss : List Handle) → list_all (is_drawn_by n) ss ≡ true → list_all (is_drawn_by n) (with_drafting draw None ss) ≡ true
+drawn_taken n draw ss all = all_taken (is_drawn_by n) draw (λ handle is. is) ss all
 
-pub all_push : (test : Seat → Bool) (ss : List Seat) (x : Seat) → list_all test ss ≡ true → test x ≡ true → list_all test (ss ++ x ∷ []) ≡ true
+pub all_push : (test : Handle → Bool) (ss : List Handle) (x : Handle) → list_all test ss ≡ true → test x ≡ true → list_all test (ss ++ x ∷ []) ≡ true
 all_push test ss x all is = list_all-append test ss (x ∷ []) ∙ rw (all, is) refl
 
 pub all_filter : {X : Type 0} (P M : X → Bool) (xs : List X) → list_all P xs ≡ true → list_all P (filter M xs) ≡ true
@@ -109,9 +109,9 @@ all_filter P M (x ∷ xs) is =
 
 -- ---- what a core keeps on any disk
 
-module _ {D : Type 0} {blocks : D → ℕ} {d : D} {names : Listing} {before : Kept} {ss : List Seat} {drawn : ℕ} {c : Collections} (sized : IsSized blocks d names before ss drawn c) where
-  -- with other seats, on a disk of its size
-  pub sized_with : (e : D) (after : Kept) (new : List Seat) (more : ℕ) → blocks e ≡ blocks d → length after.free ≡ length before.free → list_all (is_drawn_by more) new ≡ true → list_all (is_ready names.room) new ≡ true → IsSized blocks e names after new more c
+module _ {D : Type 0} {blocks : D → ℕ} {d : D} {names : Listing} {before : Kept} {ss : List Handle} {drawn : ℕ} {c : Collections} (sized : IsSized blocks d names before ss drawn c) where
+  -- with other handles, on a disk of its size
+  pub sized_with : (e : D) (after : Kept) (new : List Handle) (more : ℕ) → blocks e ≡ blocks d → length after.free ≡ length before.free → list_all (is_drawn_by more) new ≡ true → list_all (is_ready names.room) new ≡ true → IsSized blocks e names after new more c
   sized_with e after new more size cylinders drawn_all ready = record {
     size = size ∙ sized.size ∙ ap (λ (n : ℕ). 64 * n) (sym cylinders);
     room = sized.room ∙ sym size;
@@ -121,24 +121,24 @@ module _ {D : Type 0} {blocks : D → ℕ} {d : D} {names : Listing} {before : K
     ready = ready;
   }
 
-  -- without a draft, and with fewer seats
-  pub sized_taken : (draw : ℕ) (new : List Seat) → new ≡ with_drafting draw None ss → IsSized blocks d names before new drawn c
+  -- without a draft, and with fewer handles
+  pub sized_taken : (draw : ℕ) (new : List Handle) → new ≡ with_drafting draw None ss → IsSized blocks d names before new drawn c
   sized_taken draw new is = sized_with d before new drawn refl refl (ap (list_all (is_drawn_by drawn)) is ∙ drawn_taken drawn draw ss sized.drawn_all) (ap (list_all (is_ready names.room)) is ∙ ready_taken names.room draw ss sized.ready)
 
-  pub sized_but : (test : seats.Grant → Bool) (new : List Seat) → new ≡ seats_but test ss → IsSized blocks d names before new drawn c
+  pub sized_but : (test : handles.Grant → Bool) (new : List Handle) → new ≡ handles_but test ss → IsSized blocks d names before new drawn c
   sized_but test new is = sized_with d before new drawn refl refl (ap (list_all (is_drawn_by drawn)) is ∙ all_filter (is_drawn_by drawn) _ ss sized.drawn_all) (ap (list_all (is_ready names.room)) is ∙ all_filter (is_ready names.room) _ ss sized.ready)
 
 -- ---- what drafts take
 
-pub drafts_take : (blocks : ℕ) (ds : List Opened) (ss : List Seat) (grants : List Grant) → list_all (is_ready blocks) ss ≡ true → AreDraftsOf ds ss grants → sum_by owners.draft_blocks (drafts_of_seats ss grants) ≡ sum_by draft_blocks grants
+pub drafts_take : (blocks : ℕ) (ds : List Opened) (ss : List Handle) (grants : List Grant) → list_all (is_ready blocks) ss ≡ true → AreDraftsOf ds ss grants → sum_by owners.draft_blocks (drafts_of_handles ss grants) ≡ sum_by blocks_of_grant grants
 drafts_take blocks ds [] [] all are = refl
 drafts_take blocks ds [] (x ∷ grants) all are = absurd are
-drafts_take blocks ds (seat ∷ ss) [] all are = absurd are
-drafts_take blocks ds (seat ∷ ss) (x ∷ grants) all are =
-    let two = and_parts (is_ready blocks seat) (list_all (is_ready blocks) ss) all in
-    omega (arith, sum_by-append owners.draft_blocks (drafts_of_seats ss grants) (drafts_at seat seat.drafting x.draft), drafts_take blocks ds ss grants two.1 are.1, one seat.drafting x.draft two.0 are.0, sum_by-cons draft_blocks x grants)
+drafts_take blocks ds (handle ∷ ss) [] all are = absurd are
+drafts_take blocks ds (handle ∷ ss) (x ∷ grants) all are =
+    let two = and_parts (is_ready blocks handle) (list_all (is_ready blocks) ss) all in
+    omega (arith, sum_by-append owners.draft_blocks (drafts_of_handles ss grants) (drafts_at handle handle.drafting x.draft), drafts_take blocks ds ss grants two.1 are.1, one handle.drafting x.draft two.0 are.0, sum_by-cons blocks_of_grant x grants)
   where
-    one : (o : Option Drafting) (d : Option Draft) → is_ready blocks (record seat { drafting = o }) ≡ true → HasDraftOf ds seat o d → sum_by owners.draft_blocks (drafts_at seat o d) ≡ draft_blocks (record x { draft = d })
+    one : (o : Option Drafting) (d : Option Draft) → is_ready blocks (record handle { drafting = o }) ≡ true → HasDraftOf ds handle o d → sum_by owners.draft_blocks (drafts_at handle o d) ≡ blocks_of_grant (record x { draft = d })
     one None None is has = refl
     one None (Some d) is has = absurd has
     one (Some o) None is has = absurd has
@@ -146,4 +146,4 @@ drafts_take blocks ds (seat ∷ ss) (x ∷ grants) all are =
         let ready = ready_for blocks o is in
         let shadow = ap (λ (c : Option ℕ). length (option_to_list c)) ready.shadow.1 in
         let made = ap (λ (c : Option ℕ). length (option_to_list c)) ready.bare in
-        omega (arith, sum_by-cons owners.draft_blocks (opened_as seat.grant.id o d) [], shadow, made)
+        omega (arith, sum_by-cons owners.draft_blocks (opened_as handle.grant.id o d) [], shadow, made)

@@ -7,7 +7,7 @@ use Rattle.ufs_model.specs.declared.asked.Request.TheVariants as asks
 use Rattle.ufs_model.specs.declared.object.Object.TheVariants as objects
 use Rattle.ufs_model.specs.declared.asked.Event.TheVariants as events
 use Rattle.cfs_core.specs.Calls.{looked}
-use Rattle.cfs_core.specs.Looks.{content_of, counted, measured}
+use Rattle.cfs_core.specs.Looks.{content_reply, counted, measured}
 use Rattle.cfs_core.specs.Makes.{file_kind}
 use Rattle.cfs_core.specs.StandsFor.{is_sweeping}
 use Rattle.cfs_core.specs.Ways.{Reaches, unfit_of}
@@ -135,10 +135,10 @@ module _ (seed : ℕ) (s : State) (who : ℕ) (to : Ref) (id : Puid) (f : File) 
   pub size_seen : Reaches s who (asks.Size to) id (objects.File f) → IsSeen seed s who (asks.Size to) (measured f)
   size_seen r = inr (r.rest, λ b. rw (r.bare, r.name, r.there) refl)
 
-  pub read_seen : (offset count : ℕ) → Reaches s who (asks.Read to offset count) id (objects.File f) → IsSeen seed s who (asks.Read to offset count) (content_of f offset count)
+  pub read_seen : (offset count : ℕ) → Reaches s who (asks.Read to offset count) id (objects.File f) → IsSeen seed s who (asks.Read to offset count) (content_reply f offset count)
   read_seen offset count r = at (is_range (length f.bytes) offset count) refl
     where
-      at : (t : Bool) → is_range (length f.bytes) offset count ≡ t → IsSeen seed s who (asks.Read to offset count) (content_of f offset count)
+      at : (t : Bool) → is_range (length f.bytes) offset count ≡ t → IsSeen seed s who (asks.Read to offset count) (content_reply f offset count)
       at true is = inr (r.rest ∙ rw (r.bare, r.name, r.there, is) refl, λ b. rw (r.bare, r.name, r.there, is) refl)
       at false is = inl (r.rest ∙ rw (r.bare, r.name, r.there, is) refl)
 

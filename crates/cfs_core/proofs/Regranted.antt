@@ -1,17 +1,17 @@
 -- Calls that change the grants, and no draft.
 use Rattle.std.proofs.Common.{◌≡◌, ℕ, List, [], ◌∷◌, ◌++◌, length, Bool, true, false, cond, ◌&&◌, Option, Some, None, is_some, refl, sym, ◌∙◌, ap, subst, arith, ◌+◌, append-nil, append_assoc, filter, find, map, nat_le, not}
 use Rattle.cfs_core.proofs.Words.{and_parts, changes_begin, Draft, Drafting, Event, Ghosts, Grant, Holds, Image, is_grant, IsState, list_all, nat_tests, next, Opened, or_parts, State, Tuid}
-use Rattle.open_table.specs.declared.grant.Grant as seats
+use Rattle.open_table.specs.declared.grant.Grant as handles
 use Rattle.open_table.specs.Grants as tables
 use Rattle.cfs_core.specs.Calls.{Makes}
-use Rattle.cfs_core.specs.Kernel.{Kernel, Seat, grants_in, is_drawn_by}
-use Rattle.cfs_core.specs.Seats.{have_draft, seats_but}
-use Rattle.cfs_core.specs.StandsFor.{AreDraftsOf, HasDraftOf, Serves, Stores, bare, drafts_at, drafts_of_seats}
+use Rattle.cfs_core.specs.Kernel.{Kernel, Handle, grants_in, is_drawn_by}
+use Rattle.cfs_core.specs.Handles.{have_draft, handles_but}
+use Rattle.cfs_core.specs.StandsFor.{AreDraftsOf, HasDraftOf, Serves, Stores, bare, drafts_at, drafts_of_handles}
 use Rattle.cfs_core.proofs.Moved.{HasStepped, IsStepped, makes_stepped, stores_stepped}
 use Rattle.cfs_core.proofs.Serving.{nothing_left}
 
 -- each is drawn where more are drawn
-pub drawn_more : (ss : List Seat) (n m : ℕ) → m ≡ n + 1 → list_all (is_drawn_by n) ss ≡ true → list_all (is_drawn_by m) ss ≡ true
+pub drawn_more : (ss : List Handle) (n m : ℕ) → m ≡ n + 1 → list_all (is_drawn_by n) ss ≡ true → list_all (is_drawn_by m) ss ≡ true
 drawn_more [] n m more is = refl
 drawn_more (x ∷ ss) n m more is =
     let two = and_parts (is_drawn_by n x) (list_all (is_drawn_by n) ss) is in
@@ -20,58 +20,58 @@ drawn_more (x ∷ ss) n m more is =
     further : (d n m : ℕ) → m ≡ n + 1 → nat_le d n ≡ true → nat_le d m ≡ true
     further d n m more le = grind (arith, nat_tests)
 
-pub grants_push : (ss : List Seat) (x : Seat) → grants_in (ss ++ x ∷ []) ≡ grants_in ss ++ x.grant ∷ []
+pub grants_push : (ss : List Handle) (x : Handle) → grants_in (ss ++ x ∷ []) ≡ grants_in ss ++ x.grant ∷ []
 grants_push [] x = refl
 grants_push (y ∷ ss) x = ap (λ more. y.grant ∷ more) (grants_push ss x)
 
--- a grant whose seat has no draft has none
-pub draft_none : (ds : List Opened) (who : ℕ) (t : Tuid) (ss : List Seat) (grants : List Grant) → grants_in ss ≡ map bare grants → AreDraftsOf ds ss grants → have_draft (tables.is_grant who t) ss ≡ false
+-- a grant whose handle has no draft has none
+pub draft_none : (ds : List Opened) (who : ℕ) (t : Tuid) (ss : List Handle) (grants : List Grant) → grants_in ss ≡ map bare grants → AreDraftsOf ds ss grants → have_draft (tables.is_grant who t) ss ≡ false
     → (x : Grant) → find (is_grant who t) grants ≡ Some x → x.draft ≡ None
 draft_none ds who t [] [] table are none x found = cc
 draft_none ds who t [] (y ∷ grants) table are none x found = absurd are
-draft_none ds who t (seat ∷ ss) [] table are none x found = cc
-draft_none ds who t (seat ∷ ss) (y ∷ grants) table are none x found =
-    let head : seat.grant ≡ bare y = cc in
+draft_none ds who t (handle ∷ ss) [] table are none x found = cc
+draft_none ds who t (handle ∷ ss) (y ∷ grants) table are none x found =
+    let head : handle.grant ≡ bare y = cc in
     let tail : grants_in ss ≡ map bare grants = cc in
-    let two = or_parts (tables.is_grant who t seat.grant && is_some seat.drafting) (have_draft (tables.is_grant who t) ss) none in
-    at (draft_none ds who t ss grants tail are.1 two.1 x) (is_grant who t y) (subst (λ (e : seats.Grant). (tables.is_grant who t e && is_some seat.drafting) ≡ false) head two.0) found
+    let two = or_parts (tables.is_grant who t handle.grant && is_some handle.drafting) (have_draft (tables.is_grant who t) ss) none in
+    at (draft_none ds who t ss grants tail are.1 two.1 x) (is_grant who t y) (subst (λ (e : handles.Grant). (tables.is_grant who t e && is_some handle.drafting) ≡ false) head two.0) found
   where
-    here : (drafting : Option Drafting) (d : Option Draft) → is_some drafting ≡ false → HasDraftOf ds seat drafting d → d ≡ None
+    here : (drafting : Option Drafting) (d : Option Draft) → is_some drafting ≡ false → HasDraftOf ds handle drafting d → d ≡ None
     here None None none has = refl
     here None (Some d) none has = absurd has
     here (Some drafting) d none has = cc
 
-    at : (find (is_grant who t) grants ≡ Some x → x.draft ≡ None) → (b : Bool) → (b && is_some seat.drafting) ≡ false → cond b (Some y) (find (is_grant who t) grants) ≡ Some x → x.draft ≡ None
-    at rest true quiet found = (let same : y ≡ x = cc in ap (λ (e : Grant). e.draft) (sym same) ∙ here seat.drafting y.draft quiet are.0)
+    at : (find (is_grant who t) grants ≡ Some x → x.draft ≡ None) → (b : Bool) → (b && is_some handle.drafting) ≡ false → cond b (Some y) (find (is_grant who t) grants) ≡ Some x → x.draft ≡ None
+    at rest true quiet found = (let same : y ≡ x = cc in ap (λ (e : Grant). e.draft) (sym same) ∙ here handle.drafting y.draft quiet are.0)
     at rest false quiet found = rest found
 
 -- ---- the drafts of other grants
 
 -- the grants after a call have the drafts of those before it
-pub record KeepsDrafts (ss left : List Seat) (grants after : List Grant) : Type 0 where
-  pub same : drafts_of_seats left after ≡ drafts_of_seats ss grants
+pub record KeepsDrafts (ss left : List Handle) (grants after : List Grant) : Type 0 where
+  pub same : drafts_of_handles left after ≡ drafts_of_handles ss grants
   pub have : (ds : List Opened) → AreDraftsOf ds ss grants → AreDraftsOf ds left after
 
-module _ (ds : List Opened) (seat : Seat) (grant : Grant) (has : HasDraftOf ds seat seat.drafting grant.draft) where
+module _ (ds : List Opened) (handle : Handle) (grant : Grant) (has : HasDraftOf ds handle handle.drafting grant.draft) where
   -- one more
-  pub push_have : (ss : List Seat) (grants : List Grant) → AreDraftsOf ds ss grants → AreDraftsOf ds (ss ++ seat ∷ []) (grants ++ grant ∷ [])
+  pub push_have : (ss : List Handle) (grants : List Grant) → AreDraftsOf ds ss grants → AreDraftsOf ds (ss ++ handle ∷ []) (grants ++ grant ∷ [])
   push_have [] [] are = (has, tt)
   push_have [] (x ∷ grants) are = absurd are
   push_have (x ∷ ss) [] are = absurd are
   push_have (x ∷ ss) (y ∷ grants) are = (are.0, push_have ss grants are.1)
 
-pub push_drafts : (ds : List Opened) (seat : Seat) (grant : Grant) (ss : List Seat) (grants : List Grant) → AreDraftsOf ds ss grants
-    → drafts_of_seats (ss ++ seat ∷ []) (grants ++ grant ∷ []) ≡ drafts_at seat seat.drafting grant.draft ++ drafts_of_seats ss grants
-push_drafts ds seat grant [] [] are = sym (append-nil _)
-push_drafts ds seat grant [] (x ∷ grants) are = absurd are
-push_drafts ds seat grant (x ∷ ss) [] are = absurd are
-push_drafts ds seat grant (x ∷ ss) (y ∷ grants) are = ap (λ more. more ++ drafts_at x x.drafting y.draft) (push_drafts ds seat grant ss grants are.1) ∙ append_assoc (drafts_at seat seat.drafting grant.draft) _ _
+pub push_drafts : (ds : List Opened) (handle : Handle) (grant : Grant) (ss : List Handle) (grants : List Grant) → AreDraftsOf ds ss grants
+    → drafts_of_handles (ss ++ handle ∷ []) (grants ++ grant ∷ []) ≡ drafts_at handle handle.drafting grant.draft ++ drafts_of_handles ss grants
+push_drafts ds handle grant [] [] are = sym (append-nil _)
+push_drafts ds handle grant [] (x ∷ grants) are = absurd are
+push_drafts ds handle grant (x ∷ ss) [] are = absurd are
+push_drafts ds handle grant (x ∷ ss) (y ∷ grants) are = ap (λ more. more ++ drafts_at x x.drafting y.draft) (push_drafts ds handle grant ss grants are.1) ∙ append_assoc (drafts_at handle handle.drafting grant.draft) _ _
 
-module _ (test : seats.Grant → Bool) where
+module _ (test : handles.Grant → Bool) where
   abbrev left_of : List Grant → List Grant
   left_of grants = filter (λ grant. not (test (bare grant))) grants
 
-  but_have : (ds : List Opened) (ss : List Seat) (grants : List Grant) → grants_in ss ≡ map bare grants → AreDraftsOf ds ss grants → AreDraftsOf ds (seats_but test ss) (left_of grants)
+  but_have : (ds : List Opened) (ss : List Handle) (grants : List Grant) → grants_in ss ≡ map bare grants → AreDraftsOf ds ss grants → AreDraftsOf ds (handles_but test ss) (left_of grants)
   but_have ds [] [] table are = tt
   but_have ds [] (y ∷ grants) table are = absurd are
   but_have ds (x ∷ ss) [] table are = absurd are
@@ -80,12 +80,12 @@ module _ (test : seats.Grant → Bool) where
       let tail : grants_in ss ≡ map bare grants = cc in
       rw (← head) (at (but_have ds ss grants tail are.1) (test x.grant))
     where
-      at : AreDraftsOf ds (seats_but test ss) (left_of grants) → (b : Bool) → AreDraftsOf ds (cond (not b) (x ∷ seats_but test ss) (seats_but test ss)) (cond (not b) (y ∷ left_of grants) (left_of grants))
+      at : AreDraftsOf ds (handles_but test ss) (left_of grants) → (b : Bool) → AreDraftsOf ds (cond (not b) (x ∷ handles_but test ss) (handles_but test ss)) (cond (not b) (y ∷ left_of grants) (left_of grants))
       at rest true = rest
       at rest false = (are.0, rest)
 
-  but_same : (ds : List Opened) (ss : List Seat) (grants : List Grant) → grants_in ss ≡ map bare grants → AreDraftsOf ds ss grants → have_draft test ss ≡ false
-      → drafts_of_seats (seats_but test ss) (left_of grants) ≡ drafts_of_seats ss grants
+  but_same : (ds : List Opened) (ss : List Handle) (grants : List Grant) → grants_in ss ≡ map bare grants → AreDraftsOf ds ss grants → have_draft test ss ≡ false
+      → drafts_of_handles (handles_but test ss) (left_of grants) ≡ drafts_of_handles ss grants
   but_same ds [] [] table are none = refl
   but_same ds [] (y ∷ grants) table are none = absurd are
   but_same ds (x ∷ ss) [] table are none = absurd are
@@ -99,16 +99,16 @@ module _ (test : seats.Grant → Bool) where
       gone None d none = refl
       gone (Some drafting) d none = cc
 
-      at : drafts_of_seats (seats_but test ss) (left_of grants) ≡ drafts_of_seats ss grants → (b : Bool) → (b && is_some x.drafting) ≡ false
-          → drafts_of_seats (cond (not b) (x ∷ seats_but test ss) (seats_but test ss)) (cond (not b) (y ∷ left_of grants) (left_of grants)) ≡ drafts_of_seats ss grants ++ drafts_at x x.drafting y.draft
-      at rest true bare = rest ∙ sym (append-nil _) ∙ ap (λ more. drafts_of_seats ss grants ++ more) (sym (gone x.drafting y.draft bare))
+      at : drafts_of_handles (handles_but test ss) (left_of grants) ≡ drafts_of_handles ss grants → (b : Bool) → (b && is_some x.drafting) ≡ false
+          → drafts_of_handles (cond (not b) (x ∷ handles_but test ss) (handles_but test ss)) (cond (not b) (y ∷ left_of grants) (left_of grants)) ≡ drafts_of_handles ss grants ++ drafts_at x x.drafting y.draft
+      at rest true bare = rest ∙ sym (append-nil _) ∙ ap (λ more. drafts_of_handles ss grants ++ more) (sym (gone x.drafting y.draft bare))
       at rest false bare = ap (λ more. more ++ drafts_at x x.drafting y.draft) rest
 
   -- fewer, of which those that go have none
-  pub but_keeps : (ds : List Opened) (ss : List Seat) (grants : List Grant) → grants_in ss ≡ map bare grants → AreDraftsOf ds ss grants → have_draft test ss ≡ false → KeepsDrafts ss (seats_but test ss) grants (left_of grants)
+  pub but_keeps : (ds : List Opened) (ss : List Handle) (grants : List Grant) → grants_in ss ≡ map bare grants → AreDraftsOf ds ss grants → have_draft test ss ≡ false → KeepsDrafts ss (handles_but test ss) grants (left_of grants)
   but_keeps ds ss grants table are none = record { same = but_same ds ss grants table are none; have = λ es. but_have es ss grants table }
 
-  pub but_table : (ss : List Seat) (grants : List Grant) → grants_in ss ≡ map bare grants → grants_in (seats_but test ss) ≡ map bare (left_of grants)
+  pub but_table : (ss : List Handle) (grants : List Grant) → grants_in ss ≡ map bare grants → grants_in (handles_but test ss) ≡ map bare (left_of grants)
   but_table [] [] table = refl
   but_table [] (y ∷ grants) table = cc
   but_table (x ∷ ss) [] table = cc
@@ -117,19 +117,19 @@ module _ (test : seats.Grant → Bool) where
       let tail : grants_in ss ≡ map bare grants = cc in
       rw (← head) (at head (but_table ss grants tail) (test x.grant))
     where
-      at : x.grant ≡ bare y → grants_in (seats_but test ss) ≡ map bare (left_of grants) → (b : Bool)
-          → grants_in (cond (not b) (x ∷ seats_but test ss) (seats_but test ss)) ≡ map bare (cond (not b) (y ∷ left_of grants) (left_of grants))
+      at : x.grant ≡ bare y → grants_in (handles_but test ss) ≡ map bare (left_of grants) → (b : Bool)
+          → grants_in (cond (not b) (x ∷ handles_but test ss) (handles_but test ss)) ≡ map bare (cond (not b) (y ∷ left_of grants) (left_of grants))
       at head rest true = rest
       at head rest false = rw (head, rest) refl
 
 -- ---- the state with these grants
 
-module _ {D : Type 0} (g : Ghosts D) (k : Kernel D) (left : List Seat) (s after : State) (serves : Serves g k s) (is : IsStepped k (record k { seats = left }) s after s.graph) (state : IsState after) (keeps : KeepsDrafts k.seats left s.grants after.grants) where
+module _ {D : Type 0} (g : Ghosts D) (k : Kernel D) (left : List Handle) (s after : State) (serves : Serves g k s) (is : IsStepped k (record k { handles = left }) s after s.graph) (state : IsState after) (keeps : KeepsDrafts k.handles left s.grants after.grants) where
   abbrev new : Kernel D
-  new = record k { seats = left }
+  new = record k { handles = left }
 
   abbrev ds : List Opened
-  ds = drafts_of_seats k.seats s.grants
+  ds = drafts_of_handles k.handles s.grants
 
   has : HasStepped g k new s s.graph (λ entry. false) ds
   has = record {

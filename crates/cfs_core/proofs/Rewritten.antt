@@ -1,6 +1,6 @@
 -- A draft that is written or resized, as the core asks for it.
 use Rattle.std.proofs.Common.{◌≡◌, ℕ, ◌+◌, ◌-◌, ◌/◌, ◌<◌, ◌≤◌, Bool, true, false, [], None, Some, Ok, Err, refl, sym, subst, arith, IfErr, Result, sum}
-use Rattle.cfs_core.proofs.Words.{Drafting, Ends, Ghosts, HasStopped, is_damage, is_damaged, is_full, IsTrouble, Kept, OnlyReads, reads_within, Refused, refused_by, Resizes, Trouble, trouble_had_tried}
+use Rattle.cfs_core.proofs.Words.{Drafting, Ends, Ghosts, HasStopped, is_damage, is_damaged, is_full_refusal, IsTrouble, Kept, OnlyReads, reads_within, Refused, refused_by, Resizes, Trouble, trouble_had_tried}
 use Rattle.cfs_base.specs.declared.refusal.Trouble.TheVariants as troubles
 use Rattle.cfs_base.specs.declared.refusal.Refused.TheVariants as refusals
 use Rattle.cfs_core.specs.Looks.{IsDraftCause}
@@ -18,16 +18,16 @@ module _ {D A : Type 0} (g : Ghosts D) (at n t k : ℕ) (old new : D) (before af
 
   -- what is told where a write is Full; and that nothing was done then
   module _ (need : ℕ) where
-    pub told_of_full : (r : Result A Refused) → IfErr r (λ e. is_full e ≡ true → (e ≡ refusals.Full (record { free = sum before.free; need = need })) × (sum before.free < need + 4) × (new ≡ old) × (after ≡ before) × (now ≡ was)) → IfErr r (λ e. is_full e ≡ true → (e ≡ refusals.Full (record { free = sum before.free; need = need })) × (sum before.free < need + 4))
+    pub told_of_full : (r : Result A Refused) → IfErr r (λ e. is_full_refusal e ≡ true → (e ≡ refusals.Full (record { free = sum before.free; need = need })) × (sum before.free < need + 4) × (new ≡ old) × (after ≡ before) × (now ≡ was)) → IfErr r (λ e. is_full_refusal e ≡ true → (e ≡ refusals.Full (record { free = sum before.free; need = need })) × (sum before.free < need + 4))
     told_of_full (Ok x) is = tt
     told_of_full (Err e) is = λ full. ((is full).0, (is full).1)
 
-    pub spared_so : (r : Result A Refused) → IfErr r (λ e. is_full e ≡ true → (e ≡ refusals.Full (record { free = sum before.free; need = need })) × (sum before.free < need + 4) × (new ≡ old) × (after ≡ before) × (now ≡ was)) → IfErr r (λ e. is_full e ≡ true → OnlyReads g 31092 old new × (after ≡ before) × (now ≡ was))
+    pub spared_so : (r : Result A Refused) → IfErr r (λ e. is_full_refusal e ≡ true → (e ≡ refusals.Full (record { free = sum before.free; need = need })) × (sum before.free < need + 4) × (new ≡ old) × (after ≡ before) × (now ≡ was)) → IfErr r (λ e. is_full_refusal e ≡ true → OnlyReads g 31092 old new × (after ≡ before) × (now ≡ was))
     spared_so (Ok x) is = tt
     spared_so (Err e) is = λ full. (subst (λ (d : D). OnlyReads g 31092 old d) (sym (is full).2) (reads_none g 31092 old), (is full).3, (is full).4)
 
   -- and of a resize but a read
-  pub spared_one : (r : Result A Refused) → IfErr r (λ e. is_full e ≡ true → OnlyReads g 1 old new × (after ≡ before) × (now ≡ was)) → IfErr r (λ e. is_full e ≡ true → OnlyReads g 31092 old new × (after ≡ before) × (now ≡ was))
+  pub spared_one : (r : Result A Refused) → IfErr r (λ e. is_full_refusal e ≡ true → OnlyReads g 1 old new × (after ≡ before) × (now ≡ was)) → IfErr r (λ e. is_full_refusal e ≡ true → OnlyReads g 31092 old new × (after ≡ before) × (now ≡ was))
   spared_one (Ok x) is = tt
   spared_one (Err e) is = λ full. (reads_within g old new 1 31092 (omega arith) (is full).0, (is full).1, (is full).2)
 

@@ -6,7 +6,7 @@ use Rattle.ufs_model.specs.declared.object.Object.TheVariants as objects
 use Rattle.cfs_core.specs.Calls.{AddsNoStray, Makes}
 use Rattle.cfs_core.specs.Kernel.{Kernel}
 use Rattle.cfs_core.specs.Room.{lost_blocks}
-use Rattle.cfs_core.specs.StandsFor.{HasCollection, Serves, Stands, StandsFor, Stores, drafts_of_seats, is_sweeping}
+use Rattle.cfs_core.specs.StandsFor.{HasCollection, Serves, Stands, StandsFor, Stores, drafts_of_handles, is_sweeping}
 use Rattle.cfs_core.proofs.Ways.{shut_at}
 
 -- ---- the directory
@@ -62,14 +62,14 @@ fewer_lost a b g h wide adds =
 
 module _ {D : Type 0} (g : Ghosts D) (k : Kernel D) (s : State) (serves : Serves g k s) where
   abbrev drafts : List Opened
-  drafts = drafts_of_seats k.seats s.grants
+  drafts = drafts_of_handles k.handles s.grants
 
   pub running : k.stop ≡ None → is_running s ≡ true
   running none = rw (serves.front.stopped, none) refl
 
   -- an index has no draft
   pub shut : (index : Puid) (i : Index) → object_at s.graph index ≡ Some (objects.Index i) → drafts_of drafts index ≡ []
-  shut index i found = shut_at s.graph index i found k.seats s.grants serves.front.grants serves.state.grants
+  shut index i found = shut_at s.graph index i found k.handles s.grants serves.front.grants serves.state.grants
 
   pub kind_there : (id : Puid) → kind_in k.names.named id ≡ option_map kind_of (object_at s.graph id)
   kind_there id = ap (λ named. kind_in named id) serves.front.names ∙ kind_in-kinds_in s.graph.objects id
@@ -129,7 +129,7 @@ module _ {D : Type 0} (g : Ghosts D) (n : ℕ) (old new : Kernel D) (reads : Onl
         front = record { drawn = serves.front.drawn; names = serves.front.names; grants = serves.front.grants; stopped = serves.front.stopped };
         state = serves.state;
         root = serves.root;
-        store = store_reads g s.graph (drafts_of_seats old.seats s.grants) old.disk new.disk old.space n serves.store reads;
+        store = store_reads g s.graph (drafts_of_handles old.handles s.grants) old.disk new.disk old.space n serves.store reads;
         left = serves.left;
         drafts = serves.drafts;
         swept = λ none. subst (λ (i : Image). IsSwept i s.graph) (sym reads.content) (serves.swept none);

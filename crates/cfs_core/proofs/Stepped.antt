@@ -13,10 +13,10 @@ use Rattle.cfs_core.specs.declared.collecting.Step.TheVariants as steps
 use Rattle.cfs_core.specs.declared.kernel.Stop.{Stop}
 use Rattle.cfs_core.proofs.Damages.{told_as}
 use Rattle.cfs_core.specs.Calls.{IsCause}
-use Rattle.cfs_core.specs.Collect.{Collects, EndsUnmade, HappensOrRests, HasBegun, IsFaultCause, IsMadeOrNot, IsNoDamage, IsStep, IsTidy, IsUnchanged, LeavesAll, MovesTo, StepsSo, TriesStep, event_of, fault_of, is_want, phase_of, stop_by}
-use Rattle.cfs_core.specs.Kernel.{AreKept, IsSized, Kernel, Seat, is_ready, marks_in, runs, sweeps_in}
+use Rattle.cfs_core.specs.Collect.{Collects, EndsUnmade, HappensOrRests, HasBegun, IsFaultCause, IsMadeOrNot, IsNoDamage, IsStep, IsTidy, IsUnchanged, LeavesAll, MovesTo, StepsSo, TriesStep, event_of, fault_for, is_starved, phase_of, stop_by}
+use Rattle.cfs_core.specs.Kernel.{AreKept, IsSized, Kernel, Handle, is_ready, marks_in, runs, sweeps_in}
 use Rattle.cfs_core.specs.Room.{lost_blocks}
-use Rattle.cfs_core.specs.StandsFor.{AreDraftsOf, HasCollection, HasCollector, Serves, StandsFor, bare, drafts_of_seats}
+use Rattle.cfs_core.specs.StandsFor.{AreDraftsOf, HasCollection, HasCollector, Serves, StandsFor, bare, drafts_of_handles}
 use Rattle.cfs_core.proofs.Answering.{reads_none}
 use Rattle.cfs_core.specs.Rescues.{AreRescued}
 use Rattle.cfs_core.proofs.Collected.{collection_ready}
@@ -46,7 +46,7 @@ collects_stopped g k stop is = record {
   calls = read_calls g k.disk k.disk 0 (reads_none g 0 k.disk) (omega arith);
   root = refl;
   words = refl;
-  seats = refl;
+  handles = refl;
   goes = tt;
 }
 
@@ -89,7 +89,7 @@ module _ {D : Type 0} (g : Ghosts D) (left_sized : (d : D) (t : ℕ) (c : Image)
     calls = is.calls;
     root = ap (λ (k : Kernel D). k.root) is.same;
     words = ap (λ (k : Kernel D). k.words) is.same;
-    seats = ap (λ (k : Kernel D). k.seats) is.same;
+    handles = ap (λ (k : Kernel D). k.handles) is.same;
     goes = is.ends.goes kept;
   }
 
@@ -97,9 +97,9 @@ module _ {D : Type 0} (g : Ghosts D) (left_sized : (d : D) (t : ℕ) (c : Image)
 module _ {D : Type 0} (g : Ghosts D) (left_sized : (d : D) (t : ℕ) (c : Image) → g.left_since d t c → length c ≡ g.blocks d) (sized : (d : D) → IsTrue (g.honest d) → length (g.content d) ≡ g.blocks d)
     (old mid : Kernel D) (none : old.stop ≡ None) where
   abbrev stopped_as : Refused → Kernel D
-  stopped_as refused = record mid { stop = stop_by (fault_of refused (g.moment mid.disk)) mid.stop }
+  stopped_as refused = record mid { stop = stop_by (fault_for refused (g.moment mid.disk)) mid.stop }
 
-  halted : (refused : Refused) (moment : ℕ) (s : State) → TriesStep g old mid (Err refused) → Serves g old s → EndsUnmade g old mid s refused → IsStep g old (record mid { stop = stop_by (fault_of refused moment) mid.stop }) s (Err (fault_of refused moment))
+  halted : (refused : Refused) (moment : ℕ) (s : State) → TriesStep g old mid (Err refused) → Serves g old s → EndsUnmade g old mid s refused → IsStep g old (record mid { stop = stop_by (fault_for refused moment) mid.stop }) s (Err (fault_for refused moment))
   halted (refusals.Full need) moment s tries serves is = absurd is
   halted (refusals.Disk false) moment s tries serves is = happens g left_sized sized old mid tries.calls.same.size none (ap (λ (k : Kernel D). k.stop) tries.same ∙ none) s None serves is
   halted (refusals.Disk true) moment s tries serves is =
@@ -115,7 +115,7 @@ module _ {D : Type 0} (g : Ghosts D) (left_sized : (d : D) (t : ℕ) (c : Image)
   halted (refusals.Damaged damage) moment s tries serves is = absurd is
   halted refusals.Memory moment s tries serves is = happens g left_sized sized old mid tries.calls.same.size none (ap (λ (k : Kernel D). k.stop) tries.same ∙ none) s None serves is
 
-  told_cause : (refused : Refused) → (stop : Option Stop) → IsCause g old mid None refused → IsFaultCause g old (record mid { stop = stop }) (fault_of refused (g.moment mid.disk))
+  told_cause : (refused : Refused) → (stop : Option Stop) → IsCause g old mid None refused → IsFaultCause g old (record mid { stop = stop }) (fault_for refused (g.moment mid.disk))
   told_cause (refusals.Full need) stop is = tt
   told_cause (refusals.Disk false) stop is = is
   told_cause (refusals.Disk true) stop is = (is, refl)
@@ -125,21 +125,21 @@ module _ {D : Type 0} (g : Ghosts D) (left_sized : (d : D) (t : ℕ) (c : Image)
   with_stop : (stop : Option Stop) → IsUnchanged g old mid → IsUnchanged g old (record mid { stop = stop })
   with_stop stop is = record { reads = is.reads; names = is.names; space = is.space; collector = is.collector; finished = is.finished }
 
-  still_told : (refused : Refused) (moment : ℕ) → (had_tried refused ≡ false → IsUnchanged g old mid) → LeavesAll g old (record mid { stop = stop_by (fault_of refused moment) mid.stop }) (fault_of refused moment)
+  still_told : (refused : Refused) (moment : ℕ) → (had_tried refused ≡ false → IsUnchanged g old mid) → LeavesAll g old (record mid { stop = stop_by (fault_for refused moment) mid.stop }) (fault_for refused moment)
   still_told (refusals.Full need) moment still = with_stop mid.stop (still refl)
   still_told (refusals.Disk false) moment still = with_stop mid.stop (still refl)
   still_told (refusals.Disk true) moment still = tt
   still_told (refusals.Damaged damage) moment still = tt
   still_told refusals.Memory moment still = with_stop mid.stop (still refl)
 
-  no_damage : (refused : Refused) (moment : ℕ) (s : State) → EndsUnmade g old mid s refused → IsNoDamage (fault_of refused moment)
+  no_damage : (refused : Refused) (moment : ℕ) (s : State) → EndsUnmade g old mid s refused → IsNoDamage (fault_for refused moment)
   no_damage (refusals.Full need) moment s is = tt
   no_damage (refusals.Disk false) moment s is = tt
   no_damage (refusals.Disk true) moment s is = tt
   no_damage (refusals.Damaged damage) moment s is = absurd is
   no_damage refusals.Memory moment s is = tt
 
-  want_told : (refused : Refused) (moment : ℕ) → fault_of refused moment ≡ faults.Memory → is_want refused ≡ true
+  want_told : (refused : Refused) (moment : ℕ) → fault_for refused moment ≡ faults.Memory → is_starved refused ≡ true
   want_told (refusals.Full need) moment is = refl
   want_told (refusals.Disk false) moment is = cc
   want_told (refusals.Disk true) moment is = cc
@@ -149,8 +149,8 @@ module _ {D : Type 0} (g : Ghosts D) (left_sized : (d : D) (t : ℕ) (c : Image)
   same_err : {e f : CollectFault} → ◌≡◌ {A = Result Step CollectFault} (Err e) (Err f) → e ≡ f
   same_err is = cc
 
-  pub collects_err : (refused : Refused) (new : Kernel D) → new ≡ stopped_as refused → TriesStep g old mid (Err refused) → Collects g old new (Err (fault_of refused (g.moment mid.disk)))
-  collects_err refused new is tries = subst (λ (k : Kernel D). Collects g old k (Err (fault_of refused (g.moment mid.disk)))) (sym is) (record {
+  pub collects_err : (refused : Refused) (new : Kernel D) → new ≡ stopped_as refused → TriesStep g old mid (Err refused) → Collects g old new (Err (fault_for refused (g.moment mid.disk)))
+  collects_err refused new is tries = subst (λ (k : Kernel D). Collects g old k (Err (fault_for refused (g.moment mid.disk)))) (sym is) (record {
     event = λ s stands. let serves = serves_from g old s none stands in halted refused (g.moment mid.disk) s tries serves (tries.ends.ends s serves none);
     stopped = λ stop same. cc;
     due = tt;
@@ -160,14 +160,14 @@ module _ {D : Type 0} (g : Ghosts D) (left_sized : (d : D) (t : ℕ) (c : Image)
     still = still_told refused (g.moment mid.disk) tries.ends.still;
     called = ap (λ (k : Kernel D). k.collections.called) tries.same;
     sound = λ _ s stands. no_damage refused (g.moment mid.disk) s (tries.ends.ends s (serves_from g old s none stands) none);
-    stops = ap (λ (o : Option Stop). stop_by (fault_of refused (g.moment mid.disk)) o) (ap (λ (k : Kernel D). k.stop) tries.same);
+    stops = ap (λ (o : Option Stop). stop_by (fault_for refused (g.moment mid.disk)) o) (ap (λ (k : Kernel D). k.stop) tries.same);
     goes_on = tt;
     cause = told_cause refused _ tries.ends.cause;
     wants = λ told. tries.ends.wants (want_told refused _ (same_err told));
     calls = tries.calls;
     root = ap (λ (k : Kernel D). k.root) tries.same;
     words = ap (λ (k : Kernel D). k.words) tries.same;
-    seats = ap (λ (k : Kernel D). k.seats) tries.same;
+    handles = ap (λ (k : Kernel D). k.handles) tries.same;
     goes = tt;
   })
 
@@ -204,20 +204,20 @@ module _ {D : Type 0} (g : Ghosts D) (k : Kernel D) where
 
   -- ---- a collection begins
 
-  open_are : (seats : List Seat) (grants : List Grant) → map (λ (x : Seat). x.grant) seats ≡ map bare grants → map (λ (x : Seat). x.grant.id) seats ≡ map (λ (x : Grant). x.id) grants
+  open_are : (handles : List Handle) (grants : List Grant) → map (λ (x : Handle). x.grant) handles ≡ map bare grants → map (λ (x : Handle). x.grant.id) handles ≡ map (λ (x : Grant). x.id) grants
   open_are [] [] are = refl
   open_are [] (y ∷ grants) are = cc
-  open_are (x ∷ seats) [] are = cc
-  open_are (x ∷ seats) (y ∷ grants) are =
+  open_are (x ∷ handles) [] are = cc
+  open_are (x ∷ handles) (y ∷ grants) are =
       let here : x.grant ≡ bare y = cc in
-      let rest : map (λ (z : Seat). z.grant) seats ≡ map bare grants = cc in
-      rw (here, open_are seats grants rest) refl
+      let rest : map (λ (z : Handle). z.grant) handles ≡ map bare grants = cc in
+      rw (here, open_are handles grants rest) refl
 
-  pub steps_begun : (roots : List Puid) → roots ≡ k.root ∷ map (λ (x : Seat). x.grant.id) k.seats → (l : Collecting) → HasBegun roots k.names.named l
+  pub steps_begun : (roots : List Puid) → roots ≡ k.root ∷ map (λ (x : Handle). x.grant.id) k.handles → (l : Collecting) → HasBegun roots k.names.named l
       → phase_of k.collections.collector ≡ phases.Idle → k.collections.finished < k.collections.called → volume_of l ≡ g.blocks k.disk → TriesStep g k (record k { collections = record k.collections { collector = Some l } }) (Ok steps.Began)
   steps_begun roots are l begun idle more volume = steps_here (record k.collections { collector = Some l }) (Ok steps.Began) (record {
     moves = λ s serves none.
-        let these = are ∙ ap (λ (x : Puid). x ∷ map (λ (y : Seat). y.grant.id) k.seats) (sym serves.root) ∙ ap (λ (ids : List Puid). s.graph.root ∷ ids) (open_are k.seats s.grants serves.front.grants) in
+        let these = are ∙ ap (λ (x : Puid). x ∷ map (λ (y : Handle). y.grant.id) k.handles) (sym serves.root) ∙ ap (λ (ids : List Puid). s.graph.root ∷ ids) (open_are k.handles s.grants serves.front.grants) in
         begins g k s serves (running g k s serves none) (record k.collections { collector = Some l }) l refl idle roots these begun;
     due = (runs_not k.collections.collector idle, more);
     counted = (begun.steps, begun.added, refl);
@@ -236,14 +236,14 @@ module _ {D : Type 0} (g : Ghosts D) (k : Kernel D) where
     col_there : (s : State) → Serves g k s → HasCollector (g.content k.disk) s col
     col_there s serves = subst (HasCollection (g.content k.disk) s) there serves.collecting
 
-    none_open : (seats : List Seat) (grants : List Grant) → seats ≡ [] → AreDraftsOf (drafts_of_seats seats grants) seats grants → drafts_of_seats seats grants ≡ []
+    none_open : (handles : List Handle) (grants : List Grant) → handles ≡ [] → AreDraftsOf (drafts_of_handles handles grants) handles grants → drafts_of_handles handles grants ≡ []
     none_open [] [] none drafts = refl
     none_open [] (y ∷ grants) none drafts = absurd drafts
-    none_open (x ∷ seats) grants none drafts = cc
+    none_open (x ∷ handles) grants none drafts = cc
 
-    over : (s : State) → Serves g k s → k.seats ≡ [] → IsTidy (g.content k.disk) s.graph
+    over : (s : State) → Serves g k s → k.handles ≡ [] → IsTidy (g.content k.disk) s.graph
     over s serves none =
-        tidy (g.content k.disk) s.graph (subst (λ ds. Accounts (g.content k.disk) s.graph ds) (none_open k.seats s.grants none serves.drafts) serves.store.account) serves.store.ordered
+        tidy (g.content k.disk) s.graph (subst (λ ds. Accounts (g.content k.disk) s.graph ds) (none_open k.handles s.grants none serves.drafts) serves.store.account) serves.store.ordered
         (subst (λ p. IsCollecting p (g.content k.disk) s col) swept (col_there s serves).collects).0
 
     pub steps_ended : l.steps ≡ count_after col.steps → l.added ≡ col.added → volume_of col ≡ g.blocks k.disk
@@ -272,7 +272,7 @@ kept_on room c col l there before after volume kept = record {
   few = omega (arith, kept.few, ap {B = ℕ} (λ o. cond (runs o) 1 0) there, ap {B = ℕ} (λ b. cond b 1 0) before, ap {B = ℕ} (λ b. cond b 1 0) after);
 }
 
-pub sized_on : {D : Type 0} (g : Ghosts D) (d e : D) (names left : Listing) (before after : Kept) (ss : List Seat) (drawn : ℕ) (c : Collections) (col l : Collecting) (result : Result Step Refused)
+pub sized_on : {D : Type 0} (g : Ghosts D) (d e : D) (names left : Listing) (before after : Kept) (ss : List Handle) (drawn : ℕ) (c : Collections) (col l : Collecting) (result : Result Step Refused)
     → c.collector ≡ Some col → runs (Some col) ≡ true → StepsSo g d e before after names left col l result → IsSized g.blocks d names before ss drawn c → IsSized g.blocks e left after ss drawn (record c { collector = Some l })
 sized_on g d e names left before after ss drawn c col l result there running is sized = record {
   size = is.size ∙ sized.size ∙ ap (λ (n : ℕ). 64 * n) (sym is.cylinders);

@@ -16,11 +16,11 @@ use Rattle.cfs_core.specs.declared.collecting.Step.TheVariants as steps
 use Rattle.cfs_core.proofs.Damages.{told_of_map, told_of_scan}
 use Rattle.cfs_core.specs.Calls.{IsCause}
 use Rattle.cfs_core.specs.Damage.{IsOfGrey}
-use Rattle.cfs_core.specs.Collect.{EndsUnmade, HasBegun, IsMade, IsMadeOrNot, IsNext, MovesTo, StepsSo, is_want, phase_of, sweeps_blocks, told_as, with_parts}
-use Rattle.cfs_core.specs.Kernel.{Kernel, Seat, marks_in, runs, sweeps_in}
+use Rattle.cfs_core.specs.Collect.{EndsUnmade, HasBegun, IsMade, IsMadeOrNot, IsNext, MovesTo, StepsSo, is_starved, phase_of, sweeps_blocks, told_as, with_parts}
+use Rattle.cfs_core.specs.Kernel.{Kernel, Handle, marks_in, runs, sweeps_in}
 use Rattle.cfs_core.specs.Left.{GoesOn, RunsBy}
 use Rattle.cfs_core.specs.Room.{MayLose, lost_blocks}
-use Rattle.cfs_core.specs.StandsFor.{HasCollection, HasCollector, Serves, bare, drafts_of_seats, is_sweeping}
+use Rattle.cfs_core.specs.StandsFor.{HasCollection, HasCollector, Serves, bare, drafts_of_handles, is_sweeping}
 use Rattle.cfs_core.proofs.Answering.{reads_none}
 use Rattle.cfs_core.proofs.Collected.{as_before, collection_ready, none_is}
 use Rattle.cfs_core.proofs.Lefts.{events_swept, goes_within}
@@ -59,21 +59,21 @@ in_sweep pass phases.Swept is = absurd is
 -- ---- where a step leaves the state
 
 -- a draft is of an object that is open
-drafts_open : (all : List Puid) (seats : List Seat) (grants : List Grant) → map (λ (x : Seat). x.grant) seats ≡ map bare grants → list_all (λ id. is_among id all) (map (λ (x : Grant). x.id) grants) ≡ true
-    → list_all (λ d. is_among d.id all) (drafts_of_seats seats grants) ≡ true
+drafts_open : (all : List Puid) (handles : List Handle) (grants : List Grant) → map (λ (x : Handle). x.grant) handles ≡ map bare grants → list_all (λ id. is_among id all) (map (λ (x : Grant). x.id) grants) ≡ true
+    → list_all (λ d. is_among d.id all) (drafts_of_handles handles grants) ≡ true
 drafts_open all [] grants are opened = refl
-drafts_open all (x ∷ seats) [] are opened = refl
-drafts_open all (x ∷ seats) (y ∷ grants) are opened =
+drafts_open all (x ∷ handles) [] are opened = refl
+drafts_open all (x ∷ handles) (y ∷ grants) are opened =
     let two = and_parts (is_among y.id all) _ opened in
     let here : x.grant ≡ bare y = cc in
-    let rest : map (λ (z : Seat). z.grant) seats ≡ map bare grants = cc in
-    at x.drafting y.draft (ap (λ z. is_among z.id all) here ∙ two.0) (drafts_open all seats grants rest two.1)
+    let rest : map (λ (z : Handle). z.grant) handles ≡ map bare grants = cc in
+    at x.drafting y.draft (ap (λ z. is_among z.id all) here ∙ two.0) (drafts_open all handles grants rest two.1)
   where
-    at : (o : Option Drafting) (d : Option Draft) → is_among x.grant.id all ≡ true → list_all (λ e. is_among e.id all) (drafts_of_seats seats grants) ≡ true
-        → list_all (λ e. is_among e.id all) (drafts_of_seats ((record { grant = x.grant; drafting = o }) ∷ seats) ((record y { draft = d }) ∷ grants)) ≡ true
-    at (Some drafting) (Some d) one rest = list_all-append (λ e. is_among e.id all) (drafts_of_seats seats grants) (opened_as x.grant.id drafting d ∷ []) ∙ and_from _ _ rest (and_from _ _ one refl)
-    at (Some drafting) None one rest = ap (list_all (λ e. is_among e.id all)) (append-nil (drafts_of_seats seats grants)) ∙ rest
-    at None d one rest = ap (list_all (λ e. is_among e.id all)) (append-nil (drafts_of_seats seats grants)) ∙ rest
+    at : (o : Option Drafting) (d : Option Draft) → is_among x.grant.id all ≡ true → list_all (λ e. is_among e.id all) (drafts_of_handles handles grants) ≡ true
+        → list_all (λ e. is_among e.id all) (drafts_of_handles ((record { grant = x.grant; drafting = o }) ∷ handles) ((record y { draft = d }) ∷ grants)) ≡ true
+    at (Some drafting) (Some d) one rest = list_all-append (λ e. is_among e.id all) (drafts_of_handles handles grants) (opened_as x.grant.id drafting d ∷ []) ∙ and_from _ _ rest (and_from _ _ one refl)
+    at (Some drafting) None one rest = ap (list_all (λ e. is_among e.id all)) (append-nil (drafts_of_handles handles grants)) ∙ rest
+    at None d one rest = ap (list_all (λ e. is_among e.id all)) (append-nil (drafts_of_handles handles grants)) ∙ rest
 
 -- A core with a collector `col`, of a state that it serves; and where its step leaves it.
 module _ {D : Type 0} (g : Ghosts D) (k : Kernel D) (old : D) (space : Kept) (names : Listing) (col : Collecting) (s : State) (serves : Serves g (with_parts k old space names col) s) (l : Collecting) where
@@ -81,7 +81,7 @@ module _ {D : Type 0} (g : Ghosts D) (k : Kernel D) (old : D) (space : Kept) (na
   core = with_parts k old space names col
 
   abbrev ds : List Opened
-  ds = drafts_of_seats k.seats s.grants
+  ds = drafts_of_handles k.handles s.grants
 
   pub served : IsServed g old names.named s ds
   served = record { state = serves.state; named = serves.front.names; carries = serves.store.carries; accounts = serves.store.account }
@@ -127,7 +127,7 @@ module _ {D : Type 0} (g : Ghosts D) (k : Kernel D) (old : D) (space : Kept) (na
 
     accounts : Accounts (g.content old) (without s.graph ids) ds
     accounts = vanish_goes_on (g.content old) s.graph ds ids serves.store.account
-        (still_there ds (drafts_open (open_ids s) k.seats s.grants serves.front.grants (all_among (λ id. is_among id (open_ids s)) (open_ids s) (λ x h. h))) serves.store.account.on_objects)
+        (still_there ds (drafts_open (open_ids s) k.handles s.grants serves.front.grants (all_among (λ id. is_among id (open_ids s)) (open_ids s) (λ x h. h))) serves.store.account.on_objects)
 
     pub condemned : (left : Listing) → l.phase ≡ phases.Inner 0 → left.named ≡ kinds_of (without s.graph ids) → Collects (g.content old) gone l → MovesTo g core (with_parts k old space left l) s (Some (events.Vanish ids))
     condemned left phase named collects = record {
@@ -284,7 +284,7 @@ is_calm_refusal (refusals.Damaged damage) = false
 is_calm_refusal refusals.Memory = true
 
 -- no want of memory is told
-pub no_want : (t : Trouble) → is_want (refused_by t) ≡ false
+pub no_want : (t : Trouble) → is_starved (refused_by t) ≡ false
 no_want (trouble.Disk tried) = refl
 no_want (trouble.Damaged damage) = refl
 
@@ -292,14 +292,14 @@ pub read_calls : {D : Type 0} (g : Ghosts D) (old new : D) (n : ℕ) → OnlyRea
 read_calls g old new n reads few = fewer_calls g n 0 4 1 old new few (omega arith) (reads_make g old new n reads)
 
 -- so it failed before any was tried, if memory isn't wanted
-calm_is : (e : Refused) → is_want e ≡ false → is_calm_refusal e ≡ true → e ≡ refusals.Disk false
+calm_is : (e : Refused) → is_starved e ≡ false → is_calm_refusal e ≡ true → e ≡ refusals.Disk false
 calm_is (refusals.Full need) none is = cc
 calm_is (refusals.Disk false) none is = refl
 calm_is (refusals.Disk true) none is = cc
 calm_is (refusals.Damaged damage) none is = cc
 calm_is refusals.Memory none is = cc
 
-never : {A : Type 0} (e : Refused) → is_want e ≡ false → is_want e ≡ true → A
+never : {A : Type 0} (e : Refused) → is_starved e ≡ false → is_starved e ≡ true → A
 never e none some = let no : false ≡ true = sym none ∙ some in cc
 
 -- a collection that marks goes on to
@@ -333,7 +333,7 @@ module _ {D : Type 0} (g : Ghosts D) (old : D) (space : Kept) (names : Listing) 
         (λ core. made core (λ s serves none. read_on g core old space names k s serves l n new reads phase (keeps s _ (served g core old space names k s serves l) serves.collecting.collects)))
 
     -- one that failed, with nothing tried: of a disk that serves only for want of memory, or since a device call failed
-    pub steps_failed : IsAsBefore k l → (e : Refused) → ((core : Kernel D) → IsCause g (before core) (after_read core) None e) → is_want e ≡ false → ((s : State) (ds : List Opened) → IsServed g old names.named s ds → Collects (g.content old) s k → is_calm_refusal e ≡ true)
+    pub steps_failed : IsAsBefore k l → (e : Refused) → ((core : Kernel D) → IsCause g (before core) (after_read core) None e) → is_starved e ≡ false → ((s : State) (ds : List Opened) → IsServed g old names.named s ds → Collects (g.content old) s k → is_calm_refusal e ≡ true)
         → StepsSo g old new space space names names k l (Err e)
     steps_failed same e cause no_want calm = read_step same.phase (Err e) (λ core. record {
       ends = λ s serves none. subst (EndsUnmade g (before core) (after_read core) s) (sym (calm_is e no_want (calm s _ (served g core old space names k s serves l) serves.collecting.collects)))
@@ -394,7 +394,7 @@ module _ {D : Type 0} (g : Ghosts D) (old : D) (space : Kept) (names : Listing) 
           let runs = running g (before core) s serves none in
           let step = condemns g core old space names k s serves l ids may runs 0 in
           let t = gone g core old space names k s serves l ids may runs in
-          let ds = drafts_of_seats core.seats s.grants in
+          let ds = drafts_of_handles core.handles s.grants in
           condemned g core old space names k s serves l ids may runs left phase (lists s t serves.front.names step)
           (keeps s t serves.front.names serves.collecting.collects (omega (arith, wide serves.store.carries.tells.honest, room (g.content old) s.graph ds serves.store.account serves.store.ordered, blocks_less s.graph ds)) step)
 
@@ -433,7 +433,7 @@ module _ {D : Type 0} (g : Ghosts D) (old : D) (space : Kept) (names : Listing) 
       by (Ok u) at = swept_step (Ok u) (or_right (marks_in l.phase) (sweeps_in l.phase) (ap sweeps_in (rw at at is.phase) ∙ sweeps_still (volume_of k / 64) pass k.phase phase)) (λ core. record {
         moves = λ s serves none.
             let has = served g core old space names k s serves l in
-            let ds = drafts_of_seats core.seats s.grants in
+            let ds = drafts_of_handles core.handles s.grants in
             swept_one g core old space names k s serves l new after pass _ phase (rw at at (is.sweep.swept serves.store.carries.tells)) is.sweep.left (rw at at (is.serves s ds has serves.collecting.collects)) (rw at at (is.sweep.counts serves.store.carries.tells serves.store.counts))
             (rw at at (is.keeps s ds has serves.collecting.collects)) (rw at at is.phase) (is.sweep.leaves s ds has);
         due = sweeping k.phase phase;

@@ -5,14 +5,14 @@ use Rattle.std.specs.Cmp as cmp
 use Rattle.std.proofs.lemmas.Bool.{cases_eq}
 use Rattle.collector_steps.specs.declared.phase.Phase.TheVariants as phases
 use Rattle.collector_steps.specs.declared.sweep.Pass.TheVariants as passes
-use Rattle.cfs_core.specs.Sweeping.{FreesStrays, is_freed}
+use Rattle.cfs_core.specs.Sweeping.{FreesStrays, is_swept_now}
 
 module _ (names : List (Puid × Kind)) (g : Graph) (are : names ≡ kinds_of g) where
   roots : (r : ℕ) → has_root_in names r ≡ has_block g.objects r
   roots r = ap (λ named. has_root_in named r) are ∙ ap (λ ids. list_any (λ id. id.block == r) ids) (keys_of-kinds_in g.objects)
 
   -- what goes by the names is what is freed by the graph
-  goes_is : (pass : Pass) (p : Phase) → IsPhaseOf pass p → (e : MapEntry) → goes names pass e ≡ is_freed g p (Some e)
+  goes_is : (pass : Pass) (p : Phase) → IsPhaseOf pass p → (e : MapEntry) → goes names pass e ≡ is_swept_now g p (Some e)
   goes_is pass phases.Idle is e = absurd is
   goes_is pass phases.Marking is e = absurd is
   goes_is passes.Inner (phases.Inner c) is e = cmp.both_ways _ _
@@ -34,9 +34,9 @@ module _ (names : List (Puid × Kind)) (g : Graph) (are : names ≡ kinds_of g) 
     freed_one e true = refl
     freed_one e false = refl
 
-    one : (e : Option MapEntry) → option_map (swept names pass) e ≡ cond (is_freed g p e) (Some free_entry) e
+    one : (e : Option MapEntry) → option_map (swept names pass) e ≡ cond (is_swept_now g p e) (Some free_entry) e
     one None = refl
-    one (Some e) = ap (λ (t : Bool). Some (cond t free_entry e)) (goes_is pass p is e) ∙ freed_one e (is_freed g p (Some e))
+    one (Some e) = ap (λ (t : Bool). Some (cond t free_entry e)) (goes_is pass p is e) ∙ freed_one e (is_swept_now g p (Some e))
 
     pub frees_strays : FreesStrays g p a b
     frees_strays = record {
@@ -44,8 +44,8 @@ module _ (names : List (Puid × Kind)) (g : Graph) (are : names ≡ kinds_of g) 
       contents = sweep.contents;
       entries = λ n. elim (cases_eq (n / 64) (cylinder_of p)) [
         | inl here ↦ sweep.here n here ∙ one (entry_in a n)
-            ∙ ap (λ (t : Bool). cond (t && is_freed g p (entry_in a n)) (Some free_entry) (entry_in a n)) (sym (eq-eqb (n / 64) (cylinder_of p) here))
+            ∙ ap (λ (t : Bool). cond (t && is_swept_now g p (entry_in a n)) (Some free_entry) (entry_in a n)) (sym (eq-eqb (n / 64) (cylinder_of p) here))
         | inr away ↦ sweep.elsewhere n away
-            ∙ ap (λ (t : Bool). cond (t && is_freed g p (entry_in a n)) (Some free_entry) (entry_in a n)) (sym (ne_eqb (n / 64) (cylinder_of p) away))
+            ∙ ap (λ (t : Bool). cond (t && is_swept_now g p (entry_in a n)) (Some free_entry) (entry_in a n)) (sym (ne_eqb (n / 64) (cylinder_of p) away))
       ];
     }

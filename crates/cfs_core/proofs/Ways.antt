@@ -3,13 +3,13 @@ use Rattle.std.proofs.Common.{◌≡◌, ℕ, List, [], ◌∷◌, ◌++◌, Boo
 use Rattle.cfs_core.proofs.Words.{AFile, and_parts, AnIndex, Direct, Draft, draft_of, Drafting, drafts_of, Either, FileKind, filter-append, goes_nowhere, goes_through_reading, Grant, grant_found, grant_of, Graph, has_no_such_grant, Index, is_for_reading, is_grant_in, is_open_so, is_unwanted_file, is_unwanted_index, IsState, kind_of, list_all, meets_a_grant, named, Object, object_at, object_of}
 use Rattle.cfs_core.proofs.Words.{open_there, Puid, Ref, refusal_of, Reply, Request, same_puid, same_puid_is, shown, State, target, Through, Wanted}
 use Rattle.cfs_base.specs.declared.kind.FileKind.TheVariants as file_kinds
-use Rattle.open_table.specs.declared.grant.Grant as seats
+use Rattle.open_table.specs.declared.grant.Grant as handles
 use Rattle.ufs_model.specs.declared.asked.Reply.TheVariants as replies
 use Rattle.ufs_model.specs.declared.object.Object.TheVariants as objects
 use Rattle.ufs_model.specs.Refusal.{first_of}
 use Rattle.cfs_core.specs.declared.way.Way.{Way}
-use Rattle.cfs_core.specs.Kernel.{Seat}
-use Rattle.cfs_core.specs.StandsFor.{bare, drafts_at, drafts_of_seats}
+use Rattle.cfs_core.specs.Kernel.{Handle}
+use Rattle.cfs_core.specs.StandsFor.{bare, drafts_at, drafts_of_handles}
 use Rattle.cfs_core.specs.Ways.{Arrives, GoesBy, Reaches, is_gone, on_the_way, once_there, reads_by, unfit_of}
 
 -- ---- the first that holds of more conditions
@@ -30,13 +30,13 @@ first_later (c ∷ cs) ds is = elim c.0 as (λ b. cond b (Some c.1) (first_of cs
 
 -- ---- the drafts of a state, as the core has them
 
--- the first seat adds nothing where, should it have a draft, it is of another object
-pub adds_none : (id : Puid) (seat : Seat) (x : Grant) (ss : List Seat) (grants : List Grant) → drafts_of (drafts_of_seats ss grants) id ≡ [] → ((d : Drafting) (e : Draft) → seat.drafting ≡ Some d → x.draft ≡ Some e → same_puid seat.grant.id id ≡ false)
-    → drafts_of (drafts_of_seats (seat ∷ ss) (x ∷ grants)) id ≡ []
-adds_none id seat x ss grants rest other =
-    filter-append (λ d. same_puid d.id id) (drafts_of_seats ss grants) (drafts_at seat seat.drafting x.draft) ∙ rw rest (at seat.drafting x.draft refl refl)
+-- the first handle adds nothing where, should it have a draft, it is of another object
+pub adds_none : (id : Puid) (handle : Handle) (x : Grant) (ss : List Handle) (grants : List Grant) → drafts_of (drafts_of_handles ss grants) id ≡ [] → ((d : Drafting) (e : Draft) → handle.drafting ≡ Some d → x.draft ≡ Some e → same_puid handle.grant.id id ≡ false)
+    → drafts_of (drafts_of_handles (handle ∷ ss) (x ∷ grants)) id ≡ []
+adds_none id handle x ss grants rest other =
+    filter-append (λ d. same_puid d.id id) (drafts_of_handles ss grants) (drafts_at handle handle.drafting x.draft) ∙ rw rest (at handle.drafting x.draft refl refl)
   where
-    at : (o : Option Drafting) (d : Option Draft) → seat.drafting ≡ o → x.draft ≡ d → drafts_of (drafts_at seat o d) id ≡ []
+    at : (o : Option Drafting) (d : Option Draft) → handle.drafting ≡ o → x.draft ≡ d → drafts_of (drafts_at handle o d) id ≡ []
     at None d is was = refl
     at (Some o) None is was = refl
     at (Some o) (Some d) is was = rw (other o d is was) refl
@@ -51,24 +51,24 @@ module _ (graph : Graph) (index : Puid) (i : Index) (found : object_at graph ind
     | false ↦ λ same. refl
   ] refl
 
-  pub shut_at : (ss : List Seat) (grants : List Grant) → map (λ (seat : Seat). seat.grant) ss ≡ map bare grants → list_all (is_grant_in graph) grants ≡ true → drafts_of (drafts_of_seats ss grants) index ≡ []
+  pub shut_at : (ss : List Handle) (grants : List Grant) → map (λ (handle : Handle). handle.grant) ss ≡ map bare grants → list_all (is_grant_in graph) grants ≡ true → drafts_of (drafts_of_handles ss grants) index ≡ []
   shut_at [] [] are well = refl
   shut_at [] (grant ∷ grants) are well = cc
-  shut_at (seat ∷ ss) [] are well = refl
-  shut_at (seat ∷ ss) (grant ∷ grants) are well =
-      let one : seat.grant ≡ bare grant = cc in
-      let tails : map (λ (x : Seat). x.grant) ss ≡ map bare grants = cc in
+  shut_at (handle ∷ ss) [] are well = refl
+  shut_at (handle ∷ ss) (grant ∷ grants) are well =
+      let one : handle.grant ≡ bare grant = cc in
+      let tails : map (λ (x : Handle). x.grant) ss ≡ map bare grants = cc in
       let parts = and_parts (is_grant_in graph grant) (list_all (is_grant_in graph) grants) well in
-      adds_none index seat grant ss grants (shut_at ss grants tails parts.1) (λ drafting d has is. not_of seat.grant.id d
-      (subst (λ (x : Puid). is_open_so (object_at graph x) (Some d) ≡ true) (sym (ap (λ (x : seats.Grant). x.id) one)) (subst (λ o. is_open_so (object_at graph grant.id) o ≡ true) is parts.0)))
+      adds_none index handle grant ss grants (shut_at ss grants tails parts.1) (λ drafting d has is. not_of handle.grant.id d
+      (subst (λ (x : Puid). is_open_so (object_at graph x) (Some d) ≡ true) (sym (ap (λ (x : handles.Grant). x.id) one)) (subst (λ o. is_open_so (object_at graph grant.id) o ≡ true) is parts.0)))
 
 -- ---- what a table of grants tells
 
-pub named_of : (found : Option seats.Grant) (o : Option Grant) → found ≡ option_map shown o → option_map (λ (g : seats.Grant). g.id) found ≡ option_and_then (λ (g : Grant). Some g.id) o
-named_of found None is = ap (option_map (λ (g : seats.Grant). g.id)) is
-named_of found (Some g) is = ap (option_map (λ (g : seats.Grant). g.id)) is
+pub named_of : (found : Option handles.Grant) (o : Option Grant) → found ≡ option_map shown o → option_map (λ (g : handles.Grant). g.id) found ≡ option_and_then (λ (g : Grant). Some g.id) o
+named_of found None is = ap (option_map (λ (g : handles.Grant). g.id)) is
+named_of found (Some g) is = ap (option_map (λ (g : handles.Grant). g.id)) is
 
-pub reads_of : (found : Option seats.Grant) (o : Option Grant) → found ≡ option_map shown o → reads_by found ≡ is_for_reading o
+pub reads_of : (found : Option handles.Grant) (o : Option Grant) → found ≡ option_map shown o → reads_by found ≡ is_for_reading o
 reads_of found None is = ap reads_by is
 reads_of found (Some g) is = ap reads_by is
 

@@ -5,7 +5,7 @@ use Rattle.cfs_base.specs.declared.refusal.Refused.TheVariants as refusals
 use Rattle.cfs_base.specs.declared.refusal.Damage.{Damage}
 use Rattle.cfs_core.specs.Calls.{IsCause, Went, done_or}
 use Rattle.cfs_core.specs.Damage.{IsDamageTold}
-use Rattle.cfs_core.specs.Kernel.{Kernel, Seat}
+use Rattle.cfs_core.specs.Kernel.{Kernel, Handle}
 use Rattle.cfs_core.proofs.Damages.{told_then}
 
 -- no more calls than more
@@ -28,11 +28,11 @@ cause_of g old new request (refusals.Disk tried) stopped met = stopped tried ref
 cause_of g old new request (refusals.Damaged damage) stopped met = met damage refl
 cause_of g old new request refusals.Memory stopped met = tt
 
-module _ {D : Type 0} (g : Ghosts D) (k : Kernel D) (d : D) (space : Kept) (seats : List Seat) (size : g.blocks d ≡ g.blocks k.disk) (faults : g.faults k.disk ≤ g.faults d) (later : g.moment k.disk ≤ g.moment d) (request : Request) where
+module _ {D : Type 0} (g : Ghosts D) (k : Kernel D) (d : D) (space : Kept) (handles : List Handle) (size : g.blocks d ≡ g.blocks k.disk) (faults : g.faults k.disk ≤ g.faults d) (later : g.moment k.disk ≤ g.moment d) (request : Request) where
   abbrev after_it : Kernel D
-  after_it = record k { disk = d; space = space; seats = seats }
+  after_it = record k { disk = d; space = space; handles = handles }
 
-  pub went_so : (result : Result Reply Refused) → IfOk result IsPlainReply → IfErr result (IsCause g k after_it (Some request)) → Went g k (record k { disk = d; space = space; seats = seats }) request result
+  pub went_so : (result : Result Reply Refused) → IfOk result IsPlainReply → IfErr result (IsCause g k after_it (Some request)) → Went g k (record k { disk = d; space = space; handles = handles }) request result
   went_so result plain cause = record {
     plain = plain;
     cause = cause;
@@ -47,7 +47,7 @@ module _ {D : Type 0} (g : Ghosts D) (k : Kernel D) (d : D) (space : Kept) (seat
   }
 
   pub went_done : (result : Result (Unit {0}) Refused) → ((tried : Bool) → result ≡ Err (refusals.Disk tried) → HasStopped g tried k.disk d) → ((damage : Damage) → result ≡ Err (refusals.Damaged damage) → IsDamageTold g k after_it (Some request) damage)
-      → Went g k (record k { disk = d; space = space; seats = seats }) request (done_or result)
+      → Went g k (record k { disk = d; space = space; handles = handles }) request (done_or result)
   went_done (Ok u) stopped met = went_so (done_or (Ok u)) tt tt
   went_done (Err e) stopped met = went_so (Err e) tt (cause_of g k after_it (Some request) e (λ tried is. stopped tried (ap (λ x. Err x) is)) (λ damage is. met damage (ap (λ x. Err x) is)))
 

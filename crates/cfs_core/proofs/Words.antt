@@ -73,7 +73,7 @@ pub use Rattle.special_files.specs.Committing.{Committed, Dropped, IsOldOrNew}
 pub use Rattle.special_files.specs.Drafting.{Drafting, IsOpen, begun_at, fresh_of, need_beside, opened_as, shadow_need}
 pub use Rattle.special_files.specs.Ends.{Ends}
 pub use Rattle.block_tree.specs.Reads.{is_damage}
-pub use Rattle.special_files.specs.Refusal.{IsRefusalOrMemory, IsTrouble, is_damaged, is_full}
+pub use Rattle.special_files.specs.Refusal.{IsTrouble, is_damaged, is_full_refusal}
 pub use Rattle.special_files.specs.Shed.{Resizes}
 pub use Rattle.special_files.specs.Store.{replaced, without_draft}
 pub use Rattle.std.proofs.Math.Seq.{take-append_seam}

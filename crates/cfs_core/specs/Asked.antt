@@ -28,12 +28,12 @@ use Rattle.cfs_core.specs.StandsFor.{StandsFor}
 
 -- ---- what is told of a refusal from below, at this moment of the disk
 
-abbrev pub told : Refused → ℕ → Reply
-told (refusals.Full need) moment = replies.Full need
-told (refusals.Disk false) moment = replies.Disk None
-told (refusals.Disk true) moment = replies.Disk (Some (moment - 1))
-told (refusals.Damaged damage) moment = replies.Damaged damage moment
-told refusals.Memory moment = replies.Memory
+abbrev pub reply_to : Refused → ℕ → Reply
+reply_to (refusals.Full need) moment = replies.Full need
+reply_to (refusals.Disk false) moment = replies.Disk None
+reply_to (refusals.Disk true) moment = replies.Disk (Some (moment - 1))
+reply_to (refusals.Damaged damage) moment = replies.Damaged damage moment
+reply_to refusals.Memory moment = replies.Memory
 
 -- and whether the core stops
 abbrev pub stopped_by : Reply → Option Stop → Option Stop
@@ -86,7 +86,7 @@ pub record Asks {D : Type 0} (g : Ghosts D) (old new : Kernel D) (who : ℕ) (re
       → IsAsItWas g (record old { collections = new.collections }) new
   -- of one that is done each block that it takes is the least-numbered Free one, in the stated order
   pub taken : old.stop ≡ None → (s : State) → StandsFor g old s → is_done reply ≡ true
-      → Takes old.seats s who request reply (g.content old.disk) (g.content new.disk)
+      → Takes old.handles s who request reply (g.content old.disk) (g.content new.disk)
   -- one that stopped makes no call of the disk
   pub stopped : (stop : Stop) → old.stop ≡ Some stop → (new ≡ old) × (reply ≡ replies.Stopped stop.moment)
   -- it stops after a doubt and at a damage alone

@@ -109,7 +109,7 @@ pub record Answers {D : Type 0} (g : Ghosts D) (old new : Kernel D) (s : State) 
   pub event : Makes g old new s (events.Ask who request reply)
   pub still : leaves_all reply ≡ true → IsAsItWas g old new
   pub owed : Owes old.words.seed s who request (g.content old.disk) (sum old.space.free) reply
-  pub taken : is_done reply ≡ true → Takes old.seats s who request reply (g.content old.disk) (g.content new.disk)
+  pub taken : is_done reply ≡ true → Takes old.handles s who request reply (g.content old.disk) (g.content new.disk)
 
 -- the objects that may be read of a request which isn't refused: those of before, those of after, or those with a
 -- normal file whose change was cut short
@@ -125,7 +125,7 @@ pub record IsInDoubt {D : Type 0} (g : Ghosts D) (old new : Kernel D) (s : State
   pub allowed : refusal_of s who request ≡ None
   pub drawn : new.words.drawn ≡ old.words.drawn
   pub named : new.names ≡ old.names
-  pub grants : grants_in new.seats ≡ grants_in old.seats
+  pub grants : grants_in new.handles ≡ grants_in old.handles
   pub leaves : Leaves g old.disk new.disk (HoldsSome (g.blocks new.disk) (MayStand old.words.seed s who request))
 
 -- how a call ends that tries to answer

@@ -1,5 +1,6 @@
 -- Which blocks a request takes that is done, and in what order.
-use Rattle.std.specs.Prelude.{◌≡◌, ◌⊎◌, ℕ, ◌+◌, ◌/◌, if◌then◌else◌, List, [], ◌∷◌, length, Option, None, Some}
+use Rattle.std.specs.Prelude.{◌≡◌, ◌⊎◌, ℕ, ◌+◌, ◌/◌, Bool, true, false, not, ◌&&◌, if◌then◌else◌, List, [], ◌∷◌, length}
+use Rattle.std.specs.Prelude.{Option, None, Some, is_none}
 use Rattle.std.specs.Option.{option_map_or}
 use Rattle.cfs_base.specs.Disk.{Image}
 use Rattle.cfs_base.specs.declared.identifier.Puid.{Puid}
@@ -12,14 +13,15 @@ use Rattle.cyl_map.specs.declared.entry.MapEntry.{MapEntry}
 use Rattle.file_ops.specs.Changes.{claims_beside}
 use Rattle.index_ops.specs.Changes.{leaf_and_node}
 use Rattle.normal_files.specs.Order as plain
+use Rattle.special_files.specs.Committing.{TakesShadow}
 use Rattle.special_files.specs.Drafting.{Drafting}
-use Rattle.special_files.specs.Order.{claims_anew, claims_of}
-use Rattle.ufs_model.specs.Need.{takes_draft}
+use Rattle.special_files.specs.Order.{claims_anew, claims_between}
+use Rattle.ufs_model.specs.Need.{is_normal, takes_draft}
 use Rattle.ufs_model.specs.Graph.{object_at}
 use Rattle.ufs_model.specs.Object.{leaves_in, written_anew}
 use Rattle.ufs_model.specs.Outcome.{block_named, creates}
 use Rattle.ufs_model.specs.Refusal.{target}
-use Rattle.ufs_model.specs.State.{State, draft_of, file_seen, named}
+use Rattle.ufs_model.specs.State.{State, draft_of, file_seen, named, seen}
 use Rattle.ufs_model.specs.declared.asked.Ref.{Ref}
 use Rattle.ufs_model.specs.declared.asked.Ref.TheVariants.{Direct, Through}
 use Rattle.ufs_model.specs.declared.asked.Reply.{Reply}
@@ -30,8 +32,8 @@ use Rattle.ufs_model.specs.declared.change.Change.TheVariants.{Fill, Overwrite, 
 use Rattle.ufs_model.specs.declared.object.Draft.{Draft}
 use Rattle.ufs_model.specs.declared.object.File.{File}
 use Rattle.vol_owners.specs.Change.{IsOpenTo, of_owners}
-use Rattle.cfs_core.specs.Kernel.{Seat}
-use Rattle.cfs_core.specs.Seats.{drafting_at}
+use Rattle.cfs_core.specs.Kernel.{Handle}
+use Rattle.cfs_core.specs.Handles.{drafting_at}
 
 -- ---- in order
 
@@ -59,48 +61,63 @@ claims_in_file at change f = elim f.kind [
 
 -- a draft what isn't fresh of that
 abbrev pub claims_in_draft : Change → Draft → Drafting → List MapEntry
-claims_in_draft (Overwrite offset bytes) d was = claims_of was (offset / 512) (leaves_in (offset + length bytes))
+claims_in_draft (Overwrite offset bytes) d was = claims_between was (offset / 512) (leaves_in (offset + length bytes))
 claims_in_draft (SetSize size) d was = claims_anew was.at (written_anew (SetSize size) d.object d.fresh) d.fresh
 claims_in_draft (Fill slot what) d was = []
 
-abbrev pub drafting_of : List Seat → Ref → Option Drafting
-drafting_of seats (Direct id) = None
-drafting_of seats (Through t) = drafting_at seats t.draw
+abbrev pub drafting_of : List Handle → Ref → Option Drafting
+drafting_of handles (Direct id) = None
+drafting_of handles (Through t) = drafting_at handles t.draw
 
 -- the root block of what a reference goes to
-abbrev pub root_of : State → ℕ → Ref → ℕ
-root_of s who ref = option_map_or (λ (id : Puid). id.block) (named s who ref) 0
+abbrev pub root_reached : State → ℕ → Ref → ℕ
+root_reached s who ref = option_map_or (λ (id : Puid). id.block) (named s who ref) 0
 
 -- what is seen through a reference
-abbrev pub claims_through : List Seat → State → ℕ → Ref → Change → List MapEntry
-claims_through seats s who ref change = elim (draft_of s who ref) [
-  | None ↦ claims_in_file (root_of s who ref) change (file_seen s who ref)
-  | Some d ↦ option_map_or (claims_in_draft change d) (drafting_of seats ref) []
+abbrev pub claims_through : List Handle → State → ℕ → Ref → Change → List MapEntry
+claims_through handles s who ref change = elim (draft_of s who ref) [
+  | None ↦ claims_in_file (root_reached s who ref) change (file_seen s who ref)
+  | Some d ↦ option_map_or (claims_in_draft change d) (drafting_of handles ref) []
 ]
 
 -- ---- a request
 
 -- The entries for which it claims blocks, in their order: a new object's root, then leaves, each with its node; and the
--- shadow root of a draft that is begun. A request that is a commit of its own claims a shadow root last, and gives it
--- back.
-abbrev pub claims_for : List Seat → State → ℕ → Request → Reply → List MapEntry
-claims_for seats s who (asks.CreateFile kind fill index slot) reply =
-    intended places.Root (block_named reply) ∷ leaf_and_node (slot / 64) (root_of s who index)
-claims_for seats s who (asks.CreateIndex slots index slot) reply =
-    intended places.Root (block_named reply) ∷ leaf_and_node (slot / 64) (root_of s who index)
-claims_for seats s who (asks.Retain index slot id) reply = leaf_and_node (slot / 64) (root_of s who index)
-claims_for seats s who (asks.Delete index slot) reply = leaf_and_node (slot / 64) (root_of s who index)
-claims_for seats s who (asks.OpenFor id mode) reply =
+-- shadow root of a draft that is begun.
+abbrev pub claims_for : List Handle → State → ℕ → Request → Reply → List MapEntry
+claims_for handles s who (asks.CreateFile kind fill index slot) reply =
+    intended places.Root (block_named reply) ∷ leaf_and_node (slot / 64) (root_reached s who index)
+claims_for handles s who (asks.CreateIndex slots index slot) reply =
+    intended places.Root (block_named reply) ∷ leaf_and_node (slot / 64) (root_reached s who index)
+claims_for handles s who (asks.Retain index slot id) reply = leaf_and_node (slot / 64) (root_reached s who index)
+claims_for handles s who (asks.Delete index slot) reply = leaf_and_node (slot / 64) (root_reached s who index)
+claims_for handles s who (asks.OpenFor id mode) reply =
     if takes_draft mode (object_at s.graph id) then intended places.ShadowRoot id.block ∷ [] else []
-claims_for seats s who (asks.Write file offset bytes) reply = claims_through seats s who file (Overwrite offset bytes)
-claims_for seats s who (asks.Resize file size) reply = claims_through seats s who file (SetSize size)
-claims_for seats s who request reply = []
+claims_for handles s who (asks.Write file offset bytes) reply = claims_through handles s who file (Overwrite offset bytes)
+claims_for handles s who (asks.Resize file size) reply = claims_through handles s who file (SetSize size)
+claims_for handles s who request reply = []
 
 -- the roots of the object to which it goes, and of one that it makes
 abbrev pub owners_of : State → ℕ → Request → Reply → List ℕ
 owners_of s who request reply =
-    root_of s who (target request) ∷ (if creates request then block_named reply ∷ [] else [])
+    root_reached s who (target request) ∷ (if creates request then block_named reply ∷ [] else [])
 
-abbrev pub Takes : List Seat → State → ℕ → Request → Reply → Image → Image → Type 0
-Takes seats s who request reply a b =
-    ClaimsInOrder (claims_for seats s who request reply) (owners_of s who request reply) a b
+-- no normal file, and no draft
+abbrev pub is_beside : State → ℕ → Ref → Bool
+is_beside s who ref = is_none (draft_of s who ref) && not (is_normal (seen s who ref).object)
+
+-- Whether it is a commit of its own: that takes a shadow root last, and gives it back.
+abbrev pub commits_alone : State → ℕ → Request → Bool
+commits_alone s who (asks.CreateFile kind fill index slot) = true
+commits_alone s who (asks.CreateIndex slots index slot) = true
+commits_alone s who (asks.Retain index slot id) = true
+commits_alone s who (asks.Delete index slot) = true
+commits_alone s who (asks.Write file offset bytes) = is_beside s who file
+commits_alone s who (asks.Resize file size) = is_beside s who file
+commits_alone s who request = false
+
+-- From image a to image b the blocks are taken that the request takes, and the shadow root of its own commit last.
+pub record Takes (handles : List Handle) (s : State) (who : ℕ) (request : Request) (reply : Reply)
+    (a b : Image) : Type 0 where
+  pub order : ClaimsInOrder (claims_for handles s who request reply) (owners_of s who request reply) a b
+  pub shadow : commits_alone s who request ≡ true → TakesShadow (root_reached s who (target request)) order.mid b

@@ -94,11 +94,11 @@ ComesBy s None t = t ≡ s
 ComesBy s (Some e) t = (seed : ℕ) → next seed s e ≡ Some t
 
 -- it is told as want of memory
-abbrev pub is_want : Refused → Bool
-is_want (refusals.Full need) = true
-is_want (refusals.Disk tried) = false
-is_want (refusals.Damaged damage) = false
-is_want refusals.Memory = true
+abbrev pub is_starved : Refused → Bool
+is_starved (refusals.Full need) = true
+is_starved (refusals.Disk tried) = false
+is_starved (refusals.Damaged damage) = false
+is_starved refusals.Memory = true
 
 -- the end of a sweep, as a step's
 abbrev pub told_as : Result (Unit {0}) Trouble → Result Step Refused
@@ -182,7 +182,7 @@ IsBounded blocks c =
 -- and where nothing is open the volume is tidy
 abbrev pub IsOver : {D : Type 0} → Ghosts D → Kernel D → Kernel D → State → Step → Type 0
 IsOver g old new s steps.Finished =
-    IsBounded (g.blocks new.disk) new.collections × (new.seats ≡ [] → IsTidy (g.content new.disk) s.graph)
+    IsBounded (g.blocks new.disk) new.collections × (new.handles ≡ [] → IsTidy (g.content new.disk) s.graph)
 IsOver g old new s step = Unit {0}
 
 -- ---- a refusal with nothing tried
@@ -212,7 +212,7 @@ pub record IsUnmade {D : Type 0} (g : Ghosts D) (old new : Kernel D) (e : Refuse
   pub ends : (s : State) → Serves g old s → old.stop ≡ None → EndsUnmade g old new s e
   pub still : had_tried e ≡ false → IsUnchanged g old new
   pub cause : IsCause g old new None e
-  pub wants : is_want e ≡ true → IsDue old.collections steps.Began
+  pub wants : is_starved e ≡ true → IsDue old.collections steps.Began
 
 abbrev pub IsMadeOrNot : {D : Type 0} → Ghosts D → Kernel D → Kernel D → Result Step Refused → Type 0
 IsMadeOrNot g old new (Ok step) = IsMade g old new step
@@ -249,12 +249,12 @@ pub record StepsSo {D : Type 0} (g : Ghosts D) (old new : D) (before after : Kep
 
 -- ---- what is told of it
 
-abbrev pub fault_of : Refused → ℕ → CollectFault
-fault_of (refusals.Full need) moment = faults.Memory
-fault_of (refusals.Disk false) moment = faults.Disk None
-fault_of (refusals.Disk true) moment = faults.Disk (Some (moment - 1))
-fault_of (refusals.Damaged damage) moment = faults.Damaged damage moment
-fault_of refusals.Memory moment = faults.Memory
+abbrev pub fault_for : Refused → ℕ → CollectFault
+fault_for (refusals.Full need) moment = faults.Memory
+fault_for (refusals.Disk false) moment = faults.Disk None
+fault_for (refusals.Disk true) moment = faults.Disk (Some (moment - 1))
+fault_for (refusals.Damaged damage) moment = faults.Damaged damage moment
+fault_for refusals.Memory moment = faults.Memory
 
 -- and whether the core stops
 abbrev pub stop_by : CollectFault → Option Stop → Option Stop
@@ -334,7 +334,7 @@ pub record Collects {D : Type 0} (g : Ghosts D) (old new : Kernel D) (result : R
   pub calls : MakesAtMost g 4 1 old.disk new.disk
   pub root : new.root ≡ old.root
   pub words : new.words ≡ old.words
-  pub seats : new.seats ≡ old.seats
+  pub handles : new.handles ≡ old.handles
   -- whatever disk it is, less is left to do
   pub goes : IfOk result (λ step.
       GoesOn (g.blocks old.disk) old.collections new.collections step (event_of step))

@@ -20,7 +20,7 @@ use Rattle.ufs_model.specs.declared.asked.Request.{Request}
 use Rattle.ufs_model.specs.declared.asked.Request.TheVariants as asks
 use Rattle.ufs_model.specs.Outcome.{creates}
 use Rattle.cfs_core.specs.Kernel.{Kernel}
-use Rattle.cfs_core.specs.Seats.{drafting_at}
+use Rattle.cfs_core.specs.Handles.{drafting_at}
 
 -- so many bytes the root must have to which the request goes
 abbrev pub bytes_wanted : Option Request → ℕ
@@ -60,7 +60,7 @@ pub data IsOutside (Told : Type 0) (image : Image) (size : ℕ) (IsRoot : ℕ �
 
 -- a draft stands of the object with this root
 abbrev pub IsOfDraft : {D : Type 0} → Kernel D → ℕ → Type 0
-IsOfDraft k at = (draw : ℕ) × (was : Drafting) × (drafting_at k.seats draw ≡ Some was) × (was.at ≡ at)
+IsOfDraft k at = (draw : ℕ) × (was : Drafting) × (drafting_at k.handles draw ≡ Some was) × (was.at ≡ at)
 
 -- it is the root of the first index that is grey
 abbrev pub IsOfGrey : {D : Type 0} → Kernel D → ℕ → Type 0

@@ -17,7 +17,7 @@ use Rattle.open_table.specs.Grants.{grant_in}
 use Rattle.special_files.specs.Becomes.{Becomes}
 use Rattle.special_files.specs.Committing.{AbortEnds, CommitEnds}
 use Rattle.special_files.specs.Drafting.{Drafting, IsOpen, need_beside}
-use Rattle.special_files.specs.Refusal.{IsRefusal, IsTrouble, is_damaged, is_full}
+use Rattle.special_files.specs.Refusal.{IsRefusal, IsTrouble, is_damaged, is_full_refusal}
 use Rattle.ufs_model.specs.declared.change.Change.{Change}
 use Rattle.ufs_model.specs.declared.object.Draft.{Draft}
 use Rattle.ufs_model.specs.declared.object.File.{File}
@@ -28,16 +28,17 @@ use Rattle.ufs_model.specs.Limits.{reserve}
 use Rattle.ufs_model.specs.State.{changed_draft}
 use Rattle.vol_image.specs.Sound.{Holds}
 use Rattle.vol_owners.specs.Account.{Opened}
+use Rattle.cfs_core.specs.Carried.{CallsInAll}
 use Rattle.cfs_core.specs.Kernel.{Kernel, grants_in}
-use Rattle.cfs_core.specs.Seats.{drafting_at}
+use Rattle.cfs_core.specs.Handles.{drafting_at}
 use Rattle.cfs_core.specs.Claimed.{ClaimsInOrder, claims_in_draft}
 
 -- the session has the grant, and it has a draft
 pub record IsDrafted {D : Type 0} (k : Kernel D) (who : ℕ) (t : Tuid) : Type 0 where
   pub grant : Grant
-  pub found : grant_in (grants_in k.seats) who t ≡ Some grant
+  pub found : grant_in (grants_in k.handles) who t ≡ Some grant
   pub drafting : Drafting
-  pub has : drafting_at k.seats t.draw ≡ Some drafting
+  pub has : drafting_at k.handles t.draw ≡ Some drafting
 
 -- the store has this object, and this draft of it, which is a file
 pub record KnowsDraft {D : Type 0} (g : Ghosts D) (graph : Graph) (ds : List Opened) (disk : D) (space : Kept)
@@ -59,10 +60,10 @@ pub record AltersDraft {D : Type 0} (g : Ghosts D) (change : Change) (graph : Gr
   -- in their order
   pub order : OnOk result (ClaimsInOrder (claims_in_draft change d was) (id.block ∷ []) (g.content old) (g.content new))
   pub leaves : Leaves g old new (λ c. Holds c graph)
-  pub full : IfErr result (λ e. is_full e ≡ true
+  pub full : IfErr result (λ e. is_full_refusal e ≡ true
       → (e ≡ refusals.Full (record { free = sum before.free; need = need_beside change d was }))
       × (sum before.free < need_beside change d was + reserve))
-  pub spared : IfErr result (λ e. is_full e ≡ true → OnlyReads g 31092 old new × (after ≡ before) × (now ≡ was))
+  pub spared : IfErr result (λ e. is_full_refusal e ≡ true → OnlyReads g 31092 old new × (after ≡ before) × (now ≡ was))
   pub sound : IfErr result (λ e. is_damaged e ≡ false)
 
 -- And of any draft, on any disk: where a call failed before anything was tried, all is as it was.
@@ -98,4 +99,4 @@ pub record EndsDraft {D : Type 0} (g : Ghosts D) (commit : Bool) (was : Drafting
   pub refused : IfErr result (IsTrouble g was.at old new after)
   pub cylinders : length after.free ≡ length before.free
   pub left : OnOk result (after.left ≡ None)
-  pub calls : MakesAtMost g 93137 46452 old new
+  pub calls : CallsInAll g 31207 15485 old new

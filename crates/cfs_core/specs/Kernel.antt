@@ -16,24 +16,24 @@ use Rattle.cfs_core.specs.declared.collecting.Collections.{Collections}
 use Rattle.cfs_core.specs.declared.kernel.Stop.{Stop}
 
 -- a grant, and the draft of a special file that is open for writing
-pub record Seat : Type 0 where
+pub record Handle : Type 0 where
   pub grant : Grant
   pub drafting : Option Drafting
 
-abbrev pub grants_in : List Seat → List Grant
-grants_in seats = map (λ seat. seat.grant) seats
+abbrev pub grants_in : List Handle → List Grant
+grants_in handles = map (λ handle. handle.grant) handles
 
 -- drawn no later than this
-abbrev pub is_drawn_by : ℕ → Seat → Bool
-is_drawn_by drawn seat = nat_le seat.grant.tuid.draw drawn
+abbrev pub is_drawn_by : ℕ → Handle → Bool
+is_drawn_by drawn handle = nat_le handle.grant.tuid.draw drawn
 
 -- a draft as it stands between two calls: its object's root is below this block, it has a shadow root, and it makes
 -- nothing
 abbrev pub is_ready_for : ℕ → Drafting → Bool
 is_ready_for blocks d = nat_lt d.at blocks && is_some d.shadow && is_none d.created
 
-abbrev pub is_ready : ℕ → Seat → Bool
-is_ready blocks seat = option_map_or (is_ready_for blocks) seat.drafting true
+abbrev pub is_ready : ℕ → Handle → Bool
+is_ready blocks handle = option_map_or (is_ready_for blocks) handle.drafting true
 
 pub record Kernel (D : Type 0) : Type 0 where
   pub disk : D
@@ -44,7 +44,7 @@ pub record Kernel (D : Type 0) : Type 0 where
   pub space : Kept
   -- the seed of the random words, and how many were drawn
   pub words : Draws
-  pub seats : List Seat
+  pub handles : List Handle
   pub collections : Collections
   pub stop : Option Stop
 
@@ -79,11 +79,11 @@ pub record AreKept (room : ℕ) (c : Collections) : Type 0 where
 
 -- On any disk: it has 64 blocks a cylinder, there is room for the identifier of each, and none has block 0. Each grant
 -- was drawn.
-pub record IsSized {D : Type 0} (blocks : D → ℕ) (disk : D) (names : Listing) (space : Kept) (seats : List Seat)
+pub record IsSized {D : Type 0} (blocks : D → ℕ) (disk : D) (names : Listing) (space : Kept) (handles : List Handle)
     (drawn : ℕ) (collections : Collections) : Type 0 where
   pub size : blocks disk ≡ 64 * length space.free
   pub room : names.room ≡ blocks disk
   pub some : has_root_in names.named 0 ≡ false
-  pub drawn_all : list_all (is_drawn_by drawn) seats ≡ true
+  pub drawn_all : list_all (is_drawn_by drawn) handles ≡ true
   pub kept : AreKept names.room collections
-  pub ready : list_all (is_ready names.room) seats ≡ true
+  pub ready : list_all (is_ready names.room) handles ≡ true

@@ -53,7 +53,7 @@ pub record Sheds {D : Type 0} (g : Ghosts D) (who : ℕ) (old new : Kernel D) : 
   pub words : new.words ≡ old.words
   pub names : new.names ≡ old.names
   pub collections : new.collections ≡ old.collections
-  pub others : without_session (grants_in new.seats) who ≡ without_session (grants_in old.seats) who
+  pub others : without_session (grants_in new.handles) who ≡ without_session (grants_in old.handles) who
   pub size : g.blocks new.disk ≡ g.blocks old.disk
   pub faults : g.faults old.disk ≤ g.faults new.disk
   pub later : g.moment old.disk ≤ g.moment new.disk

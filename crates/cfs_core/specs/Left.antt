@@ -18,9 +18,9 @@ abbrev pub steps_of : Option Collecting → ℕ
 steps_of None = 0
 steps_of (Some k) = steps_left k
 
-abbrev pub events_of : Option Collecting → ℕ
-events_of None = 0
-events_of (Some k) = events_left k.phase
+abbrev pub events_due : Option Collecting → ℕ
+events_due None = 0
+events_due (Some k) = events_left k.phase
 
 -- The steps of all of them on a volume of so many blocks, if nothing is rescued.
 abbrev pub steps_ahead : (blocks : ℕ) → Collections → ℕ
@@ -28,7 +28,7 @@ steps_ahead blocks c = to_begin c * most_steps blocks + steps_of c.collector
 
 -- Their events: each begins, objects vanish, and it is finished.
 abbrev pub events_ahead : Collections → ℕ
-events_ahead c = 3 * to_begin c + events_of c.collector
+events_ahead c = 3 * to_begin c + events_due c.collector
 
 -- ---- a step
 

@@ -1,6 +1,6 @@
 pub mod Kernel
 pub mod Left
-pub mod Seats
+pub mod Handles
 pub mod StandsFor
 pub mod Leaving
 pub mod Room
@@ -8,6 +8,7 @@ pub mod Damage
 pub mod Claimed
 pub mod Calls
 pub mod Drafts
+pub mod Carried
 pub mod Opening
 pub mod Looks
 pub mod Ways

@@ -7,7 +7,7 @@ use Rattle.cfs_base.specs.declared.identifier.Puid.{Puid}
 use Rattle.cfs_base.specs.declared.refusal.Refused.{Refused}
 use Rattle.cfs_base.specs.declared.refusal.Refused.TheVariants as refusals
 use Rattle.cyl_alloc.specs.Space.{Kept}
-use Rattle.intentions.specs.Store.{StoreHas}
+use Rattle.intentions.specs.Left.{IsShownAt}
 use Rattle.puid_space.specs.Directory.{has_root_in}
 use Rattle.special_files.specs.Refusal.{IsDamage, is_damaged}
 use Rattle.ufs_model.specs.declared.asked.Reply.{Reply}
@@ -23,7 +23,7 @@ use Rattle.vol_owners.specs.Account.{Opened, drafts_of}
 use Rattle.cfs_base.specs.Run.{Tells}
 use Rattle.cfs_core.specs.Damage.{IsOutside}
 use Rattle.cfs_core.specs.Kernel.{Kernel}
-use Rattle.cfs_core.specs.StandsFor.{Serves, drafts_of_seats}
+use Rattle.cfs_core.specs.StandsFor.{Serves, drafts_of_handles}
 use Rattle.cfs_core.specs.Ways.{Reaches}
 
 -- ---- an object that is reached
@@ -31,21 +31,19 @@ use Rattle.cfs_core.specs.Ways.{Reaches}
 -- Whatever the core stands for, the request reaches such an object, of which there is no draft.
 abbrev pub ReachesIn : {D A : Type 0} → Ghosts D → (A → Object) → Kernel D → ℕ → Request → Puid → Type 0
 ReachesIn {A = A} g sort k who request id = (s : State) → Serves g k s → (a : A) × Reaches s who request id (sort a)
-    × (drafts_of (drafts_of_seats k.seats s.grants) id ≡ [])
+    × (drafts_of (drafts_of_handles k.handles s.grants) id ≡ [])
 
 -- and it has a name, whatever disk it is
 abbrev pub ReachesAll : {D A : Type 0} → Ghosts D → (A → Object) → Kernel D → ℕ → Request → Puid → Type 0
 ReachesAll g sort k who request id = ReachesIn g sort k who request id × (has_root_in k.names.named id.block ≡ true)
 
--- the store has this object, its root is at the block, and it has no draft
+-- the store has this object, which is shown at the block, and it has no draft
 pub record Knows {D : Type 0} (g : Ghosts D) (d : D) (at : ℕ) (o : Object) : Type 0 where
   pub graph : Graph
   pub drafts : List Opened
   pub space : Kept
   pub id : Puid
-  pub store : StoreHas g graph drafts d space
-  pub root : id.block ≡ at
-  pub there : object_at graph id ≡ Some o
+  pub seen : IsShownAt g graph drafts d space id o at
   pub shut : drafts_of drafts id ≡ []
 
 -- ---- calls that only read
@@ -83,8 +81,8 @@ abbrev pub measured : File → Reply
 measured f = replies.Number (length f.bytes)
 
 -- 1 to 4,096 bytes from an offset on, within the size
-abbrev pub content_of : File → ℕ → ℕ → Reply
-content_of f offset count =
+abbrev pub content_reply : File → ℕ → ℕ → Reply
+content_reply f offset count =
     if is_range (length f.bytes) offset count
     then replies.Content (slice_range f.bytes offset (offset + count))
     else replies.Range

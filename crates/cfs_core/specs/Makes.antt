@@ -26,8 +26,8 @@ use Rattle.ufs_model.specs.State.{State, is_running}
 use Rattle.ufs_model.specs.WellFormed.{IsSpeakable}
 use Rattle.cfs_base.specs.Codes.{not_owned}
 use Rattle.cfs_core.specs.Damage.{bytes_wanted, is_delete}
-use Rattle.cfs_core.specs.Kernel.{Kernel, Seat}
-use Rattle.cfs_core.specs.Claimed.{claims_for, root_of}
+use Rattle.cfs_core.specs.Kernel.{Kernel, Handle}
+use Rattle.cfs_core.specs.Claimed.{claims_for, root_reached}
 use Rattle.cyl_alloc.specs.Space.{intended}
 use Rattle.index_ops.specs.Changes.{leaf_and_node}
 use Rattle.cfs_base.specs.declared.kind.Place.TheVariants as places
@@ -45,8 +45,8 @@ pub record IsMaking (request : Request) (slot : ℕ) (o : Object) : Type 0 where
   pub draw : draws request ≡ 1
   pub need : (s : State) (who : ℕ) → need_of s who request ≡ 1 + change_need s who (target request) (Fill slot None)
   pub delete : is_delete request ≡ false
-  pub claims : (seats : List Seat) (s : State) (who : ℕ) (reply : Reply) → claims_for seats s who request reply
-      ≡ intended places.Root (block_named reply) ∷ leaf_and_node (slot / 64) (root_of s who (target request))
+  pub claims : (handles : List Handle) (s : State) (who : ℕ) (reply : Reply) → claims_for handles s who request reply
+      ≡ intended places.Root (block_named reply) ∷ leaf_and_node (slot / 64) (root_reached s who (target request))
   pub wants : bytes_wanted (Some request) ≡ 8 * slot + 8
   pub full : (seed : ℕ) (s : State) (who free : ℕ) → is_running s ≡ true → refusal_of s who request ≡ None
       → need_of s who request ≡ 4 → free < 8

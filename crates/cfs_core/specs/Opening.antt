@@ -1,7 +1,7 @@
 -- An object is opened.
 use Rattle.std.specs.Prelude.{◌≡◌, ℕ, ◌+◌, ◌<◌, ◌≤◌, Bool, true, false, List, [], ◌∷◌, sum}
 use Rattle.std.specs.Prelude.{Option, Some, None, Result, Ok, Err, IfErr, IfOk, IfSome}
-use Rattle.cfs_base.specs.Calls.{MakesAtMost, OnlyReads}
+use Rattle.cfs_base.specs.Calls.{HasStopped, MakesAtMost, OnlyReads}
 use Rattle.cfs_base.specs.Run.{Leaves}
 use Rattle.cfs_base.specs.declared.disk.Disk.{Ghosts}
 use Rattle.cfs_base.specs.declared.identifier.Puid.{Puid}
@@ -16,7 +16,7 @@ use Rattle.intentions.specs.Store.{StoreHas}
 use Rattle.open_table.specs.declared.fault.AcquireFault.{AcquireFault}
 use Rattle.open_table.specs.declared.fault.AcquireFault.TheVariants as faults
 use Rattle.special_files.specs.Drafting.{Drafting, IsOpen, opened_as}
-use Rattle.special_files.specs.Refusal.{IsRefusalOrMemory}
+use Rattle.special_files.specs.Refusal.{IsDamage}
 use Rattle.special_files.specs.Store.{Steps}
 use Rattle.ufs_model.specs.declared.asked.Reply.{Reply}
 use Rattle.ufs_model.specs.declared.asked.Reply.TheVariants as replies
@@ -41,22 +41,22 @@ gets_draft kinds.Special modes.Reading = false
 gets_draft kinds.Normal mode = false
 gets_draft kinds.Index mode = false
 
-abbrev pub told_of : AcquireFault → Reply
-told_of (faults.Locked mode) = replies.Locked
-told_of faults.Grants = replies.Grants
+abbrev pub reply_to_fault : AcquireFault → Reply
+reply_to_fault (faults.Locked mode) = replies.Locked
+reply_to_fault faults.Grants = replies.Grants
 
 -- ---- a draft begun
 
 -- a draft that equals its object
-abbrev pub first_draft : Object → Draft
-first_draft o = record { object = o; fresh = [] }
+abbrev pub draft_at_first : Object → Draft
+draft_at_first o = record { object = o; fresh = [] }
 
 -- The store has the draft, and each image that a crash leaves has the objects. A block was Free for it beside the last
 -- four.
 pub record IsBegun {D : Type 0} (g : Ghosts D) (graph : Graph) (ds : List Opened) (id : Puid) (o : Object)
     (old new : D) (before after : Kept) (drafting : Drafting) : Type 0 where
-  pub steps : Steps g graph id (opened_as id drafting (first_draft o) ∷ ds) old new after
-  pub opened : IsOpen (opened_as id drafting (first_draft o) ∷ ds) id drafting (first_draft o)
+  pub steps : Steps g graph id (opened_as id drafting (draft_at_first o) ∷ ds) old new after
+  pub opened : IsOpen (opened_as id drafting (draft_at_first o) ∷ ds) id drafting (draft_at_first o)
   pub bare : drafting.created ≡ None
   pub least : (n : ℕ) × (drafting.shadow ≡ Some n) × IsLeastFree (g.content old) n
   pub leaves : Leaves g old new (λ c. Holds c graph)
@@ -76,6 +76,14 @@ BeginsSo g graph ds id o wanted old new before after (Err (refusals.Disk false))
 BeginsSo g graph ds id o wanted old new before after (Err (refusals.Disk true)) = Leaves g old new (λ c. Holds c graph)
 BeginsSo g graph ds id o wanted old new before after (Err (refusals.Damaged damage)) = ⊥
 BeginsSo g graph ds id o wanted old new before after (Err refusals.Memory) = OnlyReads g 2 old new × (after ≡ before)
+
+-- why it isn't begun: too few blocks are Free beside the floor, a device call failed, a block that was read is damaged,
+-- or memory is wanted
+abbrev pub IsRefusalOrMemory : {D : Type 0} → Ghosts D → ℕ → ℕ → D → D → Kept → Refused → Type 0
+IsRefusalOrMemory g at floor old new kept (refusals.Full need) = need.free < need.need + floor
+IsRefusalOrMemory g at floor old new kept (refusals.Disk tried) = HasStopped g tried old new
+IsRefusalOrMemory g at floor old new kept (refusals.Damaged damage) = IsDamage g at old new kept damage
+IsRefusalOrMemory g at floor old new kept refusals.Memory = Unit {0}
 
 pub record Begins {D : Type 0} (g : Ghosts D) (at : ℕ) (wanted : Bool) (old new : D) (before after : Kept)
     (result : Result (Option Drafting) Refused) : Type 0 where

@@ -20,16 +20,16 @@ may_rescue (asks.Retain index slot id) = true
 may_rescue (asks.OpenFor id mode) = true
 may_rescue request = false
 
-abbrev pub id_in : Reply → Option Puid
-id_in (replies.Id id) = Some id
-id_in reply = None
+abbrev pub replied_id : Reply → Option Puid
+replied_id (replies.Id id) = Some id
+replied_id reply = None
 
 -- what a request puts into this index, or opens, where it was done
 abbrev pub rescue_put : Option Puid → Request → Reply → Option Rescue
 rescue_put index (asks.CreateFile kind fill to slot) reply =
-    option_map (λ id. record { index = index; id = id }) (id_in reply)
+    option_map (λ id. record { index = index; id = id }) (replied_id reply)
 rescue_put index (asks.CreateIndex slots to slot) reply =
-    option_map (λ id. record { index = index; id = id }) (id_in reply)
+    option_map (λ id. record { index = index; id = id }) (replied_id reply)
 rescue_put index (asks.Retain to slot id) reply = Some (record { index = index; id = id })
 rescue_put index (asks.OpenFor id mode) reply = Some (record { index = None; id = id })
 rescue_put index request reply = None

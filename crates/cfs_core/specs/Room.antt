@@ -12,12 +12,12 @@ use Rattle.vol_image.specs.Sound.{graph_blocks}
 use Rattle.vol_owners.specs.Owner.{stray_blocks}
 
 -- the shadow root of a grant's draft, and the leaves and nodes that are the draft's alone
-abbrev pub draft_blocks : Grant → ℕ
-draft_blocks grant = option_map_or (λ d. 1 + sum_by length d.fresh) grant.draft 0
+abbrev pub blocks_of_grant : Grant → ℕ
+blocks_of_grant grant = option_map_or (λ d. 1 + sum_by length d.fresh) grant.draft 0
 
 -- the blocks that objects and drafts have
 abbrev pub blocks_in : State → ℕ
-blocks_in s = graph_blocks s.graph + sum_by draft_blocks s.grants
+blocks_in s = graph_blocks s.graph + sum_by blocks_of_grant s.grants
 
 -- all others are Free but the map of each cylinder and the label
 abbrev pub IsRoom : ℕ → State → ℕ → Type 0

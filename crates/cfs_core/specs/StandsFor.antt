@@ -5,7 +5,7 @@ use Rattle.cfs_base.specs.Disk.{Image}
 use Rattle.cfs_base.specs.declared.disk.Disk.{Ghosts}
 use Rattle.collector_steps.specs.Collecting.{Collecting, Collects}
 use Rattle.intentions.specs.Store.{StoreHas}
-use Rattle.open_table.specs.declared.grant.Grant as seats
+use Rattle.open_table.specs.declared.grant.Grant as handles
 use Rattle.puid_space.specs.Kinds.{kinds_of}
 use Rattle.special_files.specs.Drafting.{Drafting, IsOpen, opened_as}
 use Rattle.ufs_model.specs.declared.collection.Collection.{Collection}
@@ -21,45 +21,45 @@ use Rattle.ufs_model.specs.WellFormed.{IsState}
 use Rattle.vol_owners.specs.Account.{IsSwept, Opened}
 use Rattle.cfs_core.specs.declared.collecting.Collections.{Collections}
 use Rattle.cfs_core.specs.declared.kernel.Stop.{Stop}
-use Rattle.cfs_core.specs.Kernel.{Kernel, Seat, grants_in, marks_in, sweeps_in}
+use Rattle.cfs_core.specs.Kernel.{Kernel, Handle, grants_in, marks_in, sweeps_in}
 
 -- ---- grants
 
 -- the grant without its draft
-abbrev pub bare : Grant → seats.Grant
+abbrev pub bare : Grant → handles.Grant
 bare g = record { tuid = g.tuid; session = g.session; id = g.id; mode = g.mode }
 
 -- the drafts that the grants have, as the store accounts for them, those that were begun later first
-abbrev pub drafts_at : Seat → Option Drafting → Option Draft → List Opened
-drafts_at seat (Some drafting) (Some d) = opened_as seat.grant.id drafting d ∷ []
-drafts_at seat (Some drafting) None = []
-drafts_at seat None draft = []
+abbrev pub drafts_at : Handle → Option Drafting → Option Draft → List Opened
+drafts_at handle (Some drafting) (Some d) = opened_as handle.grant.id drafting d ∷ []
+drafts_at handle (Some drafting) None = []
+drafts_at handle None draft = []
 
-abbrev pub drafts_of_seats : List Seat → List Grant → List Opened
-drafts_of_seats (seat ∷ seats) (grant ∷ grants) =
-    drafts_of_seats seats grants ++ drafts_at seat seat.drafting grant.draft
-drafts_of_seats [] grants = []
-drafts_of_seats (seat ∷ seats) [] = []
+abbrev pub drafts_of_handles : List Handle → List Grant → List Opened
+drafts_of_handles (handle ∷ handles) (grant ∷ grants) =
+    drafts_of_handles handles grants ++ drafts_at handle handle.drafting grant.draft
+drafts_of_handles [] grants = []
+drafts_of_handles (handle ∷ handles) [] = []
 
 -- the draft of a special file, which a grant for writing has
-pub record IsDraftOf (ds : List Opened) (grant : seats.Grant) (drafting : Drafting) (d : Draft) : Type 0 where
+pub record IsDraftOf (ds : List Opened) (grant : handles.Grant) (drafting : Drafting) (d : Draft) : Type 0 where
   pub is_open : IsOpen ds grant.id drafting d
   pub special : is_normal d.object ≡ false
   pub writes : is_reading grant.mode ≡ false
 
 -- the core has a draft exactly where the grant has one, and that is this one
-abbrev pub HasDraftOf : List Opened → Seat → Option Drafting → Option Draft → Type 0
-HasDraftOf ds seat None None = Unit {0}
-HasDraftOf ds seat (Some drafting) (Some d) = IsDraftOf ds seat.grant drafting d
-HasDraftOf ds seat None (Some d) = ⊥
-HasDraftOf ds seat (Some drafting) None = ⊥
+abbrev pub HasDraftOf : List Opened → Handle → Option Drafting → Option Draft → Type 0
+HasDraftOf ds handle None None = Unit {0}
+HasDraftOf ds handle (Some drafting) (Some d) = IsDraftOf ds handle.grant drafting d
+HasDraftOf ds handle None (Some d) = ⊥
+HasDraftOf ds handle (Some drafting) None = ⊥
 
-abbrev pub AreDraftsOf : List Opened → List Seat → List Grant → Type 0
-AreDraftsOf ds (seat ∷ seats) (grant ∷ grants) =
-    HasDraftOf ds seat seat.drafting grant.draft × AreDraftsOf ds seats grants
+abbrev pub AreDraftsOf : List Opened → List Handle → List Grant → Type 0
+AreDraftsOf ds (handle ∷ handles) (grant ∷ grants) =
+    HasDraftOf ds handle handle.drafting grant.draft × AreDraftsOf ds handles grants
 AreDraftsOf ds [] [] = Unit {0}
 AreDraftsOf ds [] (grant ∷ grants) = ⊥
-AreDraftsOf ds (seat ∷ seats) [] = ⊥
+AreDraftsOf ds (handle ∷ handles) [] = ⊥
 
 -- ---- the collection
 
@@ -89,7 +89,7 @@ HasCollection image s (Some k) = HasCollector image s k
 pub record IsFront {D : Type 0} (k : Kernel D) (s : State) : Type 0 where
   pub drawn : s.drawn ≡ k.words.drawn
   pub names : k.names.named ≡ kinds_of s.graph
-  pub grants : grants_in k.seats ≡ map bare s.grants
+  pub grants : grants_in k.handles ≡ map bare s.grants
   pub stopped : s.stopped ≡ option_map (λ stop. stop.moment) k.stop
 
 -- The store has the graph and the drafts, whatever writes wait for a barrier, and no commit is left to be carried out;
@@ -98,9 +98,9 @@ pub record Serves {D : Type 0} (g : Ghosts D) (k : Kernel D) (s : State) : Type 
   pub front : IsFront k s
   pub state : IsState s
   pub root : s.graph.root ≡ k.root
-  pub store : StoreHas g s.graph (drafts_of_seats k.seats s.grants) k.disk k.space
+  pub store : StoreHas g s.graph (drafts_of_handles k.handles s.grants) k.disk k.space
   pub left : k.space.left ≡ None
-  pub drafts : AreDraftsOf (drafts_of_seats k.seats s.grants) k.seats s.grants
+  pub drafts : AreDraftsOf (drafts_of_handles k.handles s.grants) k.handles s.grants
   pub swept : is_sweeping s.collection ≡ false → IsSwept (g.content k.disk) s.graph
   pub four : reserve ≤ sum k.space.free
   pub collecting : HasCollection (g.content k.disk) s k.collections.collector

@@ -12,16 +12,16 @@ use Rattle.ufs_model.specs.Graph.{Graph}
 use Rattle.vol_owners.specs.Owner.{is_root, is_stray, is_taken}
 
 -- the inner pass is over nodes, leaves and shadow roots, the root pass over roots
-abbrev pub is_of_pass : Phase → Option MapEntry → Bool
-is_of_pass phases.Idle entry = false
-is_of_pass phases.Marking entry = false
-is_of_pass (phases.Inner cylinder) entry = not (is_root is_taken entry)
-is_of_pass (phases.Roots cylinder) entry = is_root is_taken entry
-is_of_pass phases.Swept entry = false
+abbrev pub is_in_pass : Phase → Option MapEntry → Bool
+is_in_pass phases.Idle entry = false
+is_in_pass phases.Marking entry = false
+is_in_pass (phases.Inner cylinder) entry = not (is_root is_taken entry)
+is_in_pass (phases.Roots cylinder) entry = is_root is_taken entry
+is_in_pass phases.Swept entry = false
 
 -- a block of the pass whose owner is the root block of no object in the graph; but no root that is being made
-abbrev pub is_freed : Graph → Phase → Option MapEntry → Bool
-is_freed g phase entry = is_stray g entry && is_of_pass phase entry
+abbrev pub is_swept_now : Graph → Phase → Option MapEntry → Bool
+is_swept_now g phase entry = is_stray g entry && is_in_pass phase entry
 
 -- Image b is a, but that in the cylinder at which the sweep is exactly these blocks are Free now.
 pub record FreesStrays (g : Graph) (phase : Phase) (a b : Image) : Type 0 where
@@ -29,4 +29,4 @@ pub record FreesStrays (g : Graph) (phase : Phase) (a b : Image) : Type 0 where
   -- no block is another but the cylinder's map
   pub contents : (n : ℕ) → n ≢ 64 * cylinder_of phase → block_at b n ≡ block_at a n
   pub entries : (n : ℕ) → entry_in b n
-      ≡ (if (n / 64 == cylinder_of phase) && is_freed g phase (entry_in a n) then Some free_entry else entry_in a n)
+      ≡ (if (n / 64 == cylinder_of phase) && is_swept_now g phase (entry_in a n) then Some free_entry else entry_in a n)

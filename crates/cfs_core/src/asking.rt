@@ -1,6 +1,6 @@
 //! A request, answered.
 ghost use Rattle.std.specs.Prelude.{◌≡◌, ◌<◌, None, option_to_list};
-ghost use Rattle.cfs_core.specs.Asked.{Asks, stopped_by, told};
+ghost use Rattle.cfs_core.specs.Asked.{Asks, stopped_by, reply_to};
 ghost use Rattle.cfs_core.specs.Calls.{Tries};
 ghost use Rattle.cfs_core.specs.Rescues.{AreRescued, HasRoomFor, rescue_of};
 
@@ -90,9 +90,9 @@ impl<D: Disk> Core<D> {
     /// The reply to a request that was refused by what lies below. The core stops where what was asked may have been
     /// done, and at a damage.
     pub(crate) fn refuse(&mut self, refused: Refused) -> Reply
-        ensures told { result ≡ told refused (D.moment self.old.disk) }
+        ensures told { result ≡ reply_to refused (D.moment self.old.disk) }
         ensures stop { self.new
-            ≡ record self.old { stop = stopped_by (told refused (D.moment self.old.disk)) self.old.stop } }
+            ≡ record self.old { stop = stopped_by (reply_to refused (D.moment self.old.disk)) self.old.stop } }
     {
         match refused {
             Refused::Full(need) => Reply::Full(need),

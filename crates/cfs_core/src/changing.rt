@@ -5,6 +5,7 @@ ghost use Rattle.ufs_model.specs.Plain.{is_id};
 ghost use Rattle.ufs_model.specs.declared.asked.Ref.{Ref};
 ghost use Rattle.ufs_model.specs.declared.asked.Request.TheVariants as asks;
 
+use crate::finishing::{carry_on, take_room};
 use crate::kernel::Core;
 use crate::looking::{has_slot, look};
 use crate::way::Way;
@@ -103,14 +104,13 @@ impl<D: Disk> Core<D> {
         requires id { id.block ≢ 0 }
         ensures { (to : Ref) → TriesOn D.Disk self.old self.new index slot (asks.Retain to slot id) result }
     {
-        done(retain(
-            alloc,
-            &mut self.disk,
-            &mut self.space,
-            BlockNo(index.block),
-            slot,
-            id,
-        ))
+        let room = match take_room(alloc) {
+            Ok(room) => room,
+            Err(refused) => return Err(refused),
+        };
+        let at = BlockNo(index.block);
+        let ended = retain(room, &mut self.disk, &mut self.space, at, slot, id);
+        done(carry_on(&mut self.disk, &mut self.space, ended))
     }
 
     /// Empties a slot that holds something. On a disk that lies too few blocks may be Free for it.
@@ -127,12 +127,12 @@ impl<D: Disk> Core<D> {
                 code: code::TOO_FULL,
             }));
         }
-        done(delete(
-            alloc,
-            &mut self.disk,
-            &mut self.space,
-            BlockNo(index.block),
-            slot,
-        ))
+        let room = match take_room(alloc) {
+            Ok(room) => room,
+            Err(refused) => return Err(refused),
+        };
+        let at = BlockNo(index.block);
+        let ended = delete(room, &mut self.disk, &mut self.space, at, slot);
+        done(carry_on(&mut self.disk, &mut self.space, ended))
     }
 }

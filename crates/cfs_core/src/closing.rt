@@ -3,10 +3,10 @@ ghost use Rattle.std.specs.Prelude.{◌≡◌, ◌≤◌, ◌*◌, List, length,
 ghost use Rattle.cfs_core.specs.Asked.{Happens, halted};
 ghost use Rattle.cfs_core.specs.Calls.{Tries};
 ghost use Rattle.cfs_core.specs.Drafts.{EndsDraft};
-ghost use Rattle.cfs_core.specs.Kernel.{Seat, grants_in, is_ready_for};
+ghost use Rattle.cfs_core.specs.Kernel.{Handle, grants_in, is_ready_for};
 ghost use Rattle.cfs_core.specs.Leaving as spec;
 ghost use Rattle.cfs_core.specs.Leaving.{GivesUp, Sheds, StopsSo};
-ghost use Rattle.cfs_core.specs.Seats.{drafting_at, have_draft, is_at, with_drafting};
+ghost use Rattle.cfs_core.specs.Handles.{drafting_at, have_draft, is_at, with_drafting};
 ghost use Rattle.cfs_core.specs.StandsFor.{Serves, StandsFor};
 ghost use Rattle.cfs_core.specs.declared.kernel.Stop.{Stop};
 ghost use Rattle.open_table.specs.Grants.{grant_in, without_grant};
@@ -14,6 +14,7 @@ ghost use Rattle.ufs_model.specs.State.{State};
 ghost use Rattle.ufs_model.specs.declared.asked.Event.TheVariants as events;
 ghost use Rattle.ufs_model.specs.declared.asked.Request.TheVariants as asks;
 
+use crate::finishing::finish;
 use crate::kernel::{Core, Halt, Stop};
 use cfs_base::{Disk, Refused, Session, Trouble, Tuid};
 use cyl_alloc::Space;
@@ -33,10 +34,12 @@ fn end_draft<D: Disk>(
     requires size { D.blocks disk.old ≡ 64 * length space.old.free }
     ensures { EndsDraft D.Disk commit draft disk.old disk.new space.old space.new result }
 {
-    if commit {
-        draft.commit(disk, space)
-    } else {
-        draft.abort(disk, space)
+    if !commit {
+        return draft.abort(disk, space);
+    }
+    match draft.commit(disk, space) {
+        Ok(()) => finish(disk, space),
+        Err(trouble) => Err(trouble),
     }
 }
 
@@ -52,10 +55,10 @@ impl<D: Disk> Core<D> {
         ensures { Tries D.Disk self.old self.new who (asks.Close grant commit) result }
     {
         table_follows_the_model();
-        if self.seats.find(who, grant).is_none() {
+        if self.handles.find(who, grant).is_none() {
             return Ok(Reply::NoGrant);
         }
-        match self.seats.take(grant.draw) {
+        match self.handles.take(grant.draw) {
             Some(draft) => self.end(who, grant, draft, commit),
             None => Ok(self.close_bare(who, grant, commit)),
         }
@@ -63,12 +66,12 @@ impl<D: Disk> Core<D> {
 
     /// Ends a grant that has no draft.
     fn close_bare(&mut self, who: Session, grant: Tuid, commit: bool) -> Reply
-        requires undrafted { have_draft (is_at grant.draw) self.old.seats ≡ false }
+        requires undrafted { have_draft (is_at grant.draw) self.old.handles ≡ false }
         ensures { Tries D.Disk self.old self.new who (asks.Close grant commit) (Ok result) }
     {
         table_follows_the_model();
         let _commit = commit;
-        if let Err(_) = self.seats.close(who, grant) {
+        if let Err(_) = self.handles.close(who, grant) {
             return Reply::NoGrant;
         }
         Reply::Done
@@ -84,16 +87,16 @@ impl<D: Disk> Core<D> {
     ) -> Result<Reply, Refused>
         requires left { self.old.space.left ≡ None }
         requires ready { is_ready_for (D.blocks self.old.disk) draft ≡ true }
-        requires taken { have_draft (is_at grant.draw) self.old.seats ≡ false }
-        requires found { IsSome (grant_in (grants_in self.old.seats) who grant) }
-        ensures { (seats : List Seat) → self.old.seats ≡ with_drafting grant.draw None seats
-            → drafting_at seats grant.draw ≡ Some draft
-            → Tries D.Disk (record self.old { seats = seats }) self.new who (asks.Close grant commit) result }
+        requires taken { have_draft (is_at grant.draw) self.old.handles ≡ false }
+        requires found { IsSome (grant_in (grants_in self.old.handles) who grant) }
+        ensures { (handles : List Handle) → self.old.handles ≡ with_drafting grant.draw None handles
+            → drafting_at handles grant.draw ≡ Some draft
+            → Tries D.Disk (record self.old { handles = handles }) self.new who (asks.Close grant commit) result }
     {
         table_follows_the_model();
         match end_draft(draft, &mut self.disk, &mut self.space, commit) {
             Ok(()) => {
-                let _ = self.seats.close(who, grant);
+                let _ = self.handles.close(who, grant);
                 Ok(Reply::Done)
             }
             Err(trouble) => Err(Refused::from(trouble)),
@@ -122,7 +125,7 @@ impl<D: Disk> Core<D> {
         ensures idle { IsSome self.old.stop → self.new.disk ≡ self.old.disk }
     {
         let before = self.stop;
-        while let Some(grant) = self.seats.next_of(who) {
+        while let Some(grant) = self.handles.next_of(who) {
             self.drop_grant(who, grant.tuid);
         }
         halt_of(before, self.stop)
@@ -131,13 +134,13 @@ impl<D: Disk> Core<D> {
     /// Drops a grant of a session. Its draft is given up, unless the core has stopped; where that fails, the core
     /// stops.
     fn drop_grant(&mut self, who: Session, grant: Tuid)
-        requires found { IsSome (grant_in (grants_in self.old.seats) who grant) }
+        requires found { IsSome (grant_in (grants_in self.old.handles) who grant) }
         ensures sheds { Sheds D.Disk who self.old self.new }
-        ensures gone { grants_in self.new.seats ≡ without_grant (grants_in self.old.seats) who grant }
+        ensures gone { grants_in self.new.handles ≡ without_grant (grants_in self.old.handles) who grant }
     {
         table_follows_the_model();
-        let draft = self.seats.take(grant.draw);
-        let _ = self.seats.close(who, grant);
+        let draft = self.handles.take(grant.draw);
+        let _ = self.handles.close(who, grant);
         match draft {
             Some(draft) => self.give_up(draft),
             None => {}

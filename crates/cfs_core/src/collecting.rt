@@ -1,9 +1,9 @@
 //! Collections: how many were called for, and the steps of the collector.
 ghost use Rattle.std.specs.Prelude.{◌≡◌, ◌||◌, ◌+◌, ◌*◌, ◌++◌, ◌∷◌, ◌<◌, ◌≤◌, IfOk};
 ghost use Rattle.std.specs.Prelude.{None, Ok, OnOk, length, map, sum, true};
-ghost use Rattle.cfs_core.specs.Collect.{Collects, HasBegun, StepsSo, TriesStep, fault_of};
+ghost use Rattle.cfs_core.specs.Collect.{Collects, HasBegun, StepsSo, TriesStep, fault_for};
 ghost use Rattle.cfs_core.specs.Collect.{phase_of, stop_by, sweeps_blocks, told_as};
-ghost use Rattle.cfs_core.specs.Kernel.{Seat, marks_in, runs, sweeps_in};
+ghost use Rattle.cfs_core.specs.Kernel.{Handle, marks_in, runs, sweeps_in};
 ghost use Rattle.collector_steps.specs.Collecting.{volume_of};
 ghost use Rattle.collector_steps.specs.Left.{most_steps};
 ghost use Rattle.cyl_alloc.specs.Space as space;
@@ -276,11 +276,11 @@ impl<D: Disk> Core<D> {
     /// The root, and each object that is open.
     fn roots(&self, alloc: Global) -> Result<Vec<Puid>, NoMemory>
         ensures { IfOk result (λ roots.
-            roots.items ≡ self.now.root ∷ map (λ (seat : Seat). seat.grant.id) self.now.seats) }
+            roots.items ≡ self.now.root ∷ map (λ (handle : Handle). handle.grant.id) self.now.handles) }
     {
         let mut roots = Vec::new(alloc);
         roots.push(self.root)?;
-        push_open(&mut roots, self.seats.grants())?;
+        push_open(&mut roots, self.handles.grants())?;
         Ok(roots)
     }
 
@@ -308,9 +308,9 @@ impl<D: Disk> Core<D> {
 
     /// Why a step wasn't made. The core stops where a write had been tried, and at a damage.
     fn fail(&mut self, refused: Refused) -> CollectFault
-        ensures told { result ≡ fault_of refused (D.moment self.old.disk) }
+        ensures told { result ≡ fault_for refused (D.moment self.old.disk) }
         ensures stop { self.new
-            ≡ record self.old { stop = stop_by (fault_of refused (D.moment self.old.disk)) self.old.stop } }
+            ≡ record self.old { stop = stop_by (fault_for refused (D.moment self.old.disk)) self.old.stop } }
     {
         match refused {
             Refused::Memory | Refused::Full(_) => CollectFault::Memory,

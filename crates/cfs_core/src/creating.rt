@@ -7,6 +7,7 @@ ghost use Rattle.index_ops.specs.Creates.{MayBeMade, PutsObject, made_of};
 ghost use Rattle.ufs_model.specs.declared.asked.Request.TheVariants as asks;
 ghost use Rattle.ufs_model.specs.declared.asked.Request.{Request};
 
+use crate::finishing::{finish, take_room};
 use crate::kernel::Core;
 use crate::looking::has_slot;
 use crate::way::Way;
@@ -110,8 +111,12 @@ impl<D: Disk> Core<D> {
             → TriesOn D.Disk self.old self.new index slot request result }
     {
         let word = self.words.ahead();
+        let room = match take_room(alloc) {
+            Ok(room) => room,
+            Err(refused) => return Err(refused),
+        };
         match create(
-            alloc,
+            room,
             &mut self.disk,
             &mut self.space,
             BlockNo(index.block),
@@ -121,7 +126,10 @@ impl<D: Disk> Core<D> {
             size,
             word,
         ) {
-            Ok(id) => self.name(id, kind),
+            Ok(id) => match finish(&mut self.disk, &mut self.space) {
+                Ok(()) => self.name(id, kind),
+                Err(trouble) => Err(Refused::from(trouble)),
+            },
             Err(refused) => Err(refused),
         }
     }

@@ -5,10 +5,11 @@ ghost use Rattle.cfs_base.specs.Calls.{OnlyReads};
 ghost use Rattle.cfs_base.specs.declared.identifier.Puid.{Puid};
 ghost use Rattle.cfs_core.specs.Calls.{Tries};
 ghost use Rattle.cfs_core.specs.Drafts.{ChangesDraft, IsDrafted};
-ghost use Rattle.cfs_core.specs.Looks.{IsDraftCause, content_of};
-ghost use Rattle.cfs_core.specs.Seats.{drafting_at};
+ghost use Rattle.cfs_core.specs.Looks.{IsDraftCause, content_reply};
+ghost use Rattle.cfs_core.specs.Handles.{drafting_at};
 ghost use Rattle.cfs_core.specs.StandsFor.{Serves};
 ghost use Rattle.cyl_alloc.specs.Space.{Kept};
+ghost use Rattle.intentions.specs.Left.{StoreIs};
 ghost use Rattle.intentions.specs.Store.{StoreHas};
 ghost use Rattle.special_files.specs.Drafting.{IsOpen};
 ghost use Rattle.special_files.specs.Refusal.{is_damaged};
@@ -53,12 +54,12 @@ fn content<D: Disk>(
     requires { draft.now.at < D.blocks disk.old }
     ensures exact { (graph : Graph) (ds : List Opened) (space : Kept) (id : Puid) (o : Object) (d : drafts.Draft)
         (f : File)
-        → StoreHas D.Disk graph ds disk.old space → object_at graph id ≡ Some o → IsOpen ds id draft.now d
+        → StoreIs D.Disk graph ds disk.old space → object_at graph id ≡ Some o → IsOpen ds id draft.now d
         → d.object ≡ objects.File f → length f.bytes ≡ draft.now.root.size
-        → IfOk result (λ reply. reply ≡ content_of f offset count) }
+        → IfOk result (λ reply. reply ≡ content_reply f offset count) }
     ensures plain { IfOk result IsPlainReply }
     ensures sound { (graph : Graph) (ds : List Opened) (space : Kept) (id : Puid) (o : Object) (d : drafts.Draft)
-        → StoreHas D.Disk graph ds disk.old space → object_at graph id ≡ Some o → IsOpen ds id draft.now d
+        → StoreIs D.Disk graph ds disk.old space → object_at graph id ≡ Some o → IsOpen ds id draft.now d
         → IfErr result (λ e. is_damaged e ≡ false) }
     ensures cause { IfErr result (IsDraftCause D.Disk draft.now.at disk.old disk.new) }
     ensures reads { OnlyReads D.Disk 18 disk.old disk.new }
@@ -121,7 +122,7 @@ impl<D: Disk> Core<D> {
             Ref::Direct(_) => return None,
             Ref::Through(grant) => grant,
         };
-        if self.seats.find(who, grant).is_some() && self.seats.draft(grant.draw).is_some() {
+        if self.handles.find(who, grant).is_some() && self.handles.draft(grant.draw).is_some() {
             Some(grant)
         } else {
             None
@@ -141,7 +142,7 @@ impl<D: Disk> Core<D> {
         ensures { Tries D.Disk self.old self.new who (asks.Read (refs.Through grant) offset count) result }
     {
         table_follows_the_model();
-        match self.seats.draft(grant.draw) {
+        match self.handles.draft(grant.draw) {
             Some(draft) => content(alloc, &mut self.disk, draft, offset, count),
             None => unreachable!(),
         }
@@ -153,7 +154,7 @@ impl<D: Disk> Core<D> {
         ensures { Tries D.Disk self.now self.now who (asks.Size (refs.Through grant)) (Ok result) }
     {
         table_follows_the_model();
-        match self.seats.draft(grant.draw) {
+        match self.handles.draft(grant.draw) {
             Some(draft) => Reply::Number(draft.size()),
             None => unreachable!(),
         }
@@ -172,7 +173,7 @@ impl<D: Disk> Core<D> {
     {
         are_bytes(bytes);
         table_follows_the_model();
-        let held = match self.seats.draft(grant.draw) {
+        let held = match self.handles.draft(grant.draw) {
             Some(draft) => draft.size(),
             None => unreachable!(),
         };
@@ -180,7 +181,7 @@ impl<D: Disk> Core<D> {
             return Ok(Reply::Range);
         }
         done(
-            self.seats
+            self.handles
                 .write(grant.draw, &mut self.disk, &mut self.space, offset, bytes),
         )
     }
@@ -200,7 +201,7 @@ impl<D: Disk> Core<D> {
             return Ok(Reply::Range);
         }
         done(
-            self.seats
+            self.handles
                 .resize(grant.draw, &mut self.disk, &mut self.space, size),
         )
     }

@@ -4,6 +4,7 @@ ghost use Rattle.cfs_core.specs.Calls.{Tries};
 ghost use Rattle.cfs_core.specs.Opening as spec;
 ghost use Rattle.ufs_model.specs.declared.asked.Request.TheVariants as asks;
 
+use crate::finishing::take_room;
 use crate::kernel::Core;
 use cfs_base::{BlockNo, Disk, Kind, Mode, Puid, Refused, Session, Tuid};
 use cyl_alloc::Space;
@@ -34,7 +35,7 @@ fn gets_draft(kind: Kind, mode: Mode) -> bool
 
 /// What an opening is told that a grant stands against.
 fn told_of(fault: AcquireFault) -> Reply
-    ensures { result ≡ spec.told_of fault }
+    ensures { result ≡ spec.reply_to_fault fault }
 {
     match fault {
         AcquireFault::Locked { mode: _ } => Reply::Locked,
@@ -59,7 +60,11 @@ fn first_draft<D: Disk>(
     if !wanted {
         return Ok(None);
     }
-    match Draft::begin(alloc, disk, space, at, RESERVE) {
+    let room = match take_room(alloc) {
+        Ok(room) => room,
+        Err(refused) => return Err(refused),
+    };
+    match Draft::begin(room, disk, space, at, RESERVE) {
         Ok(draft) => Ok(Some(draft)),
         Err(refused) => Err(refused),
     }
@@ -86,7 +91,7 @@ impl<D: Disk> Core<D> {
             return Ok(Reply::NotFile);
         }
         table_follows_the_model();
-        if let Err(want) = self.seats.reserve() {
+        if let Err(want) = self.handles.reserve() {
             return Err(Refused::from(want));
         }
         let tuid = Tuid {
@@ -99,7 +104,7 @@ impl<D: Disk> Core<D> {
             id,
             mode,
         };
-        if let Some(fault) = self.seats.fault(grant) {
+        if let Some(fault) = self.handles.fault(grant) {
             return Ok(told_of(fault));
         }
         let draft = match first_draft(
@@ -112,7 +117,7 @@ impl<D: Disk> Core<D> {
             Ok(draft) => draft,
             Err(refused) => return Err(refused),
         };
-        self.seats.open(grant, draft);
+        self.handles.open(grant, draft);
         self.words.next();
         Ok(Reply::Grant(tuid))
     }

@@ -3,14 +3,14 @@ ghost use Rattle.std.specs.Prelude.{◌≡◌, ◌≢◌, ◌+◌, ◌*◌, ◌<
 ghost use Rattle.std.specs.Prelude.{IsSome, option_map, option_and_then, sum};
 ghost use Rattle.cfs_core.specs.Room.{IsRoom, lost_blocks};
 ghost use Rattle.cfs_core.specs.Kernel.{runs};
-ghost use Rattle.cfs_core.specs.StandsFor.{Serves, StandsFor, drafts_of_seats, is_collecting, is_sweeping};
+ghost use Rattle.cfs_core.specs.StandsFor.{Serves, StandsFor, drafts_of_handles, is_collecting, is_sweeping};
 ghost use Rattle.cyl_map.specs.Volume.{free_from};
 ghost use Rattle.puid_space.specs.Directory.{kind_in};
 ghost use Rattle.ufs_model.specs.State.{State};
 ghost use Rattle.vol_owners.specs.Room.{blocks_taken};
 
 use crate::collecting::Collections;
-use crate::seats::Seats;
+use crate::handles::Handles;
 use cfs_base::{Damage, Disk, Kind, Puid, Session};
 use cyl_alloc::Space;
 use puid_space::{Directory, Draw};
@@ -54,7 +54,7 @@ pub struct Core<D: Disk> {
     pub(crate) names: Directory,
     pub(crate) space: Space,
     pub(crate) words: Draw,
-    pub(crate) seats: Seats,
+    pub(crate) handles: Handles,
     pub(crate) collections: Collections,
     pub(crate) stop: Option<Stop>,
 }
@@ -70,12 +70,12 @@ impl<D: Disk> Model for Core<D> {
       names = c.names;
       space = c.space;
       words = c.words;
-      seats = c.seats.seats;
+      handles = c.handles.handles;
       collections = c.collections;
       stop = c.stop;
     } };
 
-    ghost invariant = { λ c. IsSized D.blocks c.disk c.names c.space c.seats.seats c.words.drawn c.collections };
+    ghost invariant = { λ c. IsSized D.blocks c.disk c.names c.space c.handles.handles c.words.drawn c.collections };
 }
 
 impl<D: Disk> Core<D> {
@@ -87,11 +87,11 @@ impl<D: Disk> Core<D> {
         ensures free { result.free ≡ sum self.now.space.free }
         // No block is lost.
         ensures room { (s : State) → Serves D.Disk self.now s → is_sweeping s.collection ≡ false
-            → result.free + blocks_taken s.graph (drafts_of_seats self.now.seats s.grants) + 1
+            → result.free + blocks_taken s.graph (drafts_of_handles self.now.handles s.grants) + 1
             ≡ 63 * length self.now.space.free }
         ensures stopped { result.stopped ≡ option_map (λ stop. stop.moment) self.now.stop }
         ensures damage { result.damage ≡ option_and_then (λ stop. stop.damage) self.now.stop }
-        ensures grants { result.grants ≡ length self.now.seats }
+        ensures grants { result.grants ≡ length self.now.handles }
         ensures running { result.running ≡ runs self.now.collections.collector }
         ensures collects { (s : State) → Serves D.Disk self.now s → result.running ≡ is_collecting s.collection }
         ensures called { result.called ≡ self.now.collections.called }
@@ -101,7 +101,7 @@ impl<D: Disk> Core<D> {
     {
         Status {
             objects: self.names.len(),
-            grants: self.seats.len(),
+            grants: self.handles.len(),
             free: self.space.free(),
             running: self.collections.is_running(),
             called: self.collections.called,

@@ -8,13 +8,14 @@ mod closing;
 mod collecting;
 mod creating;
 mod drafting;
+mod finishing;
 mod granting;
+mod handles;
 mod kernel;
 mod looking;
 mod opening;
 mod reading;
 mod rescuing;
-mod seats;
 mod way;
 mod writing;
 

@@ -14,8 +14,8 @@ ghost use Rattle.vol_format.specs.Fresh.{IsFormatted, MayBeFresh};
 ghost use Rattle.vol_image.specs.Sound.{IsSound, IsSoundAs};
 
 use crate::collecting::Collections;
+use crate::handles::Handles;
 use crate::kernel::Core;
-use crate::seats::Seats;
 use cfs_base::{Damage, Disk, Failed, code};
 use cfs_recover::{RecoverFault, Recovered, recover};
 use puid_space::{Draw, root_word};
@@ -97,7 +97,7 @@ impl<D: Disk> Core<D> {
                     names: recovered.names,
                     space: recovered.space,
                     words: Draw::new(seed),
-                    seats: Seats::new(alloc),
+                    handles: Handles::new(alloc),
                     collections: Collections::new(),
                     stop: None,
                 })

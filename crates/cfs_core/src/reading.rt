@@ -2,7 +2,7 @@
 ghost use Rattle.std.specs.Prelude.{◌≡◌, ◌+◌, ◌<◌, ◌≤◌, IfOk, None, length};
 ghost use Rattle.cfs_base.specs.Run.{Tells};
 ghost use Rattle.cfs_core.specs.Calls.{Tries};
-ghost use Rattle.cfs_core.specs.Looks.{IsCalm, Knows, content_of, measured};
+ghost use Rattle.cfs_core.specs.Looks.{IsCalm, Knows, content_reply, measured};
 ghost use Rattle.cfs_core.specs.StandsFor.{Serves};
 ghost use Rattle.normal_files.specs.Standing.{IsRootAt};
 ghost use Rattle.normal_files.specs.Touched.{leaves_touched, nodes_touched};
@@ -53,7 +53,7 @@ fn content<D: Disk>(
 ) -> Result<Reply, Refused>
     requires { file.0 < D.blocks disk.old }
     ensures exact { (f : File) → Knows D.Disk disk.old file.0 (objects.File f)
-        → IfOk result (λ reply. reply ≡ content_of f offset count) }
+        → IfOk result (λ reply. reply ≡ content_reply f offset count) }
     ensures plain { IfOk result IsPlainReply }
     ensures calm { IsCalm D.Disk objects.File (1 + nodes_touched offset count + leaves_touched offset count) file.0
         disk.old disk.new result }

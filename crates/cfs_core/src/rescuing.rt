@@ -40,7 +40,7 @@ fn is_done(reply: &Reply) -> bool
 
 /// The identifier that a reply names, if it names one.
 fn id_in(reply: &Reply) -> Option<Puid>
-    ensures { result ≡ spec.id_in reply.now }
+    ensures { result ≡ spec.replied_id reply.now }
 {
     match reply {
         Reply::Id(id) => Some(*id),

@@ -3,7 +3,7 @@ ghost use Rattle.std.specs.Prelude.{◌≡◌, ◌≢◌, ◌<◌, ◌&&◌, ℕ
 ghost use Rattle.cfs_base.specs.declared.identifier.Puid.{Puid};
 ghost use Rattle.cfs_core.specs.Calls.{Tries};
 ghost use Rattle.cfs_core.specs.Looks.{ReachesAll};
-ghost use Rattle.cfs_core.specs.StandsFor.{Serves, drafts_of_seats};
+ghost use Rattle.cfs_core.specs.StandsFor.{Serves, drafts_of_handles};
 ghost use Rattle.cfs_core.specs.Ways.{Arrives, GoesBy, is_gone, reads_by, unfit_of};
 ghost use Rattle.open_table.specs.Model.{is_writing};
 ghost use Rattle.puid_space.specs.Directory.{kind_in};
@@ -75,9 +75,9 @@ impl<D: Disk> Core<D> {
     fn shuts(&self, who: Session, way: Way)
         ensures { (s : State) (id : Puid) → Serves D.Disk self.now s → named s who way.to ≡ Some id
             → draft_of s who way.to ≡ None → meets_a_grant s way.changes way.to ≡ false
-            → drafts_of (drafts_of_seats self.now.seats s.grants) id ≡ [] }
+            → drafts_of (drafts_of_handles self.now.handles s.grants) id ≡ [] }
     {
-        self.seats.len();
+        self.handles.len();
     }
 
     /// The object that a request of a session goes to, and its kind, which is wanted there, or its refusal on the way
@@ -122,7 +122,7 @@ impl<D: Disk> Core<D> {
         table_follows_the_model();
         match to {
             Ref::Direct(id) => Some(id),
-            Ref::Through(grant) => match self.seats.find(who, grant) {
+            Ref::Through(grant) => match self.handles.find(who, grant) {
                 Some(grant) => Some(grant.id),
                 None => None,
             },
@@ -158,7 +158,7 @@ impl<D: Disk> Core<D> {
         table_follows_the_model();
         match to {
             Ref::Direct(_) => false,
-            Ref::Through(grant) => reads(self.seats.find(who, grant)),
+            Ref::Through(grant) => reads(self.handles.find(who, grant)),
         }
     }
 
@@ -168,9 +168,9 @@ impl<D: Disk> Core<D> {
         ensures { (s : State) → Serves D.Disk self.now s → result ≡ meets_a_grant s alone to }
     {
         table_follows_the_model();
-        self.seats.len();
+        self.handles.len();
         match to {
-            Ref::Direct(id) => bars(alone, self.seats.mode_on(id)),
+            Ref::Direct(id) => bars(alone, self.handles.mode_on(id)),
             Ref::Through(_) => false,
         }
     }

@@ -6,6 +6,7 @@ ghost use Rattle.ufs_model.specs.State.{State, draft_of};
 ghost use Rattle.ufs_model.specs.declared.asked.Request.TheVariants as asks;
 
 use crate::changing::done;
+use crate::finishing::{carry_on, room_for};
 use crate::kernel::Core;
 use crate::reading::{is_range, root_in};
 use crate::way::Way;
@@ -64,17 +65,14 @@ impl<D: Disk> Core<D> {
         if !is_range(root.size, offset, bytes.len() as u64) {
             return Ok(Reply::Range);
         }
-        done(file_ops::write(
-            alloc,
-            &mut self.disk,
-            &mut self.space,
-            BlockNo(file.block),
-            kind,
-            &root,
-            offset,
-            bytes,
-            RESERVE,
-        ))
+        let room = match room_for(alloc, kind) {
+            Ok(room) => room,
+            Err(refused) => return Err(refused),
+        };
+        let at = BlockNo(file.block);
+        let (disk, space) = (&mut self.disk, &mut self.space);
+        let ended = file_ops::write(room, disk, space, at, kind, &root, offset, bytes, RESERVE);
+        done(carry_on(&mut self.disk, &mut self.space, ended))
     }
 
     /// Sets the size of a file in bytes.
@@ -119,14 +117,13 @@ impl<D: Disk> Core<D> {
         if size > MOST_BYTES {
             return Ok(Reply::Range);
         }
-        done(file_ops::resize(
-            alloc,
-            &mut self.disk,
-            &mut self.space,
-            BlockNo(file.block),
-            kind,
-            size,
-            RESERVE,
-        ))
+        let room = match room_for(alloc, kind) {
+            Ok(room) => room,
+            Err(refused) => return Err(refused),
+        };
+        let at = BlockNo(file.block);
+        let (disk, space) = (&mut self.disk, &mut self.space);
+        let ended = file_ops::resize(room, disk, space, at, kind, size, RESERVE);
+        done(carry_on(&mut self.disk, &mut self.space, ended))
     }
 }

@@ -5,7 +5,7 @@ use Rattle.cfs_base.specs.Disk.{Image, block_at}
 use Rattle.cfs_base.specs.Replay as calls
 use Rattle.cfs_fakes.specs.declared.kept.Call.{Call}
 use Rattle.cfs_fakes.specs.declared.kept.Call.TheVariants.{Write, Barrier}
-use Rattle.cfs_fakes.specs.declared.kept.Kept.{Kept}
+use Rattle.cfs_fakes.specs.declared.kept.KeptCall.{KeptCall}
 
 -- the content, the content at the last barrier, and the writes since then, the newest first, with their blocks
 pub record State : Type 0 where
@@ -30,14 +30,14 @@ after (Write at block done) s = record {
 }
 after Barrier s = record { content = s.content; base = s.content; pending = [] }
 
-abbrev pub made_at : Kept → ℕ
+abbrev pub made_at : KeptCall → ℕ
 made_at kept = kept.moment
 
-abbrev pub made : Kept → State → State
+abbrev pub made : KeptCall → State → State
 made kept s = after kept.call s
 
 -- the state at moment t, after the calls made before it
-abbrev pub replay : State → ℕ → List Kept → State
+abbrev pub replay : State → ℕ → List KeptCall → State
 replay s t kept = calls.replay made_at made s t kept
 
 -- the writes to one block

@@ -5,7 +5,7 @@ use Rattle.cfs_base.specs.Disk.{Image}
 use Rattle.cfs_base.specs.Replay.{replay_keeps}
 use Rattle.cfs_fakes.specs.declared.kept.Call.{Call}
 use Rattle.cfs_fakes.specs.declared.kept.Call.TheVariants.{Write, Barrier}
-use Rattle.cfs_fakes.specs.declared.kept.Kept.{Kept}
+use Rattle.cfs_fakes.specs.declared.kept.KeptCall.{KeptCall}
 use Rattle.cfs_fakes.specs.declared.recorder.Recorder.{Recorder}
 use Rattle.cfs_fakes.specs.Recorder.{left_of}
 use Rattle.cfs_fakes.specs.Replay.{State, after, made, made_at, replay, zeros}
@@ -19,7 +19,7 @@ after_size n (Write at block false) s h = h
 after_size n Barrier s h = (h.0, h.0)
 
 -- no call changes the number of blocks
-pub base_size : (n t : ℕ) (calls : List Kept) → length (replay (zeros n) t calls).base ≡ n
+pub base_size : (n t : ℕ) (calls : List KeptCall) → length (replay (zeros n) t calls).base ≡ n
 base_size n t calls =
     let all : length (zeros n).content ≡ n = length-replicate n (replicate 512 0) in
     (replay_keeps made_at made (HasSize n) (λ kept s h. after_size n kept.call s h) (zeros n) t calls (all, all)).1

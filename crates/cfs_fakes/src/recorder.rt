@@ -6,7 +6,7 @@ ghost use Rattle.cfs_base.specs.Replay.{all_before};
 ghost use Rattle.cfs_fakes.specs.Picks.{choice_of};
 ghost use Rattle.cfs_fakes.specs.Replay.{after, made_at, choices_of, IsChoice, IsImage};
 
-use crate::kept::{Call, Kept, Pick};
+use crate::kept::{Call, KeptCall, Pick};
 use crate::rerun::{choices_at, image_at};
 use crate::store::Store;
 use std::alloc::{AllocError, Global};
@@ -17,7 +17,7 @@ pub struct Recorder {
     blocks: u32,
     keeps: bool,
     moment: u64,
-    kept: Vec<Kept>,
+    kept: Vec<KeptCall>,
     ghost past: { IsTrue (all_before made_at moment kept.items) },
 }
 
@@ -93,7 +93,7 @@ impl Recorder {
             self.pass();
             return Ok(());
         }
-        let kept = Kept {
+        let kept = KeptCall {
             moment: self.moment,
             call,
         };

@@ -4,7 +4,7 @@ ghost use Rattle.cfs_base.specs.Replay.{after_before};
 ghost use Rattle.cfs_fakes.specs.Picks.{choice_of, IsWanted};
 ghost use Rattle.cfs_fakes.specs.Replay.{State, zeros, after, made, made_at, replay, choices_of, IsChoice};
 
-use crate::kept::{Call, Kept, Pick};
+use crate::kept::{Call, KeptCall, Pick};
 use crate::store::Store;
 use cfs_base::Block;
 use std::alloc::{AllocError, Global};
@@ -46,7 +46,7 @@ impl Rerun {
     }
 
     /// Makes the call again, if it was made before this moment.
-    fn make_before(&mut self, at: u64, kept: &Kept)
+    fn make_before(&mut self, at: u64, kept: &KeptCall)
         ensures follows { (s : State) → Follows self.old s
             → Follows self.new (after_before made_at made at kept.now s) }
         ensures wanted { self.new.wanted ≡ self.old.wanted }
@@ -101,7 +101,7 @@ fn choices(alloc: Global, blocks: u32, picks: &[Pick]) -> Result<Vec<u32>, Alloc
 }
 
 // how many writes to the block wait, after one call more if it was made before this moment
-fn waiting_after(count: u32, kept: &Kept, at: u64, block: u32) -> u32
+fn waiting_after(count: u32, kept: &KeptCall, at: u64, block: u32) -> u32
     ensures { (s : State) → count ≡ choices_of s block
         → result ≡ choices_of (after_before made_at made at kept.now s) block }
 {
@@ -122,7 +122,7 @@ fn waiting_after(count: u32, kept: &Kept, at: u64, block: u32) -> u32
 
 /// How many choices a crash at this moment has for a block, beside 0, on a disk of zeros on which these calls were
 /// made.
-pub fn choices_at(blocks: u32, calls: &[Kept], at: u64, block: u32) -> u32
+pub fn choices_at(blocks: u32, calls: &[KeptCall], at: u64, block: u32) -> u32
     ensures { result ≡ choices_of (replay (zeros blocks) at calls.now) block }
 {
     let mut count = 0u32;
@@ -136,7 +136,7 @@ pub fn choices_at(blocks: u32, calls: &[Kept], at: u64, block: u32) -> u32
 pub fn image_at(
     alloc: Global,
     blocks: u32,
-    calls: &[Kept],
+    calls: &[KeptCall],
     at: u64,
     picks: &[Pick],
 ) -> Result<Store, AllocError>

@@ -1,6 +1,6 @@
 -- What each cause that is told shows, and what each status says by it.
 use Rattle.std.proofs.Common.{◌≡◌, ◌⊎◌, inl, inr, ℕ, Bool, true, false, List, ◌++◌, length, Option, Some, None, IsSome, IsNone, refl, sym, ap, ◌∙◌, subst, arith}
-use Rattle.cfs_serve.proofs.Cited.{AreWithin, Asked, Audited, Audits, Cause, Counts, DiskFailed, EachSink, EachSource, EndedWell, Event, ended_line, Format, Formats, Graph, Ground, HadLeft, HasNone, IsLegal, IsStatus, IsText, IsTextBy, LimitPassed, Made, MemoryWanting, NoCountRose, Nothing, Opening, Outside, Page, Replied, Report, RoseIn, Showed, Shows, SinkFailed, SomeRose, SourceFailed, TellsMade, VolumeRefused, WritesReport, Wrote, collections_of, ended, finishes_in, is_audit, is_calm, is_refutation, is_service, last_cause, list_all, list_any, printed_line, printed_replies, report_text, request_lines, sink_faults, source_faults, status_line, status_of, text_by, turns_in, wants_memory}
+use Rattle.cfs_serve.proofs.Cited.{AreWithin, Asked, Audited, Audits, Cause, Counts, DiskFailed, EachSink, EachSource, EndedWell, Event, ended_line, Format, Formats, Graph, Ground, HadLeft, HasNone, IsLegal, IsStatus, IsText, IsTextBy, LimitPassed, Made, MemoryWanting, NoCountRose, Nothing, Opening, Outside, Page, Replied, Report, RoseIn, Showed, Shows, SinkFailed, SomeRose, SourceFailed, TellsMade, VolumeRefused, WritesReport, Wrote, collections_of, status_at_end, finishes_in, is_audit, is_calm, is_refutation, is_service, last_cause, list_all, list_any, printed_line, printed_replies, report_text, request_lines, sink_faults, source_faults, status_line, status_of, text_by, turns_in, wants_memory}
 use Rattle.cfs_serve.specs.declared.report.Cause.TheVariants as causes
 use Rattle.cfs_serve.specs.Top.{IsOver}
 use Rattle.cfs_serve.specs.Words.{Serves, Spins}
@@ -108,30 +108,30 @@ module _ (asked : Asked) (ground : Ground) (old new : Outside) (counts : Option 
       from (inr memory) = subst Because (sym memory.1) tt
 
   -- another status than those of want of memory is that of the cause
-  pub worse : (short : Bool) (cause : Cause) (written : Bool) (n : ℕ) → ¬ (n ≡ 5) → ¬ (n ≡ 7) → ended written (last_cause short cause) ≡ n → ended written cause ≡ n
+  pub worse : (short : Bool) (cause : Cause) (written : Bool) (n : ℕ) → ¬ (n ≡ 5) → ¬ (n ≡ 7) → status_at_end written (last_cause short cause) ≡ n → status_at_end written cause ≡ n
   worse short cause written n some other is = from (last short cause)
     where
-      wants : (written : Bool) → ended written causes.Memory ≡ n → ⊥
+      wants : (written : Bool) → status_at_end written causes.Memory ≡ n → ⊥
       wants true so = other (sym so)
       wants false so = some (sym so)
 
-      from : (last_cause short cause ≡ cause) ⊎ ((cause ≡ causes.Nothing) × (last_cause short cause ≡ causes.Memory)) → ended written cause ≡ n
-      from (inl same) = ap (ended written) (sym same) ∙ is
-      from (inr memory) = absurd (wants written (ap (ended written) (sym memory.1) ∙ is))
+      from : (last_cause short cause ≡ cause) ⊎ ((cause ≡ causes.Nothing) × (last_cause short cause ≡ causes.Memory)) → status_at_end written cause ≡ n
+      from (inl same) = ap (status_at_end written) (sym same) ∙ is
+      from (inr memory) = absurd (wants written (ap (status_at_end written) (sym memory.1) ∙ is))
 
   -- and one that isn't of a service that ended well stays
-  stays : (short : Bool) (cause : Cause) (written : Bool) (n : ℕ) → ¬ (n ≡ 0) → ¬ (n ≡ 5) → ended written cause ≡ n → ended written (last_cause short cause) ≡ n
+  stays : (short : Bool) (cause : Cause) (written : Bool) (n : ℕ) → ¬ (n ≡ 0) → ¬ (n ≡ 5) → status_at_end written cause ≡ n → status_at_end written (last_cause short cause) ≡ n
   stays short cause written n well some is = from (last short cause)
     where
-      none : (written : Bool) → ended written causes.Nothing ≡ n → ⊥
+      none : (written : Bool) → status_at_end written causes.Nothing ≡ n → ⊥
       none true so = well (sym so)
       none false so = some (sym so)
 
-      from : (last_cause short cause ≡ cause) ⊎ ((cause ≡ causes.Nothing) × (last_cause short cause ≡ causes.Memory)) → ended written (last_cause short cause) ≡ n
-      from (inl same) = ap (ended written) same ∙ is
-      from (inr memory) = absurd (none written (ap (ended written) (sym memory.0) ∙ is))
+      from : (last_cause short cause ≡ cause) ⊎ ((cause ≡ causes.Nothing) × (last_cause short cause ≡ causes.Memory)) → status_at_end written (last_cause short cause) ≡ n
+      from (inl same) = ap (status_at_end written) same ∙ is
+      from (inr memory) = absurd (none written (ap (status_at_end written) (sym memory.0) ∙ is))
 
-  pub status : (cause : Cause) (text : List ℕ) (written : Bool) → Told text written → IsStatus (ended written cause) cause old new
+  pub status : (cause : Cause) (text : List ℕ) (written : Bool) → Told text written → IsStatus (status_at_end written cause) cause old new
   status cause text true wrote = inl refl
   status causes.Nothing text false wrote = inr (refl, (refl, wrote.failed))
   status (causes.Page page) text false wrote = inr (refl, (refl, wrote.failed))
@@ -147,7 +147,7 @@ module _ (asked : Asked) (ground : Ground) (old new : Outside) (counts : Option 
   status (causes.BadLine line) text false wrote = inl refl
   status (causes.Illegal event) text false wrote = inl refl
 
-  pub status_0 : (cause : Cause) (short : Bool) (text : List ℕ) (written : Bool) → Because cause → IsText asked (told cause) trail short text → Told text written → ended written (last_cause short cause) ≡ 0
+  pub status_0 : (cause : Cause) (short : Bool) (text : List ℕ) (written : Bool) → Because cause → IsText asked (told cause) trail short text → Told text written → status_at_end written (last_cause short cause) ≡ 0
       → EndedWell asked ground (told cause) trail old new ⊎ Showed (told cause) old new ⊎ Made asked (told cause) old new ⊎ Audited asked (told cause) old new
   status_0 causes.Nothing false text true (inl because) is_text wrote is = inl (record {
     served = because.served;
@@ -186,22 +186,22 @@ module _ (asked : Asked) (ground : Ground) (old new : Outside) (counts : Option 
   status_0 cause true text true because is_text wrote is = absurd (omega (arith, is))
   status_0 cause true text false because is_text wrote is = absurd (omega (arith, is))
 
-  pub status_2 : (cause : Cause) (written : Bool) → Because cause → ended written cause ≡ 2 → asked ≡ Nothing
+  pub status_2 : (cause : Cause) (written : Bool) → Because cause → status_at_end written cause ≡ 2 → asked ≡ Nothing
   status_2 causes.Words written because is = because.1
   status_2 cause true because is = absurd (omega (arith, is))
   status_2 cause false because is = absurd (omega (arith, is))
 
-  pub status_3 : (cause : Cause) (written : Bool) → Because cause → ended written cause ≡ 3 → VolumeRefused ground (told cause)
+  pub status_3 : (cause : Cause) (written : Bool) → Because cause → status_at_end written cause ≡ 3 → VolumeRefused ground (told cause)
   status_3 (causes.Volume fault) written because is = ((fault, refl, because.2), because.0)
   status_3 cause true because is = absurd (omega (arith, is))
   status_3 cause false because is = absurd (omega (arith, is))
 
-  pub status_4 : (cause : Cause) (written : Bool) → Because cause → ended written cause ≡ 4 → DiskFailed (told cause) old new
+  pub status_4 : (cause : Cause) (written : Bool) → Because cause → status_at_end written cause ≡ 4 → DiskFailed (told cause) old new
   status_4 (causes.Disk moment) written because is = ((moment, refl), because.0)
   status_4 cause true because is = absurd (omega (arith, is))
   status_4 cause false because is = absurd (omega (arith, is))
 
-  pub status_5 : (cause : Cause) (short : Bool) (text : List ℕ) (written : Bool) → Because cause → Told text written → ended written (last_cause short cause) ≡ 5
+  pub status_5 : (cause : Cause) (short : Bool) (text : List ℕ) (written : Bool) → Because cause → Told text written → status_at_end written (last_cause short cause) ≡ 5
       → SinkFailed (told cause) old new
   status_5 causes.Sink short text written because wrote is = inl (because.0, refl, because.2)
   status_5 causes.Nothing short text false because wrote is = inr (refl, wrote.failed)
@@ -213,38 +213,38 @@ module _ (asked : Asked) (ground : Ground) (old new : Outside) (counts : Option 
   status_5 cause true text true because wrote is = absurd (omega (arith, is))
   status_5 cause true text false because wrote is = absurd (omega (arith, is))
 
-  pub status_6 : (cause : Cause) (written : Bool) → Because cause → ended written cause ≡ 6 → SourceFailed (told cause) old new
+  pub status_6 : (cause : Cause) (written : Bool) → Because cause → status_at_end written cause ≡ 6 → SourceFailed (told cause) old new
   status_6 (causes.Source n) written because is = because.0
   status_6 cause true because is = absurd (omega (arith, is))
   status_6 cause false because is = absurd (omega (arith, is))
 
-  pub status_7 : (cause : Cause) (text : List ℕ) (written : Bool) → Told text written → ended written cause ≡ 7 → MemoryWanting false cause text old new
+  pub status_7 : (cause : Cause) (text : List ℕ) (written : Bool) → Told text written → status_at_end written cause ≡ 7 → MemoryWanting false cause text old new
   status_7 causes.Memory text true wrote is = (refl, wrote)
   status_7 causes.Memory text false wrote is = absurd (omega (arith, is))
   status_7 cause text true wrote is = absurd (omega (arith, is))
   status_7 cause text false wrote is = absurd (omega (arith, is))
 
-  pub status_8 : (cause : Cause) (written : Bool) → ended written cause ≡ 8 → is_refutation cause ≡ true
+  pub status_8 : (cause : Cause) (written : Bool) → status_at_end written cause ≡ 8 → is_refutation cause ≡ true
   status_8 (causes.BadLine line) written is = refl
   status_8 (causes.Illegal event) written is = refl
   status_8 cause true is = absurd (omega (arith, is))
   status_8 cause false is = absurd (omega (arith, is))
 
-  pub is_8 : (short : Bool) (cause : Cause) (written : Bool) → is_refutation cause ≡ true → ended written (last_cause short cause) ≡ 8
+  pub is_8 : (short : Bool) (cause : Cause) (written : Bool) → is_refutation cause ≡ true → status_at_end written (last_cause short cause) ≡ 8
   is_8 short (causes.BadLine line) true bad = stays short (causes.BadLine line) true 8 (λ e. cc e) (λ e. cc e) refl
   is_8 short (causes.BadLine line) false bad = stays short (causes.BadLine line) false 8 (λ e. cc e) (λ e. cc e) refl
   is_8 short (causes.Illegal event) true bad = stays short (causes.Illegal event) true 8 (λ e. cc e) (λ e. cc e) refl
   is_8 short (causes.Illegal event) false bad = stays short (causes.Illegal event) false 8 (λ e. cc e) (λ e. cc e) refl
   is_8 short cause written bad = absurd (no_service bad)
 
-  pub status_9 : (cause : Cause) (written : Bool) → Because cause → ended written cause ≡ 9 → LimitPassed asked (told cause) old new
+  pub status_9 : (cause : Cause) (written : Bool) → Because cause → status_at_end written cause ≡ 9 → LimitPassed asked (told cause) old new
   status_9 (causes.Long n) written because is = (because.0, because.1)
   status_9 causes.LongTotal written because is = (because.0, because.1)
   status_9 cause true because is = absurd (omega (arith, is))
   status_9 cause false because is = absurd (omega (arith, is))
 
   over : (cause : Cause) (written : Bool) → Because cause → is_service asked ≡ true → (scripts : List (List ℕ)) → HadLeft old scripts → ¬ (AreWithin scripts)
-      → (ended written cause ≡ 9) ⊎ (cause ≡ causes.Memory) ⊎ (ended written cause ≡ 6)
+      → (status_at_end written cause ≡ 9) ⊎ (cause ≡ causes.Memory) ⊎ (status_at_end written cause ≡ 6)
   over causes.Nothing written (inl because) is scripts had past = absurd (past (because.within scripts had))
   over causes.Nothing written (inr because) is scripts had past = absurd (past (because.2 scripts had))
   over (causes.Volume fault) written because is scripts had past = absurd (past (because.1 scripts had))
@@ -264,16 +264,16 @@ module _ (asked : Asked) (ground : Ground) (old new : Outside) (counts : Option 
   over (causes.Illegal event) written because is scripts had past = absurd (not_both asked because.1 is)
 
   pub over_last : (short : Bool) (cause : Cause) (written : Bool) → Because cause → is_service asked ≡ true → (scripts : List (List ℕ)) → HadLeft old scripts → ¬ (AreWithin scripts)
-      → (ended written (last_cause short cause) ≡ 9) ⊎ (cause ≡ causes.Memory) ⊎ (ended written (last_cause short cause) ≡ 6)
+      → (status_at_end written (last_cause short cause) ≡ 9) ⊎ (cause ≡ causes.Memory) ⊎ (status_at_end written (last_cause short cause) ≡ 6)
   over_last short cause written because is scripts had past = from (over cause written because is scripts had past)
     where
-      from : (ended written cause ≡ 9) ⊎ (cause ≡ causes.Memory) ⊎ (ended written cause ≡ 6) → (ended written (last_cause short cause) ≡ 9) ⊎ (cause ≡ causes.Memory) ⊎ (ended written (last_cause short cause) ≡ 6)
+      from : (status_at_end written cause ≡ 9) ⊎ (cause ≡ causes.Memory) ⊎ (status_at_end written cause ≡ 6) → (status_at_end written (last_cause short cause) ≡ 9) ⊎ (cause ≡ causes.Memory) ⊎ (status_at_end written (last_cause short cause) ≡ 6)
       from (inl is) = inl (stays short cause written 9 (λ e. cc e) (λ e. cc e) is)
       from (inr (inl is)) = inr (inl is)
       from (inr (inr is)) = inr (inr (stays short cause written 6 (λ e. cc e) (λ e. cc e) is))
 
   pub complete : (cause : Cause) (text : List ℕ) (written : Bool) → Because cause → Told text written → is_service asked ≡ true → (scripts : List (List ℕ)) → HadLeft old scripts → AreWithin scripts
-      → NoCountRose old new → (graph : Graph) → ground.reads graph → (ended written cause ≡ 0) ⊎ (ended written cause ≡ 7)
+      → NoCountRose old new → (graph : Graph) → ground.reads graph → (status_at_end written cause ≡ 0) ⊎ (status_at_end written cause ≡ 7)
   complete causes.Nothing text true because wrote is scripts had within quiet graph reads = inl refl
   complete causes.Memory text true because wrote is scripts had within quiet graph reads = inr refl
   complete causes.Nothing text false because wrote is scripts had within quiet graph reads = absurd (quiet.report wrote.failed)
@@ -292,7 +292,7 @@ module _ (asked : Asked) (ground : Ground) (old new : Outside) (counts : Option 
 
   -- of a volume that is known to be no sound one
   pub refused : (cause : Cause) (text : List ℕ) (written : Bool) → Because cause → Told text written → is_service asked ≡ true → (scripts : List (List ℕ)) → HadLeft old scripts → AreWithin scripts
-      → NoCountRose old new → ground.unsound → (ended written cause ≡ 3) ⊎ (ended written cause ≡ 7)
+      → NoCountRose old new → ground.unsound → (status_at_end written cause ≡ 3) ⊎ (status_at_end written cause ≡ 7)
   refused causes.Nothing text written (inl because) wrote is scripts had within quiet unsound = absurd (because.sound unsound)
   refused causes.Nothing text written (inr because) wrote is scripts had within quiet unsound = absurd (no_service (rw because.1.1 at is))
   refused (causes.Page page) text written because wrote is scripts had within quiet unsound = absurd (no_service (rw because.1 at is))
@@ -315,16 +315,16 @@ pub taken : (old new : Outside) (text : List ℕ) (written : Bool) → Replied o
 taken old new text true wrote quiet = refl
 taken old new text false wrote quiet = absurd (quiet.report wrote.failed)
 
-pub shown : (page : Page) (old new : Outside) (text : List ℕ) (written : Bool) → Replied old.report new.report text written → NoCountRose old new → ended written (causes.Page page) ≡ 0
+pub shown : (page : Page) (old new : Outside) (text : List ℕ) (written : Bool) → Replied old.report new.report text written → NoCountRose old new → status_at_end written (causes.Page page) ≡ 0
 shown page old new text true wrote quiet = refl
 shown page old new text false wrote quiet = absurd (quiet.report wrote.failed)
 
 pub formatted : (cause : Cause) (old new : Outside) (text : List ℕ) (written : Bool) → TellsMade cause old.disk new.disk → Replied old.report new.report text written
-    → NoCountRose old new → ended written cause ≡ 0
+    → NoCountRose old new → status_at_end written cause ≡ 0
 formatted cause old new text true (inl is) wrote quiet = rw is refl
 formatted cause old new text false (inl is) wrote quiet = absurd (quiet.report wrote.failed)
 formatted cause old new text written (inr failed) wrote quiet = absurd (quiet.disk failed.1)
 
-pub is_2 : (written : Bool) → ended written causes.Words ≡ 2
+pub is_2 : (written : Bool) → status_at_end written causes.Words ≡ 2
 is_2 true = refl
 is_2 false = refl

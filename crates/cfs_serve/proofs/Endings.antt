@@ -1,6 +1,6 @@
 -- How a service ended, and what spoiled it.
 use Rattle.std.proofs.Common.{◌≡◌, inl, inr, ℕ, ◌≤◌, Bool, true, false, List, Option, Some, None, is_some, refl, sym, ap, ◌∙◌, subst, arith, ◌||◌}
-use Rattle.cfs_serve.proofs.Cited.{Cause, CollectFault, Damage, Ending, EndsSo, Event, IsStop, Rose, Stop, Stops, TellsStop, Told, cause_of, count_after, damage_in, faults_after, first_fault, has_failed, has_fallen, is_calm, is_failure, is_fault, is_none, is_quiet_fault, is_short, is_want, list_all, list_any, moment_in, spoiled_by, tells_disk, wants_memory}
+use Rattle.cfs_serve.proofs.Cited.{Cause, CollectFault, Damage, Ending, EndsSo, Event, IsStop, Rose, Stop, Stops, TellsStop, Told, cause_of, count_after, damage_in, faults_after, first_fault, has_failed, has_fallen, is_calm, is_failure, is_fault, is_none, is_quiet_fault, is_short, is_want_of_memory, list_all, list_any, moment_in, spoiled_by, tells_disk, wants_memory}
 use Rattle.cfs_core.specs.declared.collecting.CollectFault.TheVariants as faults
 use Rattle.cfs_serve.specs.declared.report.Cause.TheVariants as causes
 use Rattle.cfs_serve.proofs.Journals.{or_false, or_true}
@@ -41,7 +41,7 @@ undamaged_by : (stopped : Option ℕ) (damage : Option Damage) (broken wanting :
 undamaged_by stopped None broken wanting well = refl
 undamaged_by stopped (Some d) broken wanting well = absurd (cc well)
 
-never_refused : (refused : Option CollectFault) → is_fault refused ≡ false → is_want refused ≡ false → TellsStop refused None → refused ≡ None
+never_refused : (refused : Option CollectFault) → is_fault refused ≡ false → is_want_of_memory refused ≡ false → TellsStop refused None → refused ≡ None
 never_refused None fault want tells = refl
 never_refused (Some faults.Memory) fault want tells = absurd (cc want)
 never_refused (Some (faults.Disk doubt)) fault want tells = absurd (cc fault)

@@ -1,6 +1,6 @@
 -- What `top` says of a run, from what the run came to.
 use Rattle.std.proofs.Common.{◌≡◌, inl, inr, ℕ, ◌<◌, ◌≤◌, Bool, true, false, not, List, [], ◌∷◌, ◌++◌, length, map, slice_get, Option, Some, None, refl, sym, ap, ◌∙◌, subst, arith, ◌||◌}
-use Rattle.cfs_serve.proofs.Cited.{AreOver, AreClients, AreWithin, Asked, Asks, Audits, BreaksOff, Cause, Counts, Ending, Event, Formats, Ground, HadLeft, HasBroken, HasPlaces, HasScript, HaveScripts, Intake, IsOver, IsPlayed, IsRunOf, IsServedFrom, Nothing, Outside, Page, Puid, Reading, Replied, Report, RoseIn, Client, Service, Shows, SomeRose, Supply, Wrote, all_forms, counts_of, events_of, has_broken, has_failed, is_short, is_verdict, length-map, list_any, most_lines, no_names, not_begun, option_map, printed_replies, request_lines, slice_get-map, slice_get_within, turns_from, turns_in, wants_memory}
+use Rattle.cfs_serve.proofs.Cited.{AreOver, AreClients, AreWithin, Asked, Asks, Audits, BreaksOff, Cause, Counts, Ending, Event, Formats, Ground, HadLeft, HasBroken, HasPlaces, HasScript, HaveScripts, Intake, IsOver, IsPlayed, IsRunOf, IsServedFrom, Nothing, Outside, Page, Puid, Reading, Replied, Report, RoseIn, Client, Service, Shows, SomeRose, Supply, Wrote, all_forms, counts_of, events_of_session, has_broken, has_failed, is_short, is_verdict, length-map, list_any, most_lines, no_names, not_begun, option_map, printed_replies, request_lines, slice_get-map, slice_get_within, turns_from, turns_in, wants_memory}
 use Rattle.cfs_serve.specs.declared.report.Cause.TheVariants as causes
 use Rattle.cfs_serve.specs.Words.{Serves, Spins}
 use Rattle.ufs_model.specs.declared.asked.Event.TheVariants as events
@@ -106,7 +106,7 @@ module _ (service : Service) (ground : Ground) (disk disk_after : Option ℕ) (s
           answered = λ all. port.2.answered (off port.0.failed (sym (ap (λ p. not (failed_at p)) port.1) ∙ all)) ∙ ap length client.1;
         }
 
-    left_at : (k : ℕ) (source : Supply) → AtSource k source → (stopped : Option ℕ) × (events_of k trail ≡ turns_in k trail ++ events.Leave k stopped ∷ [])
+    left_at : (k : ℕ) (source : Supply) → AtSource k source → (stopped : Option ℕ) × (events_of_session k trail ≡ turns_in k trail ++ events.Leave k stopped ∷ [])
     left_at k source here = let port = here.3.2 in (port.2.stopped, port.2.leaves)
 
     -- where no sink failed
@@ -157,7 +157,7 @@ module _ (service : Service) (ground : Ground) (disk disk_after : Option ℕ) (s
       places = (sources_count ∙ given.0, sinks_count ∙ given.1);
       unserved = λ none. absurd (clash none);
       unasked = λ no. absurd (clash no);
-      leaves = λ served. each_of (λ k source after. (stopped : Option ℕ) × (events_of k trail ≡ turns_in k trail ++ events.Leave k stopped ∷ [])) sources sources_after sources_count
+      leaves = λ served. each_of (λ k source after. (stopped : Option ℕ) × (events_of_session k trail ≡ turns_in k trail ++ events.Leave k stopped ∷ [])) sources sources_after sources_count
           (λ k source after at there. left_at played.root played.over k source (at_source played.root played.over k source at));
       sessions = played.over.sessions;
       others = λ k past. played.over.none k (omega (arith, past, clients_count));

@@ -1,6 +1,6 @@
 -- What an audit comes to, by what was found of its source.
 use Rattle.std.proofs.Common.{◌≡◌, ◌⊎◌, inl, inr, ℕ, ◌<◌, ◌≤◌, Bool, true, false, List, [], ◌∷◌, length, Some, refl, sym, subst, arith}
-use Rattle.cfs_serve.proofs.Cited.{Asked, Audits, Cause, EachFrom, Finds, Formats, Had, IsJudged, IsTrailOf, Judges, Nothing, Rose, Shows, SomeRose, Supply, ended, faults_of, is_audit, is_service, most_trail, status_of}
+use Rattle.cfs_serve.proofs.Cited.{Asked, Audits, Cause, EachFrom, Finds, Formats, Had, IsJudged, IsTrailOf, Judges, Nothing, Rose, Shows, SomeRose, Supply, status_at_end, faults_of_sources, is_audit, is_service, most_trail, status_of}
 use Rattle.cfs_serve.specs.Words.{Serves, Spins}
 use Rattle.cfs_serve.specs.declared.report.Cause.TheVariants as causes
 use Rattle.cfs_serve.proofs.Lists.{heads, tails}
@@ -25,7 +25,7 @@ pub record Found (cause : Cause) (sources after : List Supply) (text : List ℕ)
   pub left : Supply
   pub had : source.left ≡ Some text
   pub is : Finds cause source left
-  pub rose : Rose source.faults left.faults → SomeRose (faults_of sources) (faults_of after)
+  pub rose : Rose source.faults left.faults → SomeRose (faults_of_sources sources) (faults_of_sources after)
 
 pub found : (cause : Cause) (sources after : List Supply) (text : List ℕ) → Had sources (text ∷ []) → EachFrom (λ _ source left. Finds cause source left) 0 sources after → Found cause sources after text
 found cause [] after text had each = absurd (never_nil (sym had))
@@ -51,7 +51,7 @@ module _ (source left : Supply) (text : List ℕ) (had : source.left ≡ Some te
   judged cause is quiet = absurd is.2
 
   -- a text above the limit
-  pub overlong : (cause : Cause) (written : Bool) → Finds cause source left → most_trail < length text → (ended written cause ≡ 9) ⊎ (cause ≡ causes.Memory) ⊎ (ended written cause ≡ 6)
+  pub overlong : (cause : Cause) (written : Bool) → Finds cause source left → most_trail < length text → (status_at_end written cause ≡ 9) ⊎ (cause ≡ causes.Memory) ⊎ (status_at_end written cause ≡ 6)
   overlong (causes.Source i) true is far = inr (inr refl)
   overlong (causes.Source i) false is far = inr (inr refl)
   overlong (causes.Long i) true is far = inl refl

@@ -1,6 +1,6 @@
 -- What a journal keeps whatever disk it is: how many collections began, and the moments of the events.
 use Rattle.std.proofs.Common.{◌≡◌, ℕ, ◌+◌, ◌<◌, ◌≤◌, Bool, true, false, cond, List, [], ◌∷◌, ◌++◌, Option, Some, None, Result, refl, sym, ap, ◌∙◌, subst, arith}
-use Rattle.cfs_serve.proofs.Cited.{AsBefore, CollectFault, Event, IsKept, IsTallied, IsWanting, MayCount, Passes, PassesStep, Rise, Step, Tally, Terms, append-nil, begins_in, begun, event_by, finishes_in, is_begin, is_finish, recorded, stamps, tells_stop_at}
+use Rattle.cfs_serve.proofs.Cited.{AsBefore, CollectFault, Event, IsKept, IsTallied, IsWanting, MayCount, Passes, PassesStep, Rise, Step, Tally, Terms, append-nil, begins_in, begun_so_far, event_by, finishes_in, is_begin, is_finish, recorded, stamps, tells_stop_at}
 use Rattle.ufs_model.specs.declared.asked.Event.TheVariants as events
 use Rattle.cfs_serve.specs.Calls.{Counts}
 use Rattle.cfs_serve.proofs.Journals.{push_in, push_out, some_same, was_running}
@@ -21,10 +21,10 @@ abbrev is_halt : Event → Bool
 is_halt (events.Halted moment) = true
 is_halt e = false
 
-begun_same : (c d : Tally) → AsBefore c d → begun d ≡ begun c
+begun_same : (c d : Tally) → AsBefore c d → begun_so_far d ≡ begun_so_far c
 begun_same c d same =
-    let first : begun d ≡ c.finished + cond d.running 1 0 = ap (λ n. n + cond d.running 1 0) same.0 in
-    let second : c.finished + cond d.running 1 0 ≡ begun c = ap (λ b. c.finished + cond b 1 0) same.1 in
+    let first : begun_so_far d ≡ c.finished + cond d.running 1 0 = ap (λ n. n + cond d.running 1 0) same.0 in
+    let second : c.finished + cond d.running 1 0 ≡ begun_so_far c = ap (λ b. c.finished + cond b 1 0) same.1 in
     first ∙ second
 
 same_tally : (e : Event) (c d : Tally) (trail : List Event) → is_begin e ≡ false → is_finish e ≡ false → AsBefore c d → IsTallied c trail → IsTallied d (trail ++ e ∷ [])
@@ -33,14 +33,14 @@ same_tally e c d trail begins finishes same was =
 
 tallied_on : (e : Event) (c d : Tally) (trail : List Event) → ¬ (is_halt e ≡ true) → Counts e c d → IsTallied c trail → IsTallied d (trail ++ e ∷ [])
 tallied_on events.Began c d trail other to was =
-    let before : begun c ≡ c.finished + 0 = ap (λ b. c.finished + cond b 1 0) to.1 in
-    let after : begun d ≡ d.finished + 1 = ap (λ b. d.finished + cond b 1 0) to.3 in (
+    let before : begun_so_far c ≡ c.finished + 0 = ap (λ b. c.finished + cond b 1 0) to.1 in
+    let after : begun_so_far d ≡ d.finished + 1 = ap (λ b. d.finished + cond b 1 0) to.3 in (
       omega (arith, push_in is_begin trail events.Began refl, was.0, before, after, to.2),
       push_out is_finish trail events.Began refl ∙ was.1 ∙ sym to.2,
     )
 tallied_on events.Finished c d trail other to was =
-    let before : begun c ≡ c.finished + 1 = ap (λ b. c.finished + cond b 1 0) to.0 in
-    let after : begun d ≡ d.finished + 0 = ap (λ b. d.finished + cond b 1 0) to.2 in (
+    let before : begun_so_far c ≡ c.finished + 1 = ap (λ b. c.finished + cond b 1 0) to.0 in
+    let after : begun_so_far d ≡ d.finished + 0 = ap (λ b. d.finished + cond b 1 0) to.2 in (
       omega (arith, push_out is_begin trail events.Finished refl, was.0, before, after, to.1),
       omega (arith, push_in is_finish trail events.Finished refl, was.1, to.1),
     )
@@ -50,9 +50,9 @@ tallied_on (events.Unread who why) c d trail other to was = same_tally (events.U
 tallied_on (events.Leave who stopped) c d trail other to was = same_tally (events.Leave who stopped) c d trail refl refl to was
 tallied_on (events.Ask who request reply) c d trail other to was = same_tally (events.Ask who request reply) c d trail refl refl to was
 
-none_begun : (c : Tally) → (c.finished ≡ 0) × (c.running ≡ false) → begun c ≡ 0
+none_begun : (c : Tally) → (c.finished ≡ 0) × (c.running ≡ false) → begun_so_far c ≡ 0
 none_begun c idle =
-    let first : begun c ≡ 0 + cond c.running 1 0 = ap (λ n. n + cond c.running 1 0) idle.0 in
+    let first : begun_so_far c ≡ 0 + cond c.running 1 0 = ap (λ n. n + cond c.running 1 0) idle.0 in
     let second : 0 + cond c.running 1 0 ≡ 0 + 0 = ap (λ b. 0 + cond b 1 0) idle.1 in
     omega (arith, first, second)
 
@@ -69,7 +69,7 @@ module _ {A : Type 0} (clock : A → ℕ) (has_stopped : A → Bool) (tally : A 
       → (tally server).finished < (tally server).called → (tally server).called ≡ t.collections → IsWanting t.collections trail
   wanting_at server kept runs none more called =
       let tallied = kept.tallied runs in
-      let count : begun (tally server) ≡ (tally server).finished + 0 = ap (λ b. (tally server).finished + cond b 1 0) none in
+      let count : begun_so_far (tally server) ≡ (tally server).finished + 0 = ap (λ b. (tally server).finished + cond b 1 0) none in
       (omega (arith, tallied.0, tallied.1, count), omega (arith, tallied.1, more, called))
 
   module _ (old new : A) (was : IsKept clock has_stopped tally t old trail moments) (stays : has_stopped old ≡ true → has_stopped new ≡ true) where
@@ -88,7 +88,7 @@ module _ {A : Type 0} (clock : A → ℕ) (has_stopped : A → Bool) (tally : A 
     module _ (called : (tally old).called ≡ t.collections) (later : clock old ≤ clock new) where
       few_on : (e : Event) (c d : Tally) → c.called ≡ t.collections → (is_begin e ≡ true → IsTallied c trail) → Counts e c d → begins_in (trail ++ e ∷ []) ≤ t.collections
       few_on events.Began c d called tallied to =
-          let before : begun c ≡ c.finished + 0 = ap (λ b. c.finished + cond b 1 0) to.1 in
+          let before : begun_so_far c ≡ c.finished + 0 = ap (λ b. c.finished + cond b 1 0) to.1 in
           omega (arith, push_in is_begin trail events.Began refl, (tallied refl).0, before, to.0, called)
       few_on events.Finished c d called tallied to = omega (arith, push_out is_begin trail events.Finished refl, was.few)
       few_on (events.Halted moment) c d called tallied to = omega (arith, push_out is_begin trail (events.Halted moment) refl, was.few)

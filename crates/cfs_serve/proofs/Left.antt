@@ -1,6 +1,6 @@
 -- A session that has left has no grant; once all have left there is none.
 use Rattle.std.proofs.Common.{◌≡◌, ℕ, zero, suc, ◌+◌, ◌≤◌, ◌==◌, ◌&&◌, Bool, true, false, not, cond, List, [], ◌∷◌, ◌++◌, length, filter, Option, Some, None, slice_get, refl, sym, ap, ◌∙◌, subst, arith}
-use Rattle.cfs_serve.proofs.Cited.{AreOver, Change, Direct, Draft, Event, Fill, Grant, Graph, Object, Overwrite, Puid, Reading, Ref, Reply, Request, Client, SetSize, State, Through, Tuid, after_leave, all_filter, all_passing, allowed_if, and_parts, block_named, by_outcome, changed_draft, created, draft_of, events_of, grant_of, is_grant, is_of, is_outcome, list_all, named, new_file, new_index, next, opening, option_and_then, outcome_of, put, put_draft-at, put_object-at, replay, replay_from, seen, stopped_at, turns_in, with_draft, with_object, word}
+use Rattle.cfs_serve.proofs.Cited.{AreOver, Change, Direct, Draft, Event, Fill, Grant, Graph, Object, Overwrite, Puid, Reading, Ref, Reply, Request, Client, SetSize, State, Through, Tuid, after_leave, all_filter, all_passing, allowed_if, and_parts, block_named, by_outcome, changed_draft, created, draft_of, events_of_session, grant_of, is_grant, is_of_session, is_outcome, list_all, named, new_file, new_index, next, opening, option_and_then, outcome_of, put, put_draft-at, put_object-at, replay, replay_from, seen, stopped_at, turns_in, with_draft, with_object, word}
 use Rattle.ufs_model.specs.declared.asked.Event.TheVariants as events
 use Rattle.ufs_model.specs.declared.asked.Reply.TheVariants as replies
 use Rattle.ufs_model.specs.declared.asked.Request.TheVariants as asks
@@ -93,7 +93,7 @@ module _ (k : ℕ) where
       ask_none request reply t h = same t (stays _ s t h)
 
   -- after another's event
-  other_none : (seed : ℕ) (s t : State) (e : Event) → next seed s e ≡ Some t → is_of k e ≡ false → HasNone k s → HasNone k t
+  other_none : (seed : ℕ) (s t : State) (e : Event) → next seed s e ≡ Some t → is_of_session k e ≡ false → HasNone k s → HasNone k t
   other_none seed s t (events.Unread who why) step other none = subst (HasNone k) (some_same s t step) none
   other_none seed s t (events.Ask who request reply) step other none = ask_none seed s none who other request reply t step
   other_none seed s t (events.Leave who None) step other none = subst (HasNone k) (some_same (after_leave s who) t step) (all_filter (is_anothers k) (is_anothers who) s.grants none)
@@ -131,28 +131,28 @@ never_last (y ∷ xs) x is = cc is
 
 module _ (k seed : ℕ) where
   -- of which no event is the session's
-  others_run : (es : List Event) (s t : State) → replay_from seed s es ≡ Some t → events_of k es ≡ [] → HasNone k s → HasNone k t
+  others_run : (es : List Event) (s t : State) → replay_from seed s es ≡ Some t → events_of_session k es ≡ [] → HasNone k s → HasNone k t
   others_run [] s t legal out none = subst (HasNone k) (some_same s t legal) none
   others_run (e ∷ es) s t legal out none =
-      let two = first_out (is_of k) e es out in
+      let two = first_out (is_of_session k) e es out in
       first_step seed s t e es legal (λ u step on. others_run es u t on two.1 (other_none k seed s u e step two.0 none))
 
   -- the first of its events is this one
-  by_first : (e : Event) (es xs : List Event) (s u t : State) (stopped : Option ℕ) → next seed s e ≡ Some u → replay_from seed u es ≡ Some t → e ∷ events_of k es ≡ xs ++ events.Leave k stopped ∷ []
-      → ((ys : List Event) → events_of k es ≡ ys ++ events.Leave k stopped ∷ [] → HasNone k t) → HasNone k t
+  by_first : (e : Event) (es xs : List Event) (s u t : State) (stopped : Option ℕ) → next seed s e ≡ Some u → replay_from seed u es ≡ Some t → e ∷ events_of_session k es ≡ xs ++ events.Leave k stopped ∷ []
+      → ((ys : List Event) → events_of_session k es ≡ ys ++ events.Leave k stopped ∷ [] → HasNone k t) → HasNone k t
   by_first e es [] s u t stopped step on is later =
       let here : e ≡ events.Leave k stopped = cc is in
-      let rest : events_of k es ≡ [] = cc is in
+      let rest : events_of_session k es ≡ [] = cc is in
       others_run es u t on rest (leave_none k seed s u stopped (subst (λ x. next seed s x ≡ Some u) here step))
   by_first e es (x ∷ xs) s u t stopped step on is later =
-      let rest : events_of k es ≡ xs ++ events.Leave k stopped ∷ [] = cc is in
+      let rest : events_of_session k es ≡ xs ++ events.Leave k stopped ∷ [] = cc is in
       later xs rest
 
   -- of which the session's last is its leave
-  left_run : (es xs : List Event) (s t : State) (stopped : Option ℕ) → replay_from seed s es ≡ Some t → events_of k es ≡ xs ++ events.Leave k stopped ∷ [] → HasNone k t
+  left_run : (es xs : List Event) (s t : State) (stopped : Option ℕ) → replay_from seed s es ≡ Some t → events_of_session k es ≡ xs ++ events.Leave k stopped ∷ [] → HasNone k t
   left_run [] xs s t stopped legal is = absurd (never_last xs (events.Leave k stopped) is)
   left_run (e ∷ es) xs s t stopped legal is =
-      first_step seed s t e es legal (λ u step on. elim (is_of k e) as (λ b. cond b (e ∷ events_of k es) (events_of k es) ≡ xs ++ events.Leave k stopped ∷ [] → HasNone k t) [
+      first_step seed s t e es legal (λ u step on. elim (is_of_session k e) as (λ b. cond b (e ∷ events_of_session k es) (events_of_session k es) ≡ xs ++ events.Leave k stopped ∷ [] → HasNone k t) [
         | true ↦ λ mine. by_first e es xs s u t stopped step on mine (λ ys rest. left_run es ys u t stopped on rest)
         | false ↦ λ rest. left_run es xs u t stopped on rest
       ] is)

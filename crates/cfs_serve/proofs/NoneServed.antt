@@ -1,6 +1,6 @@
 -- What `top` says of a run that served nothing.
 use Rattle.std.proofs.Common.{◌≡◌, ◌↔◌, inl, inr, ℕ, zero, suc, ◌<◌, ◌≤◌, true, false, List, [], ◌∷◌, length, slice_get, Option, Some, None, refl, sym, ◌∙◌, subst, arith, get_or}
-use Rattle.cfs_serve.proofs.Cited.{AreWithin, Asked, Audits, Cause, Did, EachFrom, Ending, Event, Finds, Format, Formats, Ground, Had, HasPlaces, Intake, IsCause, IsFirst, IsLegal, Nothing, Outside, Page, Replied, Report, Rose, RoseIn, Service, Shows, SomeRose, Supply, TellsMade, begins_in, collections_of, faults_of, is_audit, is_service, is_verdict, length-map, most_script, most_trail, not_begun, nothing, opening, printed_replies, slice_get-get_or, slice_index_or}
+use Rattle.cfs_serve.proofs.Cited.{AreWithin, Asked, Audits, Cause, Did, EachFrom, Ending, Event, Finds, Format, Formats, Ground, Had, HasPlaces, Intake, IsCause, IsFirst, IsLegal, Nothing, Outside, Page, Replied, Report, Rose, RoseIn, Service, Shows, SomeRose, Supply, TellsMade, begins_in, collections_of, faults_of_sources, is_audit, is_service, is_verdict, length-map, most_script, most_trail, not_begun, nothing, opening, printed_replies, slice_get-get_or, slice_index_or}
 use Rattle.cfs_serve.specs.declared.report.Cause.TheVariants as causes
 use Rattle.cfs_serve.specs.Words.{IfServes, Serves, Spins, is_format}
 use Rattle.cfs_serve.proofs.Lists.{each_of, heads, never_none, one_rose}
@@ -218,10 +218,10 @@ module _ (service : Service) (ground : Ground) (disk disk_after : Option ℕ) (s
   )
 
   -- one of the counts of faults rose
-  source_rose : (n : ℕ) → n < length sources → Rose (get_or (faults_of sources) n 0) (get_or (faults_of sources_after) n 0) → SomeRose (faults_of sources) (faults_of sources_after)
-  source_rose n below rose = one_rose (faults_of sources) (faults_of sources_after) n _ _
-      (slice_get-get_or (faults_of sources) n 0 (omega (arith, below, length-map sources (λ (s : Supply). s.faults))))
-      (slice_get-get_or (faults_of sources_after) n 0 (omega (arith, below, count, length-map sources_after (λ (s : Supply). s.faults)))) rose
+  source_rose : (n : ℕ) → n < length sources → Rose (get_or (faults_of_sources sources) n 0) (get_or (faults_of_sources sources_after) n 0) → SomeRose (faults_of_sources sources) (faults_of_sources sources_after)
+  source_rose n below rose = one_rose (faults_of_sources sources) (faults_of_sources sources_after) n _ _
+      (slice_get-get_or (faults_of_sources sources) n 0 (omega (arith, below, length-map sources (λ (s : Supply). s.faults))))
+      (slice_get-get_or (faults_of_sources sources_after) n 0 (omega (arith, below, count, length-map sources_after (λ (s : Supply). s.faults)))) rose
 
   pub of_none : (cause : Cause) → IsCause ground (RoseIn disk disk_after) sources sources_after cause → Unserved cause
   of_none (causes.Source n) is = unserved (causes.Source n) (λ e. cc) (λ page e. cc) (λ e. cc) clash-sym ((n, refl, is.0, is.1, is.2), source_rose n is.0 is.1)

@@ -81,7 +81,7 @@ rests_at g k s n trail serves few tallied all = at (runs k.collections.collector
   where
     at : (b : Bool) → runs k.collections.collector ≡ b → is_sweeping s.collection ≡ false
     at true is =
-        let more : calls.begun (tally_of g k) ≡ k.collections.finished + 1 = ap (λ b. k.collections.finished + cond b 1 0) is in
+        let more : calls.begun_so_far (tally_of g k) ≡ k.collections.finished + 1 = ap (λ b. k.collections.finished + cond b 1 0) is in
         absurd (omega (arith, few, tallied.0, tallied.1, all, more))
     at false is = not_sweeping s.collection (sym (runs_so g k s serves) ∙ is)
 

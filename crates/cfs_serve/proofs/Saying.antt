@@ -1,6 +1,6 @@
 -- What `top` says follows from the steps of the run.
 use Rattle.std.proofs.Common.{◌≡◌, ℕ, true, false, List, length, refl, sym, ap, ◌∙◌}
-use Rattle.cfs_serve.proofs.Cited.{Asked, Audits, Ending, Event, Formats, Ground, HasPlaces, IsWhole, Nothing, Outside, Report, Said, Shows, ended, is_service, last_cause}
+use Rattle.cfs_serve.proofs.Cited.{Asked, Audits, Ending, Event, Formats, Ground, HasPlaces, IsWhole, Nothing, Outside, Report, Said, Shows, status_at_end, is_service, last_cause}
 use Rattle.cfs_serve.specs.Words.{Serves, Spins, is_format}
 use Rattle.cfs_serve.proofs.Because as why
 use Rattle.cfs_serve.proofs.Facts.{NoSpin, facts}
@@ -25,8 +25,8 @@ said asked ground old new told status ending trail plain given whole =
     let last = last_cause whole.short cause in
     let last_because = why.at_last asked ground old new counts trail whole.short cause f.1 in
     let wrote = whole.reported in
-    let is : (n : ℕ) → status ≡ n → ended whole.written last ≡ n = λ n so. sym whole.said ∙ so in
-    let worse : (n : ℕ) → ¬ (n ≡ 5) → ¬ (n ≡ 7) → status ≡ n → ended whole.written cause ≡ n = λ n some other so. why.worse asked ground old new counts trail whole.short cause whole.written n some other (is n so) in
+    let is : (n : ℕ) → status ≡ n → status_at_end whole.written last ≡ n = λ n so. sym whole.said ∙ so in
+    let worse : (n : ℕ) → ¬ (n ≡ 5) → ¬ (n ≡ 7) → status ≡ n → status_at_end whole.written cause ≡ n = λ n some other so. why.worse asked ground old new counts trail whole.short cause whole.written n some other (is n so) in
     let whole_by : is_service asked ≡ false → last ≡ cause = λ none. ap (λ b. last_cause b cause) (why.unprinted asked ground old new counts trail cause whole.short whole.text (f.0.unasked none) whole.is_text).0 in
     record {
       did = f.0;
@@ -38,7 +38,7 @@ said asked ground old new told status ending trail plain given whole =
       status_0 = λ so. why.status_0 asked ground old new counts trail cause whole.short whole.text whole.written f.1 whole.is_text wrote (is 0 so);
       status_2 = (
         (λ so. why.status_2 asked ground old new counts trail cause whole.written f.1 (worse 2 (λ e. cc e) (λ e. cc e) so)),
-        (λ none. whole.said ∙ ap (ended whole.written) (whole_by (ap is_service none)) ∙ rw (f.0.words.1 none) (why.is_2 whole.written)),
+        (λ none. whole.said ∙ ap (status_at_end whole.written) (whole_by (ap is_service none)) ∙ rw (f.0.words.1 none) (why.is_2 whole.written)),
       );
       status_3 = λ so. why.status_3 asked ground old new counts trail cause whole.written f.1 (worse 3 (λ e. cc e) (λ e. cc e) so);
       status_4 = λ so. why.status_4 asked ground old new counts trail cause whole.written f.1 (worse 4 (λ e. cc e) (λ e. cc e) so);
@@ -60,6 +60,6 @@ said asked ground old new told status ending trail plain given whole =
           (judged here.source here.left text here.had cause here.is (λ rose. quiet.sources (here.rose rose)));
       complete = rw whole.said (why.complete asked ground old new counts trail last whole.text whole.written last_because wrote);
       refused = rw whole.said (why.refused asked ground old new counts trail last whole.text whole.written last_because wrote);
-      formatted = λ makes quiet. whole.said ∙ ap (ended whole.written) (whole_by (no_service asked makes)) ∙ why.formatted cause old new _ whole.written (f.0.made makes) wrote quiet;
-      shown = λ page shows quiet. whole.said ∙ ap (ended whole.written) (whole_by (ap is_service shows) ∙ (f.0.page page).1 shows) ∙ why.shown page old new _ whole.written wrote quiet;
+      formatted = λ makes quiet. whole.said ∙ ap (status_at_end whole.written) (whole_by (no_service asked makes)) ∙ why.formatted cause old new _ whole.written (f.0.made makes) wrote quiet;
+      shown = λ page shows quiet. whole.said ∙ ap (status_at_end whole.written) (whole_by (ap is_service shows) ∙ (f.0.page page).1 shows) ∙ why.shown page old new _ whole.written wrote quiet;
     }

@@ -1,6 +1,6 @@
 -- The scripts that were read of the sources, and why they are not served.
 use Rattle.std.proofs.Common.{◌≡◌, ◌⊎◌, inl, inr, ℕ, zero, suc, ◌+◌, ◌<◌, ◌≤◌, List, [], ◌∷◌, ◌++◌, length, map, set, Some, slice_get, refl, sym, ap, ◌∙◌, subst, arith, length-append, get_or}
-use Rattle.cfs_serve.proofs.Cited.{AreShort, AreWithin, Cause, Had, HasScript, HaveFirst, HaveScripts, IsFirst, IsOneCause, IsSourceCause, Supply, faults_of, get_or-le-sum_by, get_or_from_slice_get, lines_in, most_lines, most_script, option_map, request_lines, slice_get-get_or, slice_get-map, slice_get_within, slice_index_or, sum_by_push}
+use Rattle.cfs_serve.proofs.Cited.{AreShort, AreWithin, Cause, Had, HasScript, HaveFirst, HaveScripts, IsFirst, IsOneCause, IsSourceCause, Supply, faults_of_sources, get_or-le-sum_by, get_or_from_slice_get, lines_in, most_lines, most_script, option_map, request_lines, slice_get-get_or, slice_get-map, slice_get_within, slice_index_or, sum_by_push}
 use Rattle.cfs_serve.specs.declared.report.Cause.TheVariants as causes
 use Rattle.cfs_serve.proofs.Lists.{get-set_other, get-set_same, item, map_at, never_none, same_items, same_length}
 use Rattle.cfs_serve.proofs.Journals.{some_same}
@@ -78,9 +78,9 @@ module _ {S : Type 0} (supply : S → Supply) (first now : List S) (at : ℕ) (r
 pub one_counted : (scripts : List (List ℕ)) (script : List ℕ) → lines_in (scripts ++ script ∷ []) ≡ lines_in scripts + length (request_lines script)
 one_counted scripts script = sum_by_push (λ (s : List ℕ). length (request_lines s)) scripts script
 
-faults_at : (sources : List Supply) (n : ℕ) (source : Supply) → slice_get sources n ≡ Some source → get_or (faults_of sources) n 0 ≡ source.faults
+faults_at : (sources : List Supply) (n : ℕ) (source : Supply) → slice_get sources n ≡ Some source → get_or (faults_of_sources sources) n 0 ≡ source.faults
 faults_at sources n source at =
-    get_or_from_slice_get (faults_of sources) n source.faults 0 (slice_get-map (λ (s : Supply). s.faults) sources n ∙ ap (option_map (λ (s : Supply). s.faults)) at)
+    get_or_from_slice_get (faults_of_sources sources) n source.faults 0 (slice_get-map (λ (s : Supply). s.faults) sources n ∙ ap (option_map (λ (s : Supply). s.faults)) at)
 
 long_at : (sources : List Supply) (n : ℕ) (source : Supply) → slice_get sources n ≡ Some source → ((left : List ℕ) → source.left ≡ Some left → most_script < length left)
     → (scripts : List (List ℕ)) → Had sources scripts → most_script < length (slice_index_or scripts n [])

@@ -1,6 +1,6 @@
 -- An event keeps what the hall keeps of its sessions.
 use Rattle.std.proofs.Common.{◌≡◌, ◌≢◌, ◌⊎◌, inl, inr, ℕ, ◌+◌, ◌<◌, ◌≤◌, ◌==◌, Bool, true, false, not, cond, List, [], ◌∷◌, ◌++◌, length, filter, set, get_or, Option, Some, None, slice_get, refl, sym, ap, ◌∙◌, subst, arith, append_assoc, length-append, length-set}
-use Rattle.cfs_serve.proofs.Cited.{AreHeard, Departs, Event, Hearing, Hears, IsLeave, IsSession, IsSessionTurn, IsWanting, Names, Puid, Replied, Request, Client, TakesLine, Terms, Turned, Unread, Wrote, all_forms, append-nil, finishes_in, get_or_from_slice_get, has_left_at, is_begin, is_finish, is_of, is_sessions, is_turn_of, name_spoken, names_after, names_after_reply, names_of, nat_tests, no_names, printed, printed_replies, reading_of, slice_get-get_or, slice_get_within, sum_by, sum_by-set, then, then_some, turn_of, turns_from, turns_in, turns_left, turns_left_at, words_of}
+use Rattle.cfs_serve.proofs.Cited.{AreHeard, Departs, Event, Hearing, Hears, IsLeave, IsSession, IsSessionTurn, IsWanting, Names, Puid, Replied, Request, Client, TakesLine, Terms, Turned, Unread, Wrote, all_forms, append-nil, finishes_in, get_or_from_slice_get, has_left_at, is_begin, is_finish, is_of_session, is_sessions, is_turn_of, name_spoken, names_after, names_after_reply, names_of, nat_tests, no_names, printed, printed_replies, reading_of, slice_get-get_or, slice_get_within, sum_by, sum_by-set, then, then_some, turn_of, turns_from, turns_in, turns_left, turns_left_at, words_of}
 use Rattle.ufs_model.specs.declared.asked.Event.TheVariants as events
 use Rattle.ufs_model.specs.declared.asked.Reply.TheVariants as replies
 use Rattle.ufs_model.specs.declared.asked.Unread.TheVariants as unread
@@ -38,7 +38,7 @@ printed_push i [] e = append-nil (printed i e)
 printed_push i (x ∷ es) e = ap (λ text. printed i x ++ text) (printed_push i es e) ∙ sym (append_assoc (printed i x) (printed_replies i es) (printed i e))
 
 -- another's event writes nothing, and is no turn
-other_prints : (i : ℕ) (e : Event) → is_of i e ≡ false → printed i e ≡ []
+other_prints : (i : ℕ) (e : Event) → is_of_session i e ≡ false → printed i e ≡ []
 other_prints i (events.Unread who why) is = rw is refl
 other_prints i (events.Ask who request reply) is = rw is refl
 other_prints i (events.Leave who stopped) is = refl
@@ -56,7 +56,7 @@ no_turn_prints i (events.Vanish ids) is = refl
 no_turn_prints i events.Finished is = refl
 no_turn_prints i (events.Halted moment) is = refl
 
-other_turns : (i : ℕ) (e : Event) → is_of i e ≡ false → is_turn_of i e ≡ false
+other_turns : (i : ℕ) (e : Event) → is_of_session i e ≡ false → is_turn_of i e ≡ false
 other_turns i (events.Unread who why) is = is
 other_turns i (events.Ask who request reply) is = is
 other_turns i (events.Leave who stopped) is = refl
@@ -77,12 +77,12 @@ printed_turns i (e ∷ es) = elim (is_turn_of i e) as (λ b. is_turn_of i e ≡ 
 
 module _ (root : Puid) (i : ℕ) (client : Client) (p : ports.Reading) (trail : List Event) (was : IsSession root i client p trail) where
   -- after another's event
-  pub session_other : (e : Event) → is_of i e ≡ false → IsSession root i client p (trail ++ e ∷ [])
+  pub session_other : (e : Event) → is_of_session i e ≡ false → IsSession root i client p (trail ++ e ∷ [])
   session_other e is =
       let same : turns_in i (trail ++ e ∷ []) ≡ turns_in i trail = filter_out (is_turn_of i) trail e (other_turns i e is) in
       record {
         leaves = was.leaves;
-        split = filter_out (is_of i) trail e is ∙ was.split ∙ ap (λ w. w ++ was.leaves) (sym same);
+        split = filter_out (is_of_session i) trail e is ∙ was.split ∙ ap (λ w. w ++ was.leaves) (sym same);
         left = was.left;
         turned = λ more. rw same (was.turned more);
         counted = rw same was.counted;
@@ -101,7 +101,7 @@ module _ (root : Puid) (i : ℕ) (client : Client) (p : ports.Reading) (trail : 
       let none = no_leaves turn.stays in
       record {
         leaves = [];
-        split = filter_in (is_of i) trail e turn.whole ∙ ap (λ w. w ++ e ∷ []) (was.split ∙ ap (λ w. turns_in i trail ++ w) none ∙ append-nil (turns_in i trail)) ∙ sym more_turns ∙ sym (append-nil (turns_in i (trail ++ e ∷ [])));
+        split = filter_in (is_of_session i) trail e turn.whole ∙ ap (λ w. w ++ e ∷ []) (was.split ∙ ap (λ w. turns_in i trail ++ w) none ∙ append-nil (turns_in i trail)) ∙ sym more_turns ∙ sym (append-nil (turns_in i (trail ++ e ∷ [])));
         left = subst (λ b. IsLeave i b []) (sym turn.stays_on) refl;
         turned = λ more. rw more_turns (on more);
         counted = omega (arith, was.counted, ap length turn.taken, ap length more_turns, length-append (turns_in i trail) (e ∷ []));
@@ -147,7 +147,7 @@ module _ (root : Puid) (i : ℕ) (client : Client) (p : ports.Reading) (trail : 
       here : IsSession root i client (record p { has_left = true }) (trail ++ gone ∷ [])
       here = record {
         leaves = gone ∷ [];
-        split = filter_in (is_of i) trail gone (test_refl i) ∙ ap (λ w. w ++ gone ∷ []) (was.split ∙ ap (λ w. turns_in i trail ++ w) (no_leaves leave.stays) ∙ append-nil (turns_in i trail)) ∙ ap (λ w. w ++ gone ∷ []) (sym same);
+        split = filter_in (is_of_session i) trail gone (test_refl i) ∙ ap (λ w. w ++ gone ∷ []) (was.split ∙ ap (λ w. turns_in i trail ++ w) (no_leaves leave.stays) ∙ append-nil (turns_in i trail)) ∙ ap (λ w. w ++ gone ∷ []) (sym same);
         left = (leave.stopped, refl);
         turned = λ more. rw same (was.turned more);
         counted = rw same was.counted;
@@ -158,7 +158,7 @@ module _ (root : Puid) (i : ℕ) (client : Client) (p : ports.Reading) (trail : 
 
 -- ---- all of them
 
-of_session : (i : ℕ) (e : Event) → is_of i e ≡ true → is_sessions e ≡ true
+of_session : (i : ℕ) (e : Event) → is_of_session i e ≡ true → is_sessions e ≡ true
 of_session i (events.Unread who why) is = refl
 of_session i (events.Ask who request reply) is = refl
 of_session i (events.Leave who stopped) is = refl
@@ -166,7 +166,7 @@ of_session i e is = cc
 
 module _ {A : Type 0} (t : Terms A) (trail : List Event) (ps : List ports.Reading) (was : AreHeard t trail ps) where
   -- after an event of session i
-  pub heard_by : (i : ℕ) (p q : ports.Reading) (e : Event) → slice_get ps i ≡ Some p → ((k : ℕ) → (i == k) ≡ false → is_of k e ≡ false)
+  pub heard_by : (i : ℕ) (p q : ports.Reading) (e : Event) → slice_get ps i ≡ Some p → ((k : ℕ) → (i == k) ≡ false → is_of_session k e ≡ false)
       → Turned i p q e ⊎ Departs i p q e → AreHeard t (trail ++ e ∷ []) (set ps i q)
   heard_by i p q e at others kind = record {
     count = length-set ps i q ∙ was.count;
@@ -175,7 +175,7 @@ module _ {A : Type 0} (t : Terms A) (trail : List Event) (ps : List ports.Readin
         let within = slice_get_within ps i p at in
         let long = length-set ps i q in
         let apart : k ≢ i = (λ same. absurd (omega (arith, past, within, long, same))) in
-        filter_out (is_of k) trail e (others k (test_apart i k apart)) ∙ was.none k (omega (arith, past, long));
+        filter_out (is_of_session k) trail e (others k (test_apart i k apart)) ∙ was.none k (omega (arith, past, long));
     sessions = λ none. all-push is_sessions trail e (was.sessions none) (elim kind [
       | inl turn ↦ of_session i e turn.whole
       | inr leave ↦ rw leave.is refl
@@ -199,11 +199,11 @@ module _ {A : Type 0} (t : Terms A) (trail : List Event) (ps : List ports.Readin
           session_other t.root k client x trail (was.each k client x client_is (sym (get-set_other ps i k q apart) ∙ here)) e (others k (test_apart i k apart))
 
   -- after an event of no session, where collections are called for
-  pub heard_beside : (e : Event) → ((k : ℕ) → is_of k e ≡ false) → (t.collections ≡ 0 → ⊥) → AreHeard t (trail ++ e ∷ []) ps
+  pub heard_beside : (e : Event) → ((k : ℕ) → is_of_session k e ≡ false) → (t.collections ≡ 0 → ⊥) → AreHeard t (trail ++ e ∷ []) ps
   heard_beside e nobody some = record {
     count = was.count;
     each = λ k client x client_is here. session_other t.root k client x trail (was.each k client x client_is here) e (nobody k);
-    none = λ k past. filter_out (is_of k) trail e (nobody k) ∙ was.none k past;
+    none = λ k past. filter_out (is_of_session k) trail e (nobody k) ∙ was.none k past;
     sessions = λ none. absurd (some none);
   }
 
@@ -288,7 +288,7 @@ left_of_stay ps now i p same within stays is =
 -- ---- collections that are finished
 
 -- no event of a session is the beginning of a collection, or the end of one
-no_bound : (i : ℕ) (e : Event) → is_of i e ≡ true → (is_begin e ≡ false) × (is_finish e ≡ false)
+no_bound : (i : ℕ) (e : Event) → is_of_session i e ≡ true → (is_begin e ≡ false) × (is_finish e ≡ false)
 no_bound i (events.Unread who why) mine = (refl, refl)
 no_bound i (events.Ask who request reply) mine = (refl, refl)
 no_bound i (events.Leave who stopped) mine = (refl, refl)

@@ -1,6 +1,6 @@
 -- What `top` says of a spin is what it says of its service; of all else it is said as it stands.
 use Rattle.std.proofs.Common.{◌≡◌, ◌⊎◌, inl, inr, ℕ, zero, suc, ◌+◌, ◌*◌, ◌<◌, ◌≤◌, List, [], length, slice_get, Option, Some, refl, ap, subst, ◌∙◌, arith}
-use Rattle.cfs_serve.proofs.Cited.{AreShort, AreWithin, Asked, Asks, Audits, Ending, Event, Formats, Ghosts, HasPlaces, IsWhole, NoCountRose, Nothing, Opening, Outside, Report, Rose, Said, Says, Shows, Spin, Spins, drawn_scripts, ended, first_line, get_or_from_slice_get, ground_of, last_cause, lines_in, most_script, opened, request_lines, script, service_of, slice_get_within, turns_in, within_spin}
+use Rattle.cfs_serve.proofs.Cited.{AreShort, AreWithin, Asked, Asks, Audits, Ending, Event, Formats, Ghosts, HasPlaces, IsWhole, NoCountRose, Nothing, Opening, Outside, Report, Rose, Said, Says, Shows, Spin, Spins, drawn_scripts, status_at_end, first_line, get_or_from_slice_get, ground_of, last_cause, lines_in, most_script, opened, request_lines, script, service_of, slice_get_within, turns_in, within_spin}
 use Rattle.cfs_serve.specs.Traced.{IsWritten}
 use Rattle.cfs_serve.specs.Words.{Serves}
 use Rattle.cfs_serve.specs.declared.traced.Written.{Written}
@@ -50,7 +50,7 @@ module _ (lines : Lines) (short : Short) where
   quiet_within spin old new quiet = record { disk = quiet.disk; sources = none_of_four; sinks = none_of_four; report = quiet.report }
 
   module _ {D : Type 0} (g : Ghosts D) (disk : Option D) (old new : Outside) (told : Report) (status : ℕ) (ending : Ending) (trail : List Event) (trace : Option Opening) (written : Written)
-      (writes : (b : Asked) → trace ≡ first_line b → IsWritten b told trail old.report new.report written) (is : status ≡ ended written.whole (last_cause written.short told.cause)) where
+      (writes : (b : Asked) → trace ≡ first_line b → IsWritten b told trail old.report new.report written) (is : status ≡ status_at_end written.whole (last_cause written.short told.cause)) where
     whole : (asked : Asked) → trace ≡ first_line asked → Asks asked (ground_of g asked disk) (record { disk = old.disk; sources = old.sources; sinks = old.sinks }) (record { disk = new.disk; sources = new.sources; sinks = new.sinks }) told ending trail
         → IsWhole asked (ground_of g asked disk) (record { disk = old.disk; sources = old.sources; sinks = old.sinks }) (record { disk = new.disk; sources = new.sources; sinks = new.sinks }) old.report new.report told status ending trail
     whole asked traced run = let wrote = writes asked traced in record {

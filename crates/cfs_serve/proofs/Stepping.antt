@@ -1,6 +1,6 @@
 -- A step of the collector keeps what the journal keeps.
 use Rattle.std.proofs.Common.{◌≡◌, ℕ, ◌==◌, Bool, true, false, List, [], ◌++◌, Option, Some, None, Result, Ok, Err, refl, sym, ap, ◌∙◌, subst, ◌||◌}
-use Rattle.cfs_serve.proofs.Cited.{CollectFault, Event, Graph, IsExactEvent, IsRun, Lasts, MayGoOn, MayMake, MayTally, State, Step, Tally, Terms, append-nil, event_by, is_of, is_quiet_fault, list_any, recorded, refusal_by, stamps, tells_disk, wants_memory}
+use Rattle.cfs_serve.proofs.Cited.{CollectFault, Event, Graph, IsExactEvent, IsRun, Lasts, MayGoOn, MayMake, MayTally, State, Step, Tally, Terms, append-nil, event_by, is_of_session, is_quiet_fault, list_any, recorded, refusal_by, stamps, tells_disk, wants_memory}
 use Rattle.cfs_core.specs.declared.collecting.CollectFault.TheVariants as faults
 use Rattle.cfs_core.specs.declared.collecting.Step.TheVariants as steps
 use Rattle.ufs_model.specs.declared.asked.Event.TheVariants as events
@@ -11,12 +11,12 @@ some_event : (a b : Event) → Some a ≡ Some b → a ≡ b
 some_event a b e = cc
 
 -- it is an event of no session
-pub nobodys : (result : Result Step CollectFault) (e : Event) → event_by result ≡ Some e → (k : ℕ) → is_of k e ≡ false
-nobodys (Ok steps.Began) e is k = subst (λ x. is_of k x ≡ false) (some_event events.Began e is) refl
-nobodys (Ok (steps.Condemned ids)) e is k = subst (λ x. is_of k x ≡ false) (some_event (events.Vanish ids) e is) refl
-nobodys (Ok steps.Finished) e is k = subst (λ x. is_of k x ≡ false) (some_event events.Finished e is) refl
-nobodys (Err (faults.Disk (Some moment))) e is k = subst (λ x. is_of k x ≡ false) (some_event (events.Halted moment) e is) refl
-nobodys (Err (faults.Damaged damage moment)) e is k = subst (λ x. is_of k x ≡ false) (some_event (events.Halted moment) e is) refl
+pub nobodys : (result : Result Step CollectFault) (e : Event) → event_by result ≡ Some e → (k : ℕ) → is_of_session k e ≡ false
+nobodys (Ok steps.Began) e is k = subst (λ x. is_of_session k x ≡ false) (some_event events.Began e is) refl
+nobodys (Ok (steps.Condemned ids)) e is k = subst (λ x. is_of_session k x ≡ false) (some_event (events.Vanish ids) e is) refl
+nobodys (Ok steps.Finished) e is k = subst (λ x. is_of_session k x ≡ false) (some_event events.Finished e is) refl
+nobodys (Err (faults.Disk (Some moment))) e is k = subst (λ x. is_of_session k x ≡ false) (some_event (events.Halted moment) e is) refl
+nobodys (Err (faults.Damaged damage moment)) e is k = subst (λ x. is_of_session k x ≡ false) (some_event (events.Halted moment) e is) refl
 nobodys (Ok steps.Idle) e is k = absurd (cc is)
 nobodys (Ok steps.Took) e is k = absurd (cc is)
 nobodys (Ok steps.Scanned) e is k = absurd (cc is)
@@ -44,34 +44,34 @@ wanting_made (Ok step) is = absurd (cc is)
 never : (who : ℕ) → (who == who) ≡ false → ⊥
 never who other = absurd (cc (other, test_refl who))
 
-exact_nobody : (cylinders lost : ℕ) (s : State) (e : Event) → ((k : ℕ) → is_of k e ≡ false) → IsExactEvent cylinders lost s e
+exact_nobody : (cylinders lost : ℕ) (s : State) (e : Event) → ((k : ℕ) → is_of_session k e ≡ false) → IsExactEvent cylinders lost s e
 exact_nobody cylinders lost s (events.Ask who request reply) nobody = absurd (never who (nobody who))
 exact_nobody cylinders lost s e nobody = tt
 
-pub unwanting : (e : Event) → ((k : ℕ) → is_of k e ≡ false) → wants_memory e ≡ false
+pub unwanting : (e : Event) → ((k : ℕ) → is_of_session k e ≡ false) → wants_memory e ≡ false
 unwanting (events.Ask who request reply) nobody = absurd (never who (nobody who))
 unwanting (events.Unread who why) nobody = absurd (never who (nobody who))
 unwanting e nobody = refl
 
-pub silent : (e : Event) → ((k : ℕ) → is_of k e ≡ false) → tells_disk e ≡ false
+pub silent : (e : Event) → ((k : ℕ) → is_of_session k e ≡ false) → tells_disk e ≡ false
 silent (events.Ask who request reply) nobody = absurd (never who (nobody who))
 silent e nobody = refl
 
 module _ (trail : List Event) where
   -- what sessions alone tell
-  pub silent_step : (test : Event → Bool) → ((e : Event) → ((k : ℕ) → is_of k e ≡ false) → test e ≡ false) → (o : Option Event)
-      → ((e : Event) → o ≡ Some e → (k : ℕ) → is_of k e ≡ false) → list_any test trail ≡ list_any test (trail ++ recorded o)
+  pub silent_step : (test : Event → Bool) → ((e : Event) → ((k : ℕ) → is_of_session k e ≡ false) → test e ≡ false) → (o : Option Event)
+      → ((e : Event) → o ≡ Some e → (k : ℕ) → is_of_session k e ≡ false) → list_any test trail ≡ list_any test (trail ++ recorded o)
   silent_step test silent None nobody = ap (λ es. list_any test es) (sym (append-nil trail))
   silent_step test silent (Some e) nobody = sym (any-push test trail e ∙ ap (λ b. b || list_any test trail) (silent e (nobody e refl)))
 
   module _ {A : Type 0} (stands : A → State → Type 0) (has_stopped is_damaged : A → Bool) (tally : A → Tally) (t : Terms A) (old new : A) (was : IsRun stands has_stopped is_damaged tally t old trail)
-      (o : Option Event) (nobody : (e : Event) → o ≡ Some e → (k : ℕ) → is_of k e ≡ false) where
+      (o : Option Event) (nobody : (e : Event) → o ≡ Some e → (k : ℕ) → is_of_session k e ≡ false) where
     pub run_step : (has_stopped old ≡ true → has_stopped new ≡ true) → ((s : State) → stands old s → is_damaged old ≡ false → is_damaged new ≡ false)
         → ((s : State) → stands old s → MayMake (stands new) t.seed s o) → ((s : State) → stands old s → MayTally has_stopped tally t.seed old new s o)
         → IsRun stands has_stopped is_damaged tally t new (trail ++ recorded o)
     run_step stays sound makes tallies = by o nobody makes tallies
       where
-        by : (x : Option Event) → ((e : Event) → x ≡ Some e → (k : ℕ) → is_of k e ≡ false) → ((s : State) → stands old s → MayMake (stands new) t.seed s x)
+        by : (x : Option Event) → ((e : Event) → x ≡ Some e → (k : ℕ) → is_of_session k e ≡ false) → ((s : State) → stands old s → MayMake (stands new) t.seed s x)
             → ((s : State) → stands old s → MayTally has_stopped tally t.seed old new s x) → IsRun stands has_stopped is_damaged tally t new (trail ++ recorded x)
         by None nobody makes tallies = subst (λ es. IsRun stands has_stopped is_damaged tally t new es) (sym (append-nil trail)) (run_rests stands has_stopped is_damaged tally t trail old new was stays sound makes tallies)
         by (Some e) nobody makes tallies =

@@ -1,6 +1,6 @@
 -- A turn of a worker, of a session or of the collector.
 use Rattle.std.proofs.Common.{◌≡◌, ◌≢◌, inl, inr, ℕ, zero, suc, ◌+◌, ◌<◌, ◌≤◌, ◌==◌, Bool, true, false, cond, List, [], ◌∷◌, ◌++◌, Option, Some, None, length, slice_get, refl, sym, ap, ◌∙◌, subst, arith, length-append}
-use Rattle.cfs_serve.proofs.Cited.{AreHeard, CollectFault, Event, HasNoCollector, Hearing, IsSessionTurn, IsTurn, Journaled, Progress, Reading, Steps, Terms, append-nil, has_left_at, is_done_in, is_of, turns_left_in, nat_tests, recorded, slice_get_within, sum_by, turns_left, turns_left_at, turns_now}
+use Rattle.cfs_serve.proofs.Cited.{AreHeard, CollectFault, Event, HasNoCollector, Hearing, IsSessionTurn, IsTurn, Journaled, Progress, Reading, Steps, Terms, append-nil, has_left_at, is_done_in, is_of_session, turns_left_in, nat_tests, recorded, slice_get_within, sum_by, turns_left, turns_left_at, turns_now}
 use Rattle.cfs_serve.proofs.Sessions as sessions
 use Rattle.cfs_serve.proofs.Sessions.{heard_beside}
 
@@ -112,7 +112,7 @@ module _ {A : Type 0} (t : Terms A) (clock : A → ℕ) (old new : Journaled A) 
   pub heard_on : AreHeard t new.events ports
   heard_on = rw steps.events (by steps.event steps.nobody)
     where
-      by : (o : Option Event) → ((e : Event) → o ≡ Some e → (k : ℕ) → is_of k e ≡ false) → AreHeard t (old.events ++ recorded o) ports
+      by : (o : Option Event) → ((e : Event) → o ≡ Some e → (k : ℕ) → is_of_session k e ≡ false) → AreHeard t (old.events ++ recorded o) ports
       by None nobody = subst (λ es. AreHeard t es ports) (sym (append-nil old.events)) heard
       by (Some e) nobody = heard_beside t old.events ports heard e (nobody e refl) called
 

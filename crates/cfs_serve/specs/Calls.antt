@@ -194,8 +194,8 @@ tally_of g k = record {
 }
 
 -- how many began
-abbrev pub begun : Tally → ℕ
-begun c = c.finished + (if c.running then 1 else 0)
+abbrev pub begun_so_far : Tally → ℕ
+begun_so_far c = c.finished + (if c.running then 1 else 0)
 
 abbrev pub AsBefore : Tally → Tally → Type 0
 AsBefore c d = (d.finished ≡ c.finished) × (d.running ≡ c.running)
@@ -256,4 +256,4 @@ MayTally has_stopped tally seed old new s (Some e) = Tallies has_stopped tally s
 
 -- the trail has as many beginnings and ends of collections as are counted
 abbrev pub IsTallied : Tally → List Event → Type 0
-IsTallied c trail = (begins_in trail ≡ begun c) × (finishes_in trail ≡ c.finished)
+IsTallied c trail = (begins_in trail ≡ begun_so_far c) × (finishes_in trail ≡ c.finished)

@@ -73,14 +73,14 @@ abbrev pub has_fallen : Ending → Bool
 has_fallen ending = is_fault ending.refused || is_failure ending.stop
 
 -- it wanted memory; or the core had stopped, and then that is told
-abbrev pub is_want : Option CollectFault → Bool
-is_want (Some faults.Memory) = true
-is_want (Some (faults.Stopped moment)) = true
-is_want refused = false
+abbrev pub is_want_of_memory : Option CollectFault → Bool
+is_want_of_memory (Some faults.Memory) = true
+is_want_of_memory (Some (faults.Stopped moment)) = true
+is_want_of_memory refused = false
 
 -- the collector was refused so
 abbrev pub is_short : Ending → Bool
-is_short ending = is_want ending.refused
+is_short ending = is_want_of_memory ending.refused
 
 abbrev pub spoiled_by : (failed : Bool) (stopped : Option ℕ) (damage : Option Damage) (broken wanting : Bool) → Cause
 spoiled_by true stopped damage broken wanting = causes.Disk stopped

@@ -62,14 +62,14 @@ is_begin events.Finished = false
 is_begin (events.Halted moment) = false
 
 -- a turn of this session, or its leave
-abbrev pub is_of : ℕ → Event → Bool
-is_of session (events.Unread who why) = who == session
-is_of session (events.Ask who request reply) = who == session
-is_of session (events.Leave who stopped) = who == session
-is_of session events.Began = false
-is_of session (events.Vanish ids) = false
-is_of session events.Finished = false
-is_of session (events.Halted moment) = false
+abbrev pub is_of_session : ℕ → Event → Bool
+is_of_session session (events.Unread who why) = who == session
+is_of_session session (events.Ask who request reply) = who == session
+is_of_session session (events.Leave who stopped) = who == session
+is_of_session session events.Began = false
+is_of_session session (events.Vanish ids) = false
+is_of_session session events.Finished = false
+is_of_session session (events.Halted moment) = false
 
 -- of some session
 abbrev pub is_sessions : Event → Bool
@@ -106,8 +106,8 @@ begins_in trail = length (filter is_begin trail)
 abbrev pub finishes_in : List Event → ℕ
 finishes_in trail = length (filter is_finish trail)
 
-abbrev pub events_of : ℕ → List Event → List Event
-events_of session trail = filter (is_of session) trail
+abbrev pub events_of_session : ℕ → List Event → List Event
+events_of_session session trail = filter (is_of_session session) trail
 
 -- the sink took all replies but that of the last event, and failed within that one
 pub record BreaksOff (session : ℕ) (old new : Intake) (turns : List Event) : Type 0 where

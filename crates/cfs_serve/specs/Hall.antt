@@ -18,7 +18,7 @@ use Rattle.cfs_script.specs.NameTable.{names_of}
 use Rattle.cfs_ports.specs.Port.{Reading, IsNew, Replied}
 use Rattle.cfs_serve.specs.Calls.{Tally}
 use Rattle.cfs_serve.specs.Charter.{Client, Terms}
-use Rattle.cfs_serve.specs.Events.{BreaksOff, events_of, is_of, is_sessions}
+use Rattle.cfs_serve.specs.Events.{BreaksOff, events_of_session, is_of_session, is_sessions}
 use Rattle.cfs_core.specs.declared.collecting.CollectFault.{CollectFault}
 use Rattle.cfs_serve.specs.Journal.{IsStamped, Journaled, Steps, recorded}
 use Rattle.cfs_serve.specs.declared.journal.Progress.{Progress}
@@ -51,7 +51,7 @@ IsLeave i true leaves = (stopped : Option ℕ) × (leaves ≡ events.Leave i sto
 -- last, and some beginning of that one.
 pub record IsSession (root : Puid) (i : ℕ) (client : Client) (p : Reading) (trail : List Event) : Type 0 where
   pub leaves : List Event
-  pub split : events_of i trail ≡ turns_in i trail ++ leaves
+  pub split : events_of_session i trail ≡ turns_in i trail ++ leaves
   pub left : IsLeave i p.has_left leaves
   pub turned : (more : List Event) → turns_from all_forms i (no_names root) client.lines (turns_in i trail ++ more)
       ≡ turns_in i trail ++ turns_from all_forms i (names_of p.names) p.lines more
@@ -66,7 +66,7 @@ pub record AreHeard {A : Type 0} (t : Terms A) (trail : List Event) (ports : Lis
   pub count : length ports ≡ length t.clients
   pub each : (k : ℕ) (client : Client) (p : Reading) → slice_get t.clients k ≡ Some client → slice_get ports k ≡ Some p
       → IsSession t.root k client p trail
-  pub none : (k : ℕ) → length ports ≤ k → events_of k trail ≡ []
+  pub none : (k : ℕ) → length ports ≤ k → events_of_session k trail ≡ []
   pub sessions : t.collections ≡ 0 → list_all is_sessions trail ≡ true
 
 -- where no collection is called for, the collector has no turn and was refused none
@@ -101,7 +101,7 @@ pub record Turned (i : ℕ) (p q : Reading) (e : Event) : Type 0 where
   pub line : List ℕ
   pub taken : p.lines ≡ line ∷ q.lines
   pub mine : is_turn_of i e ≡ true
-  pub whole : is_of i e ≡ true
+  pub whole : is_of_session i e ≡ true
   pub turn : turn_of i (reading_of all_forms (names_of p.names) line) e ≡ e
   pub names : names_of q.names ≡ names_after all_forms (names_of p.names) line e
   pub stays : p.has_left ≡ false
@@ -122,7 +122,7 @@ pub record Moves {A : Type 0} (i : ℕ) (old new : Journaled A) (p q : Reading) 
   pub event : Event
   pub recorded : new.events ≡ old.events ++ event ∷ []
   pub room : new.room + 1 ≡ old.room
-  pub others : (k : ℕ) → (i == k) ≡ false → is_of k event ≡ false
+  pub others : (k : ℕ) → (i == k) ≡ false → is_of_session k event ≡ false
   pub kind : Turned i p q event ⊎ Departs i p q event
 
 -- A turn of session i, which stayed: its port made one event, recorded with the disk's moment as the turn returned, and
@@ -222,7 +222,7 @@ pub record IsOver (root : Puid) (trail : List Event) (i : ℕ) (client : Client)
   pub turns : turns_in i trail ≡ turns_from all_forms i (no_names root) client.lines (turns_in i trail)
   pub answered : failed ≡ false → length (turns_in i trail) ≡ length client.lines
   pub stopped : Option ℕ
-  pub leaves : events_of i trail ≡ turns_in i trail ++ events.Leave i stopped ∷ []
+  pub leaves : events_of_session i trail ≡ turns_in i trail ++ events.Leave i stopped ∷ []
   pub replied : Replied client.sink after (printed_replies i trail) (not failed)
   pub broken : failed ≡ true → BreaksOff i client.sink after (turns_in i trail)
 
@@ -232,5 +232,5 @@ pub record AreOver (root : Puid) (collections : ℕ) (clients : List Client) (tr
   pub count : length ports ≡ length clients
   pub each : (k : ℕ) (client : Client) (p : Reading) → slice_get clients k ≡ Some client → slice_get ports k ≡ Some p
       → IsOver root trail k client p.sink p.failed
-  pub none : (k : ℕ) → length clients ≤ k → events_of k trail ≡ []
+  pub none : (k : ℕ) → length clients ≤ k → events_of_session k trail ≡ []
   pub sessions : collections ≡ 0 → list_all is_sessions trail ≡ true

@@ -15,7 +15,7 @@ use Rattle.cfs_serve.specs.Calls.{AreExact, IsTallied, Tally, lost_in}
 use Rattle.cfs_serve.specs.Charter.{Terms}
 use Rattle.cfs_serve.specs.Ending.{EndsSo}
 use Rattle.cfs_serve.specs.declared.ending.Ending.{Ending}
-use Rattle.cfs_serve.specs.Events.{begins_in, is_calm, is_of, tells_disk, tells_fault, tells_stop}
+use Rattle.cfs_serve.specs.Events.{begins_in, is_calm, is_of_session, tells_disk, tells_fault, tells_stop}
 use Rattle.cfs_core.specs.declared.collecting.CollectFault.{CollectFault}
 use Rattle.cfs_core.specs.declared.collecting.CollectFault.TheVariants as faults
 use Rattle.cfs_core.specs.declared.kernel.Stop.{Stop}
@@ -165,12 +165,12 @@ is_recorded progresses.Finished = true
 is_recorded (progresses.Refused fault) = true
 
 -- a step was made, an event or not
-abbrev pub is_made : Progress → Bool
-is_made progresses.Idle = false
-is_made progresses.Quiet = true
-is_made progresses.Recorded = true
-is_made progresses.Finished = true
-is_made (progresses.Refused fault) = false
+abbrev pub is_progress_made : Progress → Bool
+is_progress_made progresses.Idle = false
+is_progress_made progresses.Quiet = true
+is_progress_made progresses.Recorded = true
+is_progress_made progresses.Finished = true
+is_progress_made (progresses.Refused fault) = false
 
 -- the refusal of the step, if it is one
 abbrev pub refusal_in : Progress → Option CollectFault
@@ -182,7 +182,7 @@ refusal_in progress = None
 pub record Steps {A : Type 0} (clock : A → ℕ) (old new : Journaled A) (progress : Progress) : Type 0 where
   pub event : Option Event
   pub events : new.events ≡ old.events ++ recorded event
-  pub nobody : (e : Event) → event ≡ Some e → (k : ℕ) → is_of k e ≡ false
+  pub nobody : (e : Event) → event ≡ Some e → (k : ℕ) → is_of_session k e ≡ false
   pub stamped : new.moments ≡ old.moments ++ stamps event (clock new.server)
   pub room : new.room + length (recorded event) ≡ old.room
   pub none : is_recorded progress ≡ false → event ≡ None

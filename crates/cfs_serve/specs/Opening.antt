@@ -30,6 +30,6 @@ IsRefusal g old new causes.Memory = Unit {0}
 IsRefusal g old new cause = ⊥
 
 -- the disk, in a core or handed back
-abbrev pub disk_of : {D : Type 0} → Result (Kernel D) (Refused D) → D
-disk_of (Ok k) = k.disk
-disk_of (Err e) = e.disk
+abbrev pub disk_refused : {D : Type 0} → Result (Kernel D) (Refused D) → D
+disk_refused (Ok k) = k.disk
+disk_refused (Err e) = e.disk

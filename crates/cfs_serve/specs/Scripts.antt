@@ -43,8 +43,8 @@ pub record HaveScripts (sources : List Supply) (scripts : List (List ℕ)) : Typ
 
 -- ---- why they are not served
 
-abbrev pub faults_of : List Supply → List ℕ
-faults_of sources = map (λ s. s.faults) sources
+abbrev pub faults_of_sources : List Supply → List ℕ
+faults_of_sources sources = map (λ s. s.faults) sources
 
 -- why the source of that number has no script
 abbrev pub IsOneCause : (n : ℕ) (source after : Supply) → Cause → Type 0
@@ -64,7 +64,7 @@ pub record IsFirst (sources after : List Supply) (n : ℕ) : Type 0 where
 -- Why the sources' scripts aren't served: the first that failed or is too long decides.
 abbrev pub IsSourceCause : (sources after : List Supply) → Cause → Type 0
 IsSourceCause sources after (causes.Source i) =
-    (i < length sources) × Rose (get_or (faults_of sources) i 0) (get_or (faults_of after) i 0)
+    (i < length sources) × Rose (get_or (faults_of_sources sources) i 0) (get_or (faults_of_sources after) i 0)
     × IsFirst sources after i
 IsSourceCause sources after (causes.Long i) =
     (i < length sources)

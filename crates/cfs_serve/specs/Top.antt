@@ -32,12 +32,12 @@ use Rattle.cfs_audit.specs.Verdict.{IsLegal}
 use Rattle.cfs_serve.specs.Audit.{Finds, Judges}
 use Rattle.cfs_serve.specs.Calls.{AreExact}
 use Rattle.cfs_serve.specs.Ending.{EndsSo, IsWanting, cause_of, damage_in, not_begun}
-use Rattle.cfs_serve.specs.Events.{BreaksOff, begins_in, events_of, finishes_in, is_calm, is_sessions, tells_damage}
+use Rattle.cfs_serve.specs.Events.{BreaksOff, begins_in, events_of_session, finishes_in, is_calm, is_sessions, tells_damage}
 use Rattle.cfs_serve.specs.Events.{wants_memory}
 use Rattle.cfs_serve.specs.Ground.{Ground}
 use Rattle.cfs_serve.specs.Played.{AreCounted, HasNone, TellsLast, IsStop, counts_of, free_of}
 use Rattle.cfs_serve.specs.Text.{IsText, last_cause, text_of}
-use Rattle.cfs_serve.specs.Scripts.{AreShort, AreWithin, Had, IsFirst, faults_of, lines_in}
+use Rattle.cfs_serve.specs.Scripts.{AreShort, AreWithin, Had, IsFirst, faults_of_sources, lines_in}
 use Rattle.cfs_serve.specs.Whole.{HasPlaces, RoseIn, TellsMade}
 use Rattle.cfs_serve.specs.Words.{Asked, Format, Service, Formats, Shows, Nothing, IfServes, collections_of, is_format}
 use Rattle.cfs_serve.specs.Words.{is_audit, is_service, most_in_source}
@@ -61,8 +61,8 @@ before faults supply intake bay = record {
   report = intake bay.report;
 }
 
-abbrev pub after : {D S K : Type 0} → (D → ℕ) → (S → Supply) → (K → Intake) → Ended D S K → Outside
-after faults supply intake ended = record {
+abbrev pub outside_after : {D S K : Type 0} → (D → ℕ) → (S → Supply) → (K → Intake) → Ended D S K → Outside
+outside_after faults supply intake ended = record {
   disk = option_map faults ended.disk;
   sources = map supply ended.sources.items;
   sinks = map intake ended.sinks.items;
@@ -89,7 +89,7 @@ SomeRose (before ∷ befores) (now ∷ nows) = Rose before now ⊎ SomeRose befo
 SomeRose befores nows = ⊥
 
 abbrev pub source_faults : Outside → List ℕ
-source_faults o = faults_of o.sources
+source_faults o = faults_of_sources o.sources
 
 abbrev pub sink_faults : Outside → List ℕ
 sink_faults o = map (λ s. s.faults) o.sinks
@@ -181,7 +181,7 @@ pub record EndedWell (asked : Asked) (ground : Ground) (told : Report) (trail : 
   pub answered : EachSource (λ session source _. (left : List ℕ) → source.left ≡ Some left
       → length (turns_in session trail) ≡ length (request_lines left)) old new
   -- each sink holds all replies of its session, and none of them tells want of memory
-  pub replied : EachSink (λ session sink after. Wrote sink after (printed_replies session trail)) old new
+  pub replied : EachSink (λ session sink outside_after. Wrote sink outside_after (printed_replies session trail)) old new
   pub memory : list_any wants_memory trail ≡ false
   -- no failed call of the disk, no damage and no stop is behind an event
   pub calm : list_all is_calm trail ≡ true
@@ -295,9 +295,9 @@ pub record Did (asked : Asked) (ground : Ground) (old new : Outside) (told : Rep
   pub unserved : IsNone told.counts → (trail ≡ []) × (new.sinks ≡ old.sinks) × (ending ≡ not_begun)
   pub unasked : is_service asked ≡ false → IsNone told.counts
   pub leaves : WasServed told → EachSource (λ session _ _. (stopped : Option ℕ)
-      × (events_of session trail ≡ turns_in session trail ++ events.Leave session stopped ∷ [])) old new
+      × (events_of_session session trail ≡ turns_in session trail ++ events.Leave session stopped ∷ [])) old new
   pub sessions : collections_of asked ≡ 0 → list_all is_sessions trail ≡ true
-  pub others : (k : ℕ) → length old.sources ≤ k → events_of k trail ≡ []
+  pub others : (k : ℕ) → length old.sources ≤ k → events_of_session k trail ≡ []
   -- from each graph that the volume may read as, the events are a legal run
   pub on : IfServes asked (λ service. (graph : Graph) → ground.reads graph
       → DidOn service ground graph old new told ending trail)
@@ -313,11 +313,11 @@ pub record Did (asked : Asked) (ground : Ground) (old new : Outside) (told : Rep
       × ((graph : Graph) → ground.reads graph → graph.root ≡ root)
       × EachSource (λ session source _. IsServedFrom root trail (took session) session source) old new)
   -- the sink has taken the replies, all or some of their beginning
-  pub replied : EachSink (λ session sink after. Replied sink after (printed_replies session trail)
+  pub replied : EachSink (λ session sink outside_after. Replied sink outside_after (printed_replies session trail)
       (took session)) old new
   -- a session whose sink failed ends with the reply in which it failed: no line after it was served
-  pub broken : WasServed told → EachSink (λ session sink after. took session ≡ false
-      → BreaksOff session sink after (turns_in session trail)) old new
+  pub broken : WasServed told → EachSink (λ session sink outside_after. took session ≡ false
+      → BreaksOff session sink outside_after (turns_in session trail)) old new
   -- it is told exactly that the words are of no form, or that this page was asked for
   pub words : (told.cause ≡ causes.Words) ↔ (asked ≡ Nothing)
   pub page : (page : Page) → (told.cause ≡ causes.Page page) ↔ (asked ≡ Shows page)
@@ -325,7 +325,7 @@ pub record Did (asked : Asked) (ground : Ground) (old new : Outside) (told : Rep
   pub cause : IsNone told.counts → is_format asked ≡ false → ¬ (told.cause ≡ causes.Nothing)
   pub made : is_format asked ≡ true → TellsMade told.cause old.disk new.disk
   -- of an audit it is told what was found of its source, and a verdict of nothing else
-  pub audited : is_audit asked ≡ true → EachSource (λ _ source after. Finds told.cause source after) old new
+  pub audited : is_audit asked ≡ true → EachSource (λ _ source outside_after. Finds told.cause source outside_after) old new
   pub verdict : is_verdict told.cause ≡ true → is_audit asked ≡ true
   -- after serving the first is told that has come: a failed call, a damage, a sink that broke, want of memory
   pub ends : WasServed told → EndsSo (RoseIn old.disk new.disk) (collections_of asked) ending trail

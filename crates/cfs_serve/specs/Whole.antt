@@ -138,21 +138,21 @@ Asks (Shows page) ground old new report ending trail = AsksNone (causes.Page pag
 Asks Nothing ground old new report ending trail = AsksNone causes.Words old new report ending trail
 
 -- the status: that of the cause, but for a report that could not be written where nothing worse is told
-abbrev pub ended : (written : Bool) → Cause → ℕ
-ended true cause = status_of cause
-ended false causes.Nothing = 5
-ended false (causes.Page page) = 5
-ended false causes.Memory = 5
-ended false causes.Words = 2
-ended false (causes.Volume fault) = 3
-ended false (causes.Disk moment) = 4
-ended false causes.Sink = 5
-ended false (causes.Source i) = 6
-ended false (causes.Long i) = 9
-ended false causes.LongTotal = 9
-ended false (causes.Legal n) = 5
-ended false (causes.BadLine line) = 8
-ended false (causes.Illegal event) = 8
+abbrev pub status_at_end : (written : Bool) → Cause → ℕ
+status_at_end true cause = status_of cause
+status_at_end false causes.Nothing = 5
+status_at_end false (causes.Page page) = 5
+status_at_end false causes.Memory = 5
+status_at_end false causes.Words = 2
+status_at_end false (causes.Volume fault) = 3
+status_at_end false (causes.Disk moment) = 4
+status_at_end false causes.Sink = 5
+status_at_end false (causes.Source i) = 6
+status_at_end false (causes.Long i) = 9
+status_at_end false causes.LongTotal = 9
+status_at_end false (causes.Legal n) = 5
+status_at_end false (causes.BadLine line) = 8
+status_at_end false (causes.Illegal event) = 8
 
 -- the report of the run is this one, and so it was written
 pub record IsWhole (asked : Asked) (ground : Ground) (old new : Places) (report report_after : Intake) (told : Report)
@@ -164,4 +164,4 @@ pub record IsWhole (asked : Asked) (ground : Ground) (old new : Places) (report 
   pub is_text : IsText asked told trail short text
   pub written : Bool
   pub reported : Replied report report_after text written
-  pub said : status ≡ ended written (last_cause short told.cause)
+  pub said : status ≡ status_at_end written (last_cause short told.cause)

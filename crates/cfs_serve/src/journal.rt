@@ -11,7 +11,7 @@ ghost use Rattle.cfs_serve.specs.Events.{tells_disk, wants_memory};
 ghost use Rattle.cfs_serve.specs.Calls.{Passes, Spends, SpendsOne, Tally, event_by, refusal_by};
 ghost use Rattle.cfs_serve.specs.Ending.{IsWanting, Stops, TellsStop};
 ghost use Rattle.cfs_serve.specs.Events.{finishes_in};
-ghost use Rattle.cfs_serve.specs.Journal.{IsKept, IsRun, IsStamped, IsTold, Lasts, Raises, Answered, is_made};
+ghost use Rattle.cfs_serve.specs.Journal.{IsKept, IsRun, IsStamped, IsTold, Lasts, Raises, Answered, is_progress_made};
 ghost use Rattle.cfs_serve.specs.Journal.{StaysStopped};
 ghost use Rattle.cfs_serve.specs.Journal.{Steps, is_quiet_fault, is_recorded, recorded, refusal_in, stamps};
 
@@ -207,7 +207,7 @@ impl<A: Server, J: Charter<A>> Journal<A, J> {
         // Nothing is left to do once as many collections are finished as were called for.
         ensures idle { result ≡ Progress.Idle → finishes_in self.new.events ≡ J.charter.collections }
         // One that was made leaves fewer steps, and one event less where it is one.
-        ensures spends { is_made result ≡ true
+        ensures spends { is_progress_made result ≡ true
             → SpendsOne (A.tally self.old.server) (A.tally self.new.server) (is_recorded result) }
     {
         let made = self.server.collect(alloc);
@@ -279,7 +279,7 @@ fn progress_of(made: Result<Step, CollectFault>) -> (Option<Event>, Progress)
     ensures event { result.0 ≡ event_by made }
     ensures none { is_recorded result.1 ≡ false → event_by made ≡ None }
     ensures idle { result.1 ≡ Progress.Idle → made ≡ Ok Step.Idle }
-    ensures spends { is_made result.1 ≡ true → (c : Tally) (d : Tally) → Spends c d made
+    ensures spends { is_progress_made result.1 ≡ true → (c : Tally) (d : Tally) → Spends c d made
         → SpendsOne c d (is_recorded result.1) }
     ensures refusal { refusal_in result.1 ≡ refusal_by made }
 {

@@ -33,9 +33,9 @@ pub use limits::{
     HELD_MAPS, MOST_COLLECTIONS, MOST_CYLINDERS, MOST_FILE_CYLINDERS, MOST_LINES, MOST_SCRIPT,
     MOST_SESSIONS, MOST_TRAIL,
 };
-pub use naming::names;
+pub use naming::files_named;
 pub use page::Page;
-pub use paths::{Names, Path, Paths, Volume, WordsFault};
+pub use paths::{Files, Path, Paths, Volume, WordsFault};
 pub use report::{Cause, Counts, Report, VolumeFault};
 pub use run::{Bay, Ended, top};
 pub use server::Server;

@@ -6,17 +6,17 @@ ghost use Rattle.cfs_serve.specs.Words as spec;
 ghost use Rattle.cfs_serve.specs.Words.{Audits, Nothing, Serves, Service, asked_in, inputs_in, most_made};
 ghost use Rattle.cfs_serve.specs.Words.{outputs_in};
 
-use crate::paths::{Names, Volume, WordsFault, no_paths, one_path, path_of, session_paths};
+use crate::paths::{Files, Volume, WordsFault, no_paths, one_path, path_of, session_paths};
 use crate::words::{audit_asked, format_asked, page_asked, play_asked, serve_asked, spin_asked};
 use std::alloc::Global;
 
 /// No files.
-fn no_files(alloc: Global) -> Names
+fn no_files(alloc: Global) -> Files
     ensures volume { result.volume ≡ None }
     ensures places { (result.sources ≡ []) × (result.sinks ≡ []) }
     ensures pair { result.pair ≡ false }
 {
-    Names {
+    Files {
         volume: None,
         sources: no_paths(alloc),
         sinks: no_paths(alloc),
@@ -25,12 +25,12 @@ fn no_files(alloc: Global) -> Names
 }
 
 /// The volume that is to be made, and no other file.
-fn volume_names(
+fn volume_files(
     alloc: Global,
     volume: &str,
     cylinders: u64,
     pair: bool,
-) -> Result<Names, WordsFault>
+) -> Result<Files, WordsFault>
     requires { cylinders ≤ most_made pair }
     ensures fault { IfErr result (λ e. e ≡ WordsFault.Memory) }
     ensures volume { IfOk result (λ n. n.volume ≡ Some (Volume.Fresh volume.now cylinders)) }
@@ -40,7 +40,7 @@ fn volume_names(
     let Ok(path) = path_of(alloc, volume) else {
         return Err(WordsFault::Memory);
     };
-    Ok(Names {
+    Ok(Files {
         volume: Some(Volume::Fresh {
             path,
             cylinders: cylinders as u32,
@@ -52,7 +52,7 @@ fn volume_names(
 }
 
 /// The file of a trail, and no other.
-fn trail_names(alloc: Global, trail: &str) -> Result<Names, WordsFault>
+fn trail_files(alloc: Global, trail: &str) -> Result<Files, WordsFault>
     ensures fault { IfErr result (λ e. e ≡ WordsFault.Memory) }
     ensures volume { IfOk result (λ n. n.volume ≡ None) }
     ensures places { IfOk result (λ n. (n.sources ≡ trail.now ∷ []) × (n.sinks ≡ [])) }
@@ -61,7 +61,7 @@ fn trail_names(alloc: Global, trail: &str) -> Result<Names, WordsFault>
     let Ok(sources) = one_path(alloc, trail) else {
         return Err(WordsFault::Memory);
     };
-    Ok(Names {
+    Ok(Files {
         volume: None,
         sources,
         sinks: no_paths(alloc),
@@ -70,12 +70,12 @@ fn trail_names(alloc: Global, trail: &str) -> Result<Names, WordsFault>
 }
 
 /// The request files and the reply files of sessions, beside a volume.
-fn session_names(
+fn session_files(
     alloc: Global,
     volume: Option<Volume>,
     files: &[String],
     pair: bool,
-) -> Result<Names, WordsFault>
+) -> Result<Files, WordsFault>
     ensures fault { IfErr result (λ e. e ≡ WordsFault.Memory) }
     ensures volume { IfOk result (λ n. n.volume ≡ volume) }
     ensures sources { IfOk result (λ n. n.sources ≡ inputs_in (map string_bytes files.now)) }
@@ -85,7 +85,7 @@ fn session_names(
     let Ok((sources, sinks)) = session_paths(alloc, files) else {
         return Err(WordsFault::Memory);
     };
-    Ok(Names {
+    Ok(Files {
         volume,
         sources,
         sinks,
@@ -94,12 +94,12 @@ fn session_names(
 }
 
 /// The volume that is to be served, and the files of its sessions.
-fn served_names(
+fn served_files(
     alloc: Global,
     volume: &str,
     files: &[String],
     pair: bool,
-) -> Result<Names, WordsFault>
+) -> Result<Files, WordsFault>
     ensures fault { IfErr result (λ e. e ≡ WordsFault.Memory) }
     ensures volume { IfOk result (λ n. n.volume ≡ Some (Volume.Existing volume.now)) }
     ensures sources { IfOk result (λ n. n.sources ≡ inputs_in (map string_bytes files.now)) }
@@ -109,11 +109,11 @@ fn served_names(
     let Ok(path) = path_of(alloc, volume) else {
         return Err(WordsFault::Memory);
     };
-    session_names(alloc, Some(Volume::Existing { path }), files, pair)
+    session_files(alloc, Some(Volume::Existing { path }), files, pair)
 }
 
 /// What the words of a command name: nothing for a page or a spin. `Words` comes exactly where they are of no form.
-pub fn names(alloc: Global, words: &[String]) -> Result<Names, WordsFault>
+pub fn files_named(alloc: Global, words: &[String]) -> Result<Files, WordsFault>
     ensures words { result ≡ Err WordsFault.Words ↔ (asked_in (map string_bytes words.now) ≡ Nothing) }
     ensures volume { IfOk result (λ n. NamesVolume (asked_in (map string_bytes words.now)) n.volume) }
     ensures sized { IfOk result (λ n. IfSome n.volume (HasCylinders n.pair)) }
@@ -131,19 +131,19 @@ pub fn names(alloc: Global, words: &[String]) -> Result<Names, WordsFault>
         return Ok(no_files(alloc));
     }
     if let Some(format) = format_asked(words) {
-        return volume_names(alloc, format.volume, format.cylinders, format.pair);
+        return volume_files(alloc, format.volume, format.cylinders, format.pair);
     }
     if let Some(trail) = audit_asked(words) {
-        return trail_names(alloc, trail);
+        return trail_files(alloc, trail);
     }
     if let Some(play) = play_asked(words) {
-        return session_names(alloc, None, play.files, false);
+        return session_files(alloc, None, play.files, false);
     }
     if spin_asked(words).is_some() {
         return Ok(no_files(alloc));
     }
     match serve_asked(words) {
-        Some(served) => served_names(alloc, served.volume, served.files, served.pair),
+        Some(served) => served_files(alloc, served.volume, served.files, served.pair),
         None => Err(WordsFault::Words),
     }
 }

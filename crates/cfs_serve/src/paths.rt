@@ -27,7 +27,7 @@ impl Path {
     }
 }
 
-/// Names of files, in order.
+/// Files of files, in order.
 #[derive(Debug, Drop)]
 pub struct Paths {
     paths: Vec<Path>,
@@ -61,7 +61,7 @@ pub enum Volume {
 /// What a command names: its volume, where it has one in a file; the sources of its sessions and their sinks, session
 /// by session; and whether the file is one of pairs of blocks.
 #[derive(Debug, Drop)]
-pub struct Names {
+pub struct Files {
     pub volume: Option<Volume>,
     pub sources: Paths,
     pub sinks: Paths,

@@ -1,6 +1,6 @@
 //! What is left to the collector.
 ghost use Rattle.std.specs.Prelude.{◌≡◌, ◌<◌, ◌≤◌, ◌+◌, ◌*◌, if◌then◌else◌, true, None};
-ghost use Rattle.cfs_serve.specs.Journal.{is_made, is_recorded, refusal_in};
+ghost use Rattle.cfs_serve.specs.Journal.{is_progress_made, is_recorded, refusal_in};
 
 use crate::journal::Progress;
 use cfs_core::CollectFault;
@@ -55,8 +55,8 @@ impl Rest {
     /// What is left after a step. The collector is done once nothing is left to do, and at a refusal.
     pub(crate) fn after(self, progress: Progress) -> Rest
         requires some { 0 < self.turns }
-        requires more { is_made progress ≡ true → 1 < self.turns }
-        requires room { is_made progress ≡ true → (if is_recorded progress then 1 else 0) < self.events }
+        requires more { is_progress_made progress ≡ true → 1 < self.turns }
+        requires room { is_progress_made progress ≡ true → (if is_recorded progress then 1 else 0) < self.events }
         requires paired { 0 < self.events }
         ensures fewer { result.turns < self.turns }
         ensures room { result.events + (if is_recorded progress then 1 else 0) ≤ self.events }
@@ -64,9 +64,9 @@ impl Rest {
         ensures on { 0 < result.turns → result.refused ≡ None }
         ensures refused { result.refused ≡ refusal_in progress }
         // A step that was made costs one turn, and one that is an event the room for it.
-        ensures made { is_made progress ≡ true → (result.turns + 1 ≡ self.turns)
+        ensures made { is_progress_made progress ≡ true → (result.turns + 1 ≡ self.turns)
             × (result.events + (if is_recorded progress then 1 else 0) ≡ self.events) }
-        ensures stays { 0 < result.turns → is_made progress ≡ true }
+        ensures stays { 0 < result.turns → is_progress_made progress ≡ true }
     {
         match progress {
             Progress::Quiet => Rest::on(self.turns - 1, self.events),

@@ -2,13 +2,13 @@
 ghost use Rattle.std.specs.Prelude.{◌≡◌, ◌⊎◌, ◌%◌, ◌*◌, ◌≤◌, None, Some, string_bytes, map, length, option_map};
 ghost use Rattle.cfs_base.specs.Outside.{Rose};
 ghost use Rattle.cfs_serve.specs.Words.{Asked, Format, InMemory, asked_by, format_in, page_in};
-ghost use Rattle.cfs_serve.specs.Whole.{Asks, HasDisk, HasPlaces, ended};
+ghost use Rattle.cfs_serve.specs.Whole.{Asks, HasDisk, HasPlaces, status_at_end};
 ghost use Rattle.cfs_serve.specs.Disks.{MakesVolume, OnDisk};
 ghost use Rattle.cfs_serve.specs.Ground.{ground_of};
 ghost use Rattle.cfs_serve.specs.Text.{first_line, line_if, printed_line};
 ghost use Rattle.cfs_serve.specs.Traced.{IsWritten};
 ghost use Rattle.cfs_serve.specs.Says.{Says};
-ghost use Rattle.cfs_serve.specs.Top.{before, after};
+ghost use Rattle.cfs_serve.specs.Top.{before, outside_after};
 
 use crate::audit::audit_only;
 use crate::cached::serve_cached;
@@ -56,7 +56,7 @@ pub struct Ended<D, S, K> {
 
 /// The status of a run whose report was written, or was not.
 fn status_of(written: bool, cause: Cause) -> u8
-    ensures { result ≡ ended written cause }
+    ensures { result ≡ status_at_end written cause }
 {
     match cause {
         Cause::Nothing | Cause::Memory | Cause::Page(_) | Cause::Legal { .. } if !written => 5,
@@ -288,7 +288,7 @@ pub fn top<D: Disk + Send, S: Source, K: Sink + Send, G: Gate + Sync, R: Threads
     ensures disk { OnDisk D.Disk (asked_by words.now) result.told result.ending result.trail.events result.trail.moments
         bay.disk result.disk }
     ensures said { Says (asked_by words.now) (ground_of D.Disk (asked_by words.now) bay.disk)
-        (before D.faults S.supply K.intake bay) (after D.faults S.supply K.intake result) result.told result.status
+        (before D.faults S.supply K.intake bay) (outside_after D.faults S.supply K.intake result) result.told result.status
         result.ending result.trail.events }
 {
     scripts_have_so_many_lines();

@@ -2,7 +2,7 @@
 ghost use Rattle.std.specs.Prelude.{◌≡◌, ◌*◌, ◌≤◌, IfErr, IfOk, IfSome, IsTrue, None, length};
 ghost use Rattle.cfs_core.specs.Opened.{IsOpened};
 ghost use Rattle.cfs_serve.specs.Disks.{IsLater};
-ghost use Rattle.cfs_serve.specs.Opening.{IsRefusal, disk_of, opening_cause};
+ghost use Rattle.cfs_serve.specs.Opening.{IsRefusal, disk_refused, opening_cause};
 ghost use Rattle.cfs_recover.specs.Recovered.{LeavesSinceBarrier};
 ghost use Rattle.vol_image.specs.Sound.{IsSound, IsSoundAs};
 ghost use Rattle.ufs_model.specs.Graph.{Graph};
@@ -60,8 +60,8 @@ pub(crate) fn open_volume<D: Disk>(alloc: Global, disk: D, seed: u64) -> Result<
     // sound.
     ensures refused { IfErr result (λ e. IsRefusal D.Disk disk e.disk e.cause) }
     ensures images { IsTrue (D.honest disk) → (graph : Graph) → IsSoundAs (D.content disk) graph
-        → LeavesSinceBarrier D.Disk disk (disk_of result) (λ c. IsSoundAs c graph) }
-    ensures later { IsLater D.Disk disk (disk_of result) }
+        → LeavesSinceBarrier D.Disk disk (disk_refused result) (λ c. IsSoundAs c graph) }
+    ensures later { IsLater D.Disk disk (disk_refused result) }
 {
     match Core::open(alloc, disk, seed) {
         Ok(core) => Ok(core),

@@ -1,6 +1,6 @@
 -- The entries of a volume whose maps a disk holds.
-use Rattle.std.proofs.Common.{◌≡◌, ◌≢◌, inl, inr, ℕ, ◌+◌, ◌*◌, ◌/◌, ◌%◌, true, false, List, replicate, get_or, Option, Some, None, refl, sym, ◌∙◌, ap, subst, arith}
-use Rattle.cyl_alloc.proofs.Words.{All-replicate, Image, IsBadMap, IsEntry, IsFirstBadEntry, IsFreeElsewhere, IsGoodMap, IsMapOf, IsSome, MapEntry, SpellsMap, block_at, cases_eq, entry_at, entry_at-map_spelling, entry_in, entry_in-with_entry_other, entry_in-with_entry_same, entry_of_bad, free_entries, free_entry, free_in_cylinder, is_free, is_free_entry, is_free_in, length-with_entry, map_of, map_spelling, spelling, spells_these, with_entry}
+use Rattle.std.proofs.Common.{◌≡◌, ◌≢◌, inl, inr, ℕ, ◌+◌, ◌*◌, ◌/◌, ◌%◌, ◌<◌, true, false, List, replicate, get_or, set, Option, Some, None, refl, sym, ◌∙◌, ap, subst, arith}
+use Rattle.cyl_alloc.proofs.Words.{All-replicate, Image, IsBadMap, IsEntry, IsFirstBadEntry, IsFreeElsewhere, IsGoodMap, IsMap-set, IsMapOf, IsSome, MapEntry, SpellsMap, block_at, cases_eq, entries_of, entry_at, entry_at-map_spelling, entry_in, entry_in-with_entry_other, entry_in-with_entry_same, entry_of_bad, free_entries, free_entry, free_in_cylinder, is_free, is_free_entry, is_free_in, length-entries_of, length-with_entry, map_of, map_spelling, map_spelling-set, spelling, spells_these, with_bytes, with_entry}
 use Rattle.cyl_alloc.proofs.Ranges.{listed, one_less, count_in}
 
 -- ---- a map that was read
@@ -32,6 +32,13 @@ zeros = refl
 
 pub zeros_spell : (bytes : List ℕ) → bytes ≡ replicate 512 0 → SpellsMap bytes
 zeros_spell bytes is = (spells_these bytes (replicate 64 free_entry) (record { long = refl; each = All-replicate IsEntry 64 free_entry (record { in_table = refl }) }) (is ∙ zeros)).1
+
+-- a map with one entry put into it is one
+pub spells_with : (bytes : List ℕ) (k : ℕ) (e : MapEntry) → SpellsMap bytes → k < 64 → IsEntry e → SpellsMap (with_bytes bytes k (spelling e))
+spells_with bytes k e spells below is =
+    let was = entries_of bytes in
+    let put = ap (λ (b : List ℕ). with_bytes b k (spelling e)) spells.spelled ∙ sym (map_spelling-set was k e (omega (arith, length-entries_of bytes))) in
+    (spells_these (with_bytes bytes k (spelling e)) (set was k e) (IsMap-set was k e spells.entries is) put).1
 
 -- a block that spells no map has a bad entry
 pub is_bad : (image : Image) (n entry byte : ℕ) (block : List ℕ) → block ≡ block_at image (map_of n) → IsFirstBadEntry block entry byte → IsBadMap image n

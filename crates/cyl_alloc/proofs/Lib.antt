@@ -5,3 +5,4 @@ pub mod Counted
 pub mod Finds
 pub mod Lefts
 mod Words
+pub mod Given

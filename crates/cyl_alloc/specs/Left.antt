@@ -1,5 +1,5 @@
 -- One commit past its bit that isn't carried out yet, and the parts in which it is.
-use Rattle.std.specs.Prelude.{ℕ, ◌+◌, ◌<◌, ◌==◌, ◌&&◌, if◌then◌else◌, not, length, Bool, true, false, List, []}
+use Rattle.std.specs.Prelude.{ℕ, ◌+◌, ◌<◌, ◌==◌, ◌&&◌, if◌then◌else◌, not, drop, length, Bool, true, false, List, []}
 use Rattle.std.specs.Prelude.{◌∷◌, Option, Some, None}
 use Rattle.std.specs.List.{All}
 use Rattle.cfs_base.specs.declared.identifier.BlockNo.{BlockNo}
@@ -45,6 +45,18 @@ after_next (Some l) = after_part l
 abbrev pub parts_left : Option Left → ℕ
 parts_left None = 0
 parts_left (Some l) = 1 + length l.rest + (if l.copied then 0 else 1)
+
+-- ---- the entries that are changed one after another
+
+-- the blocks whose entries are changed next, where the root is copied
+abbrev pub flips_in : Option Left → List ℕ
+flips_in None = []
+flips_in (Some l) = if l.copied then l.rest else []
+
+-- what is left once those of the first i of them are changed
+abbrev pub after_flips : ℕ → Option Left → Option Left
+after_flips i None = None
+after_flips i (Some l) = Some (record l { rest = drop i l.rest })
 
 -- the first of these blocks is the shadow root
 abbrev pub is_first : ℕ → List ℕ → Bool

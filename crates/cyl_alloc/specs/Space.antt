@@ -48,6 +48,11 @@ pub record IsFreeElsewhere (image : Image) (n : ℕ) (other : Image) : Type 0 wh
   pub size : length other ≡ length image
   pub same : (m : ℕ) → map_of m ≢ map_of n → is_free_in other m ≡ is_free_in image m
 
+-- so many blocks more of the cylinder of block n are Free, and elsewhere the same
+pub record HasMoreFree (image : Image) (n count : ℕ) (other : Image) : Type 0 where
+  pub elsewhere : IsFreeElsewhere image n other
+  pub more : free_in_cylinder other (n / 64) ≡ free_in_cylinder image (n / 64) + count
+
 -- the least-numbered Free block
 pub record IsLeastFree (image : Image) (n : ℕ) : Type 0 where
   pub free : is_free_in image n ≡ true

@@ -1,5 +1,6 @@
 //! The one commit that a space keeps while it isn't carried out. None of these calls takes memory.
-ghost use Rattle.std.specs.Prelude.{◌≡◌, ◌<◌, ◌*◌, false, if◌then◌else◌, is_some, length, IsSome, None, Some, IfSome};
+ghost use Rattle.std.specs.Prelude.{◌≡◌, ◌<◌, ◌≤◌, ◌*◌, false, if◌then◌else◌, is_some, length, IsSome, None, Some};
+ghost use Rattle.std.specs.Prelude.{IfSome};
 ghost use Rattle.std.specs.List.{All};
 ghost use Rattle.std.specs.Option.{option_map};
 ghost use Rattle.cyl_alloc.specs.Left as left;
@@ -39,7 +40,9 @@ impl Space {
     /// The block by which an object is read: the shadow root where its commit is kept and its root isn't copied, else
     /// the root.
     pub fn shown(&self, root: BlockNo) -> BlockNo
-        ensures { result.0 ≡ left.shown_in self.now.left root.0 }
+        ensures shown { result.0 ≡ left.shown_in self.now.left root.0 }
+        // It lies on the disk where the root does.
+        ensures near { root.0 < 64 * length self.now.free → result.0 < 64 * length self.now.free }
     {
         match &self.unfinished {
             Some(commit) => commit.shown(root),
@@ -79,6 +82,37 @@ impl Space {
         };
         if is_over {
             self.unfinished = None;
+        }
+    }
+
+    /// The blocks whose entries are changed next, in their order. None while the root isn't copied.
+    pub fn next_flips(&self) -> &[u32]
+        ensures blocks { result.now ≡ left.flips_in self.now.left }
+        ensures near { All (λ n. n < 64 * length self.now.free) result.now }
+    {
+        match &self.unfinished {
+            Some(commit) => commit.next_flips(),
+            None => &[],
+        }
+    }
+
+    /// The shadow root of the commit that is kept; 0 where none is.
+    pub fn shadow(&self) -> BlockNo
+        ensures { (l : left.Left) → self.now.left ≡ Some l → result.0 ≡ l.shadow }
+    {
+        match &self.unfinished {
+            Some(commit) => commit.shadow(),
+            None => BlockNo(0),
+        }
+    }
+
+    /// The entries of so many of the next blocks were changed.
+    pub fn flips_done(&mut self, count: usize)
+        requires { count ≤ length (left.flips_in self.old.left) }
+        ensures { self.new ≡ record self.old { left = left.after_flips count self.old.left } }
+    {
+        if let Some(commit) = &mut self.unfinished {
+            commit.flips_done(count);
         }
     }
 }

@@ -1,5 +1,5 @@
 //! Maps that are known to be ones.
-ghost use Rattle.std.specs.Prelude.{◌≡◌, ℕ, ◌<◌, true, false, IsTrue, IfErr, OnOk, OnErr};
+ghost use Rattle.std.specs.Prelude.{◌≡◌, ℕ, ◌<◌, true, false, IsTrue, IfErr, OnOk, OnErr, set};
 ghost use Rattle.cfs_base.specs.Calls.{OnlyReads, HasStopped, HasTried, MakesAtMost};
 ghost use Rattle.cfs_base.specs.Disk.{Written};
 ghost use Rattle.cfs_base.specs.Run.{Tells, Leaves, left_now};
@@ -114,6 +114,28 @@ impl KnownMaps {
         ensures calls { MakesAtMost D.Disk 1 1 disk.old disk.new }
     {
         Map::put_in(map, (block % 64) as u8, entry);
+        self.maps[place_of(block)] = *map;
+        disk.write(BlockNo(64 * (block / 64)), map)
+    }
+
+    /// Writes a map that was loaded and changed, which is known then. After a write that fails the map block has either
+    /// content.
+    pub fn store_map<D: Disk>(
+        &mut self,
+        disk: &mut D,
+        block: u32,
+        map: &Block,
+    ) -> Result<(), Failed>
+        requires on_disk { map_of block < D.blocks disk.old }
+        requires spells { SpellsMap map.now }
+        ensures written { OnOk result (D.content disk.new ≡ set (D.content disk.old) (map_of block) map.now) }
+        ensures told { OnOk result ((n : ℕ) → IsTrue (D.told disk.old n) → IsTrue (D.told disk.new n)) }
+        ensures made { HasTried D.Disk disk.old disk.new }
+        ensures failed { OnErr result (HasStopped D.Disk true disk.old disk.new) }
+        ensures images { Leaves D.Disk disk.old disk.new
+            (Written (left_now D.Disk disk.old) (map_of block) map.now) }
+        ensures calls { MakesAtMost D.Disk 1 1 disk.old disk.new }
+    {
         self.maps[place_of(block)] = *map;
         disk.write(BlockNo(64 * (block / 64)), map)
     }

@@ -1,5 +1,5 @@
 //! A commit past its bit, and how far it is carried out.
-ghost use Rattle.std.specs.Prelude.{◌≡◌, true, false, None, Some};
+ghost use Rattle.std.specs.Prelude.{◌≡◌, ◌≤◌, true, false, drop, length, None, Some};
 ghost use Rattle.cyl_alloc.specs.Left as spec;
 
 use crate::part::Part;
@@ -130,5 +130,35 @@ impl Unfinished {
             }
             None => true,
         }
+    }
+
+    /// The blocks whose entries are changed next.
+    pub fn next_flips(&self) -> &[u32]
+        ensures { result.now ≡ spec.flips_in (Some self.now) }
+    {
+        if !self.copied {
+            return &[];
+        }
+        match self.rest.items.get(self.done..) {
+            Some(blocks) => blocks,
+            None => &[],
+        }
+    }
+
+    /// The shadow root.
+    pub fn shadow(&self) -> BlockNo
+        ensures { result.0 ≡ self.now.shadow }
+    {
+        self.shadow
+    }
+
+    /// The entries of so many of the next blocks were changed.
+    pub fn flips_done(&mut self, count: usize)
+        requires { count ≤ length self.old.rest }
+        ensures { self.new ≡ record self.old { rest = drop count self.old.rest } }
+    {
+        let all = self.rest.items.len();
+        prove!(count <= all);
+        self.done += count;
     }
 }

@@ -63,7 +63,7 @@ few_fresh change o = omega (arith, few_within (merged (written_anew change o [])
 
 -- ---- and a block is left for its shadow root
 
-of_object : (graph : Graph) (id : Puid) (o : Object) → object_at graph id ≡ Some o → IsOfThese (λ entry. of_owner id.block entry) graph graph
+pub of_object : (graph : Graph) (id : Puid) (o : Object) → object_at graph id ≡ Some o → IsOfThese (λ entry. of_owner id.block entry) graph graph
 of_object graph id o there = record {
   there = λ entry is made. let two = and_parts (is_placed is_taken entry) _ is in subst (λ (n : ℕ). has_block graph.objects n ≡ true) (sym (owner entry two.1)) (block_there graph id o there);
   more = λ r has. has;

@@ -1,6 +1,10 @@
 -- A special file changed by a draft that is begun, changed and committed.
-use Rattle.file_ops.proofs.Words.{◌≡◌, inl, inr, ℕ, ◌+◌, ◌<◌, ◌≤◌, Bool, true, false, List, [], ◌∷◌, length, get_or, Option, Some, None, Ok, Err, refl, sym, ◌∙◌, ap, subst, arith, IfErr, OnOk, Result, option_to_list, sum, HasStopped, HasTried, MakesAtMost, OnlyReads, Image, Nothing, block_at, Leaves, Tells, Ghosts, Puid, Refused, makes_then, reads_make, reads_then, reads_within, stopped_after_reads, stopped_after_try, tells_on, then_tried, still_tells, then, wider, IsRootBlock, Root, Kept, StoreHas, is_untried, file_to_leaves, makes_within, reads_none, file_of, Overwrite, Becomes, Committed, IsOldOrNew, Drafting, HasNoneFresh, IsOpen, begun_at, fresh_of, need_beside, opened_as, shadow_need, Ends, ClaimsAndDrops, is_damaged, is_full, replaced, begun_fresh, length-none, none_is, first_here, damage_since, refusal_after_reads, Graph, object_at, with_object, missing, changed_object, new_file, written_anew, changed_draft, Change, Draft, File, Object, Holds, one_root_block, Opened, drafts_of, ChangesOnly, of_draft, draft_blocks, changes_then}
-use Rattle.file_ops.specs.Changes.{Changed, ChangesFile, ClaimsBeside, IsCommitRefusal, IsFileRefusal, MayChange, NoneLeft, OfBlock, Short, claims_beside, end_of, need_for}
+use Rattle.file_ops.proofs.Words.{◌≡◌, inl, inr, ℕ, ◌+◌, ◌<◌, ◌≤◌, Bool, true, false, List, [], ◌∷◌, length, get_or, Option, Some, None, Ok, Err, refl, sym, ◌∙◌, ap, subst, arith, IfErr, OnOk, Result, option_to_list, sum, HasStopped, HasTried, MakesAtMost, OnlyReads, Image, Nothing, block_at, Leaves, Tells, Ghosts, Puid, Refused, makes_then, reads_make, reads_then, reads_within, stopped_after_reads, stopped_after_try, tells_on, then_tried, still_tells, then, wider, IsRootBlock, Root, Kept, StoreHas, is_untried, file_to_leaves, makes_within, reads_none, file_of, Overwrite, Becomes, Committed, IsOldOrNew, Drafting, HasNoneFresh, IsOpen, begun_at, fresh_of, need_beside, opened_as, shadow_need, Ends, AreClaimed, is_damaged, is_full_refusal, replaced, begun_fresh, length-none, none_is, first_here, damage_since, refusal_after_reads, Graph, object_at, with_object, missing, changed_object, new_file, written_anew, changed_draft, Change, Draft, File, Object, Holds, one_root_block, Opened, drafts_of, ChangesOnly, of_draft, draft_blocks, changes_then}
+use Rattle.file_ops.specs.Changes.{Changed, ChangesFile, ClaimsBeside, IsCommitRefusal, IsFileRefusal, MayChange, NoneLeft, OfBlock, Short, claims_beside, least_size, need_for}
+use Rattle.cyl_alloc.specs.Left.{Left}
+use Rattle.intentions.specs.Left as after_commit
+use Rattle.intentions.specs.Left.{StoreIs}
+use Rattle.special_files.specs.Committing.{IsAtBit, IsNoted}
 use Rattle.special_files.specs.Refusal.{IsRefusal}
 use Rattle.file_ops.proofs.Begun.{draft_changes, few_fresh, one_left, without_begun}
 use Rattle.cfs_base.specs.declared.kind.FileKind.TheVariants as kinds
@@ -14,10 +18,10 @@ begun f = record { object = objects.File f; fresh = [] }
 -- what a call says that made the change in it
 pub record Drafts {D : Type 0} (g : Ghosts D) (floor : ℕ) (change : Change) (graph : Graph) (ds : List Opened) (id : Puid) (f : File) (d1 d2 : D) (k1 k2 : Kept) (was now : Drafting) (r : Result (Unit {0}) Refused) : Type 0 where
   pub becomes : OnOk r (Becomes g graph (opened_as id was (begun f) ∷ ds) id (changed_draft change (begun f)) d1 d2 k2 now)
-  pub order : OnOk r (ClaimsAndDrops id.block (claims_beside was.at change f) (g.content d1) (g.content d2))
+  pub order : OnOk r (AreClaimed (claims_beside was.at change f) (g.content d1) (g.content d2))
   pub leaves : Leaves g d1 d2 (λ c. Holds c graph)
   pub room : OnOk r (need_beside change (begun f) was + floor ≤ sum k1.free)
-  pub full : IfErr r (λ e. is_full e ≡ true → (e ≡ refused.Full (record { free = sum k1.free; need = need_beside change (begun f) was })) × (sum k1.free < need_beside change (begun f) was + floor))
+  pub full : IfErr r (λ e. is_full_refusal e ≡ true → (e ≡ refused.Full (record { free = sum k1.free; need = need_beside change (begun f) was })) × (sum k1.free < need_beside change (begun f) was + floor))
   pub sound : IfErr r (λ e. is_damaged e ≡ false)
 
 -- and one that committed it
@@ -28,8 +32,9 @@ pub record Commits {D : Type 0} (g : Ghosts D) (wrote : Bool) (d2 d3 : D) (k2 k3
   pub refusal : IfErr r (IsCommitRefusal g now.at wrote d2 d3 k3)
   pub untried : IfErr r (λ e. e ≡ refused.Disk false → (k3 ≡ k2) × OnlyReads g 241 d2 d3)
   pub cylinders : length k3.free ≡ length k2.free
-  pub left : OnOk r (k3.left ≡ None)
-  pub calls : MakesAtMost g 93137 46452 d2 d3
+  pub left : OnOk r ((l : Left) × IsNoted now.at k3.left l)
+  pub bit : OnOk r (IsAtBit g d2 d3 k3.left)
+  pub calls : MakesAtMost g 31207 15485 d2 d3
 
 -- with more calls
 pub ends_more : {D : Type 0} (g : Ghosts D) (at floor n t k m s : ℕ) (old new : D) (before after : Kept) (r : Result (Unit {0}) Refused) → Ends g at floor n t k old new before after r → n ≤ m → t ≤ s → Ends g at floor m s k old new before after r
@@ -62,6 +67,13 @@ module _ {D : Type 0} (g : Ghosts D) (at floor : ℕ) (change : Change) (d0 : D)
   from_refusal d1 kept (refused.Damaged damage) is = OfBlock is
   from_refusal d1 kept refused.Memory is = absurd is
 
+  -- a draft wasn't begun
+  pub from_begin : (d1 : D) (kept : Kept) (e : Refused) → IsRefusal g at 0 d0 d1 kept e → is_full_refusal e ≡ false → IsFileRefusal g at kinds.Special floor change d0 d1 kept e
+  from_begin d1 kept (refused.Full need) is spare = cc
+  from_begin d1 kept (refused.Disk tried) is spare = is
+  from_begin d1 kept (refused.Damaged damage) is spare = OfBlock is
+  from_begin d1 kept refused.Memory is spare = absurd is
+
   -- what was done before the commit: something was tried, or reads alone were made
   pub record Comes (wrote : Bool) (n t : ℕ) (d2 : D) (k2 : Kept) : Type 0 where
     pub calls : MakesAtMost g n t d0 d2
@@ -90,9 +102,9 @@ module _ {D : Type 0} (g : Ghosts D) (at floor : ℕ) (change : Change) (d0 : D)
   untried_commit d2 d3 k2 kept n t wrote refused.Memory first is only un = absurd is
 
   -- the root is one of fewer bytes
-  pub short_why : (d1 : D) (kept : Kept) (own : Root) → (Tells g d0 → IsRootBlock (block_at (g.content d0) at) own) → own.size < end_of change → IsFileRefusal g at kinds.Special floor change d0 d1 kept (refused.Damaged (record { block = at; code = 3 }))
+  pub short_why : (d1 : D) (kept : Kept) (own : Root) → (Tells g d0 → IsRootBlock (block_at (g.content d0) at) own) → own.size < least_size change → IsFileRefusal g at kinds.Special floor change d0 d1 kept (refused.Damaged (record { block = at; code = 3 }))
   short_why d1 kept own is short =
-      Short refl refl (λ tells root there. subst (λ (r : Root). r.size < end_of change) (one_root_block (block_at (g.content d0) at) own root (is tells) there) short)
+      Short refl refl (λ tells root there. subst (λ (r : Root). r.size < least_size change) (one_root_block (block_at (g.content d0) at) own root (is tells) there) short)
 
   pub short_not : (offset : ℕ) (bytes : List ℕ) (own : Root) → (Tells g d0 → IsRootBlock (block_at (g.content d0) at) own) → own.size < offset + length bytes
       → (graph : Graph) (ds : List Opened) (id : Puid) (f : File) → ¬ MayChange g at kinds.Special (Overwrite offset bytes) graph ds id f d0 k0
@@ -102,7 +114,7 @@ module _ {D : Type 0} (g : Ghosts D) (at floor : ℕ) (change : Change) (d0 : D)
       omega (arith, short, may.inside, same, (file_to_leaves file.root _ f file.tree.object).size)
 
   -- refused when only reads were made
-  pub err_read : (d1 : D) (k1 : Kept) (n : ℕ) (e : Refused) → n ≤ 31093 → OnlyReads g n d0 d1 → k1 ≡ k0 → IsFileRefusal g at kinds.Special floor change d0 d1 k1 e → is_full e ≡ false
+  pub err_read : (d1 : D) (k1 : Kept) (n : ℕ) (e : Refused) → n ≤ 31093 → OnlyReads g n d0 d1 → k1 ≡ k0 → IsFileRefusal g at kinds.Special floor change d0 d1 k1 e → is_full_refusal e ≡ false
       → ((graph : Graph) (ds : List Opened) (id : Puid) (f : File) → MayChange g at kinds.Special change graph ds id f d0 k0 → is_damaged e ≡ false) → ChangesFile g at kinds.Special floor change d0 d1 k0 k1 (Err e)
   err_read d1 k1 n e few reads kept why spare sound = record {
     done = λ graph ds id f may. tt;
@@ -112,7 +124,7 @@ module _ {D : Type 0} (g : Ghosts D) (at floor : ℕ) (change : Change) (d0 : D)
     full = λ graph ds id f may is. (let no : true ≡ false = sym is ∙ spare in cc);
     begun = λ graph ds id f may is. inr (wider g d0 d1 Nothing _ reads.images (λ c none. absurd none));
     sound = sound;
-    ends = record { refused = why; untried = λ is. (kept, reads_within g d0 d1 n 31093 few reads); cylinders = ap (λ (k : Kept). length k.free) kept; left = tt; calls = makes_then g d0 d1 d1 n 0 124230 0 0 61938 (reads_make g d0 d1 n reads) (reads_make g d1 d1 0 (reads_none g d1)) (omega (arith, few)) (omega arith) };
+    ends = record { refused = why; untried = λ is. (kept, reads_within g d0 d1 n 31093 few reads); cylinders = ap (λ (k : Kept). length k.free) kept; left = tt; bit = tt; calls = makes_then g d0 d1 d1 n 0 62300 0 0 30971 (reads_make g d0 d1 n reads) (reads_make g d1 d1 0 (reads_none g d1)) (omega (arith, few)) (omega arith) };
   }
 
 -- ---- a draft begun
@@ -157,7 +169,7 @@ module _ {D : Type 0} (g : Ghosts D) (at floor : ℕ) (change : Change) (d0 d1 :
     images P graph left has = then g d0 d1 d2 P (λ c. Holds c graph) (wider g d0 d1 Nothing P reads.images (λ c none. absurd none)) left has
 
     pub err_change : (e : Refused) → ((graph : Graph) (ds : List Opened) (id : Puid) (f : File) → MayChange g at kinds.Special change graph ds id f d0 k0 → Drafts g floor change graph ds id f d1 d2 k1 k2 was now (Err e))
-        → Ends {A = Unit {0}} g was.at floor 31092 15486 (sum k1.free) d1 d2 k1 k2 (Err e) → (is_full e ≡ true → OnlyReads g 1 d1 d2 × (k2 ≡ k1)) → ChangesFile g at kinds.Special floor change d0 d2 k0 k2 (Err e)
+        → Ends {A = Unit {0}} g was.at floor 31092 15486 (sum k1.free) d1 d2 k1 k2 (Err e) → (is_full_refusal e ≡ true → OnlyReads g 1 d1 d2 × (k2 ≡ k1)) → ChangesFile g at kinds.Special floor change d0 d2 k0 k2 (Err e)
     err_change e drafts ends spared = record {
       done = λ graph ds id f may. tt;
       order = λ graph ds id f may. tt;
@@ -169,13 +181,13 @@ module _ {D : Type 0} (g : Ghosts D) (at floor : ℕ) (change : Change) (d0 d1 :
       );
       begun = λ graph ds id f may is. inr (images _ graph (drafts graph ds id f may).leaves (λ c h. h));
       sound = λ graph ds id f may. (drafts graph ds id f may).sound;
-      ends = record { refused = from_refusal g at floor change d0 k0 d2 k2 e why; untried = by e ends.untried why spared; cylinders = ends.cylinders ∙ ap (λ (k : Kept). length k.free) kept; left = tt; calls = makes_then g d0 d1 d2 1 31092 124230 0 15486 61938 (reads_make g d0 d1 1 reads) ends.calls (omega arith) (omega arith) };
+      ends = record { refused = from_refusal g at floor change d0 k0 d2 k2 e why; untried = by e ends.untried why spared; cylinders = ends.cylinders ∙ ap (λ (k : Kept). length k.free) kept; left = tt; bit = tt; calls = makes_then g d0 d1 d2 1 31092 62300 0 15486 30971 (reads_make g d0 d1 1 reads) ends.calls (omega arith) (omega arith) };
     }
       where
         why : IsRefusal g at floor d0 d2 k2 e
         why = refusal_after_reads g at d0 d1 d2 k2 floor 1 e reads (subst (λ (n : ℕ). IsRefusal g n floor d1 d2 k2 e) is_at ends.refused)
 
-        by : (x : Refused) → (x ≡ refused.Disk false → (k2 ≡ k1) × OnlyReads g 31092 d1 d2) → IsRefusal g at floor d0 d2 k2 x → (is_full x ≡ true → OnlyReads g 1 d1 d2 × (k2 ≡ k1)) → is_untried x ≡ true → (k2 ≡ k0) × OnlyReads g 31093 d0 d2
+        by : (x : Refused) → (x ≡ refused.Disk false → (k2 ≡ k1) × OnlyReads g 31092 d1 d2) → IsRefusal g at floor d0 d2 k2 x → (is_full_refusal x ≡ true → OnlyReads g 1 d1 d2 × (k2 ≡ k1)) → is_untried x ≡ true → (k2 ≡ k0) × OnlyReads g 31093 d0 d2
         by (refused.Full need) stopped is full un = let two = full refl in (two.1 ∙ kept, reads_then g d0 d1 d2 1 1 31093 reads two.0 (omega arith))
         by (refused.Disk true) stopped is full un = cc
         by (refused.Disk false) stopped is full un = let two = stopped refl in (two.0 ∙ kept, reads_then g d0 d1 d2 1 31092 31093 reads two.1 (omega arith))
@@ -223,17 +235,17 @@ module _ {D : Type 0} (g : Ghosts D) (at floor : ℕ) (change : Change) (d0 d1 :
 
         done_is : (d3 : D) (k3 : Kept) → Committed g graph (replaced e (opened_as id was (begun f) ∷ ds)) id o None d2 d3 k3 → Changed g kinds.Special change graph ds id f d0 d3 k3
         done_is d3 k3 ch = record {
-          store = subst (λ (fs : List Opened). StoreHas g (with_object graph id o) fs d3 k3) (without_begun e (opened_as id was (begun f)) ds refl may.has.shut) ch.store;
-          only = changes_then _ (g.content d0) (g.content d2) (g.content d3)
+          store = subst (λ (fs : List Opened). StoreIs g (with_object graph id o) fs d3 k3) (without_begun e (opened_as id was (begun f)) ds refl may.has.shut) ch.store;
+          only = changes_then _ (g.content d0) (g.content d2) (after_commit.end_of g d3 k3)
               (draft_changes id.block (g.content d0) (g.content d2) (subst (λ (a : Image). ChangesOnly (λ entry. of_draft id.block entry) a (g.content d2)) reads.content made.becomes.steps.only)) ch.only;
           settled = λ durable. ch.settled;
         }
 
-        order_is : (d3 : D) (k3 : Kept) → Committed g graph (replaced e (opened_as id was (begun f) ∷ ds)) id o None d2 d3 k3 → ClaimsBeside at (claims_beside at change f) (g.content d0) (g.content d3)
-        order_is d3 k3 ch = subst (λ (n : ℕ). ClaimsBeside n (claims_beside at change f) (g.content d0) (g.content d3)) may.has.root (record {
+        order_is : (d3 : D) (k3 : Kept) → Committed g graph (replaced e (opened_as id was (begun f) ∷ ds)) id o None d2 d3 k3 → ClaimsBeside at (claims_beside at change f) (g.content d0) (after_commit.end_of g d3 k3)
+        order_is d3 k3 ch = subst (λ (n : ℕ). ClaimsBeside n (claims_beside at change f) (g.content d0) (after_commit.end_of g d3 k3)) may.has.root (record {
           mid = g.content d2;
-          in_order = subst (λ (a : Image). ClaimsAndDrops id.block (claims_beside at change f) a (g.content d2)) reads.content (subst (λ (n : ℕ). ClaimsAndDrops id.block (claims_beside n change f) (g.content d1) (g.content d2)) is_at made.order);
-          shadow = let least = ch.order e made.becomes.is_open.alone none_shadow in (least.0, least.1);
+          in_order = subst (λ (a : Image). AreClaimed (claims_beside at change f) a (g.content d2)) reads.content (subst (λ (n : ℕ). AreClaimed (claims_beside n change f) (g.content d1) (g.content d2)) is_at made.order);
+          shadow = ch.order e made.becomes.is_open.alone none_shadow;
           only = ch.only;
         })
 
@@ -246,8 +258,8 @@ module _ {D : Type 0} (g : Ghosts D) (at floor : ℕ) (change : Change) (d0 d1 :
               let m = drafts graph ds id f may in
               then g d0 d2 d3 P P (images P graph m.leaves (λ c h. inl h)) (cs.leaves graph _ id (objects.File f) (changed_draft change (begun f)) m.becomes.steps.store may.has.there m.becomes.is_open none_created) (λ c h. h)
 
-          all : MakesAtMost g 93137 46452 d2 d3 → MakesAtMost g 124230 61938 d0 d3
-          all calls = makes_then g d0 d2 d3 31093 93137 124230 15486 46452 61938 first.calls calls (omega arith) (omega arith)
+          all : MakesAtMost g 31207 15485 d2 d3 → MakesAtMost g 62300 30971 d0 d3
+          all calls = makes_then g d0 d2 d3 31093 31207 62300 15486 15485 30971 first.calls calls (omega arith) (omega arith)
 
           by : (s : Result (Unit {0}) Refused) → Commits g wrote d2 d3 k2 k3 now s → ChangesFile g at kinds.Special floor change d0 d3 k0 k3 s
           by (Ok tt) cs = record {
@@ -258,7 +270,7 @@ module _ {D : Type 0} (g : Ghosts D) (at floor : ℕ) (change : Change) (d0 d1 :
             full = λ graph ds id f may. tt;
             begun = λ graph ds id f may. tt;
             sound = λ graph ds id f may. tt;
-            ends = record { refused = tt; untried = tt; cylinders = cs.cylinders ∙ ends.cylinders ∙ ap (λ (k : Kept). length k.free) kept; left = cs.left; calls = all cs.calls };
+            ends = record { refused = tt; untried = tt; cylinders = cs.cylinders ∙ ends.cylinders ∙ ap (λ (k : Kept). length k.free) kept; left = subst (λ (n : ℕ). (l : Left) × IsNoted n k3.left l) (same_at ∙ is_at) cs.left; bit = record { tried = λ some. then_tried g d0 d2 d3 31093 15486 first.calls (cs.bit.tried some); settled = λ some tells. cs.bit.settled some (first.on tells) }; calls = all cs.calls };
           }
           by (Err x) cs = record {
             done = λ graph ds id f may. tt;
@@ -268,13 +280,13 @@ module _ {D : Type 0} (g : Ghosts D) (at floor : ℕ) (change : Change) (d0 d1 :
             full = λ graph ds id f may is. absurd (not_full x cs.refusal is);
             begun = λ graph ds id f may is. inl (omega (arith, (drafts graph ds id f may).room, free_same, need_is f));
             sound = λ graph ds id f may. let m = drafts graph ds id f may in cs.sound graph _ id (objects.File f) (changed_draft change (begun f)) m.becomes.steps.store may.has.there m.becomes.is_open none_created (left_one graph ds id f may);
-            ends = record { refused = from_commit g at floor change d0 k0 d2 d3 k2 k3 31093 15486 wrote x first (why cs.refusal); untried = untried_commit g at floor change d0 k0 d2 d3 k2 k3 31093 15486 wrote x first (why cs.refusal) cs.untried; cylinders = cs.cylinders ∙ ends.cylinders ∙ ap (λ (k : Kept). length k.free) kept; left = tt; calls = all cs.calls };
+            ends = record { refused = from_commit g at floor change d0 k0 d2 d3 k2 k3 31093 15486 wrote x first (why cs.refusal); untried = untried_commit g at floor change d0 k0 d2 d3 k2 k3 31093 15486 wrote x first (why cs.refusal) cs.untried; cylinders = cs.cylinders ∙ ends.cylinders ∙ ap (λ (k : Kept). length k.free) kept; left = tt; bit = tt; calls = all cs.calls };
           }
             where
               why : IsCommitRefusal g now.at wrote d2 d3 k3 x → IsCommitRefusal g at wrote d2 d3 k3 x
               why = subst (λ (n : ℕ). IsCommitRefusal g n wrote d2 d3 k3 x) (same_at ∙ is_at)
 
-              not_full : (y : Refused) → IsCommitRefusal g now.at wrote d2 d3 k3 y → is_full y ≡ true → ⊥
+              not_full : (y : Refused) → IsCommitRefusal g now.at wrote d2 d3 k3 y → is_full_refusal y ≡ true → ⊥
               not_full (refused.Full need) is full = is
               not_full (refused.Disk tried) is full = cc
               not_full (refused.Damaged damage) is full = cc

@@ -1,5 +1,5 @@
 -- A normal file changed in place, and refusals of its calls.
-use Rattle.file_ops.proofs.Words.{◌≡◌, ℕ, ◌+◌, ◌<◌, true, false, refl, ◌∙◌, ap, arith, sum, refused_by, Ghosts, Damage, Refused, Trouble, Kept, TellsNeed, is_damaged, is_full, Change, Graph, List, Opened, Puid, File, FileKind}
+use Rattle.file_ops.proofs.Words.{◌≡◌, ℕ, ◌+◌, ◌<◌, true, false, refl, ◌∙◌, ap, arith, sum, refused_by, Ghosts, Damage, Refused, Trouble, Kept, TellsNeed, is_damaged, is_full_refusal, Change, Graph, List, Opened, Puid, File, FileKind}
 use Rattle.file_ops.specs.Changes.{IsFileRefusal, IsPlaceDamage, MayChange}
 use Rattle.block_tree.specs.Reads.{is_damage}
 use Rattle.normal_files.specs.Calls.{Handed}
@@ -30,7 +30,7 @@ module _ {D : Type 0} (g : Ghosts D) (IsSo : Damage → Type 0) (at floor : ℕ)
   place_refusal so (refused.Damaged damage) is = so damage is
   place_refusal so refused.Memory is = absurd is
 
-  pub place_full : (n : ℕ) (e : Refused) → IsRefusal g IsSo floor old new before e → TellsNeed n e → is_full e ≡ true → (e ≡ refused.Full (record { free = sum before.free; need = n })) × (sum before.free < n + floor)
+  pub place_full : (n : ℕ) (e : Refused) → IsRefusal g IsSo floor old new before e → TellsNeed n e → is_full_refusal e ≡ true → (e ≡ refused.Full (record { free = sum before.free; need = n })) × (sum before.free < n + floor)
   place_full n (refused.Full need) is told full = (
     ap (λ (m : ℕ). refused.Full (record { free = m; need = need.need })) is.0 ∙ ap (λ (m : ℕ). refused.Full (record { free = sum before.free; need = m })) told,
     omega (arith, is.1, told),

@@ -1,5 +1,7 @@
 pub mod Words
 mod Begun
+mod Exact
 mod Beside
 mod InPlace
 mod Since
+mod Shown

@@ -1,5 +1,6 @@
 -- The trouble of a commit, told as one of the whole change: something was tried before it, or not.
-use Rattle.file_ops.proofs.Words.{◌≡◌, inl, ℕ, Bool, true, false, refl, if◌then◌else◌, refused_by, trouble_after_try, Ghosts, Trouble, Kept, IsTrouble, is_damaged}
+use Rattle.std.specs.Prelude.{◌≢◌}
+use Rattle.file_ops.proofs.Words.{◌≡◌, Ok, Err, IfErr, Result, Refused, subst, inl, ℕ, Bool, true, false, refl, if◌then◌else◌, refused_by, trouble_after_try, Ghosts, Trouble, Kept, IsTrouble, is_damaged}
 use Rattle.file_ops.specs.Changes.{IsCommitRefusal}
 use Rattle.block_tree.specs.Reads.{is_damage}
 use Rattle.cfs_base.specs.declared.refusal.Refused.TheVariants as refused
@@ -25,3 +26,8 @@ refused_since g at old new kept true (trouble.Disk tried) is = (tried, refl, is)
 refused_since g at old new kept false (trouble.Disk tried) is = (tried, refl, is)
 refused_since g at old new kept true (trouble.Damaged damage) is = inl is
 refused_since g at old new kept false (trouble.Damaged damage) is = inl is
+
+-- a commit wants no memory
+pub no_memory : {D : Type 0} (g : Ghosts D) (at : ℕ) (old new : D) (kept : Kept) (wrote : Bool) (r : Result (Unit {0}) Refused) → IfErr r (IsCommitRefusal g at wrote old new kept) → IfErr r (λ e. e ≢ refused.Memory)
+no_memory g at old new kept wrote (Ok x) is = tt
+no_memory g at old new kept wrote (Err e) is = λ same. subst (IsCommitRefusal g at wrote old new kept) same is

@@ -31,8 +31,8 @@ pub use Rattle.special_files.specs.Becomes.{Becomes}
 pub use Rattle.special_files.specs.Committing.{Committed, IsOldOrNew}
 pub use Rattle.special_files.specs.Drafting.{Drafting, HasNoneFresh, IsOpen, begun_at, fresh_of, need_beside, opened_as, shadow_need}
 pub use Rattle.special_files.specs.Ends.{Ends}
-pub use Rattle.special_files.specs.Order.{ClaimsAndDrops, claims_from}
-pub use Rattle.special_files.specs.Refusal.{IsRefusalOrMemory, IsTrouble, is_damaged, is_full}
+pub use Rattle.special_files.specs.Order.{ClaimsAndDrops, claims_by_leaf}
+pub use Rattle.special_files.specs.Refusal.{IsTrouble, is_damaged, is_full_refusal}
 pub use Rattle.special_files.specs.Store.{replaced, without_draft}
 pub use Rattle.std.proofs.Common.{Bool, Err, List, None, Ok, Option, Some, [], ap, arith, cond, drop, false, get_or, inl, inr, length, not, refl, subst, sym, take, true, ℕ, ◌++◌, ◌+◌, ◌-◌, ◌/◌, ◌<◌, ◌∙◌, ◌∷◌, ◌≡◌, ◌≤◌}
 pub use Rattle.std.proofs.Math.Seq.{take-append_seam}

@@ -1,6 +1,6 @@
 -- A file changed: a normal one in place, a special one beside itself as one commit.
 use Rattle.std.specs.Prelude.{◌≡◌, ◌⊎◌, ℕ, ◌+◌, ◌-◌, ◌/◌, ◌<◌, ◌≤◌, ◌||◌, Bool, true, false, List, [], length, sum}
-use Rattle.std.specs.Prelude.{None, Result, IfErr, OnOk}
+use Rattle.std.specs.Prelude.{None, Option, Result, IfErr, OnOk}
 use Rattle.cfs_base.specs.Calls.{HasStopped, MakesAtMost, OnlyReads}
 use Rattle.cfs_base.specs.Codes.{no_root, too_full}
 use Rattle.cfs_base.specs.Disk.{Image, block_at}
@@ -15,21 +15,23 @@ use Rattle.cfs_base.specs.declared.refusal.Refused.TheVariants as refusals
 use Rattle.block_tree.specs.Root.{IsRootBlock}
 use Rattle.block_tree.specs.declared.root.Root.{Root}
 use Rattle.claims.specs.Claims.{AreClaimed}
-use Rattle.cyl_alloc.specs.Space.{IsLeastFree, Kept}
+use Rattle.cyl_alloc.specs.Left.{Left}
+use Rattle.cyl_alloc.specs.Space.{Kept}
 use Rattle.cyl_map.specs.declared.entry.MapEntry.{MapEntry}
 use Rattle.file_ops.specs.Files.{HasFile}
-use Rattle.intentions.specs.Store.{StoreHas}
+use Rattle.intentions.specs.Left as commit
+use Rattle.intentions.specs.Left.{StoreIs}
 use Rattle.normal_files.specs.Ends.{IsNoSpace}
 use Rattle.normal_files.specs.Frees.{IsDropDamage, TakesNone}
 use Rattle.normal_files.specs.Order.{claims_of}
 use Rattle.normal_files.specs.Refusal as normal
 use Rattle.normal_files.specs.Standing.{IsPartly}
 use Rattle.normal_files.specs.WriteRefusal.{is_untried, needs}
-use Rattle.special_files.specs.Committing.{IsOldOrNew}
+use Rattle.special_files.specs.Committing.{IsAtBit, IsNoted, IsOldOrNew, TakesShadow}
 use Rattle.special_files.specs.Drafting.{none_of}
-use Rattle.special_files.specs.Order.{ClaimsAndDrops, claims_anew, claims_from}
+use Rattle.special_files.specs.Order.{claims_anew, claims_by_leaf}
 use Rattle.special_files.specs.Refusal as special
-use Rattle.special_files.specs.Refusal.{is_damaged, is_full}
+use Rattle.special_files.specs.Refusal.{is_damaged, is_full_refusal}
 use Rattle.ufs_model.specs.Graph.{Graph, with_object}
 use Rattle.ufs_model.specs.Numbers.{missing}
 use Rattle.ufs_model.specs.Object.{IsInside, changed_object, leaves_in, resized, written, written_anew}
@@ -65,11 +67,12 @@ IsDurable kinds.Normal (SetSize size) f = length f.bytes ≤ size
 IsDurable kinds.Normal (Fill slot what) f = Unit {0}
 IsDurable kinds.Special change f = Unit {0}
 
--- The object is the changed file now, and nothing changed but blocks of the object or such as were Free.
+-- The object is the changed file now. In the image that is to come nothing changed but blocks of the object or such as
+-- were Free.
 pub record Changed {D : Type 0} (g : Ghosts D) (kind : FileKind) (change : Change) (graph : Graph) (ds : List Opened)
     (id : Puid) (f : File) (old new : D) (space : Kept) : Type 0 where
-  pub store : StoreHas g (with_object graph id (changed_object change (objects.File f))) ds new space
-  pub only : ChangesOnly (λ entry. of_owner id.block entry) (g.content old) (g.content new)
+  pub store : StoreIs g (with_object graph id (changed_object change (objects.File f))) ds new space
+  pub only : ChangesOnly (λ entry. of_owner id.block entry) (g.content old) (commit.end_of g new space)
   pub settled : IsDurable kind change f → IsSettled g new
 
 -- done or not, a crash leaves a special file old or new, and of a normal one the size and each leaf
@@ -84,16 +87,16 @@ MayLeave kinds.Special change graph id f c = IsOldOrNew graph graph id (changed_
 -- what is written anew of the special file with this root block
 abbrev pub claims_beside : ℕ → Change → File → List MapEntry
 claims_beside at (Overwrite offset bytes) f =
-    claims_from at (none_of 15360) (none_of 120) (offset / 512) (leaves_in (offset + length bytes) - offset / 512)
+    claims_by_leaf at (none_of 15360) (none_of 120) (offset / 512) (leaves_in (offset + length bytes) - offset / 512)
 claims_beside at (SetSize size) f = claims_anew at (written_anew (SetSize size) (objects.File f) []) []
 claims_beside at (Fill slot what) f = []
 
--- Blocks were claimed for these entries from image a on, and then one for a shadow root. After that nothing changed but
--- blocks of this owner or such as were Free.
+-- Blocks were claimed for these entries from image a on, and last for a shadow root. After the entries nothing changed
+-- but blocks of this owner or such as were Free.
 pub record ClaimsBeside (owner : ℕ) (claims : List MapEntry) (a b : Image) : Type 0 where
   pub mid : Image
-  pub in_order : ClaimsAndDrops owner claims a mid
-  pub shadow : (s : ℕ) × IsLeastFree mid s
+  pub in_order : AreClaimed claims a mid
+  pub shadow : TakesShadow owner mid b
   pub only : ChangesOnly (λ entry. of_owner owner entry) mid b
 
 abbrev pub ClaimsFor : FileKind → Change → (at : ℕ) → File → Image → Image → Type 0
@@ -105,10 +108,10 @@ ClaimsFor kinds.Special change at f a b = ClaimsBeside at (claims_beside at chan
 -- ---- why it is refused
 
 -- so many bytes a file has to have
-abbrev pub end_of : Change → ℕ
-end_of (Overwrite offset bytes) = offset + length bytes
-end_of (SetSize size) = 0
-end_of (Fill slot what) = 0
+abbrev pub least_size : Change → ℕ
+least_size (Overwrite offset bytes) = offset + length bytes
+least_size (SetSize size) = 0
+least_size (Fill slot what) = 0
 
 -- no block is left for a shadow root, of those that were counted
 pub record IsNoneLeft (after : Kept) (damage : Damage) : Type 0 where
@@ -122,7 +125,7 @@ pub data IsBesideDamage {D : Type 0} (g : Ghosts D) (at : ℕ) (change : Change)
     (damage : Damage) : Type 0 where
   OfBlock : special.IsDamage g at old new after damage → IsBesideDamage g at change old new after damage
   Short : damage.code ≡ no_root → damage.block ≡ at
-      → (Tells g old → (root : Root) → IsRootBlock (block_at (g.content old) at) root → root.size < end_of change)
+      → (Tells g old → (root : Root) → IsRootBlock (block_at (g.content old) at) root → root.size < least_size change)
       → IsBesideDamage g at change old new after damage
   NoneLeft : IsNoneLeft after damage → IsBesideDamage g at change old new after damage
 
@@ -158,6 +161,11 @@ IsCommitRefusal g at wrote old new after refusals.Memory = ⊥
 
 -- ---- the call
 
+-- a special file's commit is unfinished then; a normal file is changed in place
+abbrev pub LeavesCommit : FileKind → ℕ → Option Left → Type 0
+LeavesCommit kinds.Normal at left = left ≡ None
+LeavesCommit kinds.Special at left = (l : Left) × IsNoted at left l
+
 -- how it ends on any disk
 pub record EndsChange {D : Type 0} (g : Ghosts D) (at : ℕ) (kind : FileKind) (floor : ℕ) (change : Change)
     (old new : D) (before after : Kept) (result : Result (Unit {0}) Refused) : Type 0 where
@@ -165,9 +173,10 @@ pub record EndsChange {D : Type 0} (g : Ghosts D) (at : ℕ) (kind : FileKind) (
   -- where nothing was tried all is as it was, after Full and want of memory too
   pub untried : IfErr result (λ e. is_untried e ≡ true → (after ≡ before) × OnlyReads g 31093 old new)
   pub cylinders : length after.free ≡ length before.free
-  -- once it is done nothing of it is unfinished
-  pub left : OnOk result (after.left ≡ None)
-  pub calls : MakesAtMost g 124230 61938 old new
+  pub left : OnOk result (LeavesCommit kind at after.left)
+  -- where it is unfinished, its bit was tried
+  pub bit : OnOk result (IsAtBit g old new after.left)
+  pub calls : MakesAtMost g 62300 30971 old new
 
 -- The file of this kind with its root at a block is changed.
 pub record ChangesFile {D : Type 0} (g : Ghosts D) (at : ℕ) (kind : FileKind) (floor : ℕ) (change : Change)
@@ -177,7 +186,7 @@ pub record ChangesFile {D : Type 0} (g : Ghosts D) (at : ℕ) (kind : FileKind) 
       → OnOk result (Changed g kind change graph ds id f old new after)
   pub order : (graph : Graph) (ds : List Opened) (id : Puid) (f : File)
       → MayChange g at kind change graph ds id f old before
-      → OnOk result (ClaimsFor kind change at f (g.content old) (g.content new))
+      → OnOk result (ClaimsFor kind change at f (g.content old) (commit.end_of g new after))
   pub leaves : (graph : Graph) (ds : List Opened) (id : Puid) (f : File)
       → MayChange g at kind change graph ds id f old before → Leaves g old new (MayLeave kind change graph id f)
   -- Full exactly where the need and the floor aren't Free
@@ -185,7 +194,7 @@ pub record ChangesFile {D : Type 0} (g : Ghosts D) (at : ℕ) (kind : FileKind) 
       → MayChange g at kind change graph ds id f old before
       → OnOk result (need_for kind change f + floor ≤ sum before.free)
   pub full : (graph : Graph) (ds : List Opened) (id : Puid) (f : File)
-      → MayChange g at kind change graph ds id f old before → IfErr result (λ e. is_full e ≡ true →
+      → MayChange g at kind change graph ds id f old before → IfErr result (λ e. is_full_refusal e ≡ true →
       (e ≡ refusals.Full (record { free = sum before.free; need = need_for kind change f }))
       × (sum before.free < need_for kind change f + floor))
   -- where a write was tried they were, or the file stayed as it was

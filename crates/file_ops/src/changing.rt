@@ -1,5 +1,6 @@
 //! A file changed, in place or beside itself.
-ghost use Rattle.std.specs.Prelude.{◌≡◌, ◌≢◌, ◌+◌, ◌*◌, ◌<◌, ◌≤◌, length, None};
+ghost use Rattle.std.specs.Prelude.{◌≡◌, ◌≢◌, ◌+◌, ◌*◌, ◌<◌, ◌≤◌, true, is_some, length, IfErr, None};
+ghost use Rattle.cfs_base.specs.declared.refusal.Refused.TheVariants as refusals;
 ghost use Rattle.file_ops.specs.Changes as spec;
 ghost use Rattle.normal_files.specs.Standing.{IsRootAt};
 ghost use Rattle.ufs_model.specs.declared.change.Change.TheVariants.{Overwrite, SetSize};
@@ -8,18 +9,18 @@ use crate::special::{resize_beside, write_beside};
 use block_tree::Root;
 use cfs_base::{BlockNo, Disk, FileKind, Refused};
 use cyl_alloc::Space;
-use std::alloc::Global;
+use special_files::Room;
 
 /// Writes bytes into a file of this kind with this root, from an offset on; the range lies within the size. A normal
 /// file is written in place, and takes blocks for those leaves and nodes that it doesn't hold yet; a special file is
-/// changed as one commit, for which all memory is taken first, and takes blocks for all that it writes anew.
+/// changed as one commit in the room that is handed in, and takes blocks for all that it writes anew.
 /// `Full` where fewer blocks are Free than it takes, with the floor. `Damaged` names the root block, with code 3, which
 /// is none, or is a special file's of fewer bytes; a block with a pointer past the disk, with code 4; a map, with code
 /// 2, that is none, or with code 12, that has no Free block where some were counted; block 0, with code 11, where none
 /// is left for a shadow root. After `Full`, `Memory` and a `Disk` that wasn't tried all is as it was. After others a
 /// special file is old or new, and of a normal one each leaf is.
 pub fn write<D: Disk>(
-    alloc: Global,
+    room: Option<Room>,
     disk: &mut D,
     space: &mut Space,
     at: BlockNo,
@@ -39,6 +40,8 @@ pub fn write<D: Disk>(
     requires inside { offset + length bytes.now ≤ 7864320 }
     ensures changes { IsRootAt (D.content disk.old) at.0 root.now → spec.ChangesFile D.Disk at.0 kind floor
         (Overwrite offset bytes.now) disk.old disk.new space.old space.new result }
+    // Memory is wanted only where no room was handed in.
+    ensures memory { is_some room ≡ true → IfErr result (λ e. e ≢ refusals.Memory) }
     // On a disk that holds another root, or tells nothing, it ends so too.
     ensures ends { spec.EndsChange D.Disk at.0 kind floor (Overwrite offset bytes.now) disk.old disk.new space.old
         space.new result }
@@ -48,14 +51,17 @@ pub fn write<D: Disk>(
             Ok(()) => Ok(()),
             Err(error) => Err(error),
         },
-        FileKind::Special => write_beside(alloc, disk, space, at, offset, bytes, floor),
+        FileKind::Special => match room {
+            Some(room) => write_beside(room, disk, space, at, offset, bytes, floor),
+            None => Err(Refused::Memory),
+        },
     }
 }
 
 /// Sets the size of a file of this kind, in bytes. Refused as in `write`. A normal file set to less ends in writes that
 /// free what it had, and that no barrier follows; all else outlasts a crash once it is done.
 pub fn resize<D: Disk>(
-    alloc: Global,
+    room: Option<Room>,
     disk: &mut D,
     space: &mut Space,
     at: BlockNo,
@@ -69,13 +75,18 @@ pub fn resize<D: Disk>(
     // No commit is unfinished.
     requires left { space.old.left ≡ None }
     requires limit { size ≤ 7864320 }
-    ensures { spec.ChangesFile D.Disk at.0 kind floor (SetSize size) disk.old disk.new space.old space.new result }
+    ensures changes { spec.ChangesFile D.Disk at.0 kind floor (SetSize size) disk.old disk.new space.old space.new
+        result }
+    ensures memory { is_some room ≡ true → IfErr result (λ e. e ≢ refusals.Memory) }
 {
     match kind {
         FileKind::Normal => match normal_files::resize(disk, space, at, size, floor) {
             Ok(()) => Ok(()),
             Err(error) => Err(error),
         },
-        FileKind::Special => resize_beside(alloc, disk, space, at, size, floor),
+        FileKind::Special => match room {
+            Some(room) => resize_beside(room, disk, space, at, size, floor),
+            None => Err(Refused::Memory),
+        },
     }
 }

@@ -7,12 +7,14 @@ ghost use Rattle.cfs_base.specs.Run.{Tells};
 ghost use Rattle.cfs_base.specs.declared.identifier.Puid.{Puid};
 ghost use Rattle.cyl_alloc.specs.Space.{Kept};
 ghost use Rattle.file_ops.specs.Files as spec;
+ghost use Rattle.intentions.specs.Left.{IsShownAt};
 ghost use Rattle.normal_files.specs.Refusal.{IsTrouble};
 ghost use Rattle.normal_files.specs.Standing.{IsRootAt};
 ghost use Rattle.normal_files.specs.Touched.{leaves_touched, nodes_touched};
 ghost use Rattle.special_files.specs.Refusal.{is_damaged};
 ghost use Rattle.ufs_model.specs.Graph.{Graph};
 ghost use Rattle.ufs_model.specs.declared.object.File.{File};
+ghost use Rattle.ufs_model.specs.declared.object.Object.TheVariants as objects;
 ghost use Rattle.vol_owners.specs.Account.{Opened};
 
 use block_tree::Root;
@@ -26,8 +28,9 @@ fn zeros(alloc: Global, count: usize) -> Result<Vec<u8>, NoMemory>
     Ok(vec![in alloc; 0u8; count]?)
 }
 
-/// Reads so many bytes of a file with this root, from an offset on. The range lies within the size. All memory is taken
-/// first. `Damaged` names a block with a pointer past the disk, with code 4. Never `Full`.
+/// Reads so many bytes of the file that is shown at a block, with this root, from an offset on. The range lies within
+/// the size. All memory is taken first. `Damaged` names a block with a pointer past the disk, with code 4. Never
+/// `Full`.
 pub fn read<D: Disk>(
     alloc: Global,
     disk: &mut D,
@@ -39,13 +42,14 @@ pub fn read<D: Disk>(
     requires on_disk { at.0 < D.blocks disk.old }
     requires inside { offset + count ≤ 7864320 }
     ensures read { (graph : Graph) (ds : List Opened) (space : Kept) (id : Puid) (f : File)
-        → spec.HasFile D.Disk graph ds disk.old space at.0 id f → IsRootAt (D.content disk.old) at.0 root.now
-        → offset + count ≤ length f.bytes → IfOk result (λ bytes. bytes ≡ slice_range f.bytes offset (offset + count)) }
+        → IsShownAt D.Disk graph ds disk.old space id (objects.File f) at.0
+        → IsRootAt (D.content disk.old) at.0 root.now → offset + count ≤ length f.bytes
+        → IfOk result (λ bytes. bytes ≡ slice_range f.bytes offset (offset + count)) }
     ensures long { IfOk result (λ bytes. length bytes ≡ count) }
     // No damage where the disk holds the file.
     ensures sound { (graph : Graph) (ds : List Opened) (space : Kept) (id : Puid) (f : File)
-        → spec.HasFile D.Disk graph ds disk.old space at.0 id f → IsRootAt (D.content disk.old) at.0 root.now
-        → IfErr result (λ e. is_damaged e ≡ false) }
+        → IsShownAt D.Disk graph ds disk.old space id (objects.File f) at.0
+        → IsRootAt (D.content disk.old) at.0 root.now → IfErr result (λ e. is_damaged e ≡ false) }
     ensures refused { IfErr result (spec.IsReadRefusal D.Disk at.0 disk.old disk.new) }
     ensures untried { IfErr result (λ e. had_tried e ≡ false) }
     // one read a node, and one a leaf
@@ -61,16 +65,19 @@ pub fn read<D: Disk>(
     }
 }
 
-/// The root of a file, which has its size in bytes. `Damaged` names the block, with code 3, which is none.
+/// The root of the file that is shown at a block, which has its size in bytes. `Damaged` names the block, with code 3,
+/// which is none.
 pub fn read_root<D: Disk>(disk: &mut D, at: BlockNo) -> Result<Root, Trouble>
     requires { at.0 < D.blocks disk.old }
     ensures root { Tells D.Disk disk.old → IfOk result (IsRootAt (D.content disk.old) at.0) }
     ensures size { (graph : Graph) (ds : List Opened) (space : Kept) (id : Puid) (f : File)
-        → spec.HasFile D.Disk graph ds disk.old space at.0 id f → IfOk result (λ root. root.size ≡ length f.bytes) }
+        → IsShownAt D.Disk graph ds disk.old space id (objects.File f) at.0
+        → IfOk result (λ root. root.size ≡ length f.bytes) }
     ensures limit { IfOk result (λ root. root.size ≤ 7864320) }
     // No damage where the disk holds the file.
     ensures sound { (graph : Graph) (ds : List Opened) (space : Kept) (id : Puid) (f : File)
-        → spec.HasFile D.Disk graph ds disk.old space at.0 id f → IfErr result (λ trouble. is_damage trouble ≡ false) }
+        → IsShownAt D.Disk graph ds disk.old space id (objects.File f) at.0
+        → IfErr result (λ trouble. is_damage trouble ≡ false) }
     ensures refused { IfErr result (IsTrouble D.Disk at.0 disk.old disk.new) }
     ensures untried { IfErr result (λ trouble. trouble_had_tried trouble ≡ false) }
     ensures reads { OnlyReads D.Disk 1 disk.old disk.new }
@@ -81,15 +88,17 @@ pub fn read_root<D: Disk>(disk: &mut D, at: BlockNo) -> Result<Root, Trouble>
     }
 }
 
-/// The size of a file in bytes. `Damaged` names the root block, with code 3, which is none.
+/// The size of the file that is shown at a block, in bytes. `Damaged` names the block, with code 3, which is none.
 pub fn size<D: Disk>(disk: &mut D, at: BlockNo) -> Result<u64, Trouble>
     requires { at.0 < D.blocks disk.old }
     ensures size { (graph : Graph) (ds : List Opened) (space : Kept) (id : Puid) (f : File)
-        → spec.HasFile D.Disk graph ds disk.old space at.0 id f → IfOk result (λ size. size ≡ length f.bytes) }
+        → IsShownAt D.Disk graph ds disk.old space id (objects.File f) at.0
+        → IfOk result (λ size. size ≡ length f.bytes) }
     ensures limit { IfOk result (λ size. size ≤ 7864320) }
     // No damage where the disk holds the file.
     ensures sound { (graph : Graph) (ds : List Opened) (space : Kept) (id : Puid) (f : File)
-        → spec.HasFile D.Disk graph ds disk.old space at.0 id f → IfErr result (λ trouble. is_damage trouble ≡ false) }
+        → IsShownAt D.Disk graph ds disk.old space id (objects.File f) at.0
+        → IfErr result (λ trouble. is_damage trouble ≡ false) }
     ensures refused { IfErr result (IsTrouble D.Disk at.0 disk.old disk.new) }
     ensures untried { IfErr result (λ trouble. trouble_had_tried trouble ≡ false) }
     ensures reads { OnlyReads D.Disk 1 disk.old disk.new }

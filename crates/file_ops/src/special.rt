@@ -7,9 +7,10 @@ ghost use Rattle.cfs_base.specs.Run.{Leaves};
 ghost use Rattle.cfs_base.specs.declared.identifier.Puid.{Puid};
 ghost use Rattle.cfs_base.specs.declared.kind.FileKind.TheVariants as kinds;
 ghost use Rattle.cfs_base.specs.declared.refusal.Refused.TheVariants as refused;
+ghost use Rattle.cyl_alloc.specs.Left.{Left};
 ghost use Rattle.file_ops.specs.Changes as spec;
 ghost use Rattle.intentions.specs.Store.{StoreHas};
-ghost use Rattle.special_files.specs.Committing.{Committed, IsOldOrNew};
+ghost use Rattle.special_files.specs.Committing.{Committed, IsAtBit, IsNoted, IsOldOrNew};
 ghost use Rattle.special_files.specs.Drafting.{IsOpen};
 ghost use Rattle.special_files.specs.Refusal.{is_damaged};
 ghost use Rattle.ufs_model.specs.Graph.{Graph, object_at};
@@ -20,8 +21,7 @@ ghost use Rattle.vol_owners.specs.Account.{Opened};
 
 use cfs_base::{BlockNo, Damage, Disk, Refused, Trouble, code};
 use cyl_alloc::Space;
-use special_files::Draft;
-use std::alloc::Global;
+use special_files::{Draft, Room};
 
 /// The refusal of a call that may have tried a write before.
 fn since(wrote: bool, trouble: Trouble) -> Refused
@@ -56,8 +56,9 @@ fn commit<D: Disk>(
     ensures untried { IfErr result (λ e. e ≡ refused.Disk false
         → (space.new ≡ space.old) × OnlyReads D.Disk 241 disk.old disk.new) }
     ensures cylinders { length space.new.free ≡ length space.old.free }
-    ensures left { OnOk result (space.new.left ≡ None) }
-    ensures calls { MakesAtMost D.Disk 93137 46452 disk.old disk.new }
+    ensures left { OnOk result ((l : Left) × IsNoted draft.at space.new.left l) }
+    ensures bit { OnOk result (IsAtBit D.Disk disk.old disk.new space.new.left) }
+    ensures calls { MakesAtMost D.Disk 31207 15485 disk.old disk.new }
 {
     if space.free() == 0 {
         return Err(Refused::Damaged(Damage {
@@ -73,7 +74,7 @@ fn commit<D: Disk>(
 
 /// Writes bytes into a special file, as `write` does.
 pub(crate) fn write_beside<D: Disk>(
-    alloc: Global,
+    room: Room,
     disk: &mut D,
     space: &mut Space,
     at: BlockNo,
@@ -88,10 +89,11 @@ pub(crate) fn write_beside<D: Disk>(
     requires least { 1 ≤ length bytes.now }
     requires most { length bytes.now ≤ 4096 }
     requires inside { offset + length bytes.now ≤ 7864320 }
-    ensures { spec.ChangesFile D.Disk at.0 kinds.Special floor (Overwrite offset bytes.now) disk.old disk.new space.old
-        space.new result }
+    ensures changes { spec.ChangesFile D.Disk at.0 kinds.Special floor (Overwrite offset bytes.now) disk.old disk.new
+        space.old space.new result }
+    ensures memory { IfErr result (λ e. e ≢ refused.Memory) }
 {
-    let mut draft = match Draft::begin_direct(alloc, disk, space, at) {
+    let mut draft = match Draft::begin_direct(room, disk, space, at) {
         Ok(draft) => draft,
         Err(error) => return Err(error),
     };
@@ -109,7 +111,7 @@ pub(crate) fn write_beside<D: Disk>(
 
 /// Sets the size of a special file, as `resize` does.
 pub(crate) fn resize_beside<D: Disk>(
-    alloc: Global,
+    room: Room,
     disk: &mut D,
     space: &mut Space,
     at: BlockNo,
@@ -121,10 +123,11 @@ pub(crate) fn resize_beside<D: Disk>(
     requires size { D.blocks disk.old ≡ 64 * length space.old.free }
     requires left { space.old.left ≡ None }
     requires limit { size ≤ 7864320 }
-    ensures { spec.ChangesFile D.Disk at.0 kinds.Special floor (SetSize size) disk.old disk.new space.old space.new
-        result }
+    ensures changes { spec.ChangesFile D.Disk at.0 kinds.Special floor (SetSize size) disk.old disk.new space.old
+        space.new result }
+    ensures memory { IfErr result (λ e. e ≢ refused.Memory) }
 {
-    let mut draft = match Draft::begin_direct(alloc, disk, space, at) {
+    let mut draft = match Draft::begin_direct(room, disk, space, at) {
         Ok(draft) => draft,
         Err(error) => return Err(error),
     };

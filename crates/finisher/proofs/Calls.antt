@@ -1,17 +1,17 @@
 -- Calls that carry on a commit: one after another, noted, after reads, and on any disk.
-use Rattle.std.proofs.Common.{◌≡◌, inl, ℕ, Bool, true, false, List, [], ◌∷◌, length, Ok, Err, Option, Some, None, refl, sym, ◌∙◌, ap, subst}
+use Rattle.std.proofs.Common.{◌≡◌, inl, ℕ, Bool, true, false, List, Ok, Err, Option, Some, None, refl, sym, ◌∙◌, ap, subst}
 use Rattle.std.specs.Prelude.{IfErr, Result}
 use Rattle.std.proofs.Common.{cond}
-use Rattle.finisher.proofs.Reading.{going_reads, store_reads}
-use Rattle.finisher.specs.Going.{Goes, GoesFrom, IsLeftTrouble, IsUncopied, PartEnds, calls_left, calls_of, tries_left, tries_of}
-use Rattle.std.specs.Prelude.{◌*◌, is_some}
+use Rattle.intentions.proofs.Reading.{going_reads, store_reads}
+use Rattle.finisher.specs.Going.{Goes, GoesFrom, IsLeftTrouble, IsUncopied, PartEnds}
+use Rattle.finisher.specs.Runs.{WritesMap}
+use Rattle.std.specs.Prelude.{is_some}
 use Rattle.cfs_base.proofs.Calls.{reads_make, stopped_after_reads, tells_on, then_tried}
 use Rattle.cfs_base.specs.Calls.{MakesAtMost, OnlyReads}
 use Rattle.cfs_base.specs.Disk.{Nothing}
 use Rattle.cfs_base.specs.Refusals.{trouble_had_tried}
-use Rattle.cyl_alloc.specs.Left.{after_next, parts_left, after_in, after_part, part_in, part_of}
-use Rattle.std.specs.Prelude.{◌+◌}
-use Rattle.std.specs.Prelude.{◌<◌}
+use Rattle.cyl_alloc.specs.Left.{after_next, after_in, after_part}
+use Rattle.std.specs.Prelude.{◌<◌, ◌≤◌}
 use Rattle.std.proofs.Common.{arith}
 use Rattle.std.specs.Result.{IsErrAnd}
 use Rattle.cfs_base.specs.Disk.{Image}
@@ -54,17 +54,20 @@ store_alike g graph ds d k j (Some l) same has = record {
   ordered = has.ordered;
 }
 
--- a part that was made is noted so
-pub goes_noted : {D : Type 0} (g : Ghosts D) (d0 d1 : D) (k0 mid new : Kept) (l : Left) → k0.left ≡ Some l → mid.left ≡ k0.left → new ≡ record mid { left = after_next mid.left } → GoesFrom g d0 d1 k0 mid (Some l) (after_part l) (Ok tt) → Goes g d0 d1 k0 new (Ok tt)
-goes_noted g d0 d1 k0 mid new l was same noted goes =
-    let now : after_part l ≡ new.left = sym (ap (λ (k : Kept). k.left) noted ∙ ap after_next (same ∙ was)) in
-    subst (λ (w : Option Left). GoesFrom g d0 d1 k0 new w new.left (Ok tt)) (sym was) (subst (λ (w : Option Left). GoesFrom g d0 d1 k0 new (Some l) w (Ok tt)) now (record {
-      goes = λ graph has. goes_alike g graph d1 mid new (after_part l) (ap (λ (k : Kept). k.free) noted) (goes.goes graph has);
-      store = λ graph ds has. store_alike g graph ds d1 mid new (after_part l) (ap (λ (k : Kept). k.free) noted) (goes.store graph ds has);
+-- a part that was made is kept so
+pub goes_kept : {D : Type 0} (g : Ghosts D) (d0 d1 : D) (k0 mid new : Kept) (l : Left) (w : Option Left) → k0.left ≡ Some l → new.free ≡ mid.free → new.left ≡ w → GoesFrom g d0 d1 k0 mid (Some l) w (Ok tt) → Goes g d0 d1 k0 new (Ok tt)
+goes_kept g d0 d1 k0 mid new l w was free now goes =
+    subst (λ (x : Option Left). GoesFrom g d0 d1 k0 new x new.left (Ok tt)) (sym was) (subst (λ (x : Option Left). GoesFrom g d0 d1 k0 new (Some l) x (Ok tt)) (sym now) (record {
+      goes = λ graph has. goes_alike g graph d1 mid new w free (goes.goes graph has);
+      store = λ graph ds has. store_alike g graph ds d1 mid new w free (goes.store graph ds has);
       comes = goes.comes;
       leaves = goes.leaves;
       sound = goes.sound;
     }))
+
+pub goes_noted : {D : Type 0} (g : Ghosts D) (d0 d1 : D) (k0 mid new : Kept) (l : Left) → k0.left ≡ Some l → mid.left ≡ k0.left → new ≡ record mid { left = after_next mid.left } → GoesFrom g d0 d1 k0 mid (Some l) (after_part l) (Ok tt) → Goes g d0 d1 k0 new (Ok tt)
+goes_noted g d0 d1 k0 mid new l was same noted goes =
+    goes_kept g d0 d1 k0 mid new l (after_part l) was (ap (λ (k : Kept). k.free) noted) (ap (λ (k : Kept). k.left) noted ∙ ap after_next (same ∙ was)) goes
 
 -- where nothing is left nothing is done
 pub nothing_left : {D : Type 0} (g : Ghosts D) (d : D) (k : Kept) → GoesFrom g d d k k None None (Ok tt)
@@ -103,15 +106,6 @@ goes_begin g d k w = record {
   sound = λ graph has. tt;
 }
 
--- fewer parts are left after each
-pub fewer : (l : Left) → parts_left (after_part l) < parts_left (Some l)
-fewer l = at l.copied l.rest refl refl
-  where
-    at : (b : Bool) (rest : List ℕ) → l.copied ≡ b → l.rest ≡ rest → parts_left (after_in l b rest) < 1 + length rest + cond b 0 1
-    at false rest eb is = omega (arith, ap length is)
-    at true [] eb is = omega arith
-    at true (n ∷ ns) eb is = omega (arith, ap {B = ℕ} (λ (b : Bool). cond b 0 1) eb)
-
 -- what a `?` makes of a trouble
 pub goes_passed : {D : Type 0} (g : Ghosts D) (d0 d1 : D) (k0 k1 : Kept) (w0 w1 : Option Left) (r : Result (Unit {0}) Trouble) (e : Trouble) → IsErrAnd r (λ k. k ≡ e) → GoesFrom g d0 d1 k0 k1 w0 w1 (Err e) → GoesFrom g d0 d1 k0 k1 w0 w1 r
 goes_passed g d0 d1 k0 k1 w0 w1 (Ok u) e is goes = absurd is
@@ -122,6 +116,21 @@ goes_passed g d0 d1 k0 k1 w0 w1 (Err k) e is goes = subst (λ (x : Trouble). Goe
 -- a part that changes one entry is made
 pub entry_ends : {D A : Type 0} (g : Ghosts D) (d0 d1 : D) (n : ℕ) {f : MapEntry → MapEntry} (x : A) → ChangesEntry g n f d0 d1 (Ok x) → PartEnds g d0 d1 (Ok tt)
 entry_ends g d0 d1 n x change = record { tells = λ tells. still_tells g tells change.told change.calls.same; tried = change.tried; refused = tt; unless_tried = tt }
+
+-- a map that was read is written
+pub map_ends : {D : Type 0} (g : Ghosts D) (d0 d1 d2 : D) (m : ℕ) (bytes : List ℕ) → OnlyReads g 1 d0 d1 → (result : Result (Unit {0}) Trouble) → WritesMap g m bytes d1 d2 result → PartEnds g d0 d2 result
+map_ends g d0 d1 d2 m bytes only (Ok u) writes = record {
+  tells = λ tells. still_tells g (tells_on g d0 d1 d2 1 only tells) writes.told writes.calls.same;
+  tried = then_tried g d0 d1 d2 1 0 (reads_make g d0 d1 1 only) writes.tried;
+  refused = tt;
+  unless_tried = tt;
+}
+map_ends g d0 d1 d2 m bytes only (Err t) writes = record {
+  tells = λ tells. tt;
+  tried = tt;
+  refused = subst (λ (e : Trouble). IsLeftTrouble g d0 d2 e) (sym writes.refused.0) (stopped_after_reads g d0 d1 d2 1 true only writes.refused.1);
+  unless_tried = λ un. (let no : true ≡ false = sym (ap trouble_had_tried writes.refused.0) ∙ un in cc);
+}
 
 -- a part that begins with a read
 module _ {D : Type 0} (g : Ghosts D) (d0 d1 d2 : D) (n : ℕ) (only : OnlyReads g n d0 d1) where
@@ -164,16 +173,6 @@ goes_told g d0 d1 k0 k1 w0 w1 r goes = record {
     bare None graph ds has = (has.carries, has.counts)
     bare (Some l) graph ds has = has.going
 
--- ---- how many calls are left
-
-pub steps_left : (l : Left) → (calls_of (part_of l) + calls_left (after_part l) ≡ calls_left (Some l)) × (tries_of (part_of l) + tries_left (after_part l) ≡ tries_left (Some l))
-steps_left l = at l.copied l.rest refl refl
-  where
-    at : (b : Bool) (rest : List ℕ) → l.copied ≡ b → l.rest ≡ rest → (calls_of (part_in l b rest) + calls_left (after_in l b rest) ≡ cond b 0 3 + (2 * length rest + 4)) × (tries_of (part_in l b rest) + tries_left (after_in l b rest) ≡ cond b 0 2 + (length rest + 3))
-    at false rest eb er = (omega (arith, ap length er), omega (arith, ap length er))
-    at true [] eb er = (refl, refl)
-    at true (n ∷ ns) eb er = (omega (arith, ap {B = ℕ} (λ (b : Bool). cond b 0 3) eb), omega (arith, ap {B = ℕ} (λ (b : Bool). cond b 0 2) eb))
-
 -- a trouble told as of a call that had tried something before
 pub goes_since : {D : Type 0} (g : Ghosts D) (d0 d1 : D) (k0 k1 : Kept) (w0 w1 w2 : Option Left) (t e : Trouble) → is_damage e ≡ is_damage t → GoesFrom g d0 d1 k0 k1 w0 w1 (Err t) → GoesFrom g d0 d1 k0 k1 w0 w2 (Err e)
 goes_since g d0 d1 k0 k1 w0 w1 w2 t e same goes = record { goes = λ graph has. tt; store = λ graph ds has. tt; comes = λ graph has. tt; leaves = goes.leaves; sound = λ graph has. same ∙ goes.sound graph has }
@@ -185,6 +184,10 @@ same_damage (trouble.Damaged damage) = refl
 pub some_left : (w : Option Left) (n : ℕ) → n ≡ cond (is_some w) 1 0 → 0 < n → (l : Left) × (w ≡ Some l)
 some_left None n is more = absurd (omega (arith, is, more))
 some_left (Some l) n is more = (l, refl)
+
+pub none_left : (w : Option Left) (n : ℕ) → n ≡ cond (is_some w) 1 0 → n ≤ 0 → w ≡ None
+none_left None n is least = refl
+none_left (Some l) n is least = absurd (omega (arith, is, least))
 
 -- ---- the first part, of a commit that was kept just now
 

@@ -60,7 +60,7 @@ pub left_is : (l : Left) (r s : ℕ) (rest : List ℕ) (b : Bool) → l.root ≡
 left_is l r s rest b er es et eb =
     subst (λ (x : ℕ). parts x s rest b ≡ l) er (subst (λ (x : ℕ). parts l.root x rest b ≡ l) es (subst (λ (x : List ℕ). parts l.root l.shadow x b ≡ l) et (subst (λ (x : Bool). parts l.root l.shadow l.rest x ≡ l) eb refl)))
 
-still_sound : (t : Trouble) → is_damage (trouble_after_try t) ≡ false → is_damage t ≡ false
+pub still_sound : (t : Trouble) → is_damage (trouble_after_try t) ≡ false → is_damage t ≡ false
 still_sound (trouble.Disk tried) h = refl
 still_sound (trouble.Damaged damage) h = h
 

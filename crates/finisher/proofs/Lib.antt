@@ -1,3 +1,5 @@
 pub mod Going
 pub mod Calls
-pub mod Reading
+pub mod Finished
+pub mod Runs
+pub mod AtOnce

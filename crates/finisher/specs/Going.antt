@@ -64,15 +64,15 @@ pub record Ends {D : Type 0} (g : Ghosts D) (old new : D) (before after : Kept)
 
 -- ---- device calls
 
-abbrev pub calls_of : Part → ℕ
-calls_of (Copy root shadow) = 3
-calls_of (Flip block) = 2
-calls_of (Clear root) = 4
+abbrev pub part_calls : Part → ℕ
+part_calls (Copy root shadow) = 3
+part_calls (Flip block) = 2
+part_calls (Clear root) = 4
 
-abbrev pub tries_of : Part → ℕ
-tries_of (Copy root shadow) = 2
-tries_of (Flip block) = 1
-tries_of (Clear root) = 3
+abbrev pub part_tries : Part → ℕ
+part_tries (Copy root shadow) = 2
+part_tries (Flip block) = 1
+part_tries (Clear root) = 3
 
 abbrev pub calls_left : Option Left → ℕ
 calls_left None = 0

@@ -1,6 +1,7 @@
 //! A commit that is past its bit, carried out.
-ghost use Rattle.std.specs.Prelude.{◌≡◌, ◌≢◌, ◌*◌, ◌-◌, ◌<◌, true, false, is_some, length, IfErr, IfOk, IsErr};
+ghost use Rattle.std.specs.Prelude.{◌≡◌, ◌≢◌, ℕ, ◌*◌, ◌/◌, ◌-◌, ◌<◌, true, false, is_some, length, IfErr, IfOk, IsErr};
 ghost use Rattle.std.specs.Prelude.{IsSome, None, OnOk, Some};
+ghost use Rattle.std.specs.List.{All};
 ghost use Rattle.cfs_base.specs.Calls.{MakesAtMost};
 ghost use Rattle.cfs_base.specs.Disk.{block_at};
 ghost use Rattle.cfs_base.specs.Refusals.{trouble_after_try};
@@ -8,8 +9,10 @@ ghost use Rattle.cfs_base.specs.Run.{IsSettled, Tells};
 ghost use Rattle.cfs_base.specs.declared.refusal.Trouble.TheVariants as troubles;
 ghost use Rattle.cyl_alloc.specs.Left as left;
 ghost use Rattle.finisher.specs.Going as spec;
+ghost use Rattle.finisher.specs.Runs as runs;
 
 use crate::part::{copy, make};
+use crate::run::flip_run;
 use cfs_base::{Block, BlockNo, Disk, Trouble};
 use cyl_alloc::Space;
 
@@ -27,8 +30,8 @@ pub fn step<D: Disk>(disk: &mut D, space: &mut Space) -> Result<bool, Trouble>
     ensures none { space.old.left ≡ None → (disk.new ≡ disk.old) × (space.new ≡ space.old) }
     ensures cylinders { length space.new.free ≡ length space.old.free }
     ensures ends { IsSome space.old.left → spec.PartEnds D.Disk disk.old disk.new (spec.unit_of result) }
-    ensures of_part { (l : left.Left) → space.old.left ≡ Some l → MakesAtMost D.Disk (spec.calls_of (left.part_of l))
-        (spec.tries_of (left.part_of l)) disk.old disk.new }
+    ensures of_part { (l : left.Left) → space.old.left ≡ Some l → MakesAtMost D.Disk (spec.part_calls (left.part_of l))
+        (spec.part_tries (left.part_of l)) disk.old disk.new }
     ensures calls { MakesAtMost D.Disk 4 3 disk.old disk.new }
 {
     let Some(part) = space.next_part() else {
@@ -51,7 +54,32 @@ fn since(tried: bool, trouble: Trouble) -> Trouble
     if tried { trouble.after_try() } else { trouble }
 }
 
-/// Makes all parts that are left of the commit that is kept. Refused as `step`; the parts before are done.
+/// Makes the next part: of entries, those of the next blocks that lie in one map at once.
+fn advance<D: Disk>(disk: &mut D, space: &mut Space) -> Result<(), Trouble>
+    requires size { D.blocks disk.old ≡ 64 * length space.old.free }
+    requires some { IsSome space.old.left }
+    ensures goes { spec.Goes D.Disk disk.old disk.new space.old space.new result }
+    ensures settled { space.new.left ≡ None → Tells D.Disk disk.old → OnOk result (IsSettled D.Disk disk.new) }
+    ensures kept { IsErr result → space.new ≡ space.old }
+    ensures cylinders { length space.new.free ≡ length space.old.free }
+    ensures ends { spec.PartEnds D.Disk disk.old disk.new result }
+    ensures fewer { OnOk result (left.parts_left space.new.left < left.parts_left space.old.left) }
+    ensures spends { OnOk result (runs.Spends D.Disk disk.old disk.new space.old.left space.new.left) }
+    ensures calls { MakesAtMost D.Disk 4 3 disk.old disk.new }
+{
+    let next = space.next_flips();
+    if !next.is_empty() {
+        let first = next[0];
+        return flip_run(disk, space, first);
+    }
+    match step(disk, space) {
+        Ok(_) => Ok(()),
+        Err(trouble) => Err(trouble),
+    }
+}
+
+/// Makes all parts that are left of the commit that is kept, with one write for the entries of blocks of one map that
+/// stand together. Refused as `step`; the parts before are done.
 pub fn finish_all<D: Disk>(disk: &mut D, space: &mut Space) -> Result<(), Trouble>
     requires size { D.blocks disk.old ≡ 64 * length space.old.free }
     ensures goes { spec.Goes D.Disk disk.old disk.new space.old space.new result }
@@ -63,11 +91,16 @@ pub fn finish_all<D: Disk>(disk: &mut D, space: &mut Space) -> Result<(), Troubl
     ensures ends { spec.Ends D.Disk disk.old disk.new space.old space.new result }
     ensures calls { MakesAtMost D.Disk (spec.calls_left space.old.left) (spec.tries_left space.old.left) disk.old
         disk.new }
+    ensures by_map { MakesAtMost D.Disk (runs.calls_by_map space.old.left) (runs.tries_by_map space.old.left) disk.old
+        disk.new }
+    // Where the blocks lie in one cylinder, the copy, one read and one write of its map, and the bit.
+    ensures one_map { (l : left.Left) (c : ℕ) → space.old.left ≡ Some l → All (λ n. n / 64 ≡ c) l.rest
+        → MakesAtMost D.Disk 9 6 disk.old disk.new }
 {
     let mut tried = false;
     'parts: while space.unfinished() > 0 {
-        match step(disk, space) {
-            Ok(_) => {}
+        match advance(disk, space) {
+            Ok(()) => {}
             Err(trouble) => return Err(since(tried, trouble)),
         }
         tried = true;
@@ -95,6 +128,8 @@ pub fn finish_written<D: Disk>(
     ensures ends { spec.Ends D.Disk disk.old disk.new space.old space.new result }
     ensures calls { MakesAtMost D.Disk (spec.calls_left space.old.left - 1) (spec.tries_left space.old.left) disk.old
         disk.new }
+    ensures by_map { MakesAtMost D.Disk (runs.calls_by_map space.old.left - 1) (runs.tries_by_map space.old.left)
+        disk.old disk.new }
 {
     match copy(disk, root, content) {
         Ok(()) => space.part_done(),

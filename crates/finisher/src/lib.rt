@@ -5,5 +5,6 @@
 
 mod finish;
 mod part;
+mod run;
 
 pub use finish::{finish_all, finish_written, step};

@@ -29,7 +29,7 @@ fn is_free(entry: MapEntry) -> bool
 }
 
 /// The shadow root is given back, and all else is carried out.
-fn how_to(is_shadow: bool) -> Change
+pub(crate) fn how_to(is_shadow: bool) -> Change
     ensures value { result ≡ how_for is_shadow }
     ensures fits { entries.Fits result }
 {
@@ -41,7 +41,7 @@ fn how_to(is_shadow: bool) -> Change
 }
 
 /// Whether a block became Free.
-fn is_freed(was: MapEntry, now: MapEntry) -> bool
+pub(crate) fn is_freed(was: MapEntry, now: MapEntry) -> bool
     ensures { result ≡ spec.is_freed was now }
 {
     if is_free(was) {
@@ -165,7 +165,7 @@ pub(crate) fn make<D: Disk>(
     ensures cylinders { length space.new.free ≡ length space.old.free }
     ensures left { space.new.left ≡ space.old.left }
     ensures ends { spec.PartEnds D.Disk disk.old disk.new result }
-    ensures calls { MakesAtMost D.Disk (spec.calls_of part) (spec.tries_of part) disk.old disk.new }
+    ensures calls { MakesAtMost D.Disk (spec.part_calls part) (spec.part_tries part) disk.old disk.new }
 {
     match part {
         Part::Copy { root, shadow } => copy_read(disk, root, shadow),

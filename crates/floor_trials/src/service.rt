@@ -6,7 +6,7 @@ ghost use Rattle.std.specs.Prelude.{◌≡◌, option_map, true};
 use crate::sink::{ALL, Taking, TrialSink};
 use cfs_base::Disk;
 use cfs_fakes::{Hold, HoldGate, MemorySource};
-use cfs_serve::{Bay, Ended, Volume, names, top};
+use cfs_serve::{Bay, Ended, Volume, files_named, top};
 use cfs_trail::Trail;
 use std::alloc::{AllocError, Global};
 use std::process::Abort;
@@ -169,7 +169,7 @@ pub fn expect_form(
     ensures disk { HasDisk (asked_by words.now) blocks }
     ensures places { HasPlaces (asked_by words.now) sources sinks }
 {
-    match names(alloc, words) {
+    match files_named(alloc, words) {
         Ok(named) => {
             let fits = is_for(&named.volume, blocks);
             assert!(rt; fits);

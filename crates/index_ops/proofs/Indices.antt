@@ -1,6 +1,8 @@
 -- An index that the store has, as it is read.
-use Rattle.index_ops.proofs.Words.{◌≡◌, ◌≢◌, ℕ, zero, suc, ◌/◌, ◌%◌, ◌<◌, false, List, length, Some, refl, sym, ◌∙◌, ap, subst, arith, OnlyReads, AreBlocks, Image, block_at, Tells, Ghosts, Puid, Damage, Trouble, failed_after, tells_on, IsFault, IsPast, TreeFault, IsRootBlock, root_spelling, PastAbove, bytes_in, leaf_block, levels_of, path_to, tree_of, Kept, StoreHas, GivesIndex, content_is, index_to_leaves, is_damage, own_root, own_tree, Index, Graph, object_at, slot_of, IsTree, leaf_content, leaf_in, slot_in, held_at, tree_in, held, Opened}
+use Rattle.index_ops.proofs.Words.{◌≡◌, ◌≢◌, ℕ, zero, suc, ◌/◌, ◌%◌, ◌<◌, false, List, length, refl, sym, ◌∙◌, ap, subst, arith, OnlyReads, AreBlocks, Image, block_at, Tells, Ghosts, Puid, Damage, Trouble, failed_after, tells_on, IsFault, IsPast, TreeFault, IsRootBlock, root_spelling, PastAbove, bytes_in, leaf_block, levels_of, path_to, tree_of, Kept, GivesIndex, content_is, index_to_leaves, is_damage, Index, Graph, slot_of, IsTree, leaf_content, leaf_in, slot_in, held_at, tree_in, held, Opened}
 use Rattle.std.specs.Prelude.{Err, IfErr, Ok, Result}
+use Rattle.intentions.proofs.Shown.{root_tree, shown_tells, shown_tree}
+use Rattle.intentions.specs.Left.{IsShownAt}
 use Rattle.cfs_base.specs.Refusals.{trouble_had_tried}
 use Rattle.block_tree.specs.Reads.{HasStoppedBy, IsRootTrouble}
 use Rattle.block_tree.specs.declared.root.Root.{Root}
@@ -14,55 +16,52 @@ block_content : (image : Image) (fill v : ℕ) → AreBlocks image → (v ≢ 0 
 block_content image fill zero blocks below = refl
 block_content image fill (suc v) blocks below = content_is fill (held_at image (suc v)) (block_at image (suc v)) refl (blocks (suc v) (below (λ none. cc))).long
 
-module _ {D : Type 0} (g : Ghosts D) (graph : Graph) (ds : List Opened) (d : D) (space : Kept) (id : Puid) (i : Index) (store : StoreHas g graph ds d space) (at : object_at graph id ≡ Some (objects.Index i)) where
-  abbrev image : Image
-  image = g.content d
+-- ---- its tree
 
-  module _ (root : Root) (is : IsRootBlock (block_at image id.block) root) where
-    tree : IsTree (length image) id.block (tree_in image (root_spelling root)) root (objects.Index i)
-    tree = own_tree image (length image) id root (objects.Index i) (store.account.objects id (objects.Index i) at) (store.account.holds.objects id (objects.Index i) at) is
+module _ (image : Image) (owner : ℕ) (i : Index) (root : Root) (tree : IsTree (length image) owner (tree_in image (root_spelling root)) root (objects.Index i)) where
+  gives : GivesIndex root (leaf_in (tree_in image (root_spelling root))) i
+  gives = index_to_leaves root (leaf_in (tree_in image (root_spelling root))) i tree.object
 
-    gives : GivesIndex root (leaf_in (tree_in image (root_spelling root))) i
-    gives = index_to_leaves root (leaf_in (tree_in image (root_spelling root))) i tree.object
+  pub slots_are : root.size / 8 ≡ length i.slots
+  slots_are = sym gives.size
 
-    pub slots_are : root.size / 8 ≡ length i.slots
-    slots_are = sym gives.size
+  -- no pointer leads past the disk
+  near : (path : List ℕ) (block : ℕ) → tree_of image (root_spelling root) path ≡ block → ¬ IsPast (length image) block
+  near path zero leads past = past.0 refl
+  near path (suc v) leads past = omega (arith, tree.on_disk path (held image (suc v)) (ap (held_at image) leads), past.1)
 
-    -- no pointer leads past the disk
-    near : (path : List ℕ) (block : ℕ) → tree_of image (root_spelling root) path ≡ block → ¬ IsPast (length image) block
-    near path zero leads past = past.0 refl
-    near path (suc v) leads past = omega (arith, tree.on_disk path (held image (suc v)) (ap (held_at image) leads), past.1)
-
-    below : (leaf : ℕ) → leaf_block image (root_spelling root) leaf ≢ 0 → leaf_block image (root_spelling root) leaf < length image
-    below leaf some = by (leaf_block image (root_spelling root) leaf) refl some
-      where
-        by : (v : ℕ) → leaf_block image (root_spelling root) leaf ≡ v → v ≢ 0 → v < length image
-        by zero leads other = absurd (other refl)
-        by (suc v) leads other = tree.on_disk (path_to (levels_of (root_spelling root)) leaf) (held image (suc v)) (ap (held_at image) leads)
-
-    pub slot_is : AreBlocks image → (slot : ℕ) → slot < length i.slots → slot_in (bytes_in image root.fill (leaf_block image (root_spelling root) (slot / 64))) (slot % 64) ≡ slot_of i slot
-    slot_is blocks slot inside =
-        ap (λ (c : List ℕ). slot_in c (slot % 64)) (sym (block_content image root.fill (leaf_block image (root_spelling root) (slot / 64)) blocks (below (slot / 64))))
-        ∙ sym (gives.slots slot (omega (arith, inside, gives.size)))
-
-    far_not : (leaf : ℕ) (damage : Damage) → ¬ IsFarLeaf image (length image) id.block root leaf damage
-    far_not leaf damage (FarNode code block past above) = near above.0 past above.4 above.5
-    far_not leaf damage (FarLeaf code block past) = near (path_to (levels_of (root_spelling root)) leaf) (leaf_block image (root_spelling root) leaf) refl past
-
-  -- so no damage is met
-  pub root_sound : (new : D) (t : Trouble) → IsRootTrouble g id.block d new t → is_damage t ≡ false
-  root_sound new (trouble.Disk tried) is = refl
-  root_sound new (trouble.Damaged damage) is =
-      let own = own_root image graph store.account.holds id (objects.Index i) at in
-      absurd (is.1 store.carries.tells own.0 own.1)
-
-  pub slot_sound : g.blocks d ≡ length image → (slot : ℕ) (new : D) (t : Trouble) → IsSlotTrouble g id.block slot d new t → is_damage t ≡ false
-  slot_sound size slot new (trouble.Disk tried) is = refl
-  slot_sound size slot new (trouble.Damaged damage) is = absurd (by is)
+  below : (leaf : ℕ) → leaf_block image (root_spelling root) leaf ≢ 0 → leaf_block image (root_spelling root) leaf < length image
+  below leaf some = by (leaf_block image (root_spelling root) leaf) refl some
     where
-      by : ¬ IsSlotDamage g id.block slot d damage
-      by (NoRoot bad none) = let own = own_root image graph store.account.holds id (objects.Index i) at in none store.carries.tells own.0 own.1
-      by (Far code far) = let f = far store.carries.tells in far_not f.0 f.1 (slot / 64) damage (subst (λ (n : ℕ). IsFarLeaf image n id.block f.0 (slot / 64) damage) size f.2)
+      by : (v : ℕ) → leaf_block image (root_spelling root) leaf ≡ v → v ≢ 0 → v < length image
+      by zero leads other = absurd (other refl)
+      by (suc v) leads other = tree.on_disk (path_to (levels_of (root_spelling root)) leaf) (held image (suc v)) (ap (held_at image) leads)
+
+  pub slot_is : AreBlocks image → (slot : ℕ) → slot < length i.slots → slot_in (bytes_in image root.fill (leaf_block image (root_spelling root) (slot / 64))) (slot % 64) ≡ slot_of i slot
+  slot_is blocks slot inside =
+      ap (λ (c : List ℕ). slot_in c (slot % 64)) (sym (block_content image root.fill (leaf_block image (root_spelling root) (slot / 64)) blocks (below (slot / 64))))
+      ∙ sym (gives.slots slot (omega (arith, inside, gives.size)))
+
+  far_not : (at leaf : ℕ) (damage : Damage) → ¬ IsFarLeaf image (length image) at root leaf damage
+  far_not at leaf damage (FarNode code block past above) = near above.0 past above.4 above.5
+  far_not at leaf damage (FarLeaf code block past) = near (path_to (levels_of (root_spelling root)) leaf) (leaf_block image (root_spelling root) leaf) refl past
+
+-- ---- so no damage is met
+
+module _ {D : Type 0} {g : Ghosts D} {graph : Graph} {ds : List Opened} {d : D} {space : Kept} {id : Puid} {i : Index} {at : ℕ} (is : IsShownAt g graph ds d space id (objects.Index i) at) where
+  pub root_sound : (new : D) (t : Trouble) → IsRootTrouble g at d new t → is_damage t ≡ false
+  root_sound new (trouble.Disk tried) bad = refl
+  root_sound new (trouble.Damaged damage) bad = let tree = shown_tree is in absurd (bad.1 (shown_tells is) tree.0 tree.1.spelled)
+
+  pub slot_sound : g.blocks d ≡ length (g.content d) → (slot : ℕ) (new : D) (t : Trouble) → IsSlotTrouble g at slot d new t → is_damage t ≡ false
+  slot_sound size slot new (trouble.Disk tried) bad = refl
+  slot_sound size slot new (trouble.Damaged damage) bad = absurd (by bad)
+    where
+      by : ¬ IsSlotDamage g at slot d damage
+      by (NoRoot named none) = let tree = shown_tree is in none (shown_tells is) tree.0 tree.1.spelled
+      by (Far code far) =
+          let f = far (shown_tells is) in
+          far_not (g.content d) id.block i f.0 (root_tree is f.0 f.1) at (slot / 64) damage (subst (λ (n : ℕ). IsFarLeaf (g.content d) n at f.0 (slot / 64) damage) size f.2)
 
 -- ---- a trouble of one call is one of the whole
 

@@ -1,9 +1,12 @@
 -- How the making of an object ends, and the root of a new one.
-use Rattle.index_ops.proofs.Words.{◌≡◌, ◌⊎◌, inl, inr, ⊎_elim, ℕ, ◌+◌, ◌/◌, ◌≤◌, false, List, [], ◌∷◌, length, Option, None, Ok, Err, refl, sym, ◌∙◌, ap, subst, arith, Result, replicate, HasTried, MakesAtMost, OnlyReads, Image, Nothing, after_try, refused_by, trouble_after_try, Leaves, Ghosts, Puid, Kind, Refused, Trouble, makes_then, reads_make, reads_then, reads_within, tried_then, then, wider, IsLeastFree, Kept, intended, named, Ends, IsRefusal, IsTrouble, is_damaged, is_full, Swap, makes_more, ends_then_err, ends_then_ok, trouble_after_tried, refusal_after_reads, refusal_of, Graph, Index, Object, bare_object, Holds, bare_index, bare_normal, bare_special, Opened, ChangesOnly, of_owners}
+use Rattle.index_ops.proofs.Words.{◌≡◌, ◌⊎◌, inl, inr, ⊎_elim, ℕ, ◌+◌, ◌/◌, ◌≤◌, false, List, [], ◌∷◌, length, Option, Ok, Err, refl, sym, ◌∙◌, ap, subst, arith, Result, replicate, HasTried, MakesAtMost, OnlyReads, Image, Nothing, after_try, refused_by, trouble_after_try, Leaves, Ghosts, Puid, Kind, Refused, Trouble, makes_then, reads_make, reads_then, reads_within, tells_on, tried_then, then_tried, then, wider, IsLeastFree, Kept, intended, puid_at, Ends, IsRefusal, IsTrouble, is_damaged, is_full_refusal, Swap, makes_more, ends_then_err, ends_then_ok, trouble_after_tried, refusal_after_reads, refusal_of, Graph, Index, Object, bare_object, Holds, bare_index, bare_normal, bare_special, Opened, ChangesOnly, of_owners}
 use Rattle.cfs_base.specs.declared.kind.Place.TheVariants.{Root}
 use Rattle.index_ops.specs.Changes.{HasSlot, IsIndexRefusal, IsOneLeaf, Takes, leaf_and_node}
 use Rattle.index_ops.specs.Creates.{Creates, IsBare, IsOpenMap, MakeEnds, MayBeMade, PutsObject, made_of, with_made}
 use Rattle.index_ops.proofs.Putting.{from_refusal}
+use Rattle.cyl_alloc.specs.Left.{Left}
+use Rattle.intentions.specs.Left.{end_of}
+use Rattle.special_files.specs.Committing.{IsAtBit, IsNoted}
 use Rattle.index_ops.proofs.NewObjects.{not_full}
 use Rattle.cfs_base.specs.declared.kind.Kind.TheVariants as kinds
 use Rattle.cfs_base.specs.declared.refusal.Refused.TheVariants as refused
@@ -20,29 +23,29 @@ module _ {D : Type 0} (g : Ghosts D) (at slot : ℕ) (d0 : D) (k0 : Kept) where
     leaves = λ graph ds id i has. wider g d0 d1 Nothing _ reads.images (λ c none. absurd none);
     sound = sound;
     refused = why;
-    memory = λ same. (kept, reads_within g d0 d1 n 9 few reads);
     untried = λ same. (kept, reads_within g d0 d1 n 9 few reads);
     cylinders = ap (λ (k : Kept). length k.free) kept;
     left = tt;
-    calls = makes_more g d0 d1 n 0 42 24 (omega (arith, few)) (omega arith) (reads_make g d0 d1 n reads);
+    bit = tt;
+    calls = makes_more g d0 d1 n 0 24 13 (omega (arith, few)) (omega arith) (reads_make g d0 d1 n reads);
   }
 
   -- made after reads, or not
-  module _ (d2 d3 : D) (k1 k3 : Kept) (c : ℕ) (root : roots.Root) (reads : OnlyReads g 2 d0 d2) (kept : k1 ≡ k0) (cylinders : length k3.free ≡ length k1.free) (made : MakesAtMost g 40 24 d2 d3)
+  module _ (d2 d3 : D) (k1 k3 : Kept) (c : ℕ) (root : roots.Root) (reads : OnlyReads g 2 d0 d2) (kept : k1 ≡ k0) (cylinders : length k3.free ≡ length k1.free) (made : MakesAtMost g 22 13 d2 d3)
       (least : (graph : Graph) (ds : List Opened) (id : Puid) (i : Index) → HasSlot g graph ds d0 k0 at id i slot → IsLeastFree (g.content d0) c) where
     abbrev Ends3 : Result Puid Refused → Type 0
-    Ends3 r = (graph : Graph) (ds : List Opened) (id : Puid) (i : Index) → HasSlot g graph ds d0 k0 at id i slot → MakeEnds g graph ds id i slot (named c root.word) (bare_object root) d2 d3 k3 r
+    Ends3 r = (graph : Graph) (ds : List Opened) (id : Puid) (i : Index) → HasSlot g graph ds d0 k0 at id i slot → MakeEnds g graph ds id i slot (puid_at c root.word) (bare_object root) d2 d3 k3 r
 
     images : (r : Result Puid Refused) → Ends3 r → (graph : Graph) (ds : List Opened) (id : Puid) (i : Index) → HasSlot g graph ds d0 k0 at id i slot
-        → Leaves g d0 d3 (λ x. Holds x graph ⊎ ((b : ℕ) × IsLeastFree (g.content d0) b × Holds x (with_made graph id i slot (named b root.word) (bare_object root))))
-    images r ends graph ds id i has = then g d0 d2 d3 _ (λ x. Holds x graph ⊎ Holds x (with_made graph id i slot (named c root.word) (bare_object root))) (wider g d0 d2 Nothing _ reads.images (λ x none. absurd none)) (ends graph ds id i has).leaves
+        → Leaves g d0 d3 (λ x. Holds x graph ⊎ ((b : ℕ) × IsLeastFree (g.content d0) b × Holds x (with_made graph id i slot (puid_at b root.word) (bare_object root))))
+    images r ends graph ds id i has = then g d0 d2 d3 _ (λ x. Holds x graph ⊎ Holds x (with_made graph id i slot (puid_at c root.word) (bare_object root))) (wider g d0 d2 Nothing _ reads.images (λ x none. absurd none)) (ends graph ds id i has).leaves
         (λ x h. ⊎_elim (λ old. inl old) (λ both. inr (c, least graph ds id i has, both)) h)
 
-    all : MakesAtMost g 42 24 d0 d3
-    all = makes_then g d0 d2 d3 2 40 42 0 24 24 (reads_make g d0 d2 2 reads) made (omega arith) (omega arith)
+    all : MakesAtMost g 24 13 d0 d3
+    all = makes_then g d0 d2 d3 2 22 24 0 13 13 (reads_make g d0 d2 2 reads) made (omega arith) (omega arith)
 
-    pub made_done : (p : Puid) → k3.left ≡ None → p ≡ named c root.word → Ends3 (Ok p) → PutsObject g at slot (bare_object root) root.word d0 d3 k0 k3 (Ok p)
-    made_done p left is ends = record {
+    pub made_done : (p : Puid) → ((l : Left) × IsNoted at k3.left l) → IsAtBit g d2 d3 k3.left → p ≡ puid_at c root.word → Ends3 (Ok p) → PutsObject g at slot (bare_object root) root.word d0 d3 k0 k3 (Ok p)
+    made_done p left bit is ends = record {
       done = λ graph ds id i has.
           let done = (ends graph ds id i has).done in (
             ap (λ (x : Puid). x.word) is,
@@ -50,44 +53,44 @@ module _ {D : Type 0} (g : Ghosts D) (at slot : ℕ) (d0 : D) (k0 : Kept) where
               least = least graph ds id i has;
               store = done.store;
               settled = done.settled;
-              only = subst (λ (x : Image). ChangesOnly (λ entry. of_owners (id.block ∷ c ∷ []) entry) x (g.content d3)) reads.content done.only;
-              beside = subst (λ (x : Image). IsOneLeaf (slot / 64) id.block x (g.content d3)) reads.content done.beside;
-              takes = subst (λ (x : Image). Takes (intended Root c ∷ leaf_and_node (slot / 64) id.block) (id.block ∷ c ∷ []) x (g.content d3)) reads.content done.takes;
+              only = subst (λ (x : Image). ChangesOnly (λ entry. of_owners (id.block ∷ c ∷ []) entry) x (end_of g d3 k3)) reads.content done.only;
+              beside = subst (λ (x : Image). IsOneLeaf (slot / 64) id.block x (end_of g d3 k3)) reads.content done.beside;
+              takes = subst (λ (x : Image). Takes (intended Root c ∷ leaf_and_node (slot / 64) id.block) id.block (c ∷ []) x (end_of g d3 k3)) reads.content done.takes;
             }),
           );
       leaves = images (Ok p) ends;
       sound = λ graph ds id i has. tt;
       refused = tt;
-      memory = tt;
       untried = tt;
       cylinders = cylinders ∙ ap (λ (k : Kept). length k.free) kept;
       left = left;
+      bit = record { tried = λ some. then_tried g d0 d2 d3 2 0 (reads_make g d0 d2 2 reads) (bit.tried some); settled = λ some tells. bit.settled some (tells_on g d0 d2 d2 2 reads tells) };
       calls = all;
     }
 
-    pub made_err : (e : Refused) → IsRefusal g at 0 d2 d3 k3 e × (is_full e ≡ false) → (e ≡ refused.Disk false → (k3 ≡ k1) × OnlyReads g 3 d2 d3) → Ends3 (Err e) → PutsObject g at slot (bare_object root) root.word d0 d3 k0 k3 (Err e)
+    pub made_err : (e : Refused) → IsRefusal g at 0 d2 d3 k3 e × (is_full_refusal e ≡ false) → (e ≡ refused.Disk false → (k3 ≡ k1) × OnlyReads g 3 d2 d3) → Ends3 (Err e) → PutsObject g at slot (bare_object root) root.word d0 d3 k0 k3 (Err e)
     made_err e why untried ends = record {
       done = λ graph ds id i has. tt;
       leaves = images (Err e) ends;
       sound = λ graph ds id i has. (ends graph ds id i has).sound;
       refused = inl (from_refusal g at slot d0 d3 k3 e (refusal_after_reads g at d0 d2 d3 k3 0 2 e reads why.0) why.1);
-      memory = λ same. absurd (subst (IsRefusal g at 0 d2 d3 k3) same why.0);
       untried = λ same. let two = untried same in (two.0 ∙ kept, reads_then g d0 d2 d3 2 3 9 reads two.1 (omega arith));
       cylinders = cylinders ∙ ap (λ (k : Kept). length k.free) kept;
       left = tt;
+      bit = tt;
       calls = all;
     }
 
 -- ---- the root made, the slot filled, and both committed, on any disk
 
-full_stays : (e : Refused) → is_full e ≡ false → is_full (after_try e) ≡ false
+full_stays : (e : Refused) → is_full_refusal e ≡ false → is_full_refusal (after_try e) ≡ false
 full_stays (refused.Full need) is = is
 full_stays (refused.Disk tried) is = refl
 full_stays (refused.Damaged damage) is = refl
 full_stays refused.Memory is = refl
 
 module _ {D : Type 0} (g : Ghosts D) (at : ℕ) (d0 d1 d2 : D) (k0 k1 k2 : Kept) (j : ℕ) (first : Ends {A = Unit {0}} g at 0 3 2 1 d0 d1 k0 k1 (Ok tt)) (tried : HasTried g d0 d1) where
-  pub fill_refused : (e : Refused) → Ends {A = Option Swap} g at 0 8 4 j d1 d2 k1 k2 (Err e) → is_full e ≡ false → IsRefusal g at 0 d0 d2 k2 (after_try e) × (is_full (after_try e) ≡ false)
+  pub fill_refused : (e : Refused) → Ends {A = Option Swap} g at 0 8 4 j d1 d2 k1 k2 (Err e) → is_full_refusal e ≡ false → IsRefusal g at 0 d0 d2 k2 (after_try e) × (is_full_refusal (after_try e) ≡ false)
   fill_refused e ended spare =
       let both : Ends {A = Option Swap} g at 0 11 6 (1 + j) d0 d2 k0 k2 (Err (after_try e)) = ends_then_err {A = Unit {0}} {B = Option Swap} g at 0 d0 d1 d2 k0 k1 k2 tt e 3 2 1 8 4 j first tried ended 11 6 (1 + j) (omega arith) (omega arith) (omega arith) in
       (both.refused, full_stays e spare)
@@ -96,7 +99,7 @@ module _ {D : Type 0} (g : Ghosts D) (at : ℕ) (d0 d1 d2 : D) (k0 k1 k2 : Kept)
     both : Ends {A = Option Swap} g at 0 11 6 (1 + j) d0 d2 k0 k2 (Ok put)
     both = ends_then_ok {A = Unit {0}} {B = Option Swap} g at 0 d0 d1 d2 k0 k1 k2 tt put 3 2 1 8 4 j first second 11 6 (1 + j) (omega arith) (omega arith) (omega arith)
 
-    pub commit_refused : (t : Trouble) → IsTrouble g at d2 d3 k3 t → IsRefusal g at 0 d0 d3 k3 (refused_by (trouble_after_try t)) × (is_full (refused_by (trouble_after_try t)) ≡ false)
+    pub commit_refused : (t : Trouble) → IsTrouble g at d2 d3 k3 t → IsRefusal g at 0 d0 d3 k3 (refused_by (trouble_after_try t)) × (is_full_refusal (refused_by (trouble_after_try t)) ≡ false)
     commit_refused t why = (
       refusal_of g at 0 d0 d3 k3 (trouble_after_try t) (trouble_after_tried g at 0 d0 d2 d3 k3 11 6 both.calls (tried_then g d0 d1 d2 8 4 tried second.calls) both.told t why),
       not_full (trouble_after_try t),

@@ -1,5 +1,6 @@
 -- An object made, with the index that its identifier is put into.
-use Rattle.index_ops.proofs.Words.{◌≡◌, ◌≢◌, inl, ⊎_elim, ℕ, zero, suc, ◌+◌, ◌-◌, ◌/◌, ◌%◌, ◌<◌, ◌≤◌, ◌^◌, Bool, true, false, List, [], ◌∷◌, ◌++◌, length, get_or, set, Option, Some, None, Ok, Err, refl, sym, ◌∙◌, ap, subst, eq-eqb, lt-ltb, arith, ◌==◌, not, sum, OnOk, IfErr, Result, option_to_list, and_from, and_parts, both_ways, false_from_ne_true, ne_eqb, get_or-set_other, get_or-set_same, sum_by-cons, HasTried, OnlyReads, Image, block_at, after_try, refused_by, trouble_after_try, trouble_had_tried, Leaves, Ghosts, Puid, Refused, Trouble, reads_within, then, wider, node_pointers, pointers_of, IsRootBlock, root_spelling, IsFindRefusal, IsMapTrouble, AreCounts, IsBadMap, IsLeastFree, Kept, after_taking, intended, counts_taken, IsEntry, entry_in, is_free_entry, is_free_in, map_of, with_entry, MapEntry, Free, block_at-with_entry, entry_in-set, entry_in-with_entry_other, entry_in-with_entry_same, length-with_entry, same_or_not, AreClaimed, ChangesEntry, Frame, MayPut, StoreHas, Claim, keeps_frame, on_entry, may_claim, Becomes, WritesBlock, Committed, Makes, named, Drafting, IsOpen, begun_at, fresh_of, opened_as, Ends, filled_draft, SameBeside, leaf_claims, IsRefusal, NoMap, OtherCount, is_damage, is_damaged, is_full, replaced, framed_carries, framed_holds, written_framed, begun_fresh, first_number, more_numbers, no_damage, owners_change, length-none, first_here, first_others, bare_kept, content_kept, made_kept, counts_content, free_is, meant_open, the_draft, taken_not_free, makes_more, ends_then_err, ends_then_ok, write_ends, Graph, has_block, object_at, has_number, Index, Object, Frames, IsLoose, StandsForNone, is_fixed, part_of, reserved, bare_object, tree_in, Holds, IsBareRoot, loose_stays, free_is_loose, in_image, taken_apart, tree_placed, frames_begin, frames_content, not_map, same_tree, HasDraft, HasDrafts, HasItsBlocks, IsMade, Opened, created_of, drafts_of, numbers_differ, ChangesOnly, IsOpenTo, SameBut, SameOthers, of_draft, of_drafts, is_had, is_made, is_meant, is_of, is_placed, is_taken, owner_of, changes_content, changes_entry, changes_then, changes_wider, made_not_free, of_taken, block_there, object_of_block, draft_kept, drafts_miss, list_misses, owns_nothing, making_goes_on}
+use Rattle.intentions.specs.Left.{StoreIs, end_of}
+use Rattle.index_ops.proofs.Words.{◌≡◌, ◌≢◌, inl, ⊎_elim, ℕ, zero, suc, ◌+◌, ◌-◌, ◌/◌, ◌%◌, ◌<◌, ◌≤◌, ◌^◌, Bool, true, false, List, [], ◌∷◌, ◌++◌, length, get_or, set, Option, Some, None, Ok, Err, refl, sym, ◌∙◌, ap, subst, eq-eqb, lt-ltb, arith, ◌==◌, not, sum, OnOk, IfErr, Result, option_to_list, and_from, and_parts, both_ways, false_from_ne_true, ne_eqb, get_or-set_other, get_or-set_same, sum_by-cons, HasTried, OnlyReads, Image, block_at, after_try, refused_by, trouble_after_try, trouble_had_tried, Leaves, Ghosts, Puid, Refused, Trouble, reads_within, then, wider, node_pointers, pointers_of, IsRootBlock, root_spelling, IsFindRefusal, IsMapTrouble, AreCounts, IsBadMap, IsLeastFree, Kept, after_taking, intended, counts_taken, IsEntry, entry_in, is_free_entry, is_free_in, map_of, with_entry, MapEntry, Free, block_at-with_entry, entry_in-set, entry_in-with_entry_other, entry_in-with_entry_same, length-with_entry, same_or_not, AreClaimed, ChangesEntry, Frame, MayPut, StoreHas, Claim, keeps_frame, on_entry, may_claim, Becomes, WritesBlock, Committed, Makes, puid_at, Drafting, IsOpen, begun_at, fresh_of, opened_as, Ends, filled_draft, SameBeside, leaf_claims, IsRefusal, NoMap, OtherCount, is_damage, is_damaged, is_full_refusal, replaced, framed_carries, framed_holds, written_framed, begun_fresh, first_number, more_numbers, no_damage, owners_change, length-none, first_here, first_others, bare_kept, content_kept, made_kept, counts_content, free_is, meant_open, the_draft, taken_not_free, makes_more, ends_then_err, ends_then_ok, write_ends, Graph, has_block, object_at, has_number, Index, Object, Frames, IsLoose, StandsForNone, is_fixed, part_of, reserved, bare_object, tree_in, Holds, IsBareRoot, loose_stays, free_is_loose, in_image, taken_apart, tree_placed, frames_begin, frames_content, not_map, same_tree, HasDraft, HasDrafts, HasItsBlocks, IsMade, Opened, created_of, drafts_of, numbers_differ, ChangesOnly, IsOpenTo, SameBut, SameOthers, of_draft, of_drafts, is_had, is_made, is_meant, is_of, is_placed, is_taken, owner_of, changes_content, changes_entry, changes_then, changes_wider, made_not_free, of_taken, block_there, object_of_block, draft_kept, drafts_miss, list_misses, owns_nothing, making_goes_on}
 use Rattle.cfs_base.specs.declared.kind.Place.TheVariants.{Root}
 use Rattle.index_ops.specs.Changes.{index_with, leaf_and_node}
 use Rattle.index_ops.specs.Creates.{Creates, HasImage, IsBare, RootEnds, Spells, begun_of, with_made, with_root}
@@ -12,7 +13,7 @@ use Rattle.ufs_model.specs.declared.object.Object.TheVariants as objects
 -- ---- why no block is found
 
 module _ {D : Type 0} (g : Ghosts D) (old new : D) (space : Kept) where
-  pub find_why : (e : Refused) → IsFindRefusal g old new space e → OnlyReads g 1 old new → 1 ≤ sum space.free → (at : ℕ) → IsRefusal g at 0 old new space e × (is_full e ≡ false)
+  pub find_why : (e : Refused) → IsFindRefusal g old new space e → OnlyReads g 1 old new → 1 ≤ sum space.free → (at : ℕ) → IsRefusal g at 0 old new space e × (is_full_refusal e ≡ false)
   find_why (refused.Full need) is reads some at = absurd (none is.2)
     where
       none : sum space.free ≡ 0 → ⊥
@@ -50,7 +51,7 @@ trouble_sound : (t : Trouble) → is_damage (trouble_after_try t) ≡ false → 
 trouble_sound (trouble.Disk tried) is = refl
 trouble_sound (trouble.Damaged damage) is = is
 
-pub not_full : (t : Trouble) → is_full (refused_by t) ≡ false
+pub not_full : (t : Trouble) → is_full_refusal (refused_by t) ≡ false
 not_full (trouble.Disk tried) = refl
 not_full (trouble.Damaged damage) = refl
 
@@ -329,7 +330,7 @@ module _ {D : Type 0} (g : Ghosts D) (graph : Graph) (ds : List Opened) (id : Pu
   }
 
   abbrev new : Puid
-  new = named c root.word
+  new = puid_at c root.word
 
   bare_now : IsBareRoot after new root
   bare_now = record {
@@ -341,11 +342,11 @@ module _ {D : Type 0} (g : Ghosts D) (graph : Graph) (ds : List Opened) (id : Pu
 
   -- ---- the slot is filled, and both are committed
 
-  module _ (slot : ℕ) (d3 d4 : D) (k3 k4 : Kept) (then3 : Drafting) (becomes : Becomes g graph fs id (filled_draft i slot (Some (named c root.word)) (begun_of i)) d2 d3 k3 then3) (stays : then3.created ≡ Some c) where
+  module _ (slot : ℕ) (d3 d4 : D) (k3 k4 : Kept) (then3 : Drafting) (becomes : Becomes g graph fs id (filled_draft i slot (Some (puid_at c root.word)) (begun_of i)) d2 d3 k3 then3) (stays : then3.created ≡ Some c) where
     abbrev e : Opened
-    e = opened_as id then3 (filled_draft i slot (Some (named c root.word)) (begun_of i))
+    e = opened_as id then3 (filled_draft i slot (Some (puid_at c root.word)) (begun_of i))
 
-    pub still_makes : Makes (g.content d3) then3.created (Some (record { id = named c root.word; object = bare_object root }))
+    pub still_makes : Makes (g.content d3) then3.created (Some (record { id = puid_at c root.word; object = bare_object root }))
     still_makes = (
       stays,
       (
@@ -371,17 +372,18 @@ module _ {D : Type 0} (g : Ghosts D) (graph : Graph) (ds : List Opened) (id : Pu
 
     pub created : (claims : AreClaimed (leaf_claims was.at was.leaves was.nodes (slot / 64)) after (g.content d3))
         → SameBeside (slot / 64) (tree_in after (root_spelling was.root)) (tree_in (g.content d3) (root_spelling then3.root))
-        → Committed g graph (replaced e fs) id (index_with i slot (Some (named c root.word))) (Some (record { id = named c root.word; object = bare_object root })) d3 d4 k4
-        → Creates g graph ds id i slot (named c root.word) (bare_object root) d0 d4 k4
-    created claims beside ch =
+        → then3.shadow ≡ None
+        → Committed g graph (replaced e fs) id (index_with i slot (Some (puid_at c root.word))) (Some (record { id = puid_at c root.word; object = bare_object root })) d3 d4 k4
+        → Creates g graph ds id i slot (puid_at c root.word) (bare_object root) d0 d4 k4
+    created claims beside no_shadow ch =
         let rs = id.block ∷ c ∷ [] in
         record {
           least = least;
-          store = subst (λ (xs : List Opened). StoreHas g (with_made graph id i slot new (bare_object root)) xs d4 k4) (without_begun e (opened_as id now (begun_of i)) ds refl shut) ch.store;
+          store = subst (λ (xs : List Opened). StoreIs g (with_made graph id i slot new (bare_object root)) xs d4 k4) (without_begun e (opened_as id now (begun_of i)) ds refl shut) ch.store;
           settled = ch.settled;
-          only = changes_then _ before (g.content d3) (g.content d4) (changes_then _ before after (g.content d3) (owners_change c rs before after (more_numbers id.block c (c ∷ []) (first_number c [])) only_root)
+          only = changes_then _ before (g.content d3) (end_of g d4 k4) (changes_then _ before after (g.content d3) (owners_change c rs before after (more_numbers id.block c (c ∷ []) (first_number c [])) only_root)
               (owners_change id.block rs after (g.content d3) (first_number id.block (c ∷ [])) becomes.steps.only)) ch.only;
-          beside = leaf_alone (slot / 64) id.block before (g.content d4) (tree_in after (root_spelling was.root)) (tree_in (g.content d3) (root_spelling then3.root))
+          beside = leaf_alone (slot / 64) id.block before (end_of g d4 k4) (tree_in after (root_spelling was.root)) (tree_in (g.content d3) (root_spelling then3.root))
               (own_tree ∙ ap (tree_in before) (ap (λ (x : Drafting). root_spelling x.root) begun ∙ sym draft_was.own.spelled)) beside (ch.tree e becomes.is_open.alone);
           takes = record {
             mid = g.content d3;
@@ -391,5 +393,6 @@ module _ {D : Type 0} (g : Ghosts D) (graph : Graph) (ds : List Opened) (id : Pu
               subst (λ (es : List MapEntry). AreClaimed es after (g.content d3)) (begun_claims was.at None was.own (slot / 64) was begun ∙ ap (leaf_and_node (slot / 64)) (sym here)) claims,
             );
             only = ch.only;
+            shadow = ch.order e becomes.is_open.alone no_shadow;
           };
         }

@@ -1,8 +1,15 @@
 -- An index changed by a draft that is begun, filled and committed.
-use Rattle.index_ops.proofs.Words.{◌≡◌, ◌≢◌, inl, inr, ℕ, ◌+◌, ◌*◌, ◌/◌, ◌<◌, ◌≤◌, Bool, true, false, cond, not, List, [], ◌∷◌, length, get_or, Option, Some, None, Ok, Err, refl, sym, ◌∙◌, ap, subst, arith, Result, and_from, and_parts, HasTried, MakesAtMost, OnlyReads, Image, Nothing, block_at, refused_by, trouble_after_try, IsSettled, Leaves, Tells, Ghosts, Puid, Refused, Trouble, makes_then, reads_make, reads_then, reads_within, stopped_after_reads, then_tried, then, wider, IsRootBlock, root_spelling, MapEntry, AreClaimed, Leaf, Node, AreCounts, Kept, intended, StoreHas, Becomes, Committed, IsOldOrNew, Drafting, IsOpen, begun_at, fresh_of, is_fresh_leaf, is_fresh_node, leaf_takes, one_unless, opened_as, Ends, filled_draft, SameBeside, leaves_of, leaf_claims, IsRefusal, IsRefusalOrMemory, IsTrouble, is_damage, is_damaged, is_full, replaced, without_draft, begun_fresh, store_reads, Swap, makes_more, trouble_after_tried, length-none, none_is, first_here, the_draft, refusal_after_reads, Graph, ids_of, object_at, with_object, rises, same_puid, Draft, Index, Object, object_at-with_object, rises-with_object, same_entries, object_with, Tree, tree_in, Holds, one_root_block, carries_on, same_puid_is, same_puid_itself, Accounts, Opened, drafts_of, ChangesOnly, of_draft, of_owner, of_owners, is_meant, is_placed, is_taken, changes_begin, changes_then, changes_wider, placed_taken}
+use Rattle.index_ops.proofs.Words.{◌≡◌, ◌≢◌, inl, inr, ℕ, ◌+◌, ◌*◌, ◌/◌, ◌<◌, ◌≤◌, Bool, true, false, cond, not, List, [], ◌∷◌, length, get_or, Option, Some, None, Ok, Err, refl, sym, ◌∙◌, ap, subst, arith, Result, and_from, and_parts, HasTried, MakesAtMost, OnlyReads, Image, Nothing, block_at, refused_by, trouble_after_try, IsSettled, Leaves, Tells, Ghosts, Puid, Refused, Trouble, makes_then, reads_make, reads_then, reads_within, stopped_after_reads, then_tried, then, wider, IsRootBlock, root_spelling, MapEntry, AreClaimed, Leaf, Node, AreCounts, Kept, intended, StoreHas, Becomes, Committed, IsOldOrNew, Drafting, IsOpen, begun_at, fresh_of, is_fresh_leaf, is_fresh_node, draft_takes, one_unless, opened_as, Ends, filled_draft, SameBeside, leaves_of, leaf_claims, IsRefusal, IsTrouble, is_damage, is_damaged, is_full_refusal, TakesShadow, replaced, without_draft, begun_fresh, store_reads, Swap, makes_more, trouble_after_tried, length-none, none_is, first_here, the_draft, refusal_after_reads, Graph, ids_of, object_at, with_object, rises, same_puid, Draft, Index, Object, object_at-with_object, rises-with_object, same_entries, object_with, Tree, tree_in, Holds, one_root_block, carries_on, same_puid_is, same_puid_itself, Accounts, Opened, drafts_of, ChangesOnly, of_draft, of_owner, of_owners, is_meant, is_placed, is_taken, changes_begin, changes_then, changes_wider, placed_taken, tried_then}
 use Rattle.block_tree.specs.declared.root.Root.{Root}
-use Rattle.index_ops.specs.Changes.{Changes, ChangesLeaf, HasSlot, IsIndexRefusal, IsOneLeaf, PutsSlot, Settles, index_with, leaf_and_node, short_at}
+use Rattle.index_ops.specs.Changes.{ChangesIndex, ChangesLeaf, HasSlot, IsIndexRefusal, IsOneLeaf, PutsSlot, Settles, index_with, leaf_and_node, short_at}
+use Rattle.cfs_base.proofs.Calls.{tells_on}
+use Rattle.cfs_base.proofs.Runs.{still_tells}
+use Rattle.cyl_alloc.specs.Left.{Left}
+use Rattle.intentions.specs.Left.{StoreIs, StoreWith, coming, end_of}
+use Rattle.special_files.specs.Committing.{IsNoted}
+use Rattle.special_files.proofs.CommitLeft.{none_unfinished}
 use Rattle.index_ops.proofs.Indices.{slots_are}
+use Rattle.intentions.proofs.Shown.{root_tree, shown_has}
 use Rattle.cfs_base.specs.declared.refusal.Refused.TheVariants as refused
 use Rattle.cfs_base.specs.declared.refusal.Trouble.TheVariants as trouble
 use Rattle.ufs_model.specs.declared.object.Object.TheVariants as objects
@@ -88,11 +95,11 @@ module _ {D : Type 0} (g : Ghosts D) (graph : Graph) (ds : List Opened) (id : Pu
     abbrev e : Opened
     e = opened_as id now (filled_draft i slot what d)
 
-    pub commit_done : Committed g graph (replaced e es) id (index_with i slot what) None d2 d3 k3 → Changes g graph ds id (index_with i slot what) d0 d3 k3
+    pub commit_done : Committed g graph (replaced e es) id (index_with i slot what) None d2 d3 k3 → ChangesIndex g graph ds id (index_with i slot what) d0 d3 k3
     commit_done ch = record {
-      store = subst (λ (fs : List Opened). StoreHas g (with_object graph id (index_with i slot what)) fs d3 k3) (without_begun e (opened_as id was d) ds refl has.shut) ch.store;
+      store = subst (λ (fs : List Opened). StoreIs g (with_object graph id (index_with i slot what)) fs d3 k3) (without_begun e (opened_as id was d) ds refl has.shut) ch.store;
       settled = ch.settled;
-      only = changes_then _ (g.content d0) (g.content d2) (g.content d3)
+      only = changes_then _ (g.content d0) (g.content d2) (end_of g d3 k3)
           (changes_wider (λ entry. of_draft id.block entry) (λ entry. of_owner id.block entry) (g.content d0) (g.content d2) (draft_owned id.block)
           (subst (λ (a : Image). ChangesOnly (λ entry. of_draft id.block entry) a (g.content d2)) reads.content becomes.steps.only)) ch.only;
     }
@@ -100,16 +107,17 @@ module _ {D : Type 0} (g : Ghosts D) (graph : Graph) (ds : List Opened) (id : Pu
     -- its leaf and node alone are others then
     pub commit_leaf : IsRootBlock (block_at (g.content d0) at) was.own → AreClaimed (leaf_claims was.at was.leaves was.nodes (slot / 64)) (g.content d1) (g.content d2)
         → SameBeside (slot / 64) (tree_in (g.content d1) (root_spelling was.root)) (tree_in (g.content d2) (root_spelling now.root))
-        → Committed g graph (replaced e es) id (index_with i slot what) None d2 d3 k3 → ChangesLeaf g (slot / 64) at what d0 d3
-    commit_leaf own claims beside ch = record {
-      beside = subst (λ (n : ℕ). IsOneLeaf (slot / 64) n (g.content d0) (g.content d3)) has.root (leaf_alone (slot / 64) id.block (g.content d0) (g.content d3)
+        → now.shadow ≡ None → Committed g graph (replaced e es) id (index_with i slot what) None d2 d3 k3 → ChangesLeaf g (slot / 64) at what d0 d3 k3
+    commit_leaf own claims beside bare ch = record {
+      beside = subst (λ (n : ℕ). IsOneLeaf (slot / 64) n (g.content d0) (end_of g d3 k3)) has.root (leaf_alone (slot / 64) id.block (g.content d0) (end_of g d3 k3)
           (tree_in (g.content d1) (root_spelling was.root)) (tree_in (g.content d2) (root_spelling now.root))
           ((λ j. tree_in (reads.content j) (root_spelling (begun j).root)) ∙ ap (tree_in (g.content d0)) (sym own.spelled ∙ ap (block_at (g.content d0)) (sym has.root))) beside (ch.tree e becomes.is_open.alone));
       takes = inr (record {
         mid = g.content d2;
         in_order = subst (λ (a : Image). AreClaimed (leaf_and_node (slot / 64) at) a (g.content d2)) reads.content
             (subst (λ (es : List MapEntry). AreClaimed es (g.content d1) (g.content d2)) (begun_claims at None was.own (slot / 64) was begun) claims);
-        only = subst (λ (n : ℕ). ChangesOnly (λ entry. of_owners (n ∷ []) entry) (g.content d2) (g.content d3)) has.root ch.only;
+        only = subst (λ (n : ℕ). ChangesOnly (λ entry. of_owners (n ∷ []) entry) (g.content d2) (end_of g d3 k3)) has.root ch.only;
+        shadow = subst (λ (n : ℕ). TakesShadow n (g.content d2) (end_of g d3 k3)) has.root (ch.order e becomes.is_open.alone bare);
       });
     }
 
@@ -127,16 +135,16 @@ module _ {D : Type 0} (g : Ghosts D) (graph : Graph) (ds : List Opened) (id : Pu
     graph_same : with_object graph id (index_with i slot what) ≡ graph
     graph_same = ap (with_object graph id) same_object ∙ same_graph graph id o has.store.ordered has.there
 
-    pub settle_done : IsSettled g d3 → g.content d3 ≡ g.content d2 → StoreHas g graph ds d3 k0 → Changes g graph ds id (index_with i slot what) d0 d3 k2
-    settle_done settled content store = record {
-      store = subst (λ (h : Graph). StoreHas g h ds d3 k2) (sym graph_same) (subst (StoreHas g graph ds d3) (sym after) store);
+    pub settle_done : k2.left ≡ None → IsSettled g d3 → g.content d3 ≡ g.content d2 → StoreHas g graph ds d3 k0 → ChangesIndex g graph ds id (index_with i slot what) d0 d3 k2
+    settle_done finished settled content store = record {
+      store = subst (λ (w : Option Left). StoreWith g (with_object graph id (index_with i slot what)) ds d3 k2 w) (sym finished) (subst (λ (h : Graph). StoreHas g h ds d3 k2) (sym graph_same) (subst (StoreHas g graph ds d3) (sym after) store));
       settled = settled;
-      only = subst (ChangesOnly (λ entry. of_owner id.block entry) (g.content d0)) (sym (content ∙ more.content ∙ reads.content)) (changes_begin _ (g.content d0) graph has.store.carries.holds);
+      only = subst (ChangesOnly (λ entry. of_owner id.block entry) (g.content d0)) (sym (ap (coming (g.content d3)) finished ∙ content ∙ more.content ∙ reads.content)) (changes_begin _ (g.content d0) graph has.store.carries.holds);
     }
 
 -- ---- why it is refused
 
-pub takes_two : (was : Drafting) (leaf : ℕ) → leaf_takes was leaf ≤ 2
+pub takes_two : (was : Drafting) (leaf : ℕ) → draft_takes was leaf ≤ 2
 takes_two was leaf = by (is_fresh_leaf was leaf) (is_fresh_node was (leaf / 128))
   where
     by : (a b : Bool) → cond a 0 (1 + one_unless b) ≤ 2
@@ -145,13 +153,7 @@ takes_two was leaf = by (is_fresh_leaf was leaf) (is_fresh_node was (leaf / 128)
     by false false = omega arith
 
 module _ {D : Type 0} (g : Ghosts D) (at slot : ℕ) (d0 d1 : D) (kept : Kept) where
-  pub from_begin : (e : Refused) → IsRefusalOrMemory g at 0 d0 d1 kept e → is_full e ≡ false → IsIndexRefusal g at slot d0 d1 kept e
-  from_begin (refused.Full need) is spare = cc
-  from_begin (refused.Disk tried) is spare = is
-  from_begin (refused.Damaged damage) is spare = inl is
-  from_begin refused.Memory is spare = tt
-
-  pub from_refusal : (e : Refused) → IsRefusal g at 0 d0 d1 kept e → is_full e ≡ false → IsIndexRefusal g at slot d0 d1 kept e
+  pub from_refusal : (e : Refused) → IsRefusal g at 0 d0 d1 kept e → is_full_refusal e ≡ false → IsIndexRefusal g at slot d0 d1 kept e
   from_refusal (refused.Full need) is spare = cc
   from_refusal (refused.Disk tried) is spare = is
   from_refusal (refused.Damaged damage) is spare = inl is
@@ -160,10 +162,6 @@ module _ {D : Type 0} (g : Ghosts D) (at slot : ℕ) (d0 d1 : D) (kept : Kept) w
   pub from_trouble : (t : Trouble) → IsTrouble g at d0 d1 kept t → IsIndexRefusal g at slot d0 d1 kept (refused_by t)
   from_trouble (trouble.Disk tried) is = is
   from_trouble (trouble.Damaged damage) is = inl is
-
-pub no_memory : (t : Trouble) → refused_by t ≢ refused.Memory
-no_memory (trouble.Disk tried) same = cc
-no_memory (trouble.Damaged damage) same = cc
 
 pub tried_disk : (t : Trouble) → refused_by (trouble_after_try t) ≢ refused.Disk false
 tried_disk (trouble.Disk tried) same = cc
@@ -185,11 +183,11 @@ module _ {D : Type 0} (g : Ghosts D) (at slot : ℕ) (what : Option Puid) (d0 : 
     leaves = λ graph ds id i has. wider g d0 d1 Nothing _ reads.images (λ c none. absurd none);
     sound = sound;
     refused = why;
-    memory = λ same. (kept, reads_within g d0 d1 n 9 few reads);
     untried = λ same. (kept, reads_within g d0 d1 n 9 few reads);
     cylinders = ap (λ (k : Kept). length k.free) kept;
     left = tt;
-    calls = makes_more g d0 d1 n 0 38 22 (omega (arith, few)) (omega arith) (reads_make g d0 d1 n reads);
+    bit = tt;
+    calls = makes_more g d0 d1 n 0 20 11 (omega (arith, few)) (omega arith) (reads_make g d0 d1 n reads);
   }
 
   -- the root has no such slot
@@ -199,14 +197,14 @@ module _ {D : Type 0} (g : Ghosts D) (at slot : ℕ) (what : Option Puid) (d0 : 
   pub short_not : (own : Root) → (Tells g d0 → IsRootBlock (block_at (g.content d0) at) own) → own.size < 8 * slot + 8 → (graph : Graph) (ds : List Opened) (id : Puid) (i : Index) → ¬ HasSlot g graph ds d0 k0 at id i slot
   short_not own is short graph ds id i has =
       let there = subst (λ (n : ℕ). IsRootBlock (block_at (g.content d0) n) own) (sym has.root) (is has.store.carries.tells) in
-      omega (arith, short, has.inside, slots_are g graph ds d0 k0 id i has.store has.there own there)
+      omega (arith, short, has.inside, slots_are (g.content d0) id.block i own (root_tree (shown_has g graph ds d0 k0 id (objects.Index i) has.store has.there) own there))
 
   -- refused while it was filled
   module _ (d1 d2 : D) (k1 k2 : Kept) (kept : k1 ≡ k0) (was : Drafting) (reads : OnlyReads g 1 d0 d1) where
-    begun_with : (r : Result (Option Swap) Refused) → Ends g was.at 0 8 4 (leaf_takes was (slot / 64)) d1 d2 k1 k2 r → Ends g was.at 0 8 4 (leaf_takes was (slot / 64)) d1 d2 k0 k2 r
-    begun_with r = subst (λ (k : Kept). Ends g was.at 0 8 4 (leaf_takes was (slot / 64)) d1 d2 k k2 r) kept
+    begun_with : (r : Result (Option Swap) Refused) → Ends g was.at 0 8 4 (draft_takes was (slot / 64)) d1 d2 k1 k2 r → Ends g was.at 0 8 4 (draft_takes was (slot / 64)) d1 d2 k0 k2 r
+    begun_with r = subst (λ (k : Kept). Ends g was.at 0 8 4 (draft_takes was (slot / 64)) d1 d2 k k2 r) kept
 
-    pub err_fill : (e : Refused) → was.at ≡ at → Ends {A = Option Swap} g was.at 0 8 4 (leaf_takes was (slot / 64)) d1 d2 k1 k2 (Err e) → is_full e ≡ false
+    pub err_fill : (e : Refused) → was.at ≡ at → Ends {A = Option Swap} g was.at 0 8 4 (draft_takes was (slot / 64)) d1 d2 k1 k2 (Err e) → is_full_refusal e ≡ false
         → ((graph : Graph) (ds : List Opened) (id : Puid) (i : Index) → HasSlot g graph ds d0 k0 at id i slot → Leaves g d1 d2 (λ c. Holds c graph) × (is_damaged e ≡ false)) → PutsSlot g at slot what d0 d2 k0 k2 (Err e)
     err_fill e here told spare on = record {
       done = λ graph ds id i has. tt;
@@ -214,31 +212,31 @@ module _ {D : Type 0} (g : Ghosts D) (at slot : ℕ) (what : Option Puid) (d0 : 
       leaves = λ graph ds id i has. then g d0 d1 d2 _ (λ c. Holds c graph) (wider g d0 d1 Nothing _ reads.images (λ c none. absurd none)) (on graph ds id i has).0 (λ c h. inl h);
       sound = λ graph ds id i has. (on graph ds id i has).1;
       refused = from_refusal g at slot d0 d2 k2 e why spare;
-      memory = λ same. absurd (subst (IsRefusal g at 0 d0 d2 k2) same why);
       untried = λ same. let two = ends.untried same in (two.0, reads_then g d0 d1 d2 1 8 9 reads two.1 (omega arith));
       cylinders = ends.cylinders;
       left = tt;
-      calls = makes_then g d0 d1 d2 1 8 38 0 4 22 (reads_make g d0 d1 1 reads) ends.calls (omega arith) (omega arith);
+      bit = tt;
+      calls = makes_then g d0 d1 d2 1 8 20 0 4 11 (reads_make g d0 d1 1 reads) ends.calls (omega arith) (omega arith);
     }
       where
-        ends : Ends {A = Option Swap} g was.at 0 8 4 (leaf_takes was (slot / 64)) d1 d2 k0 k2 (Err e)
+        ends : Ends {A = Option Swap} g was.at 0 8 4 (draft_takes was (slot / 64)) d1 d2 k0 k2 (Err e)
         ends = begun_with (Err e) told
 
         why : IsRefusal g at 0 d0 d2 k2 e
         why = refusal_after_reads g at d0 d1 d2 k2 0 1 e reads (subst (λ (n : ℕ). IsRefusal g n 0 d1 d2 k2 e) here ends.refused)
 
     -- filled, and committed or not
-    module _ (d3 : D) (k3 : Kept) (put : Option Swap) (ended : Ends {A = Option Swap} g was.at 0 8 4 (leaf_takes was (slot / 64)) d1 d2 k1 k2 (Ok put)) (tried : HasTried g d1 d2) (cylinders : length k3.free ≡ length k2.free)
-        (commit : MakesAtMost g 29 18 d2 d3)
+    module _ (d3 : D) (k3 : Kept) (put : Option Swap) (ended : Ends {A = Option Swap} g was.at 0 8 4 (draft_takes was (slot / 64)) d1 d2 k1 k2 (Ok put)) (tried : HasTried g d1 d2) (cylinders : length k3.free ≡ length k2.free)
+        (commit : MakesAtMost g 11 7 d2 d3)
         (leaves : (graph : Graph) (ds : List Opened) (id : Puid) (i : Index) → HasSlot g graph ds d0 k0 at id i slot → Leaves g d1 d2 (λ c. Holds c graph) × Leaves g d2 d3 (IsOldOrNew graph graph id (index_with i slot what))) where
-      ends : Ends {A = Option Swap} g was.at 0 8 4 (leaf_takes was (slot / 64)) d1 d2 k0 k2 (Ok put)
+      ends : Ends {A = Option Swap} g was.at 0 8 4 (draft_takes was (slot / 64)) d1 d2 k0 k2 (Ok put)
       ends = begun_with (Ok put) ended
 
       first : MakesAtMost g 9 4 d0 d2
       first = makes_then g d0 d1 d2 1 8 9 0 4 4 (reads_make g d0 d1 1 reads) ends.calls (omega arith) (omega arith)
 
-      all : MakesAtMost g 38 22 d0 d3
-      all = makes_then g d0 d2 d3 9 29 38 4 18 22 first commit (omega arith) (omega arith)
+      all : MakesAtMost g 20 11 d0 d3
+      all = makes_then g d0 d2 d3 9 11 20 4 7 11 first commit (omega arith) (omega arith)
 
       images : (graph : Graph) (ds : List Opened) (id : Puid) (i : Index) → HasSlot g graph ds d0 k0 at id i slot → Leaves g d0 d3 (IsOldOrNew graph graph id (index_with i slot what))
       images graph ds id i has =
@@ -246,9 +244,23 @@ module _ {D : Type 0} (g : Ghosts D) (at slot : ℕ) (what : Option Puid) (d0 : 
           let two = leaves graph ds id i has in
           then g d0 d2 d3 P P (then g d0 d1 d2 P (λ c. Holds c graph) (wider g d0 d1 Nothing P reads.images (λ c none. absurd none)) two.0 (λ c h. inl h)) two.1 (λ c h. h)
 
-      pub ok_commit : k3.left ≡ None → ((graph : Graph) (ds : List Opened) (id : Puid) (i : Index) → HasSlot g graph ds d0 k0 at id i slot → Changes g graph ds id (index_with i slot what) d0 d3 k3)
-          → ((graph : Graph) (ds : List Opened) (id : Puid) (i : Index) → HasSlot g graph ds d0 k0 at id i slot → ChangesLeaf g (slot / 64) at what d0 d3) → PutsSlot g at slot what d0 d3 k0 k3 (Ok tt)
-      ok_commit left done leaf = record { done = done; leaf = leaf; leaves = images; sound = λ graph ds id i has. tt; refused = tt; memory = tt; untried = tt; cylinders = cylinders ∙ ends.cylinders; left = left; calls = all }
+      pub ok_commit : ((l : Left) × IsNoted at k3.left l) → (Tells g d2 → IsSettled g d3) → ((graph : Graph) (ds : List Opened) (id : Puid) (i : Index) → HasSlot g graph ds d0 k0 at id i slot → ChangesIndex g graph ds id (index_with i slot what) d0 d3 k3)
+          → ((graph : Graph) (ds : List Opened) (id : Puid) (i : Index) → HasSlot g graph ds d0 k0 at id i slot → ChangesLeaf g (slot / 64) at what d0 d3 k3) → PutsSlot g at slot what d0 d3 k0 k3 (Ok tt)
+      ok_commit left settled done leaf = record {
+        done = done;
+        leaf = leaf;
+        leaves = images;
+        sound = λ graph ds id i has. tt;
+        refused = tt;
+        untried = tt;
+        cylinders = cylinders ∙ ends.cylinders;
+        left = inr left;
+        bit = record {
+          tried = λ some. tried_then g d0 d2 d3 11 7 (then_tried g d0 d1 d2 1 0 (reads_make g d0 d1 1 reads) tried) commit;
+          settled = λ some tells. settled (still_tells g (tells_on g d0 d1 d1 1 reads tells) ends.told ends.calls.same);
+        };
+        calls = all;
+      }
 
       pub err_commit : (t : Trouble) → IsTrouble g at d2 d3 k3 t → ((graph : Graph) (ds : List Opened) (id : Puid) (i : Index) → HasSlot g graph ds d0 k0 at id i slot → is_damage t ≡ false)
           → PutsSlot g at slot what d0 d3 k0 k3 (Err (refused_by (trouble_after_try t)))
@@ -259,10 +271,10 @@ module _ {D : Type 0} (g : Ghosts D) (at slot : ℕ) (what : Option Puid) (d0 : 
         sound = λ graph ds id i has. sound_by t (sound graph ds id i has);
         refused = from_trouble g at slot d0 d3 k3 (trouble_after_try t)
             (trouble_after_tried g at 0 d0 d2 d3 k3 9 4 first (then_tried g d0 d1 d2 1 0 (reads_make g d0 d1 1 reads) tried) (λ b was. ends.told b (reads.told b was)) t why);
-        memory = λ same. absurd (no_memory (trouble_after_try t) same);
         untried = λ same. absurd (tried_disk t same);
         cylinders = cylinders ∙ ends.cylinders;
         left = tt;
+        bit = tt;
         calls = all;
       }
 
@@ -272,12 +284,12 @@ module _ {D : Type 0} (g : Ghosts D) (at slot : ℕ) (what : Option Puid) (d0 : 
     both = reads_then g d0 d1 d2 1 2 3 reads more (omega arith)
 
     pub ends_settled : (result : Result (Unit {0}) Refused) → Settles g d2 d3 result
-        → ((graph : Graph) (ds : List Opened) (id : Puid) (i : Index) → HasSlot g graph ds d0 k0 at id i slot → IsSettled g d3 → StoreHas g graph ds d3 k0 → Changes g graph ds id (index_with i slot what) d0 d3 k2)
+        → ((graph : Graph) (ds : List Opened) (id : Puid) (i : Index) → HasSlot g graph ds d0 k0 at id i slot → IsSettled g d3 → StoreHas g graph ds d3 k0 → ChangesIndex g graph ds id (index_with i slot what) d0 d3 k2)
         → PutsSlot g at slot what d0 d3 k0 k2 result
     ends_settled result settles done = by result settles
       where
-        calls : MakesAtMost g 1 1 d2 d3 → MakesAtMost g 38 22 d0 d3
-        calls one = makes_then g d0 d2 d3 3 1 38 0 1 22 (reads_make g d0 d2 3 both) one (omega arith) (omega arith)
+        calls : MakesAtMost g 1 1 d2 d3 → MakesAtMost g 20 11 d0 d3
+        calls one = makes_then g d0 d2 d3 3 1 20 0 1 11 (reads_make g d0 d2 3 both) one (omega arith) (omega arith)
 
         images : (P : Image → Type 0) → Leaves g d2 d3 Nothing → Leaves g d0 d3 P
         images P left = then g d0 d2 d3 P Nothing (wider g d0 d2 Nothing P both.images (λ c none. absurd none)) left (λ c none. absurd none)
@@ -293,15 +305,15 @@ module _ {D : Type 0} (g : Ghosts D) (at slot : ℕ) (what : Option Puid) (d0 : 
                 ordered = store.ordered;
               });
           leaf = λ graph ds id i has.
-              let same = is.content ∙ both.content in
+              let same = ap (coming (g.content d3)) (ap (λ (k : Kept). k.left) kept ∙ finished) ∙ is.content ∙ both.content in
               record { beside = λ path not_node not_leaf. ap (λ (a : Image). (tree_in a (block_at a at)).below path) same; takes = inl (none, same) };
           leaves = λ graph ds id i has. images _ is.images;
           sound = λ graph ds id i has. tt;
           refused = tt;
-          memory = tt;
           untried = tt;
           cylinders = ap (λ (k : Kept). length k.free) kept;
-          left = ap (λ (k : Kept). k.left) kept ∙ finished;
+          left = inl (none, ap (λ (k : Kept). k.left) kept ∙ finished);
+          bit = none_unfinished g d0 d3 k2.left (ap (λ (k : Kept). k.left) kept ∙ finished);
           calls = calls is.calls;
         }
         by (Err e) is = record {
@@ -310,9 +322,9 @@ module _ {D : Type 0} (g : Ghosts D) (at slot : ℕ) (what : Option Puid) (d0 : 
           leaves = λ graph ds id i has. images _ is.images;
           sound = λ graph ds id i has. ap is_damaged is.refused;
           refused = subst (IsIndexRefusal g at slot d0 d3 k2) (sym is.refused) (stopped_after_reads g d0 d2 d3 3 true both is.stopped);
-          memory = λ same. (let no : refused.Disk true ≡ refused.Memory = sym is.refused ∙ same in cc);
           untried = λ same. (let no : refused.Disk true ≡ refused.Disk false = sym is.refused ∙ same in cc);
           cylinders = ap (λ (k : Kept). length k.free) kept;
           left = tt;
+          bit = tt;
           calls = calls is.calls;
         }

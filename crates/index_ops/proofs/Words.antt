@@ -53,13 +53,13 @@ pub use Rattle.special_files.proofs.Puts.{taken_not_free}
 pub use Rattle.special_files.proofs.Refusals.{refusal_after_reads, refusal_of}
 pub use Rattle.special_files.specs.Becomes.{Becomes}
 pub use Rattle.special_files.specs.Calls.{WritesBlock}
-pub use Rattle.special_files.specs.Committing.{Committed, IsOldOrNew, Makes, Making, named}
-pub use Rattle.special_files.specs.Drafting.{Drafting, IsOpen, begun_at, fresh_of, is_fresh_leaf, is_fresh_node, leaf_takes, node_of, one_unless, opened_as}
+pub use Rattle.special_files.specs.Committing.{Committed, IsOldOrNew, Makes, Making, TakesShadow, puid_at}
+pub use Rattle.special_files.specs.Drafting.{Drafting, IsOpen, begun_at, fresh_of, is_fresh_leaf, is_fresh_node, draft_takes, node_of, one_unless, opened_as}
 pub use Rattle.special_files.specs.Ends.{Ends}
 pub use Rattle.special_files.specs.Fills.{filled_draft}
 pub use Rattle.special_files.specs.Leaves.{SameBeside, leaves_of}
 pub use Rattle.special_files.specs.Order.{leaf_claims}
-pub use Rattle.special_files.specs.Refusal.{IsRefusal, IsRefusalOrMemory, IsTrouble, NoMap, OtherCount, is_damaged, is_full}
+pub use Rattle.special_files.specs.Refusal.{IsRefusal, IsTrouble, NoMap, OtherCount, is_damaged, is_full_refusal}
 pub use Rattle.special_files.specs.Store.{replaced, without_draft}
 pub use Rattle.special_files.specs.declared.fill.Swap.{Swap}
 pub use Rattle.std.proofs.Common.{Bool, Err, List, None, Ok, Option, Some, [], ap, arith, cond, eq-eqb, false, get_or, inl, inr, length, lt-ltb, not, refl, replicate, set, subst, suc, sym, true, zero, ℕ, ⊎_elim, ◌%◌, ◌*◌, ◌++◌, ◌+◌, ◌-◌, ◌/◌, ◌<◌, ◌^◌, ◌∙◌, ◌∷◌, ◌≡◌, ◌≢◌, ◌≤◌, ◌⊎◌}

@@ -14,10 +14,12 @@ use Rattle.cfs_base.specs.declared.refusal.Refused.TheVariants as refusals
 use Rattle.block_tree.specs.Root.{IsRootBlock}
 use Rattle.block_tree.specs.declared.root.Root.{Root}
 use Rattle.claims.specs.Claims.{AreClaimed}
+use Rattle.cyl_alloc.specs.Left.{Left}
 use Rattle.cyl_alloc.specs.Space.{Kept, intended}
 use Rattle.cyl_map.specs.declared.entry.MapEntry.{MapEntry}
+use Rattle.intentions.specs.Left.{StoreIs, end_of}
 use Rattle.intentions.specs.Store.{StoreHas}
-use Rattle.special_files.specs.Committing.{IsOldOrNew}
+use Rattle.special_files.specs.Committing.{IsAtBit, IsNoted, IsOldOrNew, TakesShadow}
 use Rattle.special_files.specs.Leaves.{SameBeside}
 use Rattle.special_files.specs.Refusal.{IsDamage, is_damaged}
 use Rattle.ufs_model.specs.Graph.{Graph, object_at, with_object}
@@ -42,34 +44,38 @@ pub record HasSlot {D : Type 0} (g : Ghosts D) (graph : Graph) (ds : List Opened
 abbrev pub index_with : Index → ℕ → Option Puid → Object
 index_with i slot what = objects.Index (filled i slot what)
 
--- The object is this one now. No write waits, and nothing changed but blocks of the object or such as were Free.
-pub record Changes {D : Type 0} (g : Ghosts D) (graph : Graph) (ds : List Opened) (id : Puid) (o : Object) (old new : D)
+-- The object is this one now. No write waits. In the image that is to come nothing changed but blocks of the object or
+-- such as were Free.
+pub record ChangesIndex {D : Type 0} (g : Ghosts D) (graph : Graph) (ds : List Opened) (id : Puid) (o : Object) (old new : D)
     (space : Kept) : Type 0 where
-  pub store : StoreHas g (with_object graph id o) ds new space
+  pub store : StoreIs g (with_object graph id o) ds new space
   pub settled : IsSettled g new
-  pub only : ChangesOnly (λ entry. of_owner id.block entry) (g.content old) (g.content new)
+  pub only : ChangesOnly (λ entry. of_owner id.block entry) (g.content old) (end_of g new space)
 
 -- of the tree below a root block only one leaf and its node are others than they were
 abbrev pub IsOneLeaf : (leaf at : ℕ) → Image → Image → Type 0
 IsOneLeaf leaf at a b = SameBeside leaf (tree_in a (block_at a at)) (tree_in b (block_at b at))
 
--- Blocks were claimed for these entries, one after another, each the least-numbered Free one. After that nothing
--- changed but blocks of these owners or such as were Free.
-pub record Takes (claims : List MapEntry) (owners : List ℕ) (a b : Image) : Type 0 where
+-- Blocks were claimed for these entries, one after another, each the least-numbered Free one, and last for the shadow
+-- root of the object with this root block. After the entries nothing changed but blocks of this owner and of those that
+-- are made with it, or such as were Free.
+pub record Takes (claims : List MapEntry) (at : ℕ) (made : List ℕ) (a b : Image) : Type 0 where
   pub mid : Image
   pub in_order : AreClaimed claims a mid
-  pub only : ChangesOnly (λ entry. of_owners owners entry) mid b
+  pub only : ChangesOnly (λ entry. of_owners (at ∷ made) entry) mid b
+  pub shadow : TakesShadow at mid b
 
 -- a leaf of the object with this root block, and after it its node
 abbrev pub leaf_and_node : (leaf at : ℕ) → List MapEntry
 leaf_and_node leaf at = intended (Leaf leaf) at ∷ intended (Node (leaf / 128)) at ∷ []
 
--- Of an index one leaf alone changed, and the node above it: both take blocks. Or a slot that is empty was to be, and
--- nothing did.
-pub record ChangesLeaf {D : Type 0} (g : Ghosts D) (leaf at : ℕ) (what : Option Puid) (old new : D) : Type 0 where
-  pub beside : IsOneLeaf leaf at (g.content old) (g.content new)
-  pub takes : ((what ≡ None) × (g.content new ≡ g.content old))
-      ⊎ Takes (leaf_and_node leaf at) (at ∷ []) (g.content old) (g.content new)
+-- Of an index one leaf alone changed, and the node above it: both take blocks, and the commit a shadow root. Or a slot
+-- that is empty was to be, and nothing did.
+pub record ChangesLeaf {D : Type 0} (g : Ghosts D) (leaf at : ℕ) (what : Option Puid) (old new : D)
+    (space : Kept) : Type 0 where
+  pub beside : IsOneLeaf leaf at (g.content old) (end_of g new space)
+  pub takes : ((what ≡ None) × (end_of g new space ≡ g.content old))
+      ⊎ Takes (leaf_and_node leaf at) at [] (g.content old) (end_of g new space)
 
 -- what waited is durable now, and the content is as it was
 pub record Settles {D : Type 0} (g : Ghosts D) (old new : D) (result : Result (Unit {0}) Refused) : Type 0 where
@@ -93,32 +99,36 @@ pub record IsShort {D : Type 0} (g : Ghosts D) (at slot : ℕ) (old : D) (damage
   pub block : damage.block ≡ at
   pub short : Tells g old → (root : Root) → IsRootBlock (block_at (g.content old) at) root → root.size < 8 * slot + 8
 
--- want of memory, a device call failed, or a block that was read is damaged
+-- a device call failed, or a block that was read is damaged
 abbrev pub IsIndexRefusal : {D : Type 0} → Ghosts D → (at slot : ℕ) → D → D → Kept → Refused → Type 0
 IsIndexRefusal g at slot old new kept (refusals.Full need) = ⊥
 IsIndexRefusal g at slot old new kept (refusals.Disk tried) = HasStopped g tried old new
 IsIndexRefusal g at slot old new kept (refusals.Damaged damage) =
     IsDamage g at old new kept damage ⊎ IsShort g at slot old damage
-IsIndexRefusal g at slot old new kept refusals.Memory = Unit {0}
+IsIndexRefusal g at slot old new kept refusals.Memory = ⊥
+
+-- One commit is unfinished then, of the index at this block; or a slot that is empty was to be, and none is.
+abbrev pub LeavesCommit : ℕ → Option Puid → Option Left → Type 0
+LeavesCommit at what left = ((what ≡ None) × (left ≡ None)) ⊎ (l : Left) × IsNoted at left l
 
 -- A slot of the index at a block gets this, as one commit.
 pub record PutsSlot {D : Type 0} (g : Ghosts D) (at slot : ℕ) (what : Option Puid) (old new : D) (before after : Kept)
     (result : Result (Unit {0}) Refused) : Type 0 where
   pub done : (graph : Graph) (ds : List Opened) (id : Puid) (i : Index) → HasSlot g graph ds old before at id i slot
-      → OnOk result (Changes g graph ds id (index_with i slot what) old new after)
+      → OnOk result (ChangesIndex g graph ds id (index_with i slot what) old new after)
   -- its leaf alone changed
   pub leaf : (graph : Graph) (ds : List Opened) (id : Puid) (i : Index) → HasSlot g graph ds old before at id i slot
-      → OnOk result (ChangesLeaf g (slot / 64) at what old new)
+      → OnOk result (ChangesLeaf g (slot / 64) at what old new after)
   pub leaves : (graph : Graph) (ds : List Opened) (id : Puid) (i : Index) → HasSlot g graph ds old before at id i slot
       → Leaves g old new (IsOldOrNew graph graph id (index_with i slot what))
   -- no damage where the disk holds the index
   pub sound : (graph : Graph) (ds : List Opened) (id : Puid) (i : Index) → HasSlot g graph ds old before at id i slot
       → IfErr result (λ e. is_damaged e ≡ false)
   pub refused : IfErr result (IsIndexRefusal g at slot old new after)
-  -- memory is taken first, and before a write or barrier is tried all is as it was
-  pub memory : IfErr result (λ e. e ≡ refusals.Memory → (after ≡ before) × OnlyReads g 9 old new)
+  -- before a write or barrier is tried all is as it was
   pub untried : IfErr result (λ e. e ≡ refusals.Disk false → (after ≡ before) × OnlyReads g 9 old new)
   pub cylinders : length after.free ≡ length before.free
-  -- once it is done nothing of it is unfinished
-  pub left : OnOk result (after.left ≡ None)
-  pub calls : MakesAtMost g 38 22 old new
+  pub left : OnOk result (LeavesCommit at what after.left)
+  -- where it is unfinished, its bit was tried
+  pub bit : OnOk result (IsAtBit g old new after.left)
+  pub calls : MakesAtMost g 20 11 old new

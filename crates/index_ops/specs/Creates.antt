@@ -1,6 +1,6 @@
 -- An object made, and its identifier put into a slot of an index, as one commit.
 use Rattle.std.specs.Prelude.{◌≡◌, ◌⊎◌, ℕ, ◌/◌, ◌%◌, ◌≤◌, List, [], ◌∷◌, length, replicate, set, true, false, IfErr}
-use Rattle.std.specs.Prelude.{IfOk, None, OnOk, Result, Some}
+use Rattle.std.specs.Prelude.{IfOk, OnOk, Result, Some}
 use Rattle.cfs_base.specs.Calls.{MakesAtMost, OnlyReads}
 use Rattle.cfs_base.specs.Codes.{no_entry}
 use Rattle.cfs_base.specs.Disk.{Image}
@@ -17,10 +17,11 @@ use Rattle.block_tree.specs.Pointers.{node_pointers, pointers_of}
 use Rattle.block_tree.specs.Root.{IsRoot, IsRootBlock, root_spelling}
 use Rattle.block_tree.specs.declared.root.Root.{Root}
 use Rattle.cyl_map.specs.Volume.{is_free_in, with_entry}
+use Rattle.cyl_alloc.specs.Left.{Left}
 use Rattle.cyl_alloc.specs.Space.{AreCounts, IsLeastFree, Kept, intended}
 use Rattle.index_ops.specs.Changes.{HasSlot, IsIndexRefusal, IsOneLeaf, Takes, index_with, leaf_and_node}
-use Rattle.intentions.specs.Store.{StoreHas}
-use Rattle.special_files.specs.Committing.{named}
+use Rattle.intentions.specs.Left.{StoreIs, end_of}
+use Rattle.special_files.specs.Committing.{IsAtBit, IsNoted, puid_at}
 use Rattle.special_files.specs.Refusal.{is_damaged}
 use Rattle.ufs_model.specs.Graph.{Graph, with_object}
 use Rattle.ufs_model.specs.Object.{new_file, new_index}
@@ -49,18 +50,18 @@ MayBeMade kinds.Index fill size = (fill ≡ 0) × (8 ≤ size) × (size ≤ 7864
 abbrev pub with_made : Graph → Puid → Index → ℕ → Puid → Object → Graph
 with_made graph id i slot new made = with_object (with_object graph new made) id (index_with i slot (Some new))
 
--- The new object is there, and in the slot. Its root is the block that was the least-numbered Free one. No write waits,
--- and nothing changed but blocks of the two objects or such as were Free.
+-- The new object is there, and in the slot. Its root is the block that was the least-numbered Free one. No write waits.
+-- In the image that is to come nothing changed but blocks of the two objects or such as were Free.
 pub record Creates {D : Type 0} (g : Ghosts D) (graph : Graph) (ds : List Opened) (id : Puid) (i : Index) (slot : ℕ)
     (new : Puid) (made : Object) (old now : D) (space : Kept) : Type 0 where
   pub least : IsLeastFree (g.content old) new.block
-  pub store : StoreHas g (with_made graph id i slot new made) ds now space
+  pub store : StoreIs g (with_made graph id i slot new made) ds now space
   pub settled : IsSettled g now
-  pub only : ChangesOnly (λ entry. of_owners (id.block ∷ new.block ∷ []) entry) (g.content old) (g.content now)
-  -- of the index the slot's leaf alone changed, and its node; both take blocks after the root
-  pub beside : IsOneLeaf (slot / 64) id.block (g.content old) (g.content now)
-  pub takes : Takes (intended places.Root new.block ∷ leaf_and_node (slot / 64) id.block) (id.block ∷ new.block ∷ [])
-      (g.content old) (g.content now)
+  pub only : ChangesOnly (λ entry. of_owners (id.block ∷ new.block ∷ []) entry) (g.content old) (end_of g now space)
+  -- of the index the slot's leaf alone changed, and its node; both take blocks after the root, and then the commit one
+  pub beside : IsOneLeaf (slot / 64) id.block (g.content old) (end_of g now space)
+  pub takes : Takes (intended places.Root new.block ∷ leaf_and_node (slot / 64) id.block) id.block (new.block ∷ [])
+      (g.content old) (end_of g now space)
 
 -- ---- its steps
 
@@ -117,15 +118,15 @@ pub record PutsObject {D : Type 0} (g : Ghosts D) (at slot : ℕ) (made : Object
   -- each image has all as it was, or the new object and the index with it
   pub leaves : (graph : Graph) (ds : List Opened) (id : Puid) (i : Index) → HasSlot g graph ds old before at id i slot
       → Leaves g old new (λ c. Holds c graph ⊎ ((b : ℕ) × IsLeastFree (g.content old) b
-      × Holds c (with_made graph id i slot (named b word) made)))
+      × Holds c (with_made graph id i slot (puid_at b word) made)))
   -- no damage where the disk holds the index
   pub sound : (graph : Graph) (ds : List Opened) (id : Puid) (i : Index) → HasSlot g graph ds old before at id i slot
       → IfErr result (λ e. is_damaged e ≡ false)
   pub refused : IfErr result (λ e. IsIndexRefusal g at slot old new after e ⊎ IsOpenMap g old before e)
-  -- memory is taken first, and before a write or barrier is tried all is as it was
-  pub memory : IfErr result (λ e. e ≡ refusals.Memory → (after ≡ before) × OnlyReads g 9 old new)
+  -- before a write or barrier is tried all is as it was
   pub untried : IfErr result (λ e. e ≡ refusals.Disk false → (after ≡ before) × OnlyReads g 9 old new)
   pub cylinders : length after.free ≡ length before.free
-  -- once it is done nothing of it is unfinished
-  pub left : OnOk result (after.left ≡ None)
-  pub calls : MakesAtMost g 42 24 old new
+  -- the commit is unfinished then
+  pub left : OnOk result ((l : Left) × IsNoted at after.left l)
+  pub bit : OnOk result (IsAtBit g old new after.left)
+  pub calls : MakesAtMost g 24 13 old new

@@ -4,13 +4,12 @@ ghost use Rattle.std.specs.Prelude.{OnOk};
 ghost use Rattle.cfs_base.specs.declared.refusal.Refused.TheVariants as refused;
 ghost use Rattle.index_ops.specs.Changes as spec;
 ghost use Rattle.leaf_changes.specs.Bytes.{IsSlot};
-ghost use Rattle.special_files.specs.Refusal.{is_full};
+ghost use Rattle.special_files.specs.Refusal.{is_full_refusal};
 
 use cfs_base::{BlockNo, Damage, Disk, Puid, Refused, code};
 use cyl_alloc::Space;
 use intentions::barrier;
-use special_files::Draft;
-use std::alloc::Global;
+use special_files::{Draft, Room};
 
 /// The root at a block has no such slot.
 pub(crate) fn short(index: BlockNo) -> Refused
@@ -22,9 +21,9 @@ pub(crate) fn short(index: BlockNo) -> Refused
     })
 }
 
-/// Makes a slot of the index at a block hold this, or nothing. All memory is taken first.
+/// Makes a slot of the index at a block hold this, or nothing.
 fn put<D: Disk>(
-    alloc: Global,
+    room: Room,
     disk: &mut D,
     space: &mut Space,
     index: BlockNo,
@@ -40,7 +39,7 @@ fn put<D: Disk>(
     requires room { 3 ≤ sum space.old.free }
     ensures { spec.PutsSlot D.Disk index.0 slot what disk.old disk.new space.old space.new result }
 {
-    let mut draft = match Draft::begin_direct(alloc, disk, space, index) {
+    let mut draft = match Draft::begin_direct(room, disk, space, index) {
         Ok(draft) => draft,
         Err(error) => return Err(error),
     };
@@ -73,7 +72,7 @@ fn settle<D: Disk>(disk: &mut D) -> Result<(), Refused>
 /// made then. `Damaged` names the block of the index, with code 3, which is no root block with such a slot, the block,
 /// a node or a map that was read and is none.
 pub fn retain<D: Disk>(
-    alloc: Global,
+    room: Room,
     disk: &mut D,
     space: &mut Space,
     index: BlockNo,
@@ -95,7 +94,7 @@ pub fn retain<D: Disk>(
         → spec.PutsSlot D.Disk index.0 slot (Some id) disk.old disk.new space.old space.new result }
 {
     match space.has_room(3, 4) {
-        Ok(()) => put(alloc, disk, space, index, slot, Some(id)),
+        Ok(()) => put(room, disk, space, index, slot, Some(id)),
         Err(error) => Err(error),
     }
 }
@@ -103,7 +102,7 @@ pub fn retain<D: Disk>(
 /// Empties a slot of the index at a block, as one commit. It takes 3 blocks, of those that are left for it, and is
 /// never `Full`. `Damaged` as in `retain`.
 pub fn delete<D: Disk>(
-    alloc: Global,
+    room: Room,
     disk: &mut D,
     space: &mut Space,
     index: BlockNo,
@@ -118,5 +117,5 @@ pub fn delete<D: Disk>(
     requires room { 3 ≤ sum space.old.free }
     ensures { spec.PutsSlot D.Disk index.0 slot None disk.old disk.new space.old space.new result }
 {
-    put(alloc, disk, space, index, slot, None)
+    put(room, disk, space, index, slot, None)
 }

@@ -7,15 +7,16 @@ ghost use Rattle.cfs_base.specs.Run.{Tells};
 ghost use Rattle.cfs_base.specs.declared.identifier.Puid.{Puid};
 ghost use Rattle.cfs_base.specs.declared.kind.Place.TheVariants as places;
 ghost use Rattle.cfs_base.specs.declared.refusal.Refused.TheVariants as refusals;
+ghost use Rattle.cyl_alloc.specs.Left.{Left};
 ghost use Rattle.cyl_alloc.specs.Space.{AreCounts, IsLeastFree, intended};
 ghost use Rattle.cyl_map.specs.Volume.{with_entry};
 ghost use Rattle.index_ops.specs.Creates as spec;
 ghost use Rattle.intentions.specs.Store.{StoreHas};
 ghost use Rattle.special_files.specs.Calls.{WritesBlock};
-ghost use Rattle.special_files.specs.Committing.{named};
+ghost use Rattle.special_files.specs.Committing.{IsAtBit, IsNoted, puid_at};
 ghost use Rattle.special_files.specs.Drafting.{begun_at, opened_as};
 ghost use Rattle.special_files.specs.Ends.{Ends};
-ghost use Rattle.special_files.specs.Refusal.{IsRefusal, is_damaged, is_full};
+ghost use Rattle.special_files.specs.Refusal.{IsRefusal, is_damaged, is_full_refusal};
 ghost use Rattle.ufs_model.specs.Graph.{Graph, object_at};
 ghost use Rattle.ufs_model.specs.declared.object.Index.{Index};
 ghost use Rattle.ufs_model.specs.declared.object.Object.TheVariants as objects;
@@ -27,18 +28,17 @@ use block_tree::Root;
 use cfs_base::{BlockNo, Damage, Disk, Kind, Place, Puid, Refused, code};
 use cyl_alloc::Space;
 use intentions::intend_claim;
-use special_files::Draft;
-use std::alloc::Global;
+use special_files::{Draft, Room};
 
 /// The least-numbered Free block, which is none where it is the first map.
-fn least<D: Disk>(disk: &mut D, space: &Space) -> Result<BlockNo, Refused>
+pub fn least<D: Disk>(disk: &mut D, space: &Space) -> Result<BlockNo, Refused>
     requires size { D.blocks disk.old ≡ 64 * length space.now.free }
     requires room { 1 ≤ sum space.now.free }
     ensures found { Tells D.Disk disk.old → AreCounts (D.content disk.old) space.now
         → IfOk result (λ block. IsLeastFree (D.content disk.old) block.0) }
     ensures some { IfOk result (λ block. (block.0 ≢ 0) × (block.0 < D.blocks disk.old)) }
     ensures refused { (at : ℕ)
-        → IfErr result (λ e. (IsRefusal D.Disk at 0 disk.old disk.new space.now e × (is_full e ≡ false))
+        → IfErr result (λ e. (IsRefusal D.Disk at 0 disk.old disk.new space.now e × (is_full_refusal e ≡ false))
         ⊎ spec.IsOpenMap D.Disk disk.old space.now e) }
     ensures sound { (graph : Graph) (ds : List Opened) → StoreHas D.Disk graph ds disk.old space.now
         → IfErr result (λ e. is_damaged e ≡ false) }
@@ -66,7 +66,7 @@ fn claim_root<D: Disk>(disk: &mut D, space: &mut Space, block: BlockNo) -> Resul
         → IsLeastFree (D.content disk.old) block.0 → spec.RootEnds D.Disk graph disk.old disk.new space.new
         (with_entry (D.content disk.old) block.0 (intended places.Root block.0)) result }
     ensures tried { OnOk result (HasTried D.Disk disk.old disk.new) }
-    ensures spare { IfErr result (λ e. is_full e ≡ false) }
+    ensures spare { IfErr result (λ e. is_full_refusal e ≡ false) }
     ensures ends { (at : ℕ) → Ends D.Disk at 0 2 1 1 disk.old disk.new space.old space.new result }
 {
     match intend_claim(disk, block, Place::Root, block.0) {
@@ -79,7 +79,7 @@ fn claim_root<D: Disk>(disk: &mut D, space: &mut Space, block: BlockNo) -> Resul
 }
 
 /// Writes the root of a new object.
-fn write_root<D: Disk>(disk: &mut D, block: BlockNo, root: &Root) -> Result<(), Refused>
+pub fn write_root<D: Disk>(disk: &mut D, block: BlockNo, root: &Root) -> Result<(), Refused>
     requires { block.0 < D.blocks disk.old }
     ensures writes { WritesBlock D.Disk block.0 (root_spelling root.now) disk.old disk.new result }
     ensures spelled { spec.Spells root.now }
@@ -105,7 +105,7 @@ fn make_root<D: Disk>(
         (spec.with_root (D.content disk.old) block.0 root.now) result }
     ensures spelled { OnOk result (spec.Spells root.now) }
     ensures tried { OnOk result (HasTried D.Disk disk.old disk.new) }
-    ensures spare { IfErr result (λ e. is_full e ≡ false) }
+    ensures spare { IfErr result (λ e. is_full_refusal e ≡ false) }
     ensures ends { (at : ℕ) → Ends D.Disk at 0 3 2 1 disk.old disk.new space.old space.new result }
 {
     match claim_root(disk, space, block) {
@@ -140,16 +140,17 @@ fn make_at<D: Disk>(
         → StoreHas D.Disk graph (opened_as id draft (spec.begun_of i) ∷ ds) disk.old space.old
         → object_at graph id ≡ Some (objects.Index i) → id.block ≡ draft.at → drafts_of ds id ≡ []
         → IsLeastFree (D.content disk.old) block.0 → spec.IsBare root.now
-        → spec.MakeEnds D.Disk graph ds id i slot (named block.0 root.now.word)
+        → spec.MakeEnds D.Disk graph ds id i slot (puid_at block.0 root.now.word)
         (bare_object root.now) disk.old disk.new space.new result }
-    ensures value { IfOk result (λ p. p ≡ named block.0 root.now.word) }
+    ensures value { IfOk result (λ p. p ≡ puid_at block.0 root.now.word) }
     ensures refused { IfErr result (λ e. IsRefusal D.Disk draft.at 0 disk.old disk.new space.new e
-        × (is_full e ≡ false)) }
+        × (is_full_refusal e ≡ false)) }
     ensures untried { IfErr result (λ e. e ≡ refusals.Disk false → (space.new ≡ space.old)
         × OnlyReads D.Disk 3 disk.old disk.new) }
     ensures cylinders { length space.new.free ≡ length space.old.free }
-    ensures left { OnOk result (space.new.left ≡ None) }
-    ensures calls { MakesAtMost D.Disk 40 24 disk.old disk.new }
+    ensures left { OnOk result ((l : Left) × IsNoted draft.at space.new.left l) }
+    ensures bit { OnOk result (IsAtBit D.Disk disk.old disk.new space.new.left) }
+    ensures calls { MakesAtMost D.Disk 22 13 disk.old disk.new }
 {
     match make_root(disk, space, block, root) {
         Ok(()) => {}
@@ -172,10 +173,9 @@ fn make_at<D: Disk>(
     }
 }
 
-/// Makes an object with this root, and puts its identifier into a slot of the index at a block. All memory is taken
-/// first.
+/// Makes an object with this root, and puts its identifier into a slot of the index at a block.
 fn make<D: Disk>(
-    alloc: Global,
+    room: Room,
     disk: &mut D,
     space: &mut Space,
     index: BlockNo,
@@ -192,7 +192,7 @@ fn make<D: Disk>(
     ensures { spec.PutsObject D.Disk index.0 slot (bare_object root.now) root.now.word disk.old disk.new space.old
         space.new result }
 {
-    let draft = match Draft::begin_direct(alloc, disk, space, index) {
+    let draft = match Draft::begin_direct(room, disk, space, index) {
         Ok(draft) => draft,
         Err(error) => return Err(error),
     };
@@ -206,7 +206,7 @@ fn make<D: Disk>(
 }
 
 /// The root of a new object, which holds nothing.
-fn bare_root(kind: Kind, fill: u8, size: u64, word: u32) -> Root
+pub fn bare_root(kind: Kind, fill: u8, size: u64, word: u32) -> Root
     requires { spec.MayBeMade kind fill size }
     ensures root { spec.IsBare result }
     ensures object { bare_object result ≡ spec.made_of kind fill size }
@@ -227,7 +227,7 @@ fn bare_root(kind: Kind, fill: u8, size: u64, word: u32) -> Root
 /// device call was made then. `Damaged` as in `retain`, and it names block 0, with code 2, where that map is Free by
 /// what it says itself.
 pub fn create<D: Disk>(
-    alloc: Global,
+    room: Room,
     disk: &mut D,
     space: &mut Space,
     index: BlockNo,
@@ -254,7 +254,7 @@ pub fn create<D: Disk>(
 {
     match space.has_room(4, 4) {
         Ok(()) => make(
-            alloc,
+            room,
             disk,
             space,
             index,

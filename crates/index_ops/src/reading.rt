@@ -1,5 +1,5 @@
 //! An index, read.
-ghost use Rattle.std.specs.Prelude.{◌≡◌, ◌≢◌, ◌*◌, ◌/◌, ◌<◌, ◌≤◌, ℕ, List, false, length, Some, IfErr, IfOk, OnOk};
+ghost use Rattle.std.specs.Prelude.{◌≡◌, ◌≢◌, ◌*◌, ◌/◌, ◌<◌, ◌≤◌, ℕ, List, false, length, IfErr, IfOk, OnOk};
 ghost use Rattle.block_tree.specs.Pointers.{leaf_limit};
 ghost use Rattle.block_tree.specs.Reads.{IsRootTrouble, is_damage};
 ghost use Rattle.block_tree.specs.Root.{root_spelling};
@@ -9,8 +9,8 @@ ghost use Rattle.cfs_base.specs.Run.{Tells};
 ghost use Rattle.cfs_base.specs.declared.identifier.Puid as puids;
 ghost use Rattle.cyl_alloc.specs.Space.{Kept};
 ghost use Rattle.index_ops.specs.Causes as causes;
-ghost use Rattle.intentions.specs.Store.{StoreHas};
-ghost use Rattle.ufs_model.specs.Graph.{Graph, object_at};
+ghost use Rattle.intentions.specs.Left.{IsShownAt, StoreIs};
+ghost use Rattle.ufs_model.specs.Graph.{Graph};
 ghost use Rattle.ufs_model.specs.Object.{slot_of};
 ghost use Rattle.ufs_model.specs.declared.object.Index.{Index};
 ghost use Rattle.ufs_model.specs.declared.object.Object.TheVariants as objects;
@@ -66,20 +66,21 @@ fn read_leaf<D: Disk>(
     }
 }
 
-/// How many slots the index at a block has. `Damaged` names the block, with code 3, which is no root block.
+/// How many slots the index has that is shown at a block. `Damaged` names the block, with code 3, which is no root
+/// block.
 pub fn slots<D: Disk>(disk: &mut D, index: BlockNo) -> Result<u64, Trouble>
     requires { index.0 < D.blocks disk.old }
     ensures count { (graph : Graph) (ds : List Opened) (space : Kept) (id : puids.Puid) (i : Index)
-        → StoreHas D.Disk graph ds disk.old space → id.block ≡ index.0 → object_at graph id ≡ Some (objects.Index i)
+        → IsShownAt D.Disk graph ds disk.old space id (objects.Index i) index.0
         → IfOk result (λ count. count ≡ length i.slots) }
     ensures most { IfOk result (λ count. count ≤ 983040) }
     ensures refused { IfErr result (IsRootTrouble D.Disk index.0 disk.old disk.new) }
     // No damage where the disk holds the index.
     ensures sound { (graph : Graph) (ds : List Opened) (space : Kept) (id : puids.Puid) (i : Index)
-        → StoreHas D.Disk graph ds disk.old space → id.block ≡ index.0 → object_at graph id ≡ Some (objects.Index i)
+        → IsShownAt D.Disk graph ds disk.old space id (objects.Index i) index.0
         → IfErr result (λ trouble. is_damage trouble ≡ false) }
-    ensures store { (graph : Graph) (ds : List Opened) (space : Kept) → StoreHas D.Disk graph ds disk.old space
-        → StoreHas D.Disk graph ds disk.new space }
+    ensures store { (graph : Graph) (ds : List Opened) (space : Kept) → StoreIs D.Disk graph ds disk.old space
+        → StoreIs D.Disk graph ds disk.new space }
     ensures reads { OnlyReads D.Disk 1 disk.old disk.new }
 {
     match read_root(disk, index) {
@@ -88,21 +89,21 @@ pub fn slots<D: Disk>(disk: &mut D, index: BlockNo) -> Result<u64, Trouble>
     }
 }
 
-/// What a slot of the index at a block holds: None where it is empty. The slot is one of the index. `Damaged` names the
-/// block, with code 3, which is no root block, or the root block or a node, with code 4, where the pointer to the
-/// slot's leaf leads past the disk.
+/// What a slot of the index that is shown at a block holds: None where it is empty. The slot is one of the index.
+/// `Damaged` names the block, with code 3, which is no root block, or that block or a node, with code 4, where the
+/// pointer to the slot's leaf leads past the disk.
 pub fn retrieve<D: Disk>(disk: &mut D, index: BlockNo, slot: u64) -> Result<Option<Puid>, Trouble>
     requires on_disk { index.0 < D.blocks disk.old }
     requires few { slot < 983040 }
     ensures slot { (graph : Graph) (ds : List Opened) (space : Kept) (id : puids.Puid) (i : Index)
-        → StoreHas D.Disk graph ds disk.old space → id.block ≡ index.0 → object_at graph id ≡ Some (objects.Index i)
+        → IsShownAt D.Disk graph ds disk.old space id (objects.Index i) index.0
         → slot < length i.slots → IfOk result (λ what. what ≡ slot_of i slot) }
     ensures refused { IfErr result (causes.IsSlotTrouble D.Disk index.0 slot disk.old disk.new) }
     ensures sound { (graph : Graph) (ds : List Opened) (space : Kept) (id : puids.Puid) (i : Index)
-        → StoreHas D.Disk graph ds disk.old space → id.block ≡ index.0 → object_at graph id ≡ Some (objects.Index i)
+        → IsShownAt D.Disk graph ds disk.old space id (objects.Index i) index.0
         → IfErr result (λ trouble. is_damage trouble ≡ false) }
-    ensures store { (graph : Graph) (ds : List Opened) (space : Kept) → StoreHas D.Disk graph ds disk.old space
-        → StoreHas D.Disk graph ds disk.new space }
+    ensures store { (graph : Graph) (ds : List Opened) (space : Kept) → StoreIs D.Disk graph ds disk.old space
+        → StoreIs D.Disk graph ds disk.new space }
     ensures reads { OnlyReads D.Disk 3 disk.old disk.new }
 {
     let root = match read_root(disk, index) {

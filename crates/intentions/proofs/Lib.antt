@@ -4,4 +4,8 @@ pub mod Changes
 pub mod Committed
 pub mod Settling
 pub mod Flips
+pub mod Reading
+pub mod Shown
+pub mod Drafts
 mod Words
+pub mod Loaded

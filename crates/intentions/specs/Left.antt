@@ -4,7 +4,7 @@ use Rattle.cfs_base.specs.Disk.{Image, block_at}
 use Rattle.cfs_base.specs.Run.{IsSettled}
 use Rattle.cfs_base.specs.declared.disk.Disk.{Ghosts}
 use Rattle.cfs_base.specs.declared.identifier.Puid.{Puid}
-use Rattle.cyl_alloc.specs.Left.{Left}
+use Rattle.cyl_alloc.specs.Left.{Left, shown_in}
 use Rattle.cyl_alloc.specs.Space.{AreCounts, Kept}
 use Rattle.cyl_map.specs.Volume.{entry_in}
 use Rattle.cyl_map.specs.declared.entry.MapEntry.{MapEntry}
@@ -15,7 +15,7 @@ use Rattle.intentions.specs.Flips.{Flip, MayFlip, flip, flipped, flips}
 use Rattle.intentions.specs.Store.{StoreHas}
 use Rattle.intentions.specs.declared.change.Change.{Change}
 use Rattle.intentions.specs.declared.change.Change.TheVariants.{ClearBit, Finish, Undo}
-use Rattle.ufs_model.specs.Graph.{Graph, ids_of}
+use Rattle.ufs_model.specs.Graph.{Graph, ids_of, object_at}
 use Rattle.ufs_model.specs.Identifier.{rises}
 use Rattle.ufs_model.specs.Numbers.{has_number}
 use Rattle.ufs_model.specs.declared.object.Object.{Object}
@@ -102,3 +102,13 @@ StoreIs g graph drafts disk space = StoreWith g graph drafts disk space space.le
 -- the image to which it comes
 abbrev pub end_of : {D : Type 0} → Ghosts D → D → Kept → Image
 end_of g disk space = coming (g.content disk) space.left
+
+-- ---- reads
+
+-- The store has this object. The block is that by which it is read: its root, or the shadow root that stands in for it
+-- until it is copied.
+pub record IsShownAt {D : Type 0} (g : Ghosts D) (graph : Graph) (drafts : List Opened) (disk : D) (space : Kept)
+    (id : Puid) (o : Object) (at : ℕ) : Type 0 where
+  pub store : StoreIs g graph drafts disk space
+  pub there : object_at graph id ≡ Some o
+  pub shown : at ≡ shown_in space.left id.block

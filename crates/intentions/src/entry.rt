@@ -1,7 +1,7 @@
 //! One entry on a disk, read with its map and changed.
 ghost use Rattle.std.specs.Prelude.{◌≡◌, ℕ, ◌<◌, true, false, Some, IsTrue, IfOk, IfErr, OnOk};
 ghost use Rattle.cfs_base.specs.Calls.{HasTried, OnlyReads, MakesAtMost};
-ghost use Rattle.cfs_base.specs.Disk.{Nothing, Written};
+ghost use Rattle.cfs_base.specs.Disk.{Image, Nothing, Written, block_at};
 ghost use Rattle.cfs_base.specs.Run.{IsSettled, Tells, Leaves, left_now};
 ghost use Rattle.cfs_base.specs.declared.refusal.Trouble.TheVariants as troubles;
 ghost use Rattle.cyl_map.specs.Entry.{IsEntry};
@@ -13,6 +13,7 @@ ghost use Rattle.cfs_base.specs.Refusals.{trouble_had_tried};
 ghost use Rattle.cyl_alloc.specs.Space.{IsGoodMap};
 ghost use Rattle.intentions.specs.Calls as spec;
 ghost use Rattle.intentions.specs.Entries as entries;
+ghost use Rattle.intentions.specs.Flips.{flip};
 
 use crate::change::Change;
 use cfs_base::{Block, BlockNo, Disk, Trouble};
@@ -90,4 +91,20 @@ pub fn change_entry<D: Disk>(
         Ok(()) => Ok(entry),
         Err(trouble) => Err(trouble),
     }
+}
+
+/// Changes the entry of a block in its map, which is in memory, and gives the one that it had.
+pub fn change_in(map: &mut Block, block: BlockNo, how: Change) -> MapEntry
+    requires spells { SpellsMap map.old }
+    requires fits { entries.Fits how }
+    ensures valid { IsEntry result }
+    ensures spells { SpellsMap map.new }
+    ensures was { (image : Image) → block_at image (map_of block.0) ≡ map.old → entry_in image block.0 ≡ Some result }
+    ensures now { (image : Image) → block_at image (map_of block.0) ≡ map.old
+        → block_at (flip image (record { block = block.0; how = how })) (map_of block.0) ≡ map.new }
+{
+    let at = (block.0 % 64) as u8;
+    let entry = Map::entry_in(map, at);
+    Map::put_in(map, at, how.of(entry));
+    entry
 }

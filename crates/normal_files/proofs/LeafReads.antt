@@ -1,8 +1,9 @@
 -- Leaves that are read one after another.
-use Rattle.normal_files.proofs.Words.{◌≡◌, ◌≢◌, ℕ, zero, suc, ◌+◌, ◌*◌, ◌%◌, ◌<◌, ◌≤◌, List, length, Option, refl, sym, ◌∙◌, ap, subst, arith, min, replicate, slice_index, slice_range, ext_get_or, take_at, AreBlocks, Image, block_at, IsRootBlock, one_root, bytes_in, overlaid, IsReadTo, laid, length-overlaid, file_to_leaves, read_all, leaves_in, File, leaf_content, leaf_in, Held, held_at, tree_in, leaf_pointers, leaves_at}
-use Rattle.normal_files.specs.Nodes.{LeadTo}
+use Rattle.normal_files.proofs.Words.{◌≡◌, ◌≢◌, inl, inr, ◌⊎◌, cases_eq, cases_lt, Ghosts, OnlyReads, reads_then, ℕ, zero, suc, ◌+◌, ◌-◌, ◌/◌, ◌<◌, ◌≤◌, List, length, Option, refl, sym, ◌∙◌, ap, subst, arith, min, replicate, slice_range, ext_get_or, take_at, AreBlocks, Image, block_at, IsRootBlock, one_root, bytes_in, overlaid, IsReadTo, laid, length-overlaid, file_to_leaves, read_all, leaves_in, File, leaf_content, leaf_in, Held, held_at, tree_in, leaf_block, leaf_pointers, node_levels, path_to, root_spelling}
 use Rattle.normal_files.specs.Standing.{IsFileAt}
-use Rattle.normal_files.proofs.Trees.{leads}
+use Rattle.block_tree.specs.Along.{IsTo}
+use Rattle.block_tree.specs.Path.{SamePlaces, path_of}
+use Rattle.block_tree.specs.declared.along.Way.{Way}
 use Rattle.block_tree.specs.declared.root.Root as roots
 
 -- what a leaf with this block reads as
@@ -16,19 +17,58 @@ module _ (fill : ℕ) (leaf : ℕ → Option Held) (offset : ℕ) (part : List �
   read_on n m last read k inside early = read k inside (omega (arith, last, early, inside))
 
 -- the leaf that was read is the tree's
-pub one_leaf : (image mid : Image) (leaves : List ℕ) (number n fill : ℕ) (leaf : ℕ → Option Held) (content : List ℕ) → LeadTo image leaves number leaf → mid ≡ image → AreBlocks image → leaf_pointers.count * number ≤ n → n < leaf_pointers.count * number + leaf_pointers.count
-    → slice_index leaves (n % leaf_pointers.count) < length image → content ≡ bytes_in mid fill (slice_index leaves (n % leaf_pointers.count)) → content ≡ leaf_content fill (leaf n)
-one_leaf image mid leaves number n fill leaf content lead same blocks from below there is =
-    let small : n % leaf_pointers.count < leaf_pointers.count = omega arith in
-    let place : n ≡ leaf_pointers.count * number + n % leaf_pointers.count = omega (arith, from, below) in
-    is ∙ ap (λ (i : Image). bytes_in i fill (slice_index leaves (n % leaf_pointers.count))) same ∙ sym (content_read image fill (slice_index leaves (n % leaf_pointers.count)) (λ real. (blocks (slice_index leaves (n % leaf_pointers.count)) there).long))
-    ∙ ap (leaf_content fill) (sym (lead (n % leaf_pointers.count) small)) ∙ ap (λ (m : ℕ). leaf_content fill (leaf m)) (sym place)
+pub leaf_is_read : (image mid : Image) (at : ℕ) (root : roots.Root) (leaf block : ℕ) (bytes : List ℕ) → IsRootBlock (block_at image at) root → block ≡ leaf_block image (root_spelling root) leaf → mid ≡ image → AreBlocks image → block < length image
+    → bytes ≡ bytes_in mid root.fill block → bytes ≡ leaf_content root.fill (leaf_in (tree_in image (block_at image at)) leaf)
+leaf_is_read image mid at root leaf block bytes is here same blocks below read =
+    read ∙ ap (λ (i : Image). bytes_in i root.fill block) same ∙ sym (content_read image root.fill block (λ some. (blocks block below).long))
+    ∙ ap (λ (n : ℕ). leaf_content root.fill (held_at image n)) (here ∙ ap (λ (c : List ℕ). leaf_block image c leaf) (sym is.spelled))
 
--- a node that was read leads to the leaves of the tree
-pub node_leads : (image mid new : Image) (content : List ℕ) (root : roots.Root) (n : ℕ) (leaves : List ℕ) → IsRootBlock content root → mid ≡ image → new ≡ image → leaves ≡ leaves_at mid (slice_index root.nodes n)
-    → LeadTo new leaves n (leaf_in (tree_in image content))
-node_leads image mid new content root n leaves is one two same =
-    subst (λ (i : Image). LeadTo i leaves n (leaf_in (tree_in image content))) (sym two) (leads image content root is n leaves (same ∙ ap (λ (i : Image). leaves_at i (slice_index root.nodes n)) one))
+-- two leaves of one node share the path to it
+pub one_node_path : (k l : ℕ) → k / leaf_pointers.count ≡ l / leaf_pointers.count → SamePlaces node_levels (path_of k) (path_of l)
+unfolding path_to
+one_node_path k l same zero less = same
+one_node_path k l same (suc d) less = absurd (omega (arith, less))
+
+-- how many nodes have been read before a leaf, and how many leaves
+abbrev pub read_before : (from leaf : ℕ) → ℕ
+read_before from leaf = min (leaf - from) ((leaf + leaf_pointers.count - 1) / leaf_pointers.count - from / leaf_pointers.count) + (leaf - from)
+
+-- one read more for a leaf, and one for its node, unless the leaf before it has the same
+node_reads : (from leaf n : ℕ) → from ≤ leaf → (leaf / leaf_pointers.count ≡ (leaf - 1) / leaf_pointers.count → from < leaf → n ≡ 0) → n ≤ 1 → read_before from leaf + n + 1 ≤ read_before from (leaf + 1)
+node_reads from leaf n on shared few = elim (cases_eq n 0) [
+  | inl none ↦ omega (arith, none, on)
+  | inr some ↦ elim (cases_lt from leaf) [
+    | inr first ↦ omega (arith, first, on, few)
+    | inl later ↦ elim (cases_eq (leaf / leaf_pointers.count) ((leaf - 1) / leaf_pointers.count)) [
+      | inl same ↦ absurd (some (shared same later))
+      | inr apart ↦ omega (arith, apart, later, few)
+    ]
+  ]
+]
+
+-- a way reads on to a leaf from the one before it, and then the leaf is read
+pub reads_leaf : {D : Type 0} (g : Ghosts D) (from leaf : ℕ) (old mid got new : D) (way : Way) → from ≤ leaf → (from < leaf → IsTo (leaf - 1) way) → OnlyReads g (read_before from leaf) old mid
+    → ((n : ℕ) → n ≤ way.read → SamePlaces n way.path (path_of leaf) → OnlyReads g (node_levels - n) mid got) → OnlyReads g 1 got new → OnlyReads g (read_before from (leaf + 1)) old new
+reads_leaf {D = D} g from leaf old mid got new way on last before reads one = by (cases_lt from leaf)
+  where
+    more : (n : ℕ) → n ≤ 1 → OnlyReads g n mid got → (leaf / leaf_pointers.count ≡ (leaf - 1) / leaf_pointers.count → from < leaf → n ≡ 0) → OnlyReads g (read_before from (leaf + 1)) old new
+    more n few is shared = reads_then g old got new (read_before from leaf + n) 1 (read_before from (leaf + 1)) (reads_then g old mid got (read_before from leaf) n (read_before from leaf + n) before is (omega arith)) one (node_reads from leaf n on shared few)
+
+    whole : (leaf / leaf_pointers.count ≡ (leaf - 1) / leaf_pointers.count → from < leaf → node_levels ≡ 0) → OnlyReads g (read_before from (leaf + 1)) old new
+    whole = more node_levels (omega arith) (reads 0 (omega arith) (λ d none. absurd (omega (arith, none))))
+
+    by : (from < leaf) ⊎ (leaf ≤ from) → OnlyReads g (read_before from (leaf + 1)) old new
+    by (inr first) = whole (λ same later. absurd (omega (arith, later, first)))
+    by (inl later) = elim (cases_eq (leaf / leaf_pointers.count) ((leaf - 1) / leaf_pointers.count)) [
+      | inr apart ↦ whole (λ same _. absurd (apart same))
+      | inl same ↦
+          let to = last later in
+          more (node_levels - node_levels) (omega arith) (reads node_levels (omega (arith, to.whole)) (subst (λ (p : List ℕ). SamePlaces node_levels p (path_of leaf)) (sym to.path) (one_node_path (leaf - 1) leaf (sym same)))) (λ _ _. refl)
+    ]
+
+-- so many are no more than all that bytes touch
+pub reads_touched : (from leaf to : ℕ) → from ≤ leaf → leaf < to → read_before from (leaf + 1) ≤ (to + leaf_pointers.count - 1) / leaf_pointers.count - from / leaf_pointers.count + (to - from)
+reads_touched from leaf to on below = omega (arith, on, below)
 
 -- all that was to be read is the part of the file
 pub part_is : (image : Image) (at : ℕ) (root : roots.Root) (f : File) (offset : ℕ) (part : List ℕ) → IsFileAt image at f → IsRootBlock (block_at image at) root → offset + length part ≤ length f.bytes

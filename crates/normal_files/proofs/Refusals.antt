@@ -1,6 +1,8 @@
 -- One refusal told as another.
 use Rattle.normal_files.proofs.Words.{◌≡◌, ◌+◌, ℕ, Ok, Err, false, refl, sym, subst, arith, IfErr, Result, IsErrAnd, OnlyReads, Tells, reads_then, stopped_after_reads, tells_on, Ghosts, Damage, Trouble, Image, leaf_pointers, is_damage, HasStoppedBy, ap, Far, FarLeaf, IsNodeTrouble, IsRootTrouble}
 use Rattle.normal_files.specs.Refusal.{IsDamage, IsFar, IsTrouble, FarNode, FarRoot, NoRoot}
+use Rattle.block_tree.specs.Along.{FarBelow, FarTop, IsWayTrouble}
+use Rattle.block_tree.specs.declared.root.Root as roots
 use Rattle.cfs_base.specs.declared.refusal.Trouble.TheVariants as trouble
 
 -- what a `?` makes of a trouble
@@ -20,6 +22,11 @@ pub node_trouble : {D : Type 0} (g : Ghosts D) (block at : ℕ) (old new : D) (t
 node_trouble g block at old new (trouble.Disk tried) is = is.1
 node_trouble g block at old new (trouble.Damaged damage) (Far is past) = FarRoot (ap (λ (d : Damage). d.code) is) (ap (λ (d : Damage). d.block) is)
 node_trouble g block at old new (trouble.Damaged damage) (FarLeaf is far) = FarNode (ap (λ (d : Damage). d.code) is) (λ tells. rw (ap (λ (d : Damage). d.block) is) (far tells))
+
+pub way_refused : {D : Type 0} (g : Ghosts D) (at : ℕ) (root : roots.Root) (old new : D) (t : Trouble) → IsWayTrouble g at root old new t → IsTrouble g at old new t
+way_refused g at root old new (trouble.Disk tried) is = is.1
+way_refused g at root old new (trouble.Damaged damage) (FarTop k is past) = FarRoot (ap (λ (d : Damage). d.code) is) (ap (λ (d : Damage). d.block) is)
+way_refused g at root old new (trouble.Damaged damage) (FarBelow code far) = FarNode code far
 
 -- ---- after calls that only read
 

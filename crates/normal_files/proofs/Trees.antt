@@ -1,7 +1,7 @@
 -- A tree of nodes and leaves: what stands at each path, as the pointers say.
 use Rattle.normal_files.proofs.Words.{◌≡◌, ◌≢◌, inl, inr, ℕ, zero, suc, ◌+◌, ◌*◌, ◌/◌, ◌%◌, ◌<◌, ◌≤◌, List, [], ◌∷◌, get_or, refl, sym, ◌∙◌, ap, subst, arith, slice_index, cases_eq, cases_lt, get_or_past, Image, block_at, leaf_pointers, node_pointers, pointers_of, IsGoodRoot, IsRootBlock, root_spelling, end_of, pointer, tree_of, nodes_of, leaf_is, node_block, path_is, Object, IsTree, leaf_in, held_at, tree_in, held_there, held, IsNear, leaves_at, length-leaves, pointed, zeros}
 use Rattle.normal_files.specs.Laid.{leaf_of, leaves_of}
-use Rattle.normal_files.specs.Nodes.{LeadTo}
+use Rattle.block_tree.specs.Along.{IsNearTree}
 use Rattle.block_tree.specs.declared.root.Root as roots
 
 pub same_leaves : (i j : Image) (m : ℕ) → (m ≢ 0 → block_at i m ≡ block_at j m) → leaves_at i m ≡ leaves_at j m
@@ -43,9 +43,6 @@ module _ (image : Image) (content : List ℕ) (root : roots.Root) (is : IsRootBl
       ∙ ap (λ (m : ℕ). held_at image (tree_of image content (m ∷ l % leaf_pointers.count ∷ []))) high ∙ ap (λ (m : ℕ). held_at image (tree_of image content (n ∷ m ∷ []))) low
       ∙ ap (held_at image) (leaf_at n k small)
 
-  pub leads : (n : ℕ) (leaves : List ℕ) → leaves ≡ leaves_at image (slice_index root.nodes n) → LeadTo image leaves n (leaf_in (tree_in image content))
-  leads n leaves same k small = leaf_stands n k small ∙ ap (λ (ns : List ℕ). held_at image (get_or ns k 0)) (sym same)
-
   -- all of a tree is on the disk
   module _ (size owner : ℕ) (r : roots.Root) (o : Object) (tree : IsTree size owner (tree_in image content) r o) (some : 0 < size) where
     on_disk : (p : List ℕ) → tree_of image content p < size
@@ -66,6 +63,13 @@ module _ (image : Image) (content : List ℕ) (root : roots.Root) (is : IsRootBl
 -- a node that is absent leads nowhere
 pub near_none : (size : ℕ) (image : Image) → 0 < size → IsNear size image 0
 near_none size image some = record { here = some; leaves = λ k. omega (arith, zeros leaf_pointers.count k, some) }
+
+-- so is all that its nodes lead to
+pub near_tree : (image : Image) (content : List ℕ) (root : roots.Root) → IsRootBlock content root → (size owner : ℕ) (r : roots.Root) (o : Object) → IsTree size owner (tree_in image content) r o → 0 < size → IsNearTree size image (root_spelling root)
+near_tree image content root is size owner r o tree some [] few = near_none size image some
+near_tree image content root is size owner r o tree some (n ∷ []) few =
+    subst (IsNear size image) (sym (node_at image content root is n) ∙ ap (λ (c : List ℕ). tree_of image c (n ∷ [])) is.spelled) (near image content root is size owner r o tree some n)
+near_tree image content root is size owner r o tree some (n ∷ k ∷ path) few = absurd (omega (arith, few))
 
 -- each leaf of a file, by its root
 pub stands_at : (image : Image) (r : roots.Root) → IsGoodRoot r → (n k : ℕ) → k < leaf_pointers.count → leaves_of image r (leaf_pointers.count * n + k) ≡ held_at image (leaf_of image r n k)

@@ -3,12 +3,12 @@ pub use Rattle.block_tree.proofs.Spellings.{leaves_of as node_leaves, nodes_of, 
 pub use Rattle.block_tree.proofs.Nodes.{leaves_there, length-leaves, nothing_below, pointed, two_levels, zeros}
 pub use Rattle.block_tree.proofs.Trees.{leaf_is, node_block, path_is}
 pub use Rattle.block_tree.specs.Node.{IsNode, node_spelling}
-pub use Rattle.block_tree.specs.Pointers.{leaf_limit, leaf_pointers, node_pointers, number_at, numbers_from, size_limit}
+pub use Rattle.block_tree.specs.Pointers.{leaf_limit, leaf_pointers, node_levels, node_pointers, number_at, numbers_from, size_limit}
 unfoldable pub use Rattle.block_tree.specs.Pointers.{pointers_of}
 pub use Rattle.block_tree.specs.Reads.{HasStoppedBy, Far, FarLeaf, IsNear, IsNodeTrouble, IsRootTrouble, is_damage, leaves_at}
 pub use Rattle.block_tree.specs.Root.{IsGoodRoot, IsRoot, IsRootBlock, root_spelling}
-pub use Rattle.block_tree.specs.Tree.{bytes_in, end_of, path_to, pointer, tree_of}
-unfoldable pub use Rattle.block_tree.specs.Tree.{levels_of}
+pub use Rattle.block_tree.specs.Tree.{bytes_in, end_of, leaf_block, pointer, tree_of}
+unfoldable pub use Rattle.block_tree.specs.Tree.{levels_of, path_to}
 pub use Rattle.cfs_base.proofs.Calls.{makes_then, reads_make, reads_then, reads_within, stopped_after_reads, stopped_after_try, tells_on, then_tried, tried_then}
 pub use Rattle.cfs_base.proofs.Runs.{on, still_tells, then, wider}
 pub use Rattle.cfs_base.specs.Calls.{HasTried, MakesAtMost, OnlyReads}

@@ -5,7 +5,6 @@ pub mod Ends
 pub mod Frees
 pub mod Laid
 pub mod Links
-pub mod Nodes
 pub mod Order
 pub mod Parts
 pub mod Refusal

@@ -1,5 +1,5 @@
 -- How many leaves and nodes bytes touch.
-use Rattle.std.specs.Prelude.{ℕ, ◌+◌, ◌-◌, ◌*◌, ◌/◌, min, max}
+use Rattle.std.specs.Prelude.{ℕ, ◌+◌, ◌-◌, ◌/◌}
 use Rattle.block_tree.specs.Pointers.{leaf_pointers}
 use Rattle.ufs_model.specs.Object.{leaves_in}
 
@@ -9,9 +9,3 @@ leaves_touched offset count = leaves_in (offset + count) - offset / 512
 abbrev pub nodes_touched : (offset count : ℕ) → ℕ
 nodes_touched offset count =
     (leaves_in (offset + count) + leaf_pointers.count - 1) / leaf_pointers.count - offset / 512 / leaf_pointers.count
-
--- the leaves of one node among them
-abbrev pub touched_below : (offset count number : ℕ) → ℕ
-touched_below offset count number =
-    min (leaves_in (offset + count)) (leaf_pointers.count * number + leaf_pointers.count)
-    - max (offset / 512) (leaf_pointers.count * number)

@@ -10,7 +10,7 @@ ghost use Rattle.normal_files.specs.View.{View};
 ghost use Rattle.ufs_model.specs.Object.{resized};
 
 use crate::flush::flush;
-use crate::put::{after, write_block};
+use crate::in_place::{after, write_block};
 use block_tree::Root;
 use cfs_base::{BlockNo, Disk, Trouble};
 

@@ -3,23 +3,23 @@
 //! new.
 #![tactic(auto)]
 
-mod both;
+mod absent;
 mod cut;
 mod flush;
 mod free;
 mod grow;
+mod in_place;
 mod laws;
 mod link;
 mod need;
 mod next;
 mod part;
-mod put;
 mod range;
 mod reading;
 mod resizing;
 mod shrink;
-mod take;
 mod touched;
+mod two_nodes;
 mod writing;
 
 pub use laws::files_are_read_by_their_roots;

@@ -6,8 +6,8 @@ ghost use Rattle.normal_files.specs.Links.{linked_image, linked_root};
 ghost use Rattle.normal_files.specs.Steps.{Comes};
 
 use crate::flush::flush;
+use crate::in_place::{after, write_block};
 use crate::next::Next;
-use crate::put::{after, write_block};
 use block_tree::Root;
 use cfs_base::{Block, BlockNo, Disk, Trouble};
 

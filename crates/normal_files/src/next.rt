@@ -3,7 +3,7 @@ ghost use Rattle.std.specs.Prelude.{◌≡◌, ◌==◌, ◌<◌, ◌&&◌};
 ghost use Rattle.block_tree.specs.Pointers.{leaf_pointers};
 ghost use Rattle.normal_files.specs.Takes.{is_held, with_taken};
 
-use crate::take::Taken;
+use crate::absent::Taken;
 use block_tree::Node;
 
 /// The node of a part with the leaves that a write takes.

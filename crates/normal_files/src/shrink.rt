@@ -12,8 +12,8 @@ ghost use Rattle.ufs_model.specs.Object.{resized};
 
 use crate::cut::{End, cut_root, last_node, read_end, trim};
 use crate::free::free_past;
+use crate::in_place::after;
 use crate::link::write_through;
-use crate::put::after;
 use block_tree::Root;
 use cfs_base::{BlockNo, Disk, Trouble};
 use cyl_alloc::Space;

@@ -18,12 +18,12 @@ ghost use Rattle.normal_files.specs.View.{View, Way};
 ghost use Rattle.normal_files.specs.Writes.{IsWritable, Wrote};
 ghost use Rattle.ufs_model.specs.Object.{leaves_in};
 
-use crate::both::{Both, link_both, take_both};
+use crate::absent::refused;
 use crate::flush::flush;
+use crate::in_place::{after, either};
 use crate::part::Part;
-use crate::put::{after, either};
-use crate::take::refused;
 use crate::touched::Touched;
+use crate::two_nodes::{Both, link_both, take_both};
 use block_tree::Root;
 use cfs_base::{BlockNo, Disk, Refused, Trouble};
 use cyl_alloc::Space;

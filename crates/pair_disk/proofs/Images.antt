@@ -1,6 +1,6 @@
 -- What a crash leaves of a disk in memory after one call more.
 use Rattle.std.proofs.Common.{◌≡◌, ◌≢◌, ◌⊎◌, inl, inr, ⊎_elim, ℕ, ◌<◌, ◌≤◌, Bool, true, false, ◌||◌, nat_eq, List, [], length, set, refl, sym, ◌∙◌, ap, subst, arith, length-set, get_or-set_same, get_or-set_other, set-set, ext_get_or, Vec, Global}
-use Rattle.pair_disk.proofs.Words.{AreBlocks, Barrier, Block, History, Image, IsBlock, IsImage, Kept, LeavesOnly, Nothing, State, Torn, Write, after, block_at, cases_eq, clock, count_of, left_of, lifted, nat_tests, replay, set-get_or, state_now, unwritten}
+use Rattle.pair_disk.proofs.Words.{AreBlocks, Barrier, Block, History, Image, IsBlock, IsImage, KeptCall, LeavesOnly, Nothing, State, Torn, Write, after, block_at, cases_eq, clock, count_of, left_of, lifted, nat_tests, replay, set-get_or, state_now, unwritten}
 
 -- a number is itself, and no other
 is_self : (n : ℕ) (b : Bool) → (nat_eq n n || b) ≡ true
@@ -88,7 +88,7 @@ flushed s blocks c h = ext_get_or [] c blocks.items h.size (λ n on. h.whole n r
 -- nothing was written yet
 pub fresh : (h : History) (t : ℕ) → h.kept.items ≡ [] → (c : Image) → left_of h t c → c ≡ h.first.items
 fresh h t none c left =
-    let is = subst (λ (calls : List Kept). IsImage (replay (unwritten h.first.items) left.0 calls) c) none left.3 in
+    let is = subst (λ (calls : List KeptCall). IsImage (replay (unwritten h.first.items) left.0 calls) c) none left.3 in
     ext_get_or [] c h.first.items is.size (λ n on. is.whole n refl)
 
 -- what a history says of the disk that holds it

@@ -17,7 +17,7 @@ pub use Rattle.pair_disk.specs.declared.half.Half.TheVariants.{First, Second}
 pub use Rattle.pair_disk.specs.declared.history.History.{History}
 pub use Rattle.pair_disk.specs.declared.kept.Call.{Call}
 pub use Rattle.pair_disk.specs.declared.kept.Call.TheVariants.{Barrier, Write}
-pub use Rattle.pair_disk.specs.declared.kept.Kept.{Kept}
+pub use Rattle.pair_disk.specs.declared.kept.KeptCall.{KeptCall}
 pub use Rattle.pair_disk.specs.declared.kept.TornPick.{TornPick}
 pub use Rattle.pair_disk.specs.declared.torn_disk.TornDisk.{Ghosts}
 pub use Rattle.pair_disk.specs.declared.torn_memory.TornMemory.{TornMemory}

@@ -5,7 +5,7 @@ use Rattle.cfs_base.specs.Disk.{Image, AreBlocks, IsBlock, block_at}
 use Rattle.cfs_base.specs.Replay as calls
 use Rattle.pair_disk.specs.declared.kept.Call.{Call}
 use Rattle.pair_disk.specs.declared.kept.Call.TheVariants.{Write, Barrier}
-use Rattle.pair_disk.specs.declared.kept.Kept.{Kept}
+use Rattle.pair_disk.specs.declared.kept.KeptCall.{KeptCall}
 use Rattle.pair_disk.specs.declared.kept.TornPick.{TornPick}
 
 -- the content at the last barrier that was done, and which blocks were written since
@@ -22,14 +22,14 @@ abbrev pub after : Call → State → State
 after (Write at) s = record { base = s.base; torn = λ n. nat_eq n at || s.torn n }
 after (Barrier blocks) s = record { base = blocks.items; torn = λ n. false }
 
-abbrev pub made_at : Kept → ℕ
+abbrev pub made_at : KeptCall → ℕ
 made_at kept = kept.moment
 
-abbrev pub made : Kept → State → State
+abbrev pub made : KeptCall → State → State
 made kept s = after kept.call s
 
 -- the state at moment t, after the calls made before it
-abbrev pub replay : State → ℕ → List Kept → State
+abbrev pub replay : State → ℕ → List KeptCall → State
 replay s t kept = calls.replay made_at made s t kept
 
 -- a crash may leave it: each block that was written since the barrier has any bytes, each other block those of then

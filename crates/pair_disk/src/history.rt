@@ -5,7 +5,7 @@ ghost use Rattle.cfs_base.specs.Outside.{Rose, count_after};
 ghost use Rattle.cfs_base.specs.Replay.{all_before};
 ghost use Rattle.pair_disk.specs.Replay.{HasSize, IsImage, IsOfBlocks, after, made_at, may_tear, replay, unwritten};
 
-use crate::kept::{Call, Kept, TornPick};
+use crate::kept::{Call, KeptCall, TornPick};
 use crate::replay::{base_after, torn_after};
 use crate::store::copy;
 use cfs_base::Block;
@@ -17,7 +17,7 @@ pub struct History {
     /// The content before all calls.
     first: Vec<Block>,
     moment: u64,
-    kept: Vec<Kept>,
+    kept: Vec<KeptCall>,
     ghost clocked: { moment ≤ 2 ^ 64 - 1 },
     ghost past: { IsTrue (all_before made_at moment kept.items) },
     ghost sized: { (t : ℕ) → IsOfBlocks (length first.items) (replay (unwritten first.items) t kept.items) },
@@ -79,7 +79,7 @@ impl History {
             self.pass();
             return Err(AllocError);
         }
-        let kept = Kept {
+        let kept = KeptCall {
             moment: self.moment,
             call,
         };

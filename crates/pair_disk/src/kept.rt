@@ -12,7 +12,7 @@ pub enum Call {
 
 /// A call, and the moment at which it was made.
 #[derive(Drop)]
-pub struct Kept {
+pub struct KeptCall {
     pub moment: u64,
     pub call: Call,
 }

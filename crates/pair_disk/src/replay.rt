@@ -1,15 +1,15 @@
-//! Kept calls, made again up to a crash.
+//! KeptCall calls, made again up to a crash.
 ghost use Rattle.std.specs.Prelude.{◌≡◌, ◌<◌, IsTrue, length, set};
 ghost use Rattle.cfs_base.specs.Disk.{AreBlocks, IsBlock};
 ghost use Rattle.cfs_base.specs.Replay.{after_before};
 ghost use Rattle.pair_disk.specs.Replay.{IsImage, State, made, made_at, may_tear, picked};
 
-use crate::kept::{Call, Kept, TornPick};
+use crate::kept::{Call, KeptCall, TornPick};
 use crate::store::put;
 use cfs_base::Block;
 
 /// The content at the last barrier, after this call where it was made before the moment.
-pub fn base_after<'a>(base: &'a Vec<Block>, kept: &'a Kept, at: u64) -> &'a Vec<Block>
+pub fn base_after<'a>(base: &'a Vec<Block>, kept: &'a KeptCall, at: u64) -> &'a Vec<Block>
     ensures { (s : State) → base.now.items ≡ s.base
         → result.now.items ≡ (after_before made_at made at kept.now s).base }
 {
@@ -20,7 +20,7 @@ pub fn base_after<'a>(base: &'a Vec<Block>, kept: &'a Kept, at: u64) -> &'a Vec<
 }
 
 /// Whether a block was written since that barrier.
-pub fn torn_after(torn: bool, kept: &Kept, at: u64, block: u32) -> bool
+pub fn torn_after(torn: bool, kept: &KeptCall, at: u64, block: u32) -> bool
     ensures { (s : State) → torn ≡ s.torn block
         → result ≡ (after_before made_at made at kept.now s).torn block }
 {

@@ -1,6 +1,6 @@
 -- The lists of what differs, node after node.
 use Rattle.std.proofs.Common.{◌≡◌, inl, inr, ℕ, zero, suc, ◌+◌, ◌*◌, ◌/◌, ◌%◌, ◌<◌, ◌≤◌, true, false, cond, List, [], ◌∷◌, ◌++◌, length, get_or, Option, Some, refl, sym, ◌∙◌, ap, subst, append_assoc, length-append, arith}
-use Rattle.special_files.proofs.Words.{All, Drafting, Ghosts, Graph, HasDraft, Image, IsChanged, IsNear, IsOpen, Kept, Object, OnlyReads, Opened, Puid, StoreHas, Tells, all_unlike, append-nil, cases_lt, created_of, drafts_of, get_or_past, has-append, has_number, here, in_node, leaves_at, node_of, object_at, opened_as, option_to_list, or_left, or_right, reads_then, same_puid, table, tells_on, unlike, ◌||◌}
+use Rattle.special_files.proofs.Words.{All, Drafting, Ghosts, Graph, HasDraft, Image, IsChanged, IsNear, IsOpen, Kept, Object, OnlyReads, Opened, Puid, StoreHas, Tells, all_unlike, append-nil, cases_lt, created_of, drafts_of, get_or_past, has-append, has_number, here, in_node, leaves_at, node_of, object_at, opened_as, option_to_list, or_left, or_right, reads_then, same_puid, pointer_table, tells_on, unlike, ◌||◌}
 use Rattle.block_tree.specs.declared.root.Root as roots
 use Rattle.ufs_model.specs.declared.object.Draft as models
 use Rattle.special_files.specs.Changed.{Adds}
@@ -10,35 +10,35 @@ use Rattle.special_files.proofs.Unlike.{adds_unlike, all_alike, join_unlike, len
 
 -- ---- two nodes that were read
 
-table_next : (block : ℕ) (leaves : List ℕ) (k : ℕ) → table block leaves (k + 1) ≡ get_or leaves k 0
-table_next block leaves k = let next : k + 1 ≡ suc k = omega arith in ap (table block leaves) next
+table_next : (block : ℕ) (leaves : List ℕ) (k : ℕ) → pointer_table block leaves (k + 1) ≡ get_or leaves k 0
+table_next block leaves k = let next : k + 1 ≡ suc k = omega arith in ap (pointer_table block leaves) next
 
 -- one leaf more
-module _ (block other : ℕ) (leaves others : List ℕ) (k : ℕ) (old now : List ℕ) (is : now ≡ old ++ all_unlike (table block leaves) (table other others) (k + 1)) where
-  pub leaf_more : (next : List ℕ) → next ≡ now ++ unlike (get_or leaves k 0) (get_or others k 0) → next ≡ old ++ all_unlike (table block leaves) (table other others) (k + 1 + 1)
+module _ (block other : ℕ) (leaves others : List ℕ) (k : ℕ) (old now : List ℕ) (is : now ≡ old ++ all_unlike (pointer_table block leaves) (pointer_table other others) (k + 1)) where
+  pub leaf_more : (next : List ℕ) → next ≡ now ++ unlike (get_or leaves k 0) (get_or others k 0) → next ≡ old ++ all_unlike (pointer_table block leaves) (pointer_table other others) (k + 1 + 1)
   leaf_more next one =
       one
       ∙ (λ i. is i ++ unlike (sym (table_next block leaves k) i) (sym (table_next other others k) i))
-      ∙ append_assoc old (all_unlike (table block leaves) (table other others) (k + 1)) (unlike (table block leaves (k + 1)) (table other others (k + 1)))
-      ∙ ap (λ (ns : List ℕ). old ++ ns) (sym (more_unlike (table block leaves) (table other others) (k + 1) (k + 1 + 1) refl))
+      ∙ append_assoc old (all_unlike (pointer_table block leaves) (pointer_table other others) (k + 1)) (unlike (pointer_table block leaves (k + 1)) (pointer_table other others (k + 1)))
+      ∙ ap (λ (ns : List ℕ). old ++ ns) (sym (more_unlike (pointer_table block leaves) (pointer_table other others) (k + 1) (k + 1 + 1) refl))
 
   pub leaf_room : length old + 129 ≤ 15480 → k < 128 → length now < 15480
-  leaf_room room less = omega (arith, ap (length {A = ℕ}) is, length-append old (all_unlike (table block leaves) (table other others) (k + 1)), length-unlike (table block leaves) (table other others) (k + 1), room, less)
+  leaf_room room less = omega (arith, ap (length {A = ℕ}) is, length-append old (all_unlike (pointer_table block leaves) (pointer_table other others) (k + 1)), length-unlike (pointer_table block leaves) (pointer_table other others) (k + 1), room, less)
 
-pub table_below : (size block : ℕ) (leaves : List ℕ) → 0 < size → block < size → All (λ n. n < size) leaves → (j : ℕ) → table block leaves j < size
+pub table_below : (size block : ℕ) (leaves : List ℕ) → 0 < size → block < size → All (λ n. n < size) leaves → (j : ℕ) → pointer_table block leaves j < size
 table_below size block leaves some below all zero = below
 table_below size block leaves some below all (suc k) = elim (cases_lt k (length leaves)) [
   | inl within ↦ all k 0 within
   | inr past ↦ let none = get_or_past leaves k 0 (omega (arith, past)) in omega (arith, none, some)
 ]
 
-pub node_adds : (size block other : ℕ) (leaves other_leaves old new : List ℕ) → new ≡ old ++ all_unlike (table block leaves) (table other other_leaves) 129 → 0 < size → block < size → All (λ n. n < size) leaves → Adds size 129 old new
+pub node_adds : (size block other : ℕ) (leaves other_leaves old new : List ℕ) → new ≡ old ++ all_unlike (pointer_table block leaves) (pointer_table other other_leaves) 129 → 0 < size → block < size → All (λ n. n < size) leaves → Adds size 129 old new
 node_adds size block other leaves other_leaves old new is some below all =
-    adds_unlike (table block leaves) (table other other_leaves) size 129 old new is (λ j less. table_below size block leaves some below all j)
+    adds_unlike (pointer_table block leaves) (pointer_table other other_leaves) size 129 old new is (λ j less. table_below size block leaves some below all j)
 
-pub node_told : (image : Image) (block other : ℕ) (leaves other_leaves old new : List ℕ) → new ≡ old ++ all_unlike (table block leaves) (table other other_leaves) 129
+pub node_told : (image : Image) (block other : ℕ) (leaves other_leaves old new : List ℕ) → new ≡ old ++ all_unlike (pointer_table block leaves) (pointer_table other other_leaves) 129
     → leaves ≡ leaves_at image block → other_leaves ≡ leaves_at image other → new ≡ old ++ all_unlike (in_node image block) (in_node image other) 129
-node_told image block other leaves other_leaves old new is one two = is ∙ (λ i. old ++ all_unlike (table block (one i)) (table other (two i)) 129)
+node_told image block other leaves other_leaves old new is one two = is ∙ (λ i. old ++ all_unlike (pointer_table block (one i)) (pointer_table other (two i)) 129)
 
 pub alike_told : (image : Image) (block other : ℕ) (ns : List ℕ) → block ≡ other → ns ≡ ns ++ all_unlike (in_node image block) (in_node image other) 129
 alike_told image block other ns same =

@@ -1,7 +1,7 @@
 -- The image that a commit ends with.
-use Rattle.std.proofs.Common.{◌≡◌, ◌≢◌, inl, inr, ⊎_elim, ℕ, ◌%◌, Bool, true, false, List, [], ◌∷◌, length, Option, Some, refl, sym, ◌∙◌, ap, subst, length-set, arith}
-use Rattle.special_files.proofs.Words.{AreCounts, ClearBit, Finish, Frame, Graph, Image, IntendAllocate, IntendDeallocate, IsEntered, IsEntry, IsReady, IsTaken, Kept, MapEntry, Object, Puid, Release, Settles, StandsIn, Undo, after_giving, bit_valid, block_at, block_at-with_entry, both_ways, cases_Bool, counts_same, entry_in, entry_in_table, false_from_ne_true, finished, finished_part, flips, given_all, has_number, is_committed, is_free, is_free_entry, is_had, is_meant, is_meant_for, is_of, is_taken, length-with_entry, not_map, option_to_list, part_at, part_of, released, same_Some, same_or_not, same_tree, stands_meant, taken_apart, taken_of, tree_in, undone, with_bit, with_bit_at, without_bit}
-use Rattle.std.proofs.lemmas.List.{get_or-set_other}
+use Rattle.std.proofs.Common.{◌≡◌, ◌≢◌, inl, inr, ⊎_elim, ℕ, ◌%◌, ◌<◌, Bool, true, false, List, [], ◌∷◌, length, Option, Some, refl, sym, ◌∙◌, ap, subst, length-set, arith}
+use Rattle.special_files.proofs.Words.{AreCounts, ClearBit, Finish, Frame, Graph, Image, IntendAllocate, IntendDeallocate, IsEntered, IsEntry, IsReady, IsTaken, Kept, MapEntry, Object, Puid, Release, Settles, StandsIn, Undo, after_giving, bit_valid, block_at, block_at-with_entry, both_ways, cases_Bool, counts_same, entry_in, entry_in_table, false_from_ne_true, finished, finished_part, flips, given_all, has_number, in_image, is_committed, is_free, is_free_entry, is_free_in, is_had, is_meant, is_meant_for, is_of, is_taken, length-with_entry, not_map, option_to_list, part_at, part_of, released, same_Some, same_or_not, same_tree, stands_meant, taken_apart, taken_of, tree_in, undone, with_bit, with_bit_at, without_bit}
+use Rattle.std.proofs.lemmas.List.{get_or-set_other, get_or-set_same}
 use Rattle.special_files.proofs.CommitEntries.{bits_same, dropped_free, finished_free, finished_had, meant_not_free, no_bit, released_free, released_not_free, undone_free, with_bit_free}
 use Rattle.special_files.proofs.CommitFlips.{counts_given_all, counts_kept}
 use Rattle.intentions.proofs.Flips.{flipped_block, if_at, length-flipped, first_number, option_has, option_is, option_once}
@@ -45,9 +45,11 @@ module _ {a : Image} {g : Graph} {id : Puid} {was o : Object} {s : ℕ} {taken d
   shadow_meant : is_meant_for a id.block s ≡ true
   shadow_meant = stands_meant id.block (entry_in a s) ready.draft.stands
 
+  pub shadow_free : is_free_in (b4 ready) s ≡ true
+  shadow_free = ap is_free_entry (b4_entry_of s (λ same. (root_shadow ready) (sym same)) true false false false (first_number s []) ((no_made ready) s (λ is. (made_not_shadow ready) s is refl)) (shadow_not_dropped ready) (shadow_not_taken ready) ∙ ap (if_at true Undo) (shadow ready).taken.here) ∙ undone_free (shadow ready).taken.is ((meant_state ready) s (shadow ready).taken.is shadow_meant (shadow ready).taken.here)
+
   role_shadow : Role a (b4 ready) id.block created (tree_in a (block_at a s)) s
-  role_shadow = Gone (taken_of_id s (shadow ready).taken)
-      (ap is_free_entry (b4_entry_of s (λ same. (root_shadow ready) (sym same)) true false false false (first_number s []) ((no_made ready) s (λ is. (made_not_shadow ready) s is refl)) (shadow_not_dropped ready) (shadow_not_taken ready) ∙ ap (if_at true Undo) (shadow ready).taken.here) ∙ undone_free (shadow ready).taken.is ((meant_state ready) s (shadow ready).taken.is shadow_meant (shadow ready).taken.here))
+  role_shadow = Gone (taken_of_id s (shadow ready).taken) shadow_free
       (λ stands. ⊎_elim (λ is. (root_shadow ready) (sym is)) (λ at. (inner_shadow ready) s ((new_inner ready) s at) refl) stands)
 
   role_taken : (m : ℕ) → has_number m taken ≡ true → Role a (b4 ready) id.block created (tree_in a (block_at a s)) m
@@ -107,6 +109,13 @@ module _ {a : Image} {g : Graph} {id : Puid} {was o : Object} {s : ℕ} {taken d
 
   settled_now : Settles (a3 ready) (after ready) id s (b4 ready)
   settled_now = (b4_on ready)
+
+  -- the root has what the shadow root had
+  pub root_now : block_at (b4 ready) id.block ≡ block_at a s
+  root_now =
+      let in_a : id.block < length a = in_image a g ready.holds id.block (root ready).taken.is (root ready).taken.here in
+      let below : id.block < length (a2 ready) = omega (arith, in_a, length-with_entry (a1 ready) id.block (with_bit (a1_root ready).taken.is), length-flipped (flips Release dropped) a) in
+      settled_now.root ∙ get_or-set_same (a2 ready) id.block (block_at (a2 ready) s) [] below ∙ a2_block s ((real ready) s (shadow ready).taken)
 
   pub tree_now : tree_in (b4 ready) (block_at (b4 ready) id.block) ≡ tree_in a (block_at a s)
   tree_now =

@@ -95,12 +95,10 @@ module _ {D : Type 0} (g : Ghosts D) (graph : Graph) (ds : List Opened) (id : Pu
             (λ b is eq. is.taken.taken (ap (λ (e : MapEntry). e.state) (same_Some _ _ (sym is.taken.here ∙ ap (entry_in (g.content d0)) eq ∙ was.1)) ∙ was.2))
             amid2.carries.holds
 
-        -- the claim, in which its root is written
-        pub direct_claim : block ≡ root_spelling drafting.root
-            → IsLeastFree (g.content d0) s.0 × (s.0 % 64 ≢ 0) × (s.0 ≢ id.block) × (block_at (g.content d2) s.0 ≡ root_spelling drafting.root)
-        direct_claim spelled = (
+        -- the claim
+        pub direct_claim : IsLeastFree (g.content d0) s.0 × (s.0 % 64 ≢ 0) × (s.0 ≢ id.block)
+        direct_claim = (
           both.1,
           real,
           λ same. root.taken.taken (ap (λ (e : MapEntry). e.state) (same_Some _ _ (sym root.taken.here ∙ ap (entry_in (g.content d0)) (sym same) ∙ was.1)) ∙ was.2),
-          direct_has ∙ spelled,
         )

@@ -1,27 +1,28 @@
 -- A commit from the release of what is dropped to the end.
-use Rattle.std.proofs.Common.{◌≡◌, inl, inr, ⊎_elim, ℕ, ◌≤◌, true, false, List, [], ◌∷◌, ◌++◌, length, Ok, None, Some, sym, ◌∙◌, ap, subst, arith, Option}
-use Rattle.special_files.proofs.Words.{AreCounts, CarriedOut, Carries, ChangesBit, ChangesOnly, Flips, Frame, Ghosts, Graph, HasItsBlocks, Holds, IfErr, Image, IsEntered, IsMapTrouble, IsOldOrNew, IsOn, IsReady, IsSettled, Keeps, Kept, Leaves, MakesAtMost, MayFlip, Object, Puid, Release, Result, SetBit, Trouble, bit_set, block_at, carries_framed, entry_in, false_from_ne_true, flipped, flips, frames_hold, in_image, is_damage, is_fixed, is_meant_for, is_of, is_taken, keeps_frame, named, not_label, not_map, of_owners, option_to_list, reserved, root_placed, same_or_not, taken_apart, the_entry, then, tree_in, trouble_after_try, wider, with_bit, with_entry, with_object}
-use Rattle.intentions.proofs.Flips.{flip_is, flipped_append, flipped_block}
+use Rattle.std.proofs.Common.{◌≡◌, inl, inr, ⊎_elim, ℕ, ◌≤◌, true, false, List, [], ◌∷◌, length, set, Ok, Some, refl, sym, ◌∙◌, ap, subst, arith, Option}
+use Rattle.special_files.proofs.Words.{AreCounts, Decided, Carries, ChangesBit, ChangesOnly, Flips, Frame, Ghosts, Graph, HasItsBlocks, Holds, IfErr, Image, IsEntered, IsMapTrouble, IsOldOrNew, IsOn, IsReady, IsSettled, Keeps, Kept, Leaves, MakesAtMost, MayFlip, Object, Puid, Release, Result, SetBit, Trouble, bit_set, block_at, carries_framed, entry_in, false_from_ne_true, flipped, flips, frames_hold, in_image, is_damage, is_fixed, is_free_in, is_meant_for, is_of, is_taken, keeps_frame, puid_at, not_label, not_map, of_owners, option_to_list, reserved, root_placed, same_or_not, taken_apart, the_entry, then, tree_in, trouble_after_try, wider, with_bit, with_entry, with_object}
+use Rattle.intentions.proofs.Flips.{flip_is, flipped_append}
 use Rattle.special_files.proofs.CommitRoles.{none_meant, now_has, only_owners}
 use Rattle.intentions.proofs.Flips.{no_damage}
-use Rattle.cyl_alloc.specs.Left.{Left}
-use Rattle.intentions.specs.Left.{GoesWith, coming}
+use Rattle.intentions.specs.Left.{AreOpen, coming, copied_if, end_of, plan}
+use Rattle.intentions.proofs.Courses.{on_holds}
+use Rattle.special_files.proofs.CommitOpens.{plan_open}
 use Rattle.finisher.proofs.Calls.{counts_alike}
-use Rattle.special_files.proofs.CommitLeft.{comes_to, going_begins, left, rest_of}
+use Rattle.special_files.proofs.CommitLeft.{comes_to, going_begins, left, plan_is, rest_of}
 use Rattle.special_files.proofs.CommitAfter as after_it
 use Rattle.special_files.proofs.CommitWhole as whole
 
 -- ---- up to the bit
 
-module _ {D : Type 0} (g : Ghosts D) {graph full : Graph} {at word : ℕ} {was o : Object} {s : ℕ} {taken dropped : List ℕ} {created : Option ℕ} (d0 : D) (run : Carries g graph d0) (ready : IsReady (g.content d0) full (named at word) was o s taken dropped created) where
+module _ {D : Type 0} (g : Ghosts D) {graph full : Graph} {at word : ℕ} {was o : Object} {s : ℕ} {taken dropped : List ℕ} {created : Option ℕ} (d0 : D) (run : Carries g graph d0) (ready : IsReady (g.content d0) full (puid_at at word) was o s taken dropped created) where
   frame_keeps : Keeps g (Frame (g.content d0) graph) d0
   frame_keeps = keeps_frame g graph d0 run
 
   may : MayFlip (Frame (g.content d0) graph) (g.content d0) (flips Release dropped)
   may = whole.release_may ready graph
 
-  pub release_leaves : (d1 : D) (n t : ℕ) (r : Result (Unit {0}) Trouble) → Flips g n t (flips Release dropped) d0 d1 r → Leaves g d0 d1 (IsOldOrNew graph full (named at word) o)
-  release_leaves d1 n t r f = wider g d0 d1 (IsOn (Frame (g.content d0) graph)) (IsOldOrNew graph full (named at word) o) (f.leaves (Frame (g.content d0) graph) run.holds frame_keeps may) (λ c on. inl (frames_hold (g.content d0) c graph run.holds on))
+  pub release_leaves : (d1 : D) (n t : ℕ) (r : Result (Unit {0}) Trouble) → Flips g n t (flips Release dropped) d0 d1 r → Leaves g d0 d1 (IsOldOrNew graph full (puid_at at word) o)
+  release_leaves d1 n t r f = wider g d0 d1 (IsOn (Frame (g.content d0) graph)) (IsOldOrNew graph full (puid_at at word) o) (f.leaves (Frame (g.content d0) graph) run.holds frame_keeps may) (λ c on. inl (frames_hold (g.content d0) c graph run.holds on))
 
   pub release_sound : (d1 : D) (n t : ℕ) (r : Result (Unit {0}) Trouble) → Flips g n t (flips Release dropped) d0 d1 r → IfErr r (λ e. is_damage e ≡ false)
   release_sound d1 n t r f = f.sound (Frame (g.content d0) graph) run.holds frame_keeps may
@@ -49,9 +50,9 @@ module _ {D : Type 0} (g : Ghosts D) {graph full : Graph} {at word : ℕ} {was o
     a2_now = ap (λ (i : Image). with_entry i at (with_bit (whole.a1_root ready).taken.is)) content1
 
     module _ (d2 : D) (r : Result (Unit {0}) Trouble) (bit : ChangesBit g at (λ e. with_bit e) d1 d2 r) where
-      pub bit_leaves : Leaves g d1 d2 (λ c. Holds c (with_object full (named at word) o))
-      bit_leaves = wider g d1 d2 (λ c. c ≡ with_entry (g.content d1) at (with_bit (whole.a1_root ready).taken.is)) (λ c. Holds c (with_object full (named at word) o)) (bit.images run1.tells (whole.a1_root ready).taken.is here1)
-          (λ c is. subst (λ (i : Image). Holds i (with_object full (named at word) o)) (sym (is ∙ a2_now)) (whole.bit ready).committed.holds)
+      pub bit_leaves : Leaves g d1 d2 (λ c. Holds c (with_object full (puid_at at word) o))
+      bit_leaves = wider g d1 d2 (λ c. c ≡ with_entry (g.content d1) at (with_bit (whole.a1_root ready).taken.is)) (λ c. Holds c (with_object full (puid_at at word) o)) (bit.images run1.tells (whole.a1_root ready).taken.is here1)
+          (λ c is. subst (λ (i : Image). Holds i (with_object full (puid_at at word) o)) (sym (is ∙ a2_now)) (whole.bit ready).committed.holds)
 
     pub bit_put : (d2 : D) → ChangesBit g at (λ e. with_bit e) d1 d2 (Ok (tt {0})) → g.content d2 ≡ bit_set (g.content d0) at dropped
     bit_put d2 bit = bit.put run1.tells (whole.a1_root ready).taken.is here1 ∙ a2_now ∙ sym bit_is
@@ -62,10 +63,6 @@ module _ {D : Type 0} (g : Ghosts D) {graph full : Graph} {at word : ℕ} {was o
     a2_is : g.content d1 ≡ whole.a2 ready
     a2_is = content_is ∙ bit_is
 
-    -- the shadow root is as it was, and so the copy is of it
-    pub shadow_now : (content : List ℕ) → block_at (g.content d0) s ≡ content → block_at (g.content d1) s ≡ content
-    shadow_now content spelled = ap (λ (i : Image). block_at i s) content_is ∙ flipped_block (flips Release dropped ++ flips SetBit (at ∷ [])) (g.content d0) s (whole.real ready s (whole.shadow ready).taken) ∙ spelled
-
     -- what is left then, as a space keeps it
     module _ (before mid : Kept) (counts : AreCounts (g.content d0) before) (same : mid.free ≡ before.free) (rest : List ℕ) (rest_is : rest ≡ rest_of taken dropped created s) (noted : mid.left ≡ Some (record { root = at; shadow = s; rest = rest; copied = false })) (settled : IsSettled g d1) where
       left_is : mid.left ≡ Some (left ready)
@@ -74,47 +71,49 @@ module _ {D : Type 0} (g : Ghosts D) {graph full : Graph} {at word : ℕ} {was o
       counts1 : AreCounts (g.content d1) mid
       counts1 = counts_alike (g.content d1) before mid same (subst (λ (i : Image). AreCounts i before) (sym a2_is) (after_it.counts_bit ready before counts))
 
-      pub goes1 : GoesWith g (with_object full (named at word) o) d1 mid mid.left
-      goes1 = subst (λ (w : Option Left). GoesWith g (with_object full (named at word) o) d1 mid w) (sym left_is) (going_begins ready g d1 mid content_is settled counts1)
+      abbrev b4 : Image
+      b4 = whole.b4 ready
 
-      module _ (d3 : D) (after : Kept) (none : after.left ≡ None) (settled3 : IsSettled g d3) (goes3 : GoesWith g (with_object full (named at word) o) d3 after after.left) (comes : coming (g.content d3) after.left ≡ coming (g.content d1) mid.left) where
-        abbrev b4 : Image
-        b4 = whole.b4 ready
+      b4_is : end_of g d1 mid ≡ b4
+      b4_is = ap (coming (g.content d1)) left_is ∙ comes_to ready g d1 mid content_is settled counts1
 
-        ends : Carries g (with_object full (named at word) o) d3 × AreCounts (g.content d3) after
-        ends = subst (λ (w : Option Left). GoesWith g (with_object full (named at word) o) d3 after w) none goes3
+      b4_holds : Holds b4 (with_object full (puid_at at word) o)
+      b4_holds = on_holds (whole.course ready) b4 (whole.copy ready).copied (whole.b4_on ready)
 
-        b4_is : g.content d3 ≡ b4
-        b4_is = sym (ap (coming (g.content d3)) none) ∙ comes ∙ ap (coming (g.content d1)) left_is ∙ comes_to ready g d1 mid content_is settled counts1
+      root_apart : is_fixed at ≡ false
+      root_apart = taken_apart (g.content d0) full ready.holds at at (root_placed (g.content d0) (length (g.content d0)) (puid_at at word) was (ready.holds.objects (puid_at at word) was ready.at)).taken
 
-        b4_holds : Holds b4 (with_object full (named at word) o)
-        b4_holds = subst (λ (i : Image). Holds i (with_object full (named at word) o)) b4_is ends.0.holds
+      fixed_unowned : (q m : ℕ) → is_fixed m ≡ true → is_of is_taken q (entry_in (g.content d0) m) ≡ false
+      fixed_unowned q m is = false_from_ne_true _ (λ h.
+          let e = the_entry is_taken q (entry_in (g.content d0) m) h in
+          let same = run.holds.fixed m (in_image (g.content d0) graph run.holds m e.0 e.1) is in
+          let no : is_of is_taken q (Some reserved) ≡ true = sym (ap (is_of is_taken q) same) ∙ h in cc)
 
-        root_apart : is_fixed at ≡ false
-        root_apart = taken_apart (g.content d0) full ready.holds at at (root_placed (g.content d0) (length (g.content d0)) (named at word) was (ready.holds.objects (named at word) was ready.at)).taken
+      -- the image with the root copied
+      copied_is : copied_if false (left ready) (g.content d1) ≡ whole.a3 ready
+      copied_is = ap (λ (i : Image). set i at (block_at i s)) a2_is
 
-        fixed_unowned : (q m : ℕ) → is_fixed m ≡ true → is_of is_taken q (entry_in (g.content d0) m) ≡ false
-        fixed_unowned q m is = false_from_ne_true _ (λ h.
-            let e = the_entry is_taken q (entry_in (g.content d0) m) h in
-            let same = run.holds.fixed m (in_image (g.content d0) graph run.holds m e.0 e.1) is in
-            let no : is_of is_taken q (Some reserved) ≡ true = sym (ap (is_of is_taken q) same) ∙ h in cc)
-
-        pub carried_out : CarriedOut g full (named at word) o s created d0 d3 before after
-        carried_out = record {
-          carries = ends.0;
-          settled = settled3;
-          has = subst (λ (i : Image). HasItsBlocks i at) (sym b4_is) (now_has (g.content d0) b4 at created _ ready.has (after_it.role ready) (after_it.no_bit_now ready) (after_it.tree_now ready) (after_it.new_taken ready));
-          none_meant = λ m. ap (λ (i : Image). is_meant_for i at m) b4_is ∙ none_meant (g.content d0) b4 at created _ ready.has (after_it.role ready) m;
-          made = λ c is. subst (λ (i : Image). IsEntered (g.content d0) i c) (sym b4_is) (after_it.made_now ready c is);
-          only = subst (λ (i : Image). ChangesOnly (λ entry. of_owners (at ∷ option_to_list created) entry) (g.content d0) i) (sym b4_is)
-              (only_owners (g.content d0) b4 at created _ ready.has (after_it.role ready) (after_it.b4_size ready) b4_holds.maps b4_holds.own
-              (after_it.b4_other_block ready 1 (λ zero. cc) (λ same. not_label at root_apart (sym same)))
-              fixed_unowned
-              (λ m loose. ⊎_elim (λ same. inr same) (λ other. inl (after_it.b4_other_block ready m (not_map m loose) other)) (same_or_not m at)));
-          tree = ap (λ (i : Image). tree_in i (block_at i at)) b4_is ∙ after_it.tree_now ready;
-          left = λ m real other. ap (λ (i : Image). block_at i m) b4_is ∙ after_it.b4_other_block ready m real other;
-          counts = λ counts. ends.1;
-        }
+      pub decided : Decided g full (puid_at at word) o s created d0 d1 mid
+      decided = record {
+        left = left ready;
+        kept = record { is = left_is; root = refl; uncopied = refl };
+        going = going_begins ready g d1 mid content_is settled counts1;
+        opens = subst (λ (i : Image). AreOpen (λ e. of_owners (at ∷ option_to_list created) e) i (plan (left ready))) (sym copied_is) (subst (AreOpen (λ e. of_owners (at ∷ option_to_list created) e) (whole.a3 ready)) (sym (plan_is ready)) (plan_open ready));
+        settled = settled;
+        holds = subst (λ (i : Image). Holds i (with_object full (puid_at at word) o)) (sym b4_is) b4_holds;
+        has = subst (λ (i : Image). HasItsBlocks i at) (sym b4_is) (now_has (g.content d0) b4 at created _ ready.has (after_it.role ready) (after_it.no_bit_now ready) (after_it.tree_now ready) (after_it.new_taken ready));
+        none_meant = λ m. ap (λ (i : Image). is_meant_for i at m) b4_is ∙ none_meant (g.content d0) b4 at created _ ready.has (after_it.role ready) m;
+        made = λ c is. subst (λ (i : Image). IsEntered (g.content d0) i c) (sym b4_is) (after_it.made_now ready c is);
+        only = subst (λ (i : Image). ChangesOnly (λ entry. of_owners (at ∷ option_to_list created) entry) (g.content d0) i) (sym b4_is)
+            (only_owners (g.content d0) b4 at created _ ready.has (after_it.role ready) (after_it.b4_size ready) b4_holds.maps b4_holds.own
+            (after_it.b4_other_block ready 1 (λ zero. cc) (λ same. not_label at root_apart (sym same)))
+            fixed_unowned
+            (λ m loose. ⊎_elim (λ same. inr same) (λ other. inl (after_it.b4_other_block ready m (not_map m loose) other)) (same_or_not m at)));
+        tree = ap (λ (i : Image). tree_in i (block_at i at)) b4_is ∙ after_it.tree_now ready;
+        stays = λ m real other. ap (λ (i : Image). block_at i m) b4_is ∙ after_it.b4_other_block ready m real other;
+        copied = ap (λ (i : Image). block_at i at) b4_is ∙ after_it.root_now ready;
+        given_back = ap (λ (i : Image). is_free_in i s) b4_is ∙ after_it.shadow_free ready;
+      }
 
 -- ---- one call after another
 

@@ -223,8 +223,11 @@ module _ {D : Type 0} (g : Ghosts D) (graph : Graph) (ds : List Opened) (id : Pu
           (λ n is. inner_apart n (record { taken = record { is = is.taken.is; here = sym (entries n) ∙ is.taken.here; taken = is.taken.taken; placed = is.taken.placed; owned = is.taken.owned }; no_root = is.no_root; no_shadow = is.no_shadow }))
           store1.account.holds).0
 
+      pub root1 : block ≡ root_spelling drafting.root → block_at (g.content d1) s ≡ root_spelling drafting.root
+      root1 spelled = shadow_has ∙ spelled
+
       pub tree1 : block ≡ root_spelling drafting.root → tree_in (g.content d1) (block_at (g.content d1) s) ≡ tree_in (g.content d0) (root_spelling drafting.root)
-      tree1 spelled = ap (tree_in (g.content d1)) (shadow_has ∙ spelled) ∙ tree
+      tree1 spelled = ap (tree_in (g.content d1)) (root1 spelled) ∙ tree
 
 -- ---- ends
 

@@ -1,6 +1,6 @@
 -- What is left of a commit just past its bit.
 use Rattle.std.proofs.Common.{◌≡◌, inl, inr, ℕ, Bool, true, false, List, [], ◌∷◌, ◌++◌, length, set, Option, Some, None, refl, sym, ◌∙◌, ap, subst}
-use Rattle.std.specs.Prelude.{◌==◌, option_to_list}
+use Rattle.std.specs.Prelude.{◌==◌, IsSome, option_to_list}
 use Rattle.std.proofs.lemmas.Bool.{cases_Bool, eq-eqb, false_from_ne_true}
 use Rattle.std.specs.Prelude.{◌<◌}
 use Rattle.std.specs.List.{All}
@@ -24,7 +24,7 @@ use Rattle.special_files.proofs.Begun.{own_tree}
 use Rattle.special_files.proofs.CommitWhole as whole
 use Rattle.special_files.proofs.CommitWhole.{IsInner, tree_inner}
 use Rattle.special_files.proofs.Made.{made_root}
-use Rattle.special_files.specs.Committing.{IsReady, bit_set, settling}
+use Rattle.special_files.specs.Committing.{IsAtBit, IsReady, bit_set, settling}
 use Rattle.ufs_model.specs.Graph.{Graph, with_object}
 use Rattle.ufs_model.specs.Numbers.{has_number}
 use Rattle.ufs_model.specs.declared.object.Object.{Object}
@@ -121,6 +121,9 @@ all_near size taken dropped created s near1 near2 near3 below =
     one None near = All-nil (λ n. n < size)
     one (Some n) near = All-cons (λ m. m < size) n [] (near n refl) (All-nil (λ m. m < size))
 
--- the shadow root of what is left
-pub shadow_of : (w : Option Left) (l : Left) (r s : ℕ) (rest : List ℕ) → w ≡ Some (record { root = r; shadow = s; rest = rest; copied = false }) → w ≡ Some l → (image : Image) → block_at image l.shadow ≡ block_at image s
-shadow_of w l r s rest noted is image = ap (λ (x : Left). block_at image x.shadow) (same_Some _ _ (sym is ∙ noted))
+-- where none is unfinished nothing is owed
+pub none_unfinished : {D : Type 0} (g : Ghosts D) (old new : D) (left : Option Left) → left ≡ None → IsAtBit g old new left
+none_unfinished g old new left none = record { tried = λ some. absurd (no some); settled = λ some. absurd (no some) }
+  where
+    no : IsSome left → ⊥
+    no some = let is = subst (λ (w : Option Left). IsSome w) none some in cc

@@ -1,6 +1,7 @@
 -- What a commit leaves of the blocks of an object.
 use Rattle.std.proofs.Common.{◌≡◌, ◌≢◌, ◌⊎◌, inl, inr, ⊎_elim, ℕ, Bool, true, false, List, [], ◌∷◌, length, Option, Some, None, refl, sym, ◌∙◌, ap, subst}
-use Rattle.special_files.proofs.Words.{Allocated, AreMaps, BlockState, ChangesOnly, Free, HasItsBlocks, Image, IntendAllocate, IntendDeallocate, IsBlockOf, IsOpenTo, MapEntry, RootsOwnThemselves, StandsIn, Tree, and_from, and_parts, block_at, both_ways, entry_in, false_from_ne_true, first_or, free_unowned, had_not_meant, had_or_meant, has_number, is_committed, is_fixed, is_free_in, is_had, is_leaving, is_meant, is_meant_for, is_of, is_placed, is_taken, no_shadows, of_owners, of_taken, option_to_list, owner_is, part_at, same_Some, sight, tree_in}
+use Rattle.special_files.proofs.Words.{Allocated, AreMaps, BlockState, ChangesOnly, Free, HasItsBlocks, Image, IntendAllocate, IntendDeallocate, IsBlockOf, IsOpenTo, MapEntry, RootsOwnThemselves, StandsIn, Tree, and_parts, block_at, both_ways, entry_in, false_from_ne_true, first_or, free_unowned, had_not_meant, had_or_meant, has_number, is_committed, is_fixed, is_free_in, is_had, is_leaving, is_meant, is_meant_for, is_of, is_taken, no_shadows, of_owners, of_taken, option_to_list, owner_is, part_at, same_Some, sight, tree_in}
+use Rattle.intentions.proofs.Drafts.{owners_open}
 use Rattle.intentions.proofs.Flips.{first_number, more_numbers}
 
 -- the block is the root with this number, or stands in this tree
@@ -13,12 +14,6 @@ pub data Role (a b : Image) (r : ℕ) (created : Option ℕ) (tree : Tree) (m : 
   Now : is_of is_taken r (entry_in a m) ≡ true → is_of is_had r (entry_in b m) ≡ true → Stands r tree m → Role a b r created tree m
   Gone : is_of is_taken r (entry_in a m) ≡ true → is_free_in b m ≡ true → ¬ Stands r tree m → Role a b r created tree m
   Made : created ≡ Some m → is_of is_taken m (entry_in a m) ≡ true → is_of is_had m (entry_in b m) ≡ true → m ≢ r → Role a b r created tree m
-
--- a block of one of these owners is open to changes of them
-pub owners_open : (r : ℕ) (rs : List ℕ) (entry : Option MapEntry) → has_number r rs ≡ true → is_of is_taken r entry ≡ true → IsOpenTo (λ e. of_owners rs e) entry
-owners_open r rs entry among is =
-    let two = and_parts (is_placed is_taken entry) _ is in
-    inr (two.0, and_from _ _ two.0 (subst (λ (n : ℕ). has_number n rs ≡ true) (owner_is is_taken r entry is) among))
 
 -- a block has one owner
 pub one_owner : (test other : BlockState → Bool) (r q : ℕ) (entry : Option MapEntry) → is_of test r entry ≡ true → is_of other q entry ≡ true → r ≡ q

@@ -1,6 +1,6 @@
 -- How calls end that are made one after another.
 use Rattle.std.proofs.Common.{◌≡◌, ◌⊎◌, inl, inr, ℕ, zero, suc, ◌+◌, ◌-◌, ◌/◌, ◌≤◌, true, false, IsTrue, Ok, Err, List, [], ◌∷◌, length, get_or, set, refl, sym, ◌∙◌, ap, subst, arith, ◌<◌, Bool, ◌≢◌}
-use Rattle.special_files.proofs.Words.{AreCounts, BlockNo, Claims, Drafting, Ends, Enters, GetsNode, Ghosts, Had, HasTried, Image, IsBadMap, IsDamage, IsFindRefusal, IsRefusal, IsTrouble, Kept, MakesAtMost, MapEntry, Need, NoMap, Node, OnlyReads, OtherCount, Refused, Result, StaysBut, Tells, Trouble, WritesBlock, after_taking, after_try, had_tried, intended, is_damaged, is_fresh_node, is_full, makes_then, one_unless, reads_within, still_tells, stopped_after_try, sum, sum_by-cons, told_after, trouble_after_try}
+use Rattle.special_files.proofs.Words.{AreCounts, BlockNo, Claims, Drafting, Ends, Enters, GetsNode, Ghosts, Had, HasTried, Image, IsBadMap, IsDamage, IsFindRefusal, IsRefusal, IsTrouble, Kept, MakesAtMost, MapEntry, Need, NoMap, Node, OnlyReads, OtherCount, Refused, Result, StaysBut, Tells, Trouble, WritesBlock, after_taking, after_try, had_tried, intended, is_damaged, is_fresh_node, is_full_refusal, makes_then, one_unless, reads_within, still_tells, stopped_after_try, sum, sum_by-cons, refusal_after, trouble_after_try}
 use Rattle.cfs_base.specs.declared.refusal.Refused.TheVariants as refusals
 use Rattle.cfs_base.specs.declared.refusal.Trouble.TheVariants as trouble
 use Rattle.special_files.proofs.Refusals.{damage_since, if_err}
@@ -150,7 +150,7 @@ stays_itself was = record { at = refl; shadow = refl; own = refl; created = refl
 
 -- ---- with other bounds
 
-under_floor : {D : Type 0} (g : Ghosts D) (at floor : ℕ) (d0 d1 : D) (kept : Kept) (e : Refused) → IsRefusal g at 0 d0 d1 kept e → IsRefusal g at floor d0 d1 kept e
+pub under_floor : {D : Type 0} (g : Ghosts D) (at floor : ℕ) (d0 d1 : D) (kept : Kept) (e : Refused) → IsRefusal g at 0 d0 d1 kept e → IsRefusal g at floor d0 d1 kept e
 under_floor g at floor d0 d1 kept (refusals.Full need) is = omega (arith, is)
 under_floor g at floor d0 d1 kept (refusals.Disk was) is = is
 under_floor g at floor d0 d1 kept (refusals.Damaged damage) is = is
@@ -174,14 +174,14 @@ full_ends g at floor n t k d kept need less = record { told = tt; refused = less
 
 -- ---- refusals told after others
 
-pub still_sound : (tried : Bool) (e : Refused) → is_damaged e ≡ false → is_damaged (told_after tried e) ≡ false
+pub still_sound : (tried : Bool) (e : Refused) → is_damaged e ≡ false → is_damaged (refusal_after tried e) ≡ false
 still_sound false e is = is
 still_sound true (refusals.Full need) is = refl
 still_sound true (refusals.Disk was) is = refl
 still_sound true (refusals.Damaged damage) is = is
 still_sound true refusals.Memory is = refl
 
-pub still_room : (tried : Bool) (e : Refused) → is_full e ≡ false → is_full (told_after tried e) ≡ false
+pub still_room : (tried : Bool) (e : Refused) → is_full_refusal e ≡ false → is_full_refusal (refusal_after tried e) ≡ false
 still_room false e is = is
 still_room true (refusals.Full need) is = is
 still_room true (refusals.Disk was) is = refl
@@ -189,7 +189,7 @@ still_room true (refusals.Damaged damage) is = refl
 still_room true refusals.Memory is = refl
 
 -- neither for want of a block nor of memory, where a block is Free
-pub claim_real : {D : Type 0} (g : Ghosts D) (old new : D) (kept : Kept) (e : Refused) → 1 ≤ sum kept.free → IsFindRefusal g old new kept e → (is_full e ≡ false) × (e ≢ refusals.Memory)
+pub claim_real : {D : Type 0} (g : Ghosts D) (old new : D) (kept : Kept) (e : Refused) → 1 ≤ sum kept.free → IsFindRefusal g old new kept e → (is_full_refusal e ≡ false) × (e ≢ refusals.Memory)
 claim_real g old new kept (refusals.Full need) some is = absurd (none some is.2)
   where
     none : 1 ≤ sum kept.free → sum kept.free ≡ 0 → ⊥

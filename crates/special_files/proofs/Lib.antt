@@ -7,6 +7,7 @@ pub mod CommitAbort
 pub mod CommitAfter
 pub mod CommitDirect
 pub mod CommitLeft
+pub mod CommitOpens
 pub mod CommitDone
 pub mod CommitDraft
 pub mod CommitEntries
@@ -43,6 +44,7 @@ pub mod ShrinkCall
 pub mod ShrinkRun
 pub mod Shrunk
 pub mod Sized
+pub mod SlotNeed
 pub mod Swapped
 pub mod Trees
 pub mod Unlike

@@ -1,6 +1,6 @@
 -- How many blocks a write takes: as the flags have it, and as the model does.
 use Rattle.std.proofs.Common.{◌≡◌, inl, inr, ℕ, ◌+◌, ◌-◌, ◌*◌, ◌/◌, ◌<◌, ◌≤◌, Bool, true, false, not, List, length, get_or, set, refl, sym, ◌∙◌, ap, subst, get_or-set_other, get_or-set_same, arith, if◌then◌else◌}
-use Rattle.special_files.proofs.Words.{Draft, Drafting, IsOpen, Opened, Overwrite, Puid, SetsFlags, both_ways, cases_Bool, cases_lt, filter, first_level, has_number, in_map, in_numbers, in_withs, is_fresh_leaf, is_fresh_node, lacking, leaf_takes, leaves_in, leaves_take, map, missing, next_levels, numbers-rise, one_unless, parents, range_with_len, same_numbers, set_in, to_map, to_numbers, to_withs, touched, unset_in, with_numbers-rise, written_anew}
+use Rattle.special_files.proofs.Words.{Draft, Drafting, IsOpen, Opened, Overwrite, Puid, SetsFlags, both_ways, cases_Bool, cases_lt, filter, first_level, has_number, in_map, in_numbers, in_withs, is_fresh_leaf, is_fresh_node, lacking, draft_takes, leaves_in, leaves_take, map, missing, next_levels, numbers-rise, one_unless, parents, range_with_len, same_numbers, set_in, to_map, to_numbers, to_withs, touched, unset_in, with_numbers-rise, written_anew}
 use Rattle.special_files.proofs.Levels.{filter_same, unset_first}
 use Rattle.special_files.proofs.Marks.{first_is, in_set, next_is, to_set}
 
@@ -13,7 +13,7 @@ same_unset flags others from to same = elim (cases_lt from to) [
   | inr past ↦ let none : to - from ≡ 0 = omega (arith, past) in rw none refl
 ]
 
-pub takes_less : (leaf to : ℕ) (was now : Drafting) → leaf < to → leaf / 128 < length was.nodes → leaf < length was.leaves → SetsFlags leaf was now → leaf_takes was leaf + leaves_take now (leaf + 1) to ≤ leaves_take was leaf to
+pub takes_less : (leaf to : ℕ) (was now : Drafting) → leaf < to → leaf / 128 < length was.nodes → leaf < length was.leaves → SetsFlags leaf was now → draft_takes was leaf + leaves_take now (leaf + 1) to ≤ leaves_take was leaf to
 takes_less leaf to was now less few within sets = elim (cases_Bool (is_fresh_leaf was leaf)) [
   | inl fresh ↦ elim sets.nodes [
     | inl same ↦ omega (arith, takes_none fresh, leaves_part, ap one_unless fresh, ap (λ (ns : List Bool). length (unset_in ns ((leaf + 1) / 128) ((to + 127) / 128))) same.1, node_step was.nodes)
@@ -25,10 +25,10 @@ takes_less leaf to was now less few within sets = elim (cases_Bool (is_fresh_lea
   ]
 ]
   where
-    takes_none : is_fresh_leaf was leaf ≡ true → leaf_takes was leaf ≡ 0
+    takes_none : is_fresh_leaf was leaf ≡ true → draft_takes was leaf ≡ 0
     takes_none fresh = ap (λ (b : Bool). if b then 0 else 1 + one_unless (is_fresh_node was (leaf / 128))) fresh
 
-    takes_some : is_fresh_leaf was leaf ≡ false → leaf_takes was leaf ≡ 1 + one_unless (is_fresh_node was (leaf / 128))
+    takes_some : is_fresh_leaf was leaf ≡ false → draft_takes was leaf ≡ 1 + one_unless (is_fresh_node was (leaf / 128))
     takes_some stale = ap (λ (b : Bool). if b then 0 else 1 + one_unless (is_fresh_node was (leaf / 128))) stale
 
     leaves_part : length (unset_in was.leaves leaf to) ≡ one_unless (is_fresh_leaf was leaf) + length (unset_in now.leaves (leaf + 1) to)

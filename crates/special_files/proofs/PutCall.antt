@@ -1,6 +1,6 @@
 -- One leaf put into a draft, as the call makes it.
 use Rattle.std.proofs.Common.{◌≡◌, ◌⊎◌, inl, inr, ℕ, ◌+◌, ◌/◌, ◌%◌, ◌<◌, Bool, true, false, List, [], length, get_or, set, Option, Ok, Err, Some, None, refl, sym, ◌∙◌, ap, subst, get_or-set_same, arith, ◌≤◌, if◌then◌else◌}
-use Rattle.special_files.proofs.Words.{All, All-set, AreCounts, AreMaps, BlockNo, Claims, Drafting, Ends, Enters, FitsLeaf, GetsNode, Ghosts, Goes, Had, HasDraft, HasItsBlocks, HasTried, Holds, Image, IsBadMap, IsFindRefusal, IsRead, IsSafe, IsSome, Kept, Leaf, LeafCall, MapEntry, NodeRead, OnOk, PutsLeaf, Refused, Result, SetsFresh, StaysBut, Tells, View, WritesBlock, after_try, block_at, cases_lt, entry_in, get_or_past, in_image, intended, is_damaged, is_fresh_leaf, is_fresh_node, is_full, is_meant_for, leaf_pointers, leaf_takes, leaves_at, map_of, node_of, not_map, one_unless, opened_as, pointers_of, root_placed, root_spelling, set-get_or, slice_index, sum, taken_apart, tree_in, tried_then, written_same, length-leaves, leaves_there}
+use Rattle.special_files.proofs.Words.{All, All-set, AreCounts, AreMaps, BlockNo, Claims, Drafting, Ends, Enters, FitsLeaf, GetsNode, Ghosts, Goes, Had, HasDraft, HasItsBlocks, HasTried, Holds, Image, IsBadMap, IsFindRefusal, IsRead, IsSafe, IsSome, Kept, Leaf, LeafCall, MapEntry, NodeRead, OnOk, PutsLeaf, Refused, Result, SetsFresh, StaysBut, Tells, View, WritesBlock, after_try, block_at, cases_lt, entry_in, get_or_past, in_image, intended, is_damaged, is_fresh_leaf, is_fresh_node, is_full_refusal, is_meant_for, leaf_pointers, draft_takes, leaves_at, map_of, node_of, not_map, one_unless, opened_as, pointers_of, root_placed, root_spelling, set-get_or, slice_index, sum, taken_apart, tree_in, tried_then, written_same, length-leaves, leaves_there}
 use Rattle.std.proofs.Math.ListN.{length-set}
 use Rattle.cfs_base.specs.declared.refusal.Refused.TheVariants as refusals
 use Rattle.block_tree.specs.declared.root.Root as roots
@@ -183,20 +183,20 @@ again_call {g = g} {was} {leaf} {d0} {d1} {result} k0 read x content fresh numbe
   flags = on_ok result (λ written. record { leaves = set_again was.leaves leaf fresh; nodes = inl (fresh, refl) }) writes.written;
   number = on_ok result (λ written. number) writes.written;
   safe = on_ok result (λ written. subst (λ (size : ℕ). IsSafe size was read) (sym writes.calls.same.size) safe) writes.written;
-  ends = ends_wider 0 6 4 (leaf_takes was leaf) (write_ends g was.at 0 d0 d1 k0 x content result writes) (omega arith) (omega arith) (omega arith);
+  ends = ends_wider 0 6 4 (draft_takes was leaf) (write_ends g was.at 0 d0 d1 k0 x content result writes) (omega arith) (omega arith) (omega arith);
   tried = on_ok result (λ written. writes.tried) writes.written;
   kept = if_err result (λ e is told. refl) writes.refused;
-  room = λ enough. if_err result (λ e is. ap is_full is) writes.refused;
+  room = λ enough. if_err result (λ e is. ap is_full_refusal is) writes.refused;
 }
 
-takes_is : (was : Drafting) (leaf : ℕ) → is_fresh_leaf was leaf ≡ false → leaf_takes was leaf ≡ 1 + one_unless (is_fresh_node was (leaf / 128))
+takes_is : (was : Drafting) (leaf : ℕ) → is_fresh_leaf was leaf ≡ false → draft_takes was leaf ≡ 1 + one_unless (is_fresh_node was (leaf / 128))
 takes_is was leaf stale = ap (λ (b : Bool). if b then 0 else 1 + one_unless (is_fresh_node was (leaf / 128))) stale
 
 module _ {D : Type 0} {g : Ghosts D} (was : Drafting) (leaf : ℕ) {d0 d1 : D} {k0 k1 : Kept} (stale : is_fresh_leaf was leaf ≡ false) (read : NodeRead) where
   pub claim_call : (e : Refused) → Enters g (intended (Leaf leaf) was.at) d0 d1 k0 k1 (Err e) → LeafCall g 6 leaf d0 d1 k0 k1 was was read (Err e)
   claim_call e enters =
       let first : Ends {A = Unit {0}} g was.at 0 2 1 1 d0 d1 k0 k1 (Err e) = ends_err g was.at 0 2 1 1 d0 d1 k0 k1 e (enters_ends g was.at 0 d0 d1 k0 k1 (intended (Leaf leaf) was.at) (Err e) enters) in
-      leaf_refused read (ends_wider 0 6 4 (leaf_takes was leaf) first (omega arith) (omega arith) (omega (arith, first.takes, (takes_is was leaf stale)))) (λ enough. (claim_real g d0 d1 k0 e (omega (arith, enough, (takes_is was leaf stale))) enters.refused).0)
+      leaf_refused read (ends_wider 0 6 4 (draft_takes was leaf) first (omega arith) (omega arith) (omega (arith, first.takes, (takes_is was leaf stale)))) (λ enough. (claim_real g d0 d1 k0 e (omega (arith, enough, (takes_is was leaf stale))) enters.refused).0)
 
   module _ (d2 : D) (k2 : Kept) (x : BlockNo) (enters : Enters g (intended (Leaf leaf) was.at) d0 d1 k0 k1 (Ok x)) where
     first : Ends g was.at 0 2 1 1 d0 d1 k0 k1 (Ok x)
@@ -204,10 +204,10 @@ module _ {D : Type 0} {g : Ghosts D} (was : Drafting) (leaf : ℕ) {d0 d1 : D} {
 
     pub node_call : (e t : Refused) → t ≡ after_try e → GetsNode g (leaf / 128) d1 d2 k1 k2 was (Err e) → LeafCall g 6 leaf d0 d2 k0 k2 was was read (Err t)
     node_call e t is gets = subst (λ (r : Refused). LeafCall g 6 leaf d0 d2 k0 k2 was was read (Err r)) (sym is) (leaf_refused read
-        (ends_then_err g was.at 0 d0 d1 d2 k0 k1 k2 x e 2 1 1 2 1 (one_unless (is_fresh_node was (leaf / 128))) first enters.made (ends_err g was.at 0 2 1 (one_unless (is_fresh_node was (leaf / 128))) d1 d2 k1 k2 e (gets_ends g (leaf / 128) 0 d1 d2 k1 k2 was (Err e) gets)) 6 4 (leaf_takes was leaf) (omega arith) (omega arith) (omega (arith, (takes_is was leaf stale))))
+        (ends_then_err g was.at 0 d0 d1 d2 k0 k1 k2 x e 2 1 1 2 1 (one_unless (is_fresh_node was (leaf / 128))) first enters.made (ends_err g was.at 0 2 1 (one_unless (is_fresh_node was (leaf / 128))) d1 d2 k1 k2 e (gets_ends g (leaf / 128) 0 d1 d2 k1 k2 was (Err e) gets)) 6 4 (draft_takes was leaf) (omega arith) (omega arith) (omega (arith, (takes_is was leaf stale))))
         (λ enough. still_room true e (real gets enough)))
       where
-        real : GetsNode g (leaf / 128) d1 d2 k1 k2 was (Err e) → (leaf_takes was leaf) ≤ sum k0.free → is_full e ≡ false
+        real : GetsNode g (leaf / 128) d1 d2 k1 k2 was (Err e) → (draft_takes was leaf) ≤ sum k0.free → is_full_refusal e ≡ false
         real (Had fresh same kept none) enough = cc
         real (Claims node_stale gets) enough = (claim_real g d1 d2 k1 e (omega (arith, enough, (takes_is was leaf stale), first.takes, ap one_unless node_stale)) gets.refused).0
 
@@ -215,33 +215,33 @@ module _ {D : Type 0} {g : Ghosts D} (was : Drafting) (leaf : ℕ) {d0 d1 : D} {
       second : Ends g was.at 0 2 1 (one_unless (is_fresh_node was (leaf / 128))) d1 d2 k1 k2 (Ok y)
       second = gets_ends g (leaf / 128) 0 d1 d2 k1 k2 was (Ok y) gets
 
-      both : Ends g was.at 0 4 2 (leaf_takes was leaf) d0 d2 k0 k2 (Ok y)
-      both = ends_then_ok g was.at 0 d0 d1 d2 k0 k1 k2 x y 2 1 1 2 1 (one_unless (is_fresh_node was (leaf / 128))) first second 4 2 (leaf_takes was leaf) (omega arith) (omega arith) (omega (arith, (takes_is was leaf stale)))
+      both : Ends g was.at 0 4 2 (draft_takes was leaf) d0 d2 k0 k2 (Ok y)
+      both = ends_then_ok g was.at 0 d0 d1 d2 k0 k1 k2 x y 2 1 1 2 1 (one_unless (is_fresh_node was (leaf / 128))) first second 4 2 (draft_takes was leaf) (omega arith) (omega arith) (omega (arith, (takes_is was leaf stale)))
 
       both_tried : HasTried g d0 d2
       both_tried = tried_then g d0 d1 d2 2 1 enters.made second.calls
 
       pub first_call : (e : Refused) → WritesBlock g x.0 content d2 d3 (Err e) → LeafCall g 6 leaf d0 d3 k0 k2 was was read (Err e)
-      first_call e writes = leaf_refused read (subst (λ (r : Refused). Ends {A = Unit {0}} g was.at 0 6 4 (leaf_takes was leaf) d0 d3 k0 k2 (Err r)) (after_tried e writes.refused)
-          (ends_then_err g was.at 0 d0 d2 d3 k0 k2 k2 y e 4 2 (leaf_takes was leaf) 1 1 0 both both_tried (write_ends g was.at 0 d2 d3 k2 x.0 content (Err e) writes) 6 4 (leaf_takes was leaf) (omega arith) (omega arith) (omega arith)))
-          (λ enough. ap is_full writes.refused)
+      first_call e writes = leaf_refused read (subst (λ (r : Refused). Ends {A = Unit {0}} g was.at 0 6 4 (draft_takes was leaf) d0 d3 k0 k2 (Err r)) (after_tried e writes.refused)
+          (ends_then_err g was.at 0 d0 d2 d3 k0 k2 k2 y e 4 2 (draft_takes was leaf) 1 1 0 both both_tried (write_ends g was.at 0 d2 d3 k2 x.0 content (Err e) writes) 6 4 (draft_takes was leaf) (omega arith) (omega arith) (omega arith)))
+          (λ enough. ap is_full_refusal writes.refused)
 
       module _ (wrote_leaf : WritesBlock g x.0 content d2 d3 (Ok (tt {0}))) (d4 : D) (node : List ℕ) where
-        three : Ends {A = Unit {0}} g was.at 0 5 3 (leaf_takes was leaf) d0 d3 k0 k2 (Ok (tt {0}))
-        three = ends_then_ok g was.at 0 d0 d2 d3 k0 k2 k2 y (tt {0}) 4 2 (leaf_takes was leaf) 1 1 0 both (write_ends g was.at 0 d2 d3 k2 x.0 content (Ok (tt {0})) wrote_leaf) 5 3 (leaf_takes was leaf) (omega arith) (omega arith) (omega arith)
+        three : Ends {A = Unit {0}} g was.at 0 5 3 (draft_takes was leaf) d0 d3 k0 k2 (Ok (tt {0}))
+        three = ends_then_ok g was.at 0 d0 d2 d3 k0 k2 k2 y (tt {0}) 4 2 (draft_takes was leaf) 1 1 0 both (write_ends g was.at 0 d2 d3 k2 x.0 content (Ok (tt {0})) wrote_leaf) 5 3 (draft_takes was leaf) (omega arith) (omega arith) (omega arith)
 
         three_tried : HasTried g d0 d3
         three_tried = tried_then g d0 d2 d3 1 1 both_tried wrote_leaf.calls
 
         pub second_call : (e : Refused) → WritesBlock g y.0 node d3 d4 (Err e) → LeafCall g 6 leaf d0 d4 k0 k2 was was read (Err e)
-        second_call e writes = leaf_refused read (subst (λ (r : Refused). Ends {A = Unit {0}} g was.at 0 6 4 (leaf_takes was leaf) d0 d4 k0 k2 (Err r)) (after_tried e writes.refused)
-            (ends_then_err g was.at 0 d0 d3 d4 k0 k2 k2 (tt {0}) e 5 3 (leaf_takes was leaf) 1 1 0 three three_tried (write_ends g was.at 0 d3 d4 k2 y.0 node (Err e) writes) 6 4 (leaf_takes was leaf) (omega arith) (omega arith) (omega arith)))
-            (λ enough. ap is_full writes.refused)
+        second_call e writes = leaf_refused read (subst (λ (r : Refused). Ends {A = Unit {0}} g was.at 0 6 4 (draft_takes was leaf) d0 d4 k0 k2 (Err r)) (after_tried e writes.refused)
+            (ends_then_err g was.at 0 d0 d3 d4 k0 k2 k2 (tt {0}) e 5 3 (draft_takes was leaf) 1 1 0 three three_tried (write_ends g was.at 0 d3 d4 k2 y.0 node (Err e) writes) 6 4 (draft_takes was leaf) (omega arith) (omega arith) (omega arith)))
+            (λ enough. ap is_full_refusal writes.refused)
 
         pub new_call : (now : Drafting) → IsSafe (g.blocks d0) was read → read.number ≡ leaf / 128 → leaf < 15360 → WritesBlock g y.0 node d3 d4 (Ok (tt {0})) → StaysBut was now → Adds leaf y.0 was now
             → LeafCall g 6 leaf d0 d4 k0 k2 was now (record { number = read.number; node = record { leaves = set read.node.leaves (leaf % 128) x.0 } }) (Ok tt)
         new_call now safe number most writes stays adds =
-            let four = ends_then_ok g was.at 0 d0 d3 d4 k0 k2 k2 (tt {0}) (tt {0}) 5 3 (leaf_takes was leaf) 1 1 0 three (write_ends g was.at 0 d3 d4 k2 y.0 node (Ok tt) writes) 6 4 (leaf_takes was leaf) (omega arith) (omega arith) (omega arith) in
+            let four = ends_then_ok g was.at 0 d0 d3 d4 k0 k2 k2 (tt {0}) (tt {0}) 5 3 (draft_takes was leaf) 1 1 0 three (write_ends g was.at 0 d3 d4 k2 y.0 node (Ok tt) writes) 6 4 (draft_takes was leaf) (omega arith) (omega arith) (omega arith) in
             record {
               stays = stays;
               flags = record { leaves = adds.fresh.leaves; nodes = inr adds.fresh.nodes };

@@ -1,6 +1,6 @@
 -- One refusal told as another.
 use Rattle.std.proofs.Common.{◌≡◌, ℕ, Ok, Err, false, refl, sym, ap, subst}
-use Rattle.special_files.proofs.Words.{Damage, FarNode, FarRoot, Far, FarLeaf, Ghosts, IfErr, Image, IsDamage, IsErrAnd, IsNodeTrouble, IsRootBlock, IsRootTrouble, block_at, IsRefusal, IsRefusalOrMemory, IsTrouble, Kept, NoMap, NoRoot, OnOk, OnlyReads, OpenMap, OtherCount, Refused, Result, Tells, Trouble, is_damage, is_damaged, refused_by, stopped_after_reads, tells_on}
+use Rattle.special_files.proofs.Words.{Damage, FarNode, FarRoot, Far, FarLeaf, Ghosts, IfErr, Image, IsDamage, IsErrAnd, IsNodeTrouble, IsRootBlock, IsRootTrouble, block_at, IsRefusal, IsTrouble, Kept, NoMap, NoRoot, OnOk, OnlyReads, OpenMap, OtherCount, Refused, Result, Tells, Trouble, is_damage, is_damaged, refused_by, stopped_after_reads, tells_on}
 use Rattle.cfs_base.specs.declared.refusal.Refused.TheVariants as refused
 use Rattle.cfs_base.specs.declared.refusal.Trouble.TheVariants as trouble
 
@@ -25,10 +25,6 @@ module _ {D : Type 0} (g : Ghosts D) (at floor : ℕ) (old new : D) (kept : Kept
   pub refusal_of : (t : Trouble) → IsTrouble g at old new kept t → IsRefusal g at floor old new kept (refused_by t)
   refusal_of (trouble.Disk tried) is = is
   refusal_of (trouble.Damaged damage) is = is
-
-  pub or_memory : (t : Trouble) → IsTrouble g at old new kept t → IsRefusalOrMemory g at floor old new kept (refused_by t)
-  or_memory (trouble.Disk tried) is = is
-  or_memory (trouble.Damaged damage) is = is
 
 -- ---- blocks that were read
 

@@ -1,6 +1,6 @@
 -- Leaves dropped from a draft, as the call makes it: the list by reads alone, the node, and the claims taken back.
 use Rattle.std.proofs.Common.{◌≡◌, ◌≢◌, ℕ, ◌+◌, ◌*◌, ◌/◌, ◌%◌, ◌^◌, ◌<◌, ◌≤◌, Bool, true, false, IsTrue, List, length, Ok, Err, refl, sym, ◌∙◌, ap, subst, arith, inl, inr, if◌then◌else◌, not}
-use Rattle.special_files.proofs.Words.{AreClaimed, AreShed, BlockNo, ChangesOnly, Claims, ClaimsAndDrops, Drafting, DropCall, DropsFrom, Ends, Flips, Forgets, GetsNode, Ghosts, Goes, Graph, Had, HasTried, Holds, Image, IsRead, IsTrouble, KeepsOne, Kept, Leaves, MakesAtMost, NoBlock, NoWrite, NodeRead, OnlyReads, Opened, Puid, Put, PutsWithin, Refused, Result, Trouble, Undo, View, Whole, Within, WritesBlock, border_claims, border_takes, both_ways, cases_Bool, cases_lt, entry_in, eqb-true, flips, get_or_past, given_all, is_damage, is_damaged, is_fresh_node, is_full, leaf_pointers, leaves_at, leaves_of, length-map-range_with_len, makes_then, ne_eqb, node_of, number_at, of_draft, one_unless, opened_as, pointers_of, reads_make, reads_within, refused_by, sum, then_tried, told_after, tried_then, trouble_after_try, ◌==◌}
+use Rattle.special_files.proofs.Words.{AreClaimed, AreShed, BlockNo, ChangesOnly, Claims, ClaimsAndDrops, Drafting, DropCall, DropsFrom, Ends, Flips, Forgets, GetsNode, Ghosts, Goes, Graph, Had, HasTried, Holds, Image, IsRead, IsTrouble, KeepsOne, Kept, Leaves, MakesAtMost, NoBlock, NoWrite, NodeRead, OnlyReads, Opened, Puid, Put, PutsWithin, Refused, Result, Trouble, Undo, View, Whole, Within, WritesBlock, border_claims, border_takes, both_ways, cases_Bool, cases_lt, entry_in, eqb-true, flips, get_or_past, given_all, is_damage, is_damaged, is_fresh_node, is_full_refusal, leaf_pointers, leaves_at, leaves_of, length-map-range_with_len, makes_then, ne_eqb, node_of, number_at, of_draft, one_unless, opened_as, pointers_of, reads_make, reads_within, refused_by, sum, then_tried, refusal_after, tried_then, trouble_after_try, ◌==◌}
 use Rattle.std.proofs.lemmas.Bool.{eq-eqb}
 use Rattle.cfs_base.specs.declared.refusal.Refused.TheVariants as refusals
 use Rattle.cfs_base.specs.declared.refusal.Trouble.TheVariants as trouble
@@ -115,7 +115,7 @@ module _ {D : Type 0} {g : Ghosts D} {d0 d1 : D} {k0 : Kept} {was : Drafting} (u
         leaves_undone : (r : Result (Unit {0}) Trouble) → Flips g n t (flips Undo ns) d2 d3 r → Leaves g d0 d3 (λ c. Holds c u.graph)
         leaves_undone r undone = images_since reads d3 _ (shed_leaves u1 (ready puts).amid (ready puts).put shed1 d3 n t r undone)
 
-        pub drop_undo_err : {P : Type 0} (e : Trouble) → Flips g n t (flips Undo ns) d2 d3 (Err (trouble_after_try e)) → (tried : Bool) (told : Refused) → told ≡ told_after tried (refused_by e) → Goes {A = Unit {0}} g u.graph P d0 d3 (Err told)
+        pub drop_undo_err : {P : Type 0} (e : Trouble) → Flips g n t (flips Undo ns) d2 d3 (Err (trouble_after_try e)) → (tried : Bool) (told : Refused) → told ≡ refusal_after tried (refused_by e) → Goes {A = Unit {0}} g u.graph P d0 d3 (Err told)
         drop_undo_err e undone tried told same = record {
           done = tt;
           leaves = leaves_undone _ undone;
@@ -146,7 +146,7 @@ disk_false (trouble.Damaged damage) same = cc
 
 -- the draft stays as it was
 drop_refused : {D : Type 0} {g : Ghosts D} {f : ℕ} {d0 d3 : D} {k0 k3 : Kept} {was : Drafting} {e : Refused} → Ends {A = Unit {0}} g was.at 0 31083 15482 (sum k0.free) d0 d3 k0 k3 (Err e)
-    → (f % 128 ≡ 0 → ((n : ℕ) → is_fresh_node was n ≡ false) → (d3 ≡ d0) × (k3 ≡ k0)) → (border_takes was f ≤ sum k0.free → is_full e ≡ false) → DropCall g f d0 d3 k0 k3 was was (Err e)
+    → (f % 128 ≡ 0 → ((n : ℕ) → is_fresh_node was n ≡ false) → (d3 ≡ d0) × (k3 ≡ k0)) → (border_takes was f ≤ sum k0.free → is_full_refusal e ≡ false) → DropCall g f d0 d3 k0 k3 was was (Err e)
 drop_refused {was = was} ends untried room = record { stays = stays_itself was; forgets = tt; tried = λ within. tt; untried = untried; ends = ends; kept = refl; room = room }
 
 one_taken : (was : Drafting) (f : ℕ) → f % 128 ≢ 0 → is_fresh_node was (f / 128) ≡ false → border_takes was f ≡ 1
@@ -157,7 +157,7 @@ one_taken was f within stale = elim (cases_Bool (f % 128 == 0)) [
 
 module _ {D : Type 0} {g : Ghosts D} {d0 d1 : D} {was : Drafting} (reads : OnlyReads g 120 d0 d1) (none : ((n : ℕ) → is_fresh_node was n ≡ false) → d1 ≡ d0) (f : ℕ) where
   pub list_err_call : (k0 : Kept) (t : Trouble) (e : Refused) → e ≡ refused_by t → IsTrouble g was.at d0 d1 k0 t → DropCall g f d0 d1 k0 k0 was was (Err e)
-  list_err_call k0 t e same why = drop_refused (ends_trouble reads 15482 (sum k0.free) 31083 t e same (omega arith) why) (λ whole stale. (none stale, refl)) (λ room. ap is_full same ∙ not_full t)
+  list_err_call k0 t e same why = drop_refused (ends_trouble reads 15482 (sum k0.free) 31083 t e same (omega arith) why) (λ whole stale. (none stale, refl)) (λ room. ap is_full_refusal same ∙ not_full t)
 
   module _ {k0 : Kept} (leaves : List ℕ) {d2 : D} {k2 : Kept} where
     no_write : (mid : D) (y : BlockNo) (block : List ℕ) (e : Refused) → GetsNode g (f / 128) d1 mid k0 k2 was (Ok y) → WritesBlock g y.0 block mid d2 (Err e) → Ends {A = BlockNo} g was.at 0 3 2 (sum k0.free) d1 d2 k0 k2 (Err e)
@@ -171,7 +171,7 @@ module _ {D : Type 0} {g : Ghosts D} {d0 d1 : D} {was : Drafting} (reads : OnlyR
             ends_wider 0 3 2 (sum k0.free) (subst (λ (x : D). Ends {A = Unit {0}} g was.at 0 1 1 0 x d2 k0 k2 (Err e)) same two) (omega arith) (omega arith) (omega arith)
         by (Claims stale enters) one =
             let told = ends_then_err g was.at 0 d1 mid d2 k0 k2 k2 y e 2 1 (one_unless (is_fresh_node was (f / 128))) 1 1 0 (gets_ends g (f / 128) 0 d1 mid k0 k2 was (Ok y) (Claims stale enters)) enters.made one 3 2 ((one_unless (is_fresh_node was (f / 128))) + 0) (omega arith) (omega arith) (omega arith) in
-            let again : told_after true e ≡ e = ap (told_after true) writes.refused ∙ sym writes.refused in
+            let again : refusal_after true e ≡ e = ap (refusal_after true) writes.refused ∙ sym writes.refused in
             ends_wider 0 3 2 (sum k0.free) (subst (λ (x : Refused). Ends {A = Unit {0}} g was.at 0 3 2 ((one_unless (is_fresh_node was (f / 128))) + 0) d1 d2 k0 k2 (Err x)) again told) (omega arith) (omega arith) (omega arith)
 
     pub put_ends : (r : Result BlockNo Refused) → PutsWithin g f leaves was d1 d2 k0 k2 r → Ends g was.at 0 3 2 (sum k0.free) d1 d2 k0 k2 r
@@ -183,14 +183,14 @@ module _ {D : Type 0} {g : Ghosts D} {d0 d1 : D} {was : Drafting} (reads : OnlyR
         (let both = ends_then_ok g was.at 0 d1 mid d2 k0 k2 k2 y (tt {0}) 2 1 (one_unless (is_fresh_node was (f / 128))) 1 1 0 (gets_ends g (f / 128) 0 d1 mid k0 k2 was (Ok y) gets) (write_ends g was.at 0 mid d2 k2 y.0 block (Ok (tt {0})) writes) 3 2 ((one_unless (is_fresh_node was (f / 128))) + 0) (omega arith) (omega arith) (omega arith) in
         record { told = both.told; refused = tt; untried = tt; cylinders = both.cylinders; left = both.left; takes = omega arith; calls = both.calls })
 
-    put_full : (e : Refused) → border_takes was f ≤ sum k0.free → PutsWithin g f leaves was d1 d2 k0 k2 (Err e) → is_full e ≡ false
+    put_full : (e : Refused) → border_takes was f ≤ sum k0.free → PutsWithin g f leaves was d1 d2 k0 k2 (Err e) → is_full_refusal e ≡ false
     put_full e room (Whole y whole same kept done) = cc
-    put_full e room (Within within (NoBlock x gets done)) = let same : e ≡ x = cc in ap is_full same ∙ by x gets
+    put_full e room (Within within (NoBlock x gets done)) = let same : e ≡ x = cc in ap is_full_refusal same ∙ by x gets
       where
-        by : (x : Refused) → GetsNode g (f / 128) d1 d2 k0 k2 was (Err x) → is_full x ≡ false
+        by : (x : Refused) → GetsNode g (f / 128) d1 d2 k0 k2 was (Err x) → is_full_refusal x ≡ false
         by x (Had fresh same kept done) = cc
         by x (Claims stale enters) = (claim_real g d1 d2 k0 x (omega (arith, one_taken was f within stale, room)) enters.refused).0
-    put_full e room (Within within (NoWrite mid y block x gets short writes done)) = let same : e ≡ x = cc in ap is_full (same ∙ writes.refused)
+    put_full e room (Within within (NoWrite mid y block x gets short writes done)) = let same : e ≡ x = cc in ap is_full_refusal (same ∙ writes.refused)
     put_full e room (Within within (Put mid y block gets short writes done)) = cc
 
     put_tried : (y : BlockNo) → f % 128 ≢ 0 → PutsWithin g f leaves was d1 d2 k0 k2 (Ok y) → HasTried g d1 d2
@@ -216,7 +216,7 @@ module _ {D : Type 0} {g : Ghosts D} {d0 d1 : D} {was : Drafting} (reads : OnlyR
       nothing : f % 128 ≡ 0 → ((n : ℕ) → is_fresh_node was n ≡ false) → (d3 ≡ d0) × (k2 ≡ k0)
       nothing whole stale = let put = put_nothing (Ok y) whole puts in (still stale ∙ put.0 ∙ none stale, put.1)
 
-      pub undo_err_call : (t : Trouble) → ((at : ℕ) (kept : Kept) → IsTrouble g at d2 d3 kept t) → (t ≡ trouble.Disk false → OnlyReads g 1 d2 d3) → (e : Refused) → e ≡ told_after (not (f % 128 == 0)) (refused_by t) → DropCall g f d0 d3 k0 k2 was was (Err e)
+      pub undo_err_call : (t : Trouble) → ((at : ℕ) (kept : Kept) → IsTrouble g at d2 d3 kept t) → (t ≡ trouble.Disk false → OnlyReads g 1 d2 d3) → (e : Refused) → e ≡ refusal_after (not (f % 128 == 0)) (refused_by t) → DropCall g f d0 d3 k0 k2 was was (Err e)
       undo_err_call t why only e same = subst (λ (x : Refused). DropCall g f d0 d3 k0 k2 was was (Err x)) (sym same)
           (drop_refused (ends_since reads 31083 (by (not (f % 128 == 0)) refl) (omega arith)) nothing (λ room. still_room (not (f % 128 == 0)) (refused_by t) (not_full t)))
         where
@@ -231,7 +231,7 @@ module _ {D : Type 0} {g : Ghosts D} {d0 d1 : D} {was : Drafting} (reads : OnlyR
             calls = wide;
           }
 
-          by : (b : Bool) → not (f % 128 == 0) ≡ b → Ends {A = Unit {0}} g was.at 0 30963 15482 (sum k0.free) d1 d3 k0 k2 (Err (told_after b (refused_by t)))
+          by : (b : Bool) → not (f % 128 == 0) ≡ b → Ends {A = Unit {0}} g was.at 0 30963 15482 (sum k0.free) d1 d3 k0 k2 (Err (refusal_after b (refused_by t)))
           by true is =
               let both = ends_then_err g was.at 0 d1 d2 d3 k0 k2 k2 y (refused_by t) 3 2 (sum k0.free) 30960 15480 0 (put_ends (Ok y) puts) (put_tried y (ne_true (f % 128) is) puts) (undone k2) 30963 15482 (sum k0.free + 0) (omega arith) (omega arith) (omega arith) in
               ends_wider 0 30963 15482 (sum k0.free) both (omega arith) (omega arith) (omega arith)

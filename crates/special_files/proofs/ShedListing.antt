@@ -1,11 +1,11 @@
 -- The draft's own blocks that are dropped, listed node after node.
 use Rattle.std.proofs.Common.{◌≡◌, ℕ, ◌+◌, ◌-◌, ◌*◌, ◌/◌, ◌<◌, ◌≤◌, Bool, true, false, List, ◌++◌, length, sym, ◌∙◌, ap, subst, length-append, arith, get_or}
-use Rattle.special_files.proofs.Words.{All, AreShed, Drafting, Ghosts, HasParts, Image, IsNear, IsReadIn, Kept, NodeRead, OnlyReads, Tells, View, fresh_in, in_image, is_meant_for, leaves_at, one_if, opened_as, reads_then, root_placed, root_spelling, slice_index, tells_on, tree_in, ◌==◌}
+use Rattle.special_files.proofs.Words.{All, AreShed, Drafting, Ghosts, HasParts, Image, IsNear, IsReadIn, Kept, NodeRead, OnlyReads, Tells, View, fresh_in, in_image, is_meant_for, leaves_at, list_if, opened_as, reads_then, root_placed, root_spelling, slice_index, tells_on, tree_in, ◌==◌}
 use Rattle.block_tree.specs.declared.root.Root as roots
 use Rattle.special_files.proofs.Levels.{Tell}
 use Rattle.special_files.proofs.PutStore.{flags_of}
 use Rattle.special_files.proofs.WriteLeaf.{near_there}
-use Rattle.special_files.proofs.View.{draft_of}
+use Rattle.special_files.proofs.View.{draft_of, view_tree}
 use Rattle.special_files.proofs.Endings.{no_reads}
 use Rattle.special_files.proofs.ShedLists.{Lists, Upto, all_listed, length-fresh_in, length-one_if, node_below, node_listed, node_skipped}
 
@@ -45,7 +45,7 @@ module _ {D : Type 0} {g : Ghosts D} {root : roots.Root} {leaves nodes : List Bo
 
   module _ (few : n < 120) (d2 : D) (node : List ℕ) (more : List ℕ) (fresh : get_or nodes n false ≡ true) (reads : OnlyReads g 1 d1 d2) (there : slice_index root.nodes n < g.blocks d1) (all : All (λ b. b < g.blocks d1) node) (some : 0 < g.blocks d0)
       (told : Tells g d1 → IsReadIn (g.content d1) root read → node ≡ leaves_at (g.content d1) (slice_index root.nodes n))
-      (is : more ≡ ns ++ (one_if ((f - 128 * n) == 0) (slice_index root.nodes n) ++ fresh_in leaves node n (f - 128 * n) (128 - (f - 128 * n)))) where
+      (is : more ≡ ns ++ (list_if ((f - 128 * n) == 0) (slice_index root.nodes n) ++ fresh_in leaves node n (f - 128 * n) (128 - (f - 128 * n)))) where
     pub run_lists : ListRun g root leaves nodes read f (n + 1) d0 d2 more
     run_lists = record {
       from = omega (arith, run.from);
@@ -55,8 +55,8 @@ module _ {D : Type 0} {g : Ghosts D} {root : roots.Root} {leaves nodes : List Bo
         run.room,
         run.from,
         ap (length {A = ℕ}) is,
-        length-append ns (one_if ((f - 128 * n) == 0) (slice_index root.nodes n) ++ fresh_in leaves node n (f - 128 * n) (128 - (f - 128 * n))),
-        length-append (one_if ((f - 128 * n) == 0) (slice_index root.nodes n)) (fresh_in leaves node n (f - 128 * n) (128 - (f - 128 * n))),
+        length-append ns (list_if ((f - 128 * n) == 0) (slice_index root.nodes n) ++ fresh_in leaves node n (f - 128 * n) (128 - (f - 128 * n))),
+        length-append (list_if ((f - 128 * n) == 0) (slice_index root.nodes n)) (fresh_in leaves node n (f - 128 * n) (128 - (f - 128 * n))),
         length-one_if ((f - 128 * n) == 0) (slice_index root.nodes n),
         length-fresh_in leaves node n (f - 128 * n) (128 - (f - 128 * n)),
       );
@@ -69,7 +69,7 @@ module _ {D : Type 0} {g : Ghosts D} {root : roots.Root} {leaves nodes : List Bo
           let list = node_listed (g.content d0) v.graph v.store.account.holds v.id v.object v.at (v.store.account.objects v.id v.object v.at) was v.draft (draft_of v) f (some_block v) (told_by v)
           n few (omega (arith, run.from)) node node_is (ap (λ (fs : List Bool). get_or fs n false) parts.nodes_is ∙ fresh) ns (run.lists space was v parts is_read) in
           subst (Listing v f (n + 1)) (sym (is
-          ∙ (λ i. ns ++ (one_if ((f - 128 * n) == 0) (slice_index ((sym parts.root_is i).nodes) n) ++ fresh_in (sym parts.leaves_is i) node n (f - 128 * n) (128 - (f - 128 * n)))))) list;
+          ∙ (λ i. ns ++ (list_if ((f - 128 * n) == 0) (slice_index ((sym parts.root_is i).nodes) n) ++ fresh_in (sym parts.leaves_is i) node n (f - 128 * n) (128 - (f - 128 * n)))))) list;
     }
 
   module _ {space : Kept} {was : Drafting} (v : View g d0 space was) (parts : HasParts was root leaves nodes) where
@@ -83,4 +83,4 @@ module _ {D : Type 0} {g : Ghosts D} {root : roots.Root} {leaves nodes : List Bo
     near_now size some =
         subst (λ (r : roots.Root). IsNear (g.blocks d1) (g.content d1) (slice_index r.nodes n)) parts.root_is
         (subst (λ (i : Image). IsNear (g.blocks d1) i (slice_index was.root.nodes n)) (sym run.reads.content)
-        (subst (λ (k : ℕ). IsNear k (g.content d0) (slice_index was.root.nodes n)) (sym run.reads.same.size) (near_there v size some n)))
+        (subst (λ (k : ℕ). IsNear k (g.content d0) (slice_index was.root.nodes n)) (sym run.reads.same.size) (near_there (view_tree v) size some n)))

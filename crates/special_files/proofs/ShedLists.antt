@@ -1,6 +1,6 @@
 -- The blocks of a draft's own at paths that are dropped, listed one after another.
 use Rattle.std.proofs.Common.{◌≡◌, ◌≢◌, ◌⊎◌, inl, inr, ℕ, zero, suc, ◌+◌, ◌-◌, ◌*◌, ◌/◌, ◌%◌, ◌<◌, ◌≤◌, Bool, true, false, List, [], ◌∷◌, ◌++◌, length, get_or, Some, refl, sym, ◌∙◌, ap, subst, append_assoc, length-append, arith}
-use Rattle.special_files.proofs.Words.{All, All-append, All-cons, All-nil, AreShed, Differ, Drafting, Graph, HasDraft, HasItsBlocks, Holds, Image, IsPast, Object, Opened, Puid, append-nil, append_differ, both_ways, cases_Bool, cases_lt, content_of, eqb-false, eqb-true, fresh_in, get_or_past, has-append, has_number, held, held_at, held_there, here, is_fresh_node, is_meant_for, leaves_at, node_of, not_map, object_at, one_if, one_path, opened_as, or_cases, or_left, or_right, passes, slice_index, taken_apart, tree_in, tree_of, ◌==◌, length-leaves}
+use Rattle.special_files.proofs.Words.{All, All-append, All-cons, All-nil, AreShed, Differ, Drafting, Graph, HasDraft, HasItsBlocks, Holds, Image, IsPast, Object, Opened, Puid, append-nil, append_differ, both_ways, cases_Bool, cases_lt, content_of, eqb-false, eqb-true, fresh_in, get_or_past, has-append, has_number, held, held_at, held_there, here, is_fresh_node, is_meant_for, leaves_at, node_of, not_map, object_at, list_if, one_path, opened_as, or_cases, or_left, or_right, passes, slice_index, taken_apart, tree_in, tree_of, ◌==◌, length-leaves}
 use Rattle.ufs_model.specs.declared.object.Draft as models
 use Rattle.special_files.proofs.Fresh.{fresh_there, node_of_fresh, read_leaf_is, unfresh}
 use Rattle.special_files.proofs.Levels.{Tell}
@@ -14,11 +14,11 @@ pub none_in : (flags : List Bool) (leaves : List ℕ) (node from : ℕ) → fres
 unfolding fresh_in
 none_in flags leaves node from = refl
 
-pub more_in : (flags : List Bool) (leaves : List ℕ) (node from k j : ℕ) → j ≡ k + 1 → fresh_in flags leaves node from j ≡ fresh_in flags leaves node from k ++ one_if (get_or flags (128 * node + (from + k)) false) (slice_index leaves (from + k))
+pub more_in : (flags : List Bool) (leaves : List ℕ) (node from k j : ℕ) → j ≡ k + 1 → fresh_in flags leaves node from j ≡ fresh_in flags leaves node from k ++ list_if (get_or flags (128 * node + (from + k)) false) (slice_index leaves (from + k))
 unfolding fresh_in
 more_in flags leaves node from k j is = let next : j ≡ suc k = omega (arith, is) in ap (fresh_in flags leaves node from) next
 
-pub length-one_if : (b : Bool) (n : ℕ) → length (one_if b n) ≤ 1
+pub length-one_if : (b : Bool) (n : ℕ) → length (list_if b n) ≤ 1
 length-one_if true n = omega arith
 length-one_if false n = omega arith
 
@@ -28,7 +28,7 @@ length-fresh_in flags leaves node from zero = omega arith
 length-fresh_in flags leaves node from (suc k) =
     omega (
       arith,
-      length-append (fresh_in flags leaves node from k) (one_if (get_or flags (128 * node + (from + k)) false) (slice_index leaves (from + k))),
+      length-append (fresh_in flags leaves node from k) (list_if (get_or flags (128 * node + (from + k)) false) (slice_index leaves (from + k))),
       length-fresh_in flags leaves node from k,
       length-one_if (get_or flags (128 * node + (from + k)) false) (slice_index leaves (from + k)),
     )
@@ -36,26 +36,26 @@ length-fresh_in flags leaves node from (suc k) =
 -- ---- the loop that makes them
 
 module _ (old now : List ℕ) (b : Bool) (block : ℕ) (flags : List Bool) (leaves : List ℕ) (node from : ℕ) where
-  pub list_starts : (place : ℕ) → now ≡ old ++ one_if b block → place ≡ from → now ≡ old ++ (one_if b block ++ fresh_in flags leaves node from (place - from))
+  pub list_starts : (place : ℕ) → now ≡ old ++ list_if b block → place ≡ from → now ≡ old ++ (list_if b block ++ fresh_in flags leaves node from (place - from))
   list_starts place is same =
       let zero_is : place - from ≡ 0 = omega (arith, same) in
-      is ∙ ap (λ (xs : List ℕ). old ++ xs) (sym (append-nil (one_if b block)) ∙ ap (λ (xs : List ℕ). one_if b block ++ xs) (sym (ap (fresh_in flags leaves node from) zero_is ∙ none_in flags leaves node from)))
+      is ∙ ap (λ (xs : List ℕ). old ++ xs) (sym (append-nil (list_if b block)) ∙ ap (λ (xs : List ℕ). list_if b block ++ xs) (sym (ap (fresh_in flags leaves node from) zero_is ∙ none_in flags leaves node from)))
 
-  module _ (k : ℕ) (is : now ≡ old ++ (one_if b block ++ fresh_in flags leaves node from k)) where
+  module _ (k : ℕ) (is : now ≡ old ++ (list_if b block ++ fresh_in flags leaves node from k)) where
     pub list_room : length old + 129 ≤ 15480 → k < 128 → length now < 15480
-    list_room room less = omega (arith, ap (length {A = ℕ}) is, length-append old (one_if b block ++ fresh_in flags leaves node from k), length-append (one_if b block) (fresh_in flags leaves node from k), length-one_if b block, length-fresh_in flags leaves node from k, room, less)
+    list_room room less = omega (arith, ap (length {A = ℕ}) is, length-append old (list_if b block ++ fresh_in flags leaves node from k), length-append (list_if b block) (fresh_in flags leaves node from k), length-one_if b block, length-fresh_in flags leaves node from k, room, less)
 
-    pub list_more : (j : ℕ) (next : List ℕ) (place : ℕ) → j ≡ k + 1 → place ≡ from + k → next ≡ now ++ one_if (get_or flags (128 * node + place) false) (slice_index leaves place) → next ≡ old ++ (one_if b block ++ fresh_in flags leaves node from j)
+    pub list_more : (j : ℕ) (next : List ℕ) (place : ℕ) → j ≡ k + 1 → place ≡ from + k → next ≡ now ++ list_if (get_or flags (128 * node + place) false) (slice_index leaves place) → next ≡ old ++ (list_if b block ++ fresh_in flags leaves node from j)
     list_more j next place step same one =
-        let last = one_if (get_or flags (128 * node + (from + k)) false) (slice_index leaves (from + k)) in
-        one ∙ (λ i. is i ++ one_if (get_or flags (128 * node + same i) false) (slice_index leaves (same i))) ∙ append_assoc old (one_if b block ++ fresh_in flags leaves node from k) last
-        ∙ ap (λ (xs : List ℕ). old ++ xs) (append_assoc (one_if b block) (fresh_in flags leaves node from k) last ∙ ap (λ (xs : List ℕ). one_if b block ++ xs) (sym (more_in flags leaves node from k j step)))
+        let last = list_if (get_or flags (128 * node + (from + k)) false) (slice_index leaves (from + k)) in
+        one ∙ (λ i. is i ++ list_if (get_or flags (128 * node + same i) false) (slice_index leaves (same i))) ∙ append_assoc old (list_if b block ++ fresh_in flags leaves node from k) last
+        ∙ ap (λ (xs : List ℕ). old ++ xs) (append_assoc (list_if b block) (fresh_in flags leaves node from k) last ∙ ap (λ (xs : List ℕ). list_if b block ++ xs) (sym (more_in flags leaves node from k j step)))
 
 module _ (size : ℕ) where
   abbrev Below : List ℕ → Type 0
   Below ns = All (λ n. n < size) ns
 
-  one_below : (b : Bool) (n : ℕ) → n < size → Below (one_if b n)
+  one_below : (b : Bool) (n : ℕ) → n < size → Below (list_if b n)
   one_below true n less = All-cons (λ n. n < size) n [] less (All-nil (λ n. n < size))
   one_below false n less = All-nil (λ n. n < size)
 
@@ -64,9 +64,9 @@ module _ (size : ℕ) where
   in_below flags leaves node from zero less = All-nil (λ n. n < size)
   in_below flags leaves node from (suc k) less = All-append (λ n. n < size) (fresh_in flags leaves node from k) _ (in_below flags leaves node from k less) (one_below _ _ (less (from + k)))
 
-  pub node_below : (old new : List ℕ) (b : Bool) (block : ℕ) (flags : List Bool) (leaves : List ℕ) (node from k : ℕ) → new ≡ old ++ (one_if b block ++ fresh_in flags leaves node from k) → 0 < size → block < size → All (λ n. n < size) leaves → Below old → Below new
+  pub node_below : (old new : List ℕ) (b : Bool) (block : ℕ) (flags : List Bool) (leaves : List ℕ) (node from k : ℕ) → new ≡ old ++ (list_if b block ++ fresh_in flags leaves node from k) → 0 < size → block < size → All (λ n. n < size) leaves → Below old → Below new
   node_below old new b block flags leaves node from k is some less all had =
-      subst Below (sym is) (All-append (λ n. n < size) old _ had (All-append (λ n. n < size) (one_if b block) _ (one_below b block less) (in_below flags leaves node from k each)))
+      subst Below (sym is) (All-append (λ n. n < size) old _ had (All-append (λ n. n < size) (list_if b block) _ (one_below b block less) (in_below flags leaves node from k each)))
     where
       each : (j : ℕ) → slice_index leaves j < size
       each j = elim (cases_lt j (length leaves)) [ inl within ↦ all j 0 within | inr past ↦ let none = get_or_past leaves j 0 past in omega (arith, none, some) ]
@@ -98,7 +98,7 @@ module _ (a : Image) (g : Graph) (holds : Holds a g) (id : Puid) (o : Object) (a
 
   -- a path more, which is listed where it is to be
   lists_add : (done next : List ℕ → Type 0) (ns : List ℕ) (p : List ℕ) (b : Bool) → Lists done ns → (done p → ⊥) → (b ≡ true → Meant (tree p)) → (b ≡ false → Meant (tree p) → ⊥)
-      → ((r : List ℕ) → done r → next r) → next p → ((r : List ℕ) → next r → Meant (tree r) → done r ⊎ (r ≡ p)) → Lists next (ns ++ one_if b (tree p))
+      → ((r : List ℕ) → done r → next r) → next p → ((r : List ℕ) → next r → Meant (tree r) → done r ⊎ (r ≡ p)) → Lists next (ns ++ list_if b (tree p))
   lists_add done next ns p false lists new fresh stale old is only = subst (Lists next) (sym (append-nil ns)) (record {
     each = λ v h. let r = lists.each v h in (r.0, (r.1.0, old r.1.0 r.1.1, r.1.2));
     all = λ r is_next meant. elim (only r is_next meant) [ inl was_done ↦ lists.all r was_done meant | inr same ↦ absurd (stale refl (subst (λ (q : List ℕ). Meant (tree q)) same meant)) ];
@@ -190,17 +190,17 @@ module _ (a : Image) (g : Graph) (holds : Holds a g) (id : Puid) (o : Object) (a
       abbrev Done : ℕ → List ℕ → Type 0
       Done k r = (Upto f n r ⊎ ((r ≡ n ∷ []) × (place ≡ 0))) ⊎ ((j : ℕ) × (j < k) × (r ≡ n ∷ (place + j) ∷ []))
 
-      first : Lists (Done 0) (ns ++ one_if (place == 0) (node_of was.root n))
+      first : Lists (Done 0) (ns ++ list_if (place == 0) (node_of was.root n))
       first = elim (cases_Bool (place == 0)) [
         | inl whole ↦
             let zero_place = eqb-true place 0 whole in
             let fresh_is = fresh_meant (n ∷ []) true (sym fresh ∙ tell.node n few) in
-            subst (λ (b : Bool). Lists (Done 0) (ns ++ one_if b (node_of was.root n))) (sym whole) (subst (λ (v : ℕ). Lists (Done 0) (ns ++ v ∷ [])) (node_at a was.root draft.tree.spelled.good.0 n)
+            subst (λ (b : Bool). Lists (Done 0) (ns ++ list_if b (node_of was.root n))) (sym whole) (subst (λ (v : ℕ). Lists (Done 0) (ns ++ v ∷ [])) (node_at a was.root draft.tree.spelled.good.0 n)
             (lists_add (Upto f n) (Done 0) ns (n ∷ []) true lists (λ is. is.1 (omega arith)) fresh_is.0 fresh_is.1 (λ r is. inl (inl is)) (inl (inr (refl, zero_place)))
             (λ r is meant. elim is [ inl one ↦ elim one [ inl was_done ↦ inl was_done | inr here_is ↦ inr here_is.0 ] | inr j ↦ absurd (omega (arith, j.1)) ])))
         | inr inside ↦
             let some_place = eqb-false place 0 inside in
-            subst (λ (b : Bool). Lists (Done 0) (ns ++ one_if b (node_of was.root n))) (sym inside) (subst (Lists (Done 0)) (sym (append-nil ns))
+            subst (λ (b : Bool). Lists (Done 0) (ns ++ list_if b (node_of was.root n))) (sym inside) (subst (Lists (Done 0)) (sym (append-nil ns))
             (lists_as (Upto f n) (Done 0) ns lists (λ r is. inl (inl is)) (λ r is meant. elim is [ inl one ↦ elim one [ inl was_done ↦ was_done | inr here_is ↦ absurd (some_place here_is.1) ] | inr j ↦ absurd (omega (arith, j.1)) ])))
       ]
 
@@ -213,15 +213,15 @@ module _ (a : Image) (g : Graph) (holds : Holds a g) (id : Puid) (o : Object) (a
       leaf_is : (j : ℕ) → tree (n ∷ j ∷ []) ≡ slice_index leaves j
       leaf_is j = read_leaf_is a was.root draft.tree.spelled.good.0 n j leaves read
 
-      leaves_done : (k : ℕ) → place + k ≤ 128 → Lists (Done k) ((ns ++ one_if (place == 0) (node_of was.root n)) ++ fresh_in was.leaves leaves n place k)
-      leaves_done zero room = subst (Lists (Done 0)) (sym (ap (λ (xs : List ℕ). (ns ++ one_if (place == 0) (node_of was.root n)) ++ xs) (none_in was.leaves leaves n place) ∙ append-nil (ns ++ one_if (place == 0) (node_of was.root n)))) first
+      leaves_done : (k : ℕ) → place + k ≤ 128 → Lists (Done k) ((ns ++ list_if (place == 0) (node_of was.root n)) ++ fresh_in was.leaves leaves n place k)
+      leaves_done zero room = subst (Lists (Done 0)) (sym (ap (λ (xs : List ℕ). (ns ++ list_if (place == 0) (node_of was.root n)) ++ xs) (none_in was.leaves leaves n place) ∙ append-nil (ns ++ list_if (place == 0) (node_of was.root n)))) first
       leaves_done (suc k) room =
           let b = get_or was.leaves (128 * n + (place + k)) false in
-          let so_far = (ns ++ one_if (place == 0) (node_of was.root n)) ++ fresh_in was.leaves leaves n place k in
+          let so_far = (ns ++ list_if (place == 0) (node_of was.root n)) ++ fresh_in was.leaves leaves n place k in
           let fresh_is = fresh_meant (n ∷ (place + k) ∷ []) b (leaf_flag (place + k) (omega (arith, room))) in
           let added = lists_add (Done k) (Done (suc k)) so_far (n ∷ (place + k) ∷ []) b (leaves_done k (omega (arith, room))) (λ is. not_done k is) fresh_is.0 fresh_is.1 (λ r is. further k r is) (inr (k, omega arith, refl)) (λ r is meant. last k r is) in
-          subst (Lists (Done (suc k))) ((λ i. so_far ++ one_if b (leaf_is (place + k) i)) ∙ append_assoc (ns ++ one_if (place == 0) (node_of was.root n)) (fresh_in was.leaves leaves n place k) (one_if b (slice_index leaves (place + k)))
-          ∙ ap (λ (xs : List ℕ). (ns ++ one_if (place == 0) (node_of was.root n)) ++ xs) (sym (more_in was.leaves leaves n place k (suc k) (omega arith)))) added
+          subst (Lists (Done (suc k))) ((λ i. so_far ++ list_if b (leaf_is (place + k) i)) ∙ append_assoc (ns ++ list_if (place == 0) (node_of was.root n)) (fresh_in was.leaves leaves n place k) (list_if b (slice_index leaves (place + k)))
+          ∙ ap (λ (xs : List ℕ). (ns ++ list_if (place == 0) (node_of was.root n)) ++ xs) (sym (more_in was.leaves leaves n place k (suc k) (omega arith)))) added
         where
           not_done : (k : ℕ) → Done k (n ∷ (place + k) ∷ []) → ⊥
           not_done k (inl (inl is)) = is.1 (inr (omega arith, omega arith))
@@ -239,8 +239,8 @@ module _ (a : Image) (g : Graph) (holds : Holds a g) (id : Puid) (o : Object) (a
             | inr more ↦ let same : j.0 ≡ k = omega (arith, more, j.1) in inr (j.2 ∙ ap (λ (i : ℕ). n ∷ (place + i) ∷ []) same)
           ]
 
-      pub node_listed : Lists (Upto f (n + 1)) (ns ++ (one_if (place == 0) (node_of was.root n) ++ fresh_in was.leaves leaves n place (128 - place)))
-      node_listed = subst (Lists (Upto f (n + 1))) (append_assoc ns (one_if (place == 0) (node_of was.root n)) (fresh_in was.leaves leaves n place (128 - place)))
+      pub node_listed : Lists (Upto f (n + 1)) (ns ++ (list_if (place == 0) (node_of was.root n) ++ fresh_in was.leaves leaves n place (128 - place)))
+      node_listed = subst (Lists (Upto f (n + 1))) (append_assoc ns (list_if (place == 0) (node_of was.root n)) (fresh_in was.leaves leaves n place (128 - place)))
           (lists_as (Done (128 - place)) (Upto f (n + 1)) _ (leaves_done (128 - place) (omega (arith, reached))) (λ r is. upto r is) (λ r is meant. by r meant (within n r is)))
         where
           upto : (r : List ℕ) → Done (128 - place) r → Upto f (n + 1) r

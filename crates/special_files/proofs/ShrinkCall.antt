@@ -1,6 +1,6 @@
 -- The size of a draft set to less: the model's need, and the model's draft, of the call as it is made.
 use Rattle.std.proofs.Common.{◌≡◌, inl, inr, ℕ, ◌+◌, ◌/◌, ◌%◌, ◌<◌, ◌≤◌, Bool, true, false, List, [], ◌∷◌, Ok, refl, sym, ◌∙◌, ap, subst, arith, Err, ◌≢◌, ◌++◌, if◌then◌else◌, not}
-use Rattle.special_files.proofs.Words.{AreClaimed, ClaimsAndDrops, Cuts, CutsIf, Drafting, DropCall, DropsFrom, Ends, File, Ghosts, Goes, Holds, IfErr, Image, IsFullFor, IsPlan, IsRead, IsTrouble, KeepsOne, Kept, Leaf, Leaves, MapEntry, Node, NodeRead, OnlyReads, Plan, Refused, ResizeCall, Resized, Result, SetSize, Spares, Trouble, View, and_parts, border_claims, both_ways, cases_Bool, claims_anew, claims_then, cut_takes, eqb-false, file_to_leaves, intended, is_damaged, is_fresh_leaf, is_fresh_node, is_full, last_node, leaf_claims, leaf_takes, leaves_at, leaves_of, map, need_beside, node_claims, node_of, opened_as, plan_needs, refused_by, size_of, sized, sum, then, told_after, written_anew, ◌&&◌, ◌==◌, ◌||◌}
+use Rattle.special_files.proofs.Words.{AreClaimed, ClaimsAndDrops, Cuts, CutsIf, Drafting, DropCall, DropsFrom, Ends, File, Ghosts, Goes, Holds, IfErr, Image, IsFullFor, IsPlan, IsRead, IsTrouble, KeepsOne, Kept, Leaf, Leaves, MapEntry, Node, NodeRead, OnlyReads, Plan, Refused, ResizeCall, Resized, Result, SetSize, Spares, Trouble, View, and_parts, border_claims, both_ways, cases_Bool, claims_anew, claims_then, cut_takes, eqb-false, file_to_leaves, intended, is_damaged, is_fresh_leaf, is_fresh_node, is_full_refusal, last_node, leaf_claims, draft_takes, leaves_at, leaves_of, map, need_beside, node_claims, node_of, opened_as, plan_needs, refused_by, size_of, sized, sum, then, refusal_after, written_anew, ◌&&◌, ◌==◌, ◌||◌}
 use Rattle.ufs_model.specs.declared.object.Object.TheVariants as objects
 use Rattle.special_files.proofs.Fresh.{node_of_fresh}
 use Rattle.special_files.proofs.PutStore.{flags_of}
@@ -33,7 +33,7 @@ one_after_other false l false false m e n at stale same = ap (λ (b : Bool). if 
 pub resize_stopped : {D : Type 0} {g : Ghosts D} {d0 d1 : D} (reads : OnlyReads g 1 d0 d1) (size floor : ℕ) (was : Drafting) (k0 : Kept) (t : Trouble) (e : Refused) → e ≡ refused_by t → IsTrouble g was.at d0 d1 k0 t → ResizeCall g size floor d0 d1 k0 k0 was was (Err e)
 resize_stopped reads size floor was k0 t e is why = record {
   stays = stays_itself was;
-  spared = λ full. absurd (both_ways _ (ap is_full is ∙ not_full t) full);
+  spared = λ full. absurd (both_ways _ (ap is_full_refusal is ∙ not_full t) full);
   told = λ none. tt;
   ends = ends_trouble reads 15486 (sum k0.free) 31092 t e is (omega arith) why;
   kept = λ untried. refl;
@@ -94,9 +94,9 @@ module _ {D : Type 0} {g : Ghosts D} {size : ℕ} {d0 d1 : D} {was : Drafting} {
     enough = omega (arith, cut_less was cut from e n at_leaf, room)
 
     module _ {d2 : D} {k2 : Kept} {mid : Drafting} {next : NodeRead} where
-      cut_room : (x : Refused) → CutsIf g size cut d1 d2 k0 k2 was mid read next (Err x) → is_full x ≡ false
+      cut_room : (x : Refused) → CutsIf g size cut d1 d2 k0 k2 was mid read next (Err x) → is_full_refusal x ≡ false
       cut_room x (Spares not ok same kept still again) = cc
-      cut_room x (Cuts is goes calls) = calls.room (omega (arith, enough, ap (λ (b : Bool). if b then leaf_takes was e else 0) is))
+      cut_room x (Cuts is goes calls) = calls.room (omega (arith, enough, ap (λ (b : Bool). if b then draft_takes was e else 0) is))
 
       pub cut_err_call : (x : Refused) → CutsIf g size cut d1 d2 k0 k2 was mid read next (Err x) → ResizeCall g size floor d0 d2 k0 k2 was mid (Err x)
       cut_err_call x cuts = by cuts
@@ -118,7 +118,7 @@ module _ {D : Type 0} {g : Ghosts D} {size : ℕ} {d0 d1 : D} {was : Drafting} {
           by (Spares not ok same kept still again) = cc
           by (Cuts is goes calls) = (goes (u v) (read1 v) p.less).sound
 
-      pub cut_err_full : {A : Type 0} (x : Refused) → CutsIf g size cut d1 d2 k0 k2 was mid read next (Err x) → is_full x ≡ true → A
+      pub cut_err_full : {A : Type 0} (x : Refused) → CutsIf g size cut d1 d2 k0 k2 was mid read next (Err x) → is_full_refusal x ≡ true → A
       cut_err_full x cuts full = absurd (both_ways _ (cut_room x cuts) full)
 
       -- ---- the leaves dropped
@@ -149,7 +149,7 @@ module _ {D : Type 0} {g : Ghosts D} {size : ℕ} {d0 d1 : D} {was : Drafting} {
           drop_images : (v : View g d0 k0 was) (r : Result (Unit {0}) Refused) → DropsSo r → Leaves g d0 d3 (λ c. Holds c v.graph)
           drop_images v r drops = images_since p.reads d3 _ ((then) g d1 d2 d3 _ _ (cut_images (u v) (read1 v) p.less p.limit (Ok tt) cuts) (drop_goes v r drops).leaves (λ c h. h))
 
-          drop_room : {r : Result (Unit {0}) Refused} → DropCall g from d2 d3 k2 k3 mid now r → IfErr r (λ x. is_full x ≡ false)
+          drop_room : {r : Result (Unit {0}) Refused} → DropCall g from d2 d3 k2 k3 mid now r → IfErr r (λ x. is_full_refusal x ≡ false)
           drop_room calls = calls.room (omega (
             arith,
             both_take was mid cut from e n at_leaf at_border cd.flags (λ whole. (cd.whole whole).2) (omega (arith, p.nodes, p.less, p.limit)),
@@ -158,9 +158,9 @@ module _ {D : Type 0} {g : Ghosts D} {size : ℕ} {d0 d1 : D} {was : Drafting} {
           ))
 
           -- refused
-          module _ (x told : Refused) (is : told ≡ told_after cut x) (calls : DropCall g from d2 d3 k2 k3 mid now (Err x)) where
-            pub drop_err_full : {A : Type 0} → is_full told ≡ true → A
-            drop_err_full full = absurd (both_ways _ (ap is_full is ∙ still_room cut x (drop_room calls)) full)
+          module _ (x told : Refused) (is : told ≡ refusal_after cut x) (calls : DropCall g from d2 d3 k2 k3 mid now (Err x)) where
+            pub drop_err_full : {A : Type 0} → is_full_refusal told ≡ true → A
+            drop_err_full full = absurd (both_ways _ (ap is_full_refusal is ∙ still_room cut x (drop_room calls)) full)
 
             pub drop_err_goes : {P : Type 0} (v : View g d0 k0 was) → DropsSo (Err x) → Goes {A = Unit {0}} g v.graph P d0 d3 (Err told)
             drop_err_goes v drops = record { done = tt; leaves = drop_images v (Err x) drops; sound = ap is_damaged is ∙ still_sound cut x (drop_goes v (Err x) drops).sound }
@@ -177,14 +177,14 @@ module _ {D : Type 0} {g : Ghosts D} {size : ℕ} {d0 d1 : D} {was : Drafting} {
                 here : Ends {A = Unit {0}} g was.at 0 31083 15482 (sum k2.free) d2 d3 k2 k3 (Err x)
                 here = subst (λ (at : ℕ). Ends {A = Unit {0}} g at 0 31083 15482 (sum k2.free) d2 d3 k2 k3 (Err x)) cd.stays.at calls.ends
 
-                ends : (b : Bool) → cut ≡ b → Ends {A = Unit {0}} g was.at floor 31092 15486 (sum k0.free) d0 d3 k0 k3 (Err (told_after b x))
+                ends : (b : Bool) → cut ≡ b → Ends {A = Unit {0}} g was.at floor 31092 15486 (sum k0.free) d0 d3 k0 k3 (Err (refusal_after b x))
                 ends true so = let c = cut_takes was cut e in after_read (ends_then_err g was.at 0 d1 d2 d3 k0 k2 k3 (tt {0}) x 8 4 c 31083 15482 (sum k2.free) cd.ends (cd.tried so) here 31091 15486 (c + sum k2.free) (omega arith) (omega arith) (omega arith)) (omega arith) (omega arith)
                 ends false not =
                     let two = cd.whole not in
                     after_read (subst (λ (k : Kept). Ends {A = Unit {0}} g was.at 0 31083 15482 (sum k2.free) d1 d3 k k3 (Err x)) two.1 (subst (λ (d : D). Ends {A = Unit {0}} g was.at 0 31083 15482 (sum k2.free) d d3 k2 k3 (Err x)) two.0 here)) (omega arith) (omega arith)
 
-                kept : (b : Bool) → cut ≡ b → told_after cut x ≡ refusals.Disk false → now ≡ was
-                kept true so untried = absurd (not_untried x ((λ i. told_after (sym so i) x) ∙ untried))
+                kept : (b : Bool) → cut ≡ b → refusal_after cut x ≡ refusals.Disk false → now ≡ was
+                kept true so untried = absurd (not_untried x ((λ i. refusal_after (sym so i) x) ∙ untried))
                 kept false not untried = calls.kept ∙ (cd.whole not).2
 
           -- done

@@ -1,6 +1,6 @@
 -- The size of a draft set to less, as the call does it: a node is read, a leaf cut, and leaves are dropped.
 use Rattle.std.proofs.Common.{◌≡◌, ◌≢◌, inl, inr, ℕ, ◌+◌, ◌*◌, ◌/◌, ◌%◌, ◌<◌, ◌≤◌, Bool, true, false, List, length, get_or, set, Ok, Err, refl, sym, ◌∙◌, ap, subst, get_or-set_same, arith, IsTrue, not, if◌then◌else◌}
-use Rattle.special_files.proofs.Words.{Cuts, CutsIf, Drafting, DropCall, Ends, Forgets, Ghosts, HasNoneFresh, HasTried, Holds, IfErr, IsBorder, IsCutHere, IsPlan, IsRead, IsSafe, IsToldByNodes, KeepsOne, Kept, Leaves, MakesAtMost, NodeRead, OnOk, OnlyReads, Plan, Refused, ResizeCall, Result, SetsFlags, Spares, StaysBut, View, border_takes, both_ways, cases_Bool, cases_lt, cut_takes, eqb-false, eqb-true, held_is, is_fresh_leaf, is_fresh_node, is_some, last_node, leaf_takes, leaves_at, leaves_in, leaves_of, node_of, one_unless, reads_make, same_held, shadow_need, shrink_takes, sized, sum, then_tried, tried_then, ◌&&◌, ◌==◌, ◌||◌}
+use Rattle.special_files.proofs.Words.{Cuts, CutsIf, Drafting, DropCall, Ends, Forgets, Ghosts, HasNoneFresh, HasTried, Holds, IfErr, IsBorder, IsCutHere, IsPlan, IsRead, IsSafe, IsToldByNodes, KeepsOne, Kept, Leaves, MakesAtMost, NodeRead, OnOk, OnlyReads, Plan, Refused, ResizeCall, Result, SetsFlags, Spares, StaysBut, View, border_takes, both_ways, cases_Bool, cases_lt, cut_takes, eqb-false, eqb-true, held_is, is_fresh_leaf, is_fresh_node, is_some, last_node, draft_takes, leaves_at, leaves_in, leaves_of, node_of, one_unless, reads_make, same_held, shadow_need, shrink_takes, sized, sum, then_tried, tried_then, ◌&&◌, ◌==◌, ◌||◌}
 use Rattle.cfs_base.specs.declared.refusal.Refused.TheVariants as refusals
 use Rattle.special_files.proofs.Endings.{makes_none, stays_itself, full_ends, no_reads}
 use Rattle.special_files.proofs.PutStore.{the_draft}
@@ -68,7 +68,7 @@ cut_less was cut from leaf node at_leaf = by cut (is_fresh_leaf was leaf) refl r
       ap (λ (m : ℕ). one_unless (is_fresh_node was m)) (at_leaf c_is),
     )
     by true true c_is l_is = omega (arith, (let is : cut_takes was cut leaf ≡ 0 = (λ i. if c_is i then (if l_is i then 0 else 1 + one_unless (is_fresh_node was (leaf / 128))) else 0) in is))
-    by false l c_is l_is = omega (arith, (let is : cut_takes was cut leaf ≡ 0 = (λ i. if c_is i then leaf_takes was leaf else 0) in is))
+    by false l c_is l_is = omega (arith, (let is : cut_takes was cut leaf ≡ 0 = (λ i. if c_is i then draft_takes was leaf else 0) in is))
 
 -- ---- the leaf is cut, where it is to be
 
@@ -102,7 +102,7 @@ cut_done {g = g} {size} {cut} {d1} {d2} {k1} {k2} {was} {mid} {read} {next} (Spa
 }
 cut_done {g = g} {size} {cut} {d1} {d2} {k1} {k2} {was} (Cuts is goes calls) = record {
   stays = calls.stays;
-  ends = subst (λ (k : ℕ). Ends {A = Unit {0}} g was.at 0 8 4 k d1 d2 k1 k2 (Ok tt)) (sym (ap (λ (b : Bool). if b then leaf_takes was (size / 512) else 0) is)) calls.ends;
+  ends = subst (λ (k : ℕ). Ends {A = Unit {0}} g was.at 0 8 4 k d1 d2 k1 k2 (Ok tt)) (sym (ap (λ (b : Bool). if b then draft_takes was (size / 512) else 0) is)) calls.ends;
   tried = λ any. calls.tried;
   whole = λ not. absurd (both_ways cut not is);
   flags = λ any. calls.flags;

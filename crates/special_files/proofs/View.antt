@@ -1,6 +1,10 @@
 -- A draft that the store has, before and after reads.
-use Rattle.std.proofs.Common.{◌≡◌, ℕ, List, Some, ◌≢◌, sym, ◌∙◌, Option}
-use Rattle.special_files.proofs.Words.{Draft, Drafting, Ghosts, Graph, HasDraft, IsOpen, Kept, Object, OnlyReads, Opened, Puid, StoreHas, View, object_at, opened_as, File, Held, FileKind, kind_of, object_with, file_to_leaves}
+use Rattle.std.proofs.Common.{◌≡◌, ℕ, List, Some, ◌≢◌, length, sym, ◌∙◌, Option, subst}
+use Rattle.intentions.proofs.Drafts.{draft_there}
+use Rattle.intentions.proofs.Shown.{store_tells}
+use Rattle.intentions.specs.Left.{StoreIs}
+use Rattle.special_files.specs.View.{HasTree}
+use Rattle.special_files.proofs.Words.{Draft, Drafting, Ghosts, Image, IsTree, root_spelling, tells_on, tree_in, Graph, HasDraft, IsOpen, Kept, Object, OnlyReads, Opened, Puid, StoreHas, View, object_at, opened_as, File, Held, FileKind, kind_of, object_with, file_to_leaves}
 use Rattle.special_files.proofs.Begun.{store_reads}
 use Rattle.cfs_base.specs.declared.kind.Kind.TheVariants as kinds
 use Rattle.cfs_base.specs.declared.kind.FileKind.TheVariants as file_kinds
@@ -17,6 +21,25 @@ module _ {D : Type 0} {g : Ghosts D} {d0 : D} {space : Kept} {was : Drafting} (v
 
   abbrev pub view_reads : {d1 : D} {n : ℕ} → OnlyReads g n d0 d1 → View g d1 space was
   view_reads {d1} {n} reads = record { graph = v.graph; ds = v.ds; id = v.id; object = v.object; draft = v.draft; store = store_reads g v.graph v.ds d0 d1 space n v.store reads; at = v.at; opened = v.opened }
+
+-- ---- its tree
+
+pub view_tree : {D : Type 0} {g : Ghosts D} {disk : D} {space : Kept} {was : Drafting} → View g disk space was → HasTree g disk was
+view_tree v = record { tells = v.store.carries.tells; owner = v.id.block; object = v.draft.object; tree = (draft_of v).tree }
+
+-- also while a commit is unfinished, which is of another object
+abbrev pub draft_tree : {D : Type 0} (g : Ghosts D) (graph : Graph) (ds : List Opened) (disk : D) (space : Kept) {id : Puid} {o : Object} {d : Draft} {was : Drafting} → StoreIs g graph ds disk space → object_at graph id ≡ Some o → IsOpen ds id was d → HasTree g disk was
+draft_tree g graph ds disk space {id} {o} {d} {was} store at opened = record { tells = store_tells g graph ds disk space store; owner = id.block; object = d.object; tree = (draft_there g graph ds disk space store id o (opened_as id was d) at opened.alone).tree }
+
+abbrev pub tree_reads : {D : Type 0} {g : Ghosts D} {was : Drafting} {d0 d1 : D} {n : ℕ} → HasTree g d0 was → OnlyReads g n d0 d1 → HasTree g d1 was
+tree_reads {g} {was} {d0} {d1} {n} t reads = record {
+  tells = tells_on g d0 d1 d1 n reads t.tells;
+  owner = t.owner;
+  object = t.object;
+  tree = subst (λ (i : Image). IsTree (length i) t.owner (tree_in i (root_spelling was.root)) was.root t.object) (sym reads.content) t.tree;
+}
+
+-- ---- roots
 
 -- a file's root is none of an index
 pub no_index : (root : roots.Root) (leaves : ℕ → Option Held) (f : File) → object_with root leaves ≡ objects.File f → root.kind ≢ kinds.Index

@@ -69,20 +69,20 @@ pub use Rattle.leaf_changes.specs.Gives.{GivesIndex, kind_of}
 pub use Rattle.leaf_changes.specs.Leaves.{FillsSlot, IsReadTo, LeavesFit, Shrinks, WritesTo, bytes_held, cut_held}
 pub use Rattle.special_files.specs.Becomes.{Becomes}
 pub use Rattle.special_files.specs.Calls.{Claims, GetsNode, Had, SetsFlags, SetsFresh, WritesBlock}
-pub use Rattle.special_files.specs.Changed.{AreDropped, AreOnDisk, AreTaken, IsChanged, in_node, table, unlike}
+pub use Rattle.special_files.specs.Changed.{AreDropped, AreOnDisk, AreTaken, IsChanged, in_node, pointer_table, unlike}
 unfoldable pub use Rattle.special_files.specs.Changed.{all_unlike}
-pub use Rattle.special_files.specs.Committing.{AbortEnds, AreParts, CarriedOut, CommitEnds, Committed, Dropped, Fails, Finishes, Flips, IsEntered, IsOldOrNew, IsReady, Makes, Making, bit_set, far_root, given_all, named, root_of, settling, undoing, with_made}
-pub use Rattle.special_files.specs.Drafting.{Drafting, HasNoneFresh, IsOpen, begun_at, fresh_of, is_fresh_leaf, is_fresh_node, leaf_takes, leaves_take, need_beside, node_of, number_of, one_unless, opened_as, shadow_count, shadow_need}
+pub use Rattle.special_files.specs.Committing.{AbortEnds, AreParts, Decided, CommitEnds, Committed, Dropped, Fails, Finishes, Flips, IsEntered, IsOldOrNew, IsReady, Makes, Making, TakesShadow, bit_set, far_root, given_all, puid_at, making_root, settling, undoing, with_making}
+pub use Rattle.special_files.specs.Drafting.{Drafting, HasNoneFresh, IsOpen, begun_at, fresh_of, is_fresh_leaf, is_fresh_node, draft_takes, leaves_take, need_beside, node_of, number_if, one_unless, opened_as, shadow_count, shadow_need}
 unfoldable pub use Rattle.special_files.specs.Drafting.{none_of, set_in, unset_in}
 pub use Rattle.special_files.specs.Ends.{Ends}
 pub use Rattle.special_files.specs.Fills.{IsNearSwap, IsSwapped, dropped_by, filled_draft, is_empty_already}
 pub use Rattle.special_files.specs.Leaves.{PutsAt, SameBeside, draft_in, leaves_of, object_of}
 pub use Rattle.special_files.specs.Nodes.{IsRead, IsSafe}
-pub use Rattle.special_files.specs.Order.{ClaimsAndDrops, claims_anew, claims_from, leaf_claims, node_claims}
+pub use Rattle.special_files.specs.Order.{ClaimsAndDrops, claims_anew, claims_by_leaf, leaf_claims, node_claims}
 pub use Rattle.special_files.specs.Puts.{FitsLeaf, LeafCall, PutsLeaf, StaysBut, drafts_with}
 pub use Rattle.block_tree.specs.Reads.{HasStoppedBy, Far, FarLeaf, IsNear, IsNodeTrouble, IsRootTrouble, is_damage, leaves_at}
-pub use Rattle.special_files.specs.Refusal.{FarNode, FarRoot, IsDamage, IsRefusal, IsRefusalOrMemory, IsTrouble, NoMap, NoRoot, OpenMap, OtherCount, is_damaged, is_full, told_after}
-pub use Rattle.special_files.specs.Shed.{AreShed, Cuts, CutsIf, DropCall, DropsFrom, Forgets, HasParts, IsBorder, IsCutHere, IsFullFor, IsPast, IsPlan, IsReadIn, IsShed, IsShortNode, IsToldByNodes, KeepsOne, NoBlock, NoWrite, Put, PutsWithin, ResizeCall, Resized, Spares, Whole, Within, border_claims, border_takes, cut_takes, is_stale_cut, last_node, one_if, plan_needs, shrink_takes, sized}
+pub use Rattle.special_files.specs.Refusal.{FarNode, FarRoot, IsDamage, IsRefusal, IsTrouble, NoMap, NoRoot, OpenMap, OtherCount, is_damaged, is_full_refusal, refusal_after}
+pub use Rattle.special_files.specs.Shed.{AreShed, Cuts, CutsIf, DropCall, DropsFrom, Forgets, HasParts, IsBorder, IsCutHere, IsFullFor, IsPast, IsPlan, IsReadIn, IsShed, IsShortNode, IsToldByNodes, KeepsOne, NoBlock, NoWrite, Put, PutsWithin, ResizeCall, Resized, Spares, Whole, Within, border_claims, border_takes, cut_takes, is_stale_cut, last_node, list_if, plan_needs, shrink_takes, sized}
 unfoldable pub use Rattle.special_files.specs.Shed.{fresh_in}
 pub use Rattle.special_files.specs.Store.{Steps, replaced, without_draft}
 pub use Rattle.special_files.specs.View.{Goes, View}

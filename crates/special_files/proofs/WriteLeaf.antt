@@ -1,10 +1,11 @@
 -- Bytes written into one leaf of a draft: what was read is laid under them, and they are put.
 use Rattle.std.proofs.Common.{◌≡◌, ℕ, ◌+◌, ◌-◌, ◌*◌, ◌/◌, ◌%◌, ◌<◌, ◌≤◌, List, ◌++◌, length, get_or, take, replicate, slice_range, Err, refl, sym, ◌∙◌, ap, subst, arith, false, Ok}
-use Rattle.special_files.proofs.Words.{AreClaimed, Becomes, ChangesOnly, Drafting, Ends, FitsLeaf, Ghosts, Goes, Graph, HasDraft, Holds, Image, IsNear, IsRead, IsTrouble, Kept, LeafCall, Leaves, LeavesFit, NodeRead, Nothing, OnlyReads, Opened, Puid, PutsAt, PutsLeaf, Refused, Result, SameBeside, Tells, Trouble, View, cut, drop_all, get_or-append_right, get_or-replicate, is_damage, is_damaged, is_full, leaf_claims, leaf_content, leaf_takes, leaves_at, leaves_in, leaves_of, length-leaf_content, length-take, makes_then, node_of, of_draft, opened_as, over_byte, over_past, overlaid, past_size, patched, reads_make, reads_then, reads_within, refused_by, root_spelling, sum, then, then_tried, tree_in, wider}
+use Rattle.special_files.proofs.Words.{AreClaimed, Becomes, ChangesOnly, Drafting, Ends, FitsLeaf, Ghosts, Goes, Graph, HasDraft, Holds, Image, IsNear, IsRead, IsTrouble, Kept, LeafCall, Leaves, LeavesFit, NodeRead, Nothing, OnlyReads, Opened, Puid, PutsAt, PutsLeaf, Refused, Result, SameBeside, Tells, Trouble, View, cut, drop_all, get_or-append_right, get_or-replicate, is_damage, is_damaged, is_full_refusal, leaf_claims, leaf_content, draft_takes, leaves_at, leaves_in, leaves_of, length-leaf_content, length-take, makes_then, node_of, of_draft, opened_as, over_byte, over_past, overlaid, past_size, patched, reads_make, reads_then, reads_within, refused_by, root_spelling, sum, then, then_tried, tree_in, wider}
 use Rattle.block_tree.specs.declared.root.Root as roots
 use Rattle.ufs_model.specs.declared.object.Draft as models
 use Rattle.special_files.proofs.ReadLeaves.{node_near}
-use Rattle.special_files.proofs.View.{view_reads, draft_of}
+use Rattle.special_files.specs.View.{HasTree}
+use Rattle.special_files.proofs.View.{view_reads}
 use Rattle.special_files.proofs.Endings.{makes_none, stays_itself}
 use Rattle.cfs_base.specs.declared.refusal.Trouble.TheVariants as trouble
 use Rattle.special_files.proofs.Refusals.{refusal_after_reads, refusal_of, damaged_by, on_ok, if_err}
@@ -57,7 +58,7 @@ pub leaves_read : {D : Type 0} (g : Ghosts D) (graph : Graph) (n : ℕ) (d0 d1 :
 leaves_read g graph n d0 d1 reads = wider g d0 d1 Nothing (λ c. Holds c graph) reads.images (λ c none. absurd none)
 
 -- a refusal that was a trouble isn't Full
-pub not_full : (t : Trouble) → is_full (refused_by t) ≡ false
+pub not_full : (t : Trouble) → is_full_refusal (refused_by t) ≡ false
 not_full (trouble.Disk tried) = refl
 not_full (trouble.Damaged damage) = refl
 
@@ -112,7 +113,7 @@ module _ {D : Type 0} {g : Ghosts D} {d0 d1 : D} {n : ℕ} (reads : OnlyReads g 
 
 -- ---- one leaf put
 
-pub leaf_refused : {D : Type 0} {g : Ghosts D} {n leaf : ℕ} {d0 d1 : D} {k0 k1 : Kept} {was : Drafting} (read : NodeRead) {e : Refused} → Ends {A = Unit {0}} g was.at 0 n 4 (leaf_takes was leaf) d0 d1 k0 k1 (Err e) → (leaf_takes was leaf ≤ sum k0.free → is_full e ≡ false)
+pub leaf_refused : {D : Type 0} {g : Ghosts D} {n leaf : ℕ} {d0 d1 : D} {k0 k1 : Kept} {was : Drafting} (read : NodeRead) {e : Refused} → Ends {A = Unit {0}} g was.at 0 n 4 (draft_takes was leaf) d0 d1 k0 k1 (Err e) → (draft_takes was leaf ≤ sum k0.free → is_full_refusal e ≡ false)
     → LeafCall g n leaf d0 d1 k0 k1 was was read (Err e)
 leaf_refused {was = was} read ends room = record { stays = stays_itself was; flags = tt; number = tt; safe = tt; ends = ends; tried = tt; kept = λ same. refl; room = room }
 
@@ -130,7 +131,7 @@ module _ {D : Type 0} {g : Ghosts D} {d0 d1 : D} {n : ℕ} (reads : OnlyReads g 
   }
 
   pub leaf_stopped : {leaf : ℕ} {kept : Kept} {was : Drafting} (read : NodeRead) (most : ℕ) (t : Trouble) (e : Refused) → e ≡ refused_by t → n ≤ most → IsTrouble g was.at d0 d1 kept t → LeafCall g most leaf d0 d1 kept kept was was read (Err e)
-  leaf_stopped {leaf} read most t e same le is = leaf_refused read (ends_trouble reads 4 _ most t e same le is) (λ enough. ap is_full same ∙ not_full t)
+  leaf_stopped {leaf} read most t e same le is = leaf_refused read (ends_trouble reads 4 _ most t e same le is) (λ enough. ap is_full_refusal same ∙ not_full t)
 
   -- content that was read, and then put
   pub leaf_changed : {k0 k2 : Kept} {was now : Drafting} {d2 : D} {r : Result (Unit {0}) Refused} (v : View g d0 k0 was) (read mid next : NodeRead) (leaf : ℕ) (content whole : List ℕ) → (Tells g d0 → IsRead (g.content d0) was read → IsRead (g.content d0) was mid) → IsRead (g.content d0) was read
@@ -141,8 +142,8 @@ module _ {D : Type 0} {g : Ghosts D} {d0 d1 : D} {n : ℕ} (reads : OnlyReads g 
       (put (view_reads v reads) (read_since reads was mid (node v.store.carries.tells is)) (subst (FitsLeaf was.root leaf) (sym same) fits))
 
 -- on an honest disk the node is near
-pub near_there : {D : Type 0} {g : Ghosts D} {d0 : D} {k0 : Kept} {was : Drafting} (v : View g d0 k0 was) → length (g.content d0) ≡ g.blocks d0 → 0 < g.blocks d0 → (n : ℕ) → IsNear (g.blocks d0) (g.content d0) (node_of was.root n)
-near_there {g = g} {d0 = d0} {was = was} v size some n = node_near (g.content d0) (g.blocks d0) v.id was v.draft (draft_of v) size some n
+pub near_there : {D : Type 0} {g : Ghosts D} {d0 : D} {was : Drafting} (v : HasTree g d0 was) → length (g.content d0) ≡ g.blocks d0 → 0 < g.blocks d0 → (n : ℕ) → IsNear (g.blocks d0) (g.content d0) (node_of was.root n)
+near_there {g = g} {d0 = d0} {was = was} v size some n = node_near (g.content d0) (g.blocks d0) v.owner was v.object v.tree size some n
 
 -- the same, done with another answer
 pub ends_as : {D A B : Type 0} {g : Ghosts D} {at floor n t k : ℕ} {d0 d1 : D} {k0 k1 : Kept} {x : A} (y : B) → Ends g at floor n t k d0 d1 k0 k1 (Ok x) → Ends g at floor n t k d0 d1 k0 k1 (Ok y)

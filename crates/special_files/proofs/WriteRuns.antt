@@ -1,6 +1,6 @@
 -- Bytes written into a draft, leaf after leaf, on any disk.
 use Rattle.std.proofs.Common.{◌≡◌, inl, inr, ℕ, ◌+◌, ◌-◌, ◌*◌, ◌/◌, ◌<◌, ◌≤◌, Bool, true, false, List, length, set, Ok, Err, refl, sym, ◌∙◌, ap, subst, arith}
-use Rattle.special_files.proofs.Words.{Becomes, Draft, Drafting, Ends, File, Ghosts, Goes, HasTried, IsOpen, IsRead, IsSafe, Kept, LeafCall, NodeRead, Opened, Overwrite, Puid, PutsLeaf, Refused, Result, StaysBut, View, cases_lt, changed_draft, is_damaged, is_full, leaf_content, leaf_takes, leaves_in, leaves_of, leaves_take, ltb-false, ltb-true, nat_lt, need_beside, patched, shadow_need, sum, then, then_tried, told_after}
+use Rattle.special_files.proofs.Words.{Becomes, Draft, Drafting, Ends, File, Ghosts, Goes, HasTried, IsOpen, IsRead, IsSafe, Kept, LeafCall, NodeRead, Opened, Overwrite, Puid, PutsLeaf, Refused, Result, StaysBut, View, cases_lt, changed_draft, is_damaged, is_full_refusal, leaf_content, draft_takes, leaves_in, leaves_of, leaves_take, ltb-false, ltb-true, nat_lt, need_beside, patched, shadow_need, sum, then, then_tried, refusal_after}
 use Rattle.std.proofs.Math.ListN.{length-set}
 use Rattle.cfs_base.specs.declared.refusal.Refused.TheVariants as refusals
 use Rattle.ufs_model.specs.declared.object.Object.TheVariants as objects
@@ -54,11 +54,11 @@ module _ {D : Type 0} {g : Ghosts D} {offset : ℕ} {bytes : List ℕ} {leaf to 
   below_nodes = omega (arith, more, run.most, run.long_nodes)
 
   -- the leaf has its room
-  pub leaf_room : leaf_takes mid leaf ≤ sum k1.free
+  pub leaf_room : draft_takes mid leaf ≤ sum k1.free
   leaf_room =
       let now : Drafting = record mid { leaves = set mid.leaves leaf true; nodes = set mid.nodes (leaf / 128) true } in
       let less = takes_less leaf to mid now more below_nodes below_leaves (record { leaves = refl; nodes = inr refl }) in
-      whole (leaf_takes mid leaf) (leaves_take now (leaf + 1) to) (leaves_take mid leaf to) (sum k1.free) less (run.room more)
+      whole (draft_takes mid leaf) (leaves_take now (leaf + 1) to) (leaves_take mid leaf to) (sum k1.free) less (run.room more)
     where
       whole : (takes rest all before : ℕ) → takes + rest ≤ all → all ≤ before → takes ≤ before
       whole takes rest all before less has = omega (arith, less, has)
@@ -78,8 +78,8 @@ module _ {D : Type 0} {g : Ghosts D} {offset : ℕ} {bytes : List ℕ} {leaf to 
       let size : mid.root.size ≡ was.root.size = done.stays.root.size in
       writes (there v within) done.read_is (omega (arith, more, end, within, size)) (omega (arith, within, size))
 
-  here : {d2 : D} {k2 : Kept} {now : Drafting} {next : NodeRead} {result : Result (Unit {0}) Refused} → LeafCall g 8 leaf d1 d2 k1 k2 mid now next result → Ends g was.at 0 8 4 (leaf_takes mid leaf) d1 d2 k1 k2 result
-  here {d2} {k2} {result = result} calls = subst (λ (at : ℕ). Ends g at 0 8 4 (leaf_takes mid leaf) d1 d2 k1 k2 result) run.stays.at calls.ends
+  here : {d2 : D} {k2 : Kept} {now : Drafting} {next : NodeRead} {result : Result (Unit {0}) Refused} → LeafCall g 8 leaf d1 d2 k1 k2 mid now next result → Ends g was.at 0 8 4 (draft_takes mid leaf) d1 d2 k1 k2 result
+  here {d2} {k2} {result = result} calls = subst (λ (at : ℕ). Ends g at 0 8 4 (draft_takes mid leaf) d1 d2 k1 k2 result) run.stays.at calls.ends
 
   -- the leaf was written
   pub run_more : {d2 : D} {k2 : Kept} {now : Drafting} {next : NodeRead} → LeafCall g 8 leaf d1 d2 k1 k2 mid now next (Ok tt) → Writes d2 k2 now next (Ok tt) → to ≡ leaves_in (offset + length bytes) → WriteRun g offset bytes (leaf + 1) to d0 d2 k0 k2 was now next
@@ -87,8 +87,8 @@ module _ {D : Type 0} {g : Ghosts D} {offset : ℕ} {bytes : List ℕ} {leaf to 
     from = omega (arith, run.from);
     upto = omega (arith, more);
     most = run.most;
-    ends = let all = ends_then_ok g was.at 0 d0 d1 d2 k0 k1 k2 (tt {0}) (tt {0}) (8 * (leaf - offset / 512)) (4 * (leaf - offset / 512)) (sum k0.free) 8 4 (leaf_takes mid leaf) run.ends (here calls)
-        (8 * (leaf + 1 - offset / 512)) (4 * (leaf + 1 - offset / 512)) (sum k0.free + leaf_takes mid leaf) (omega (arith, run.from)) (omega (arith, run.from)) (omega arith) in ends_wider 0 _ _ (sum k0.free) all (omega arith) (omega arith) (omega arith);
+    ends = let all = ends_then_ok g was.at 0 d0 d1 d2 k0 k1 k2 (tt {0}) (tt {0}) (8 * (leaf - offset / 512)) (4 * (leaf - offset / 512)) (sum k0.free) 8 4 (draft_takes mid leaf) run.ends (here calls)
+        (8 * (leaf + 1 - offset / 512)) (4 * (leaf + 1 - offset / 512)) (sum k0.free + draft_takes mid leaf) (omega (arith, run.from)) (omega (arith, run.from)) (omega arith) in ends_wider 0 _ _ (sum k0.free) all (omega arith) (omega arith) (omega arith);
     stays = all_stays;
     safe = calls.safe;
     long_leaves = ap (length {A = Bool}) calls.flags.leaves ∙ length-set mid.leaves leaf true ∙ run.long_leaves;
@@ -96,7 +96,7 @@ module _ {D : Type 0} {g : Ghosts D} {offset : ℕ} {bytes : List ℕ} {leaf to 
       | inl same ↦ ap (length {A = Bool}) same.1 ∙ run.long_nodes
       | inr set_now ↦ ap (length {A = Bool}) set_now ∙ length-set mid.nodes (leaf / 128) true ∙ run.long_nodes
     ];
-    room = λ further. room_left (leaf_takes mid leaf) (leaves_take now (leaf + 1) to) (leaves_take mid leaf to) (sum k1.free) (sum k2.free) (takes_less leaf to mid now more below_nodes below_leaves calls.flags) (run.room more) calls.ends.takes;
+    room = λ further. room_left (draft_takes mid leaf) (leaves_take now (leaf + 1) to) (leaves_take mid leaf to) (sum k1.free) (sum k2.free) (takes_less leaf to mid now more below_nodes below_leaves calls.flags) (run.room more) calls.ends.takes;
     begun = λ same. absurd (omega (arith, same, run.from));
     tried = λ late. then_tried g d0 d1 d2 (8 * (leaf - offset / 512)) (4 * (leaf - offset / 512)) run.ends.calls calls.tried;
     model = λ v within.
@@ -109,15 +109,15 @@ module _ {D : Type 0} {g : Ghosts D} {offset : ℕ} {bytes : List ℕ} {leaf to 
       all_stays = stays_then was mid now run.stays calls.stays
 
   -- the leaf was refused
-  module _ {d2 : D} {k2 : Kept} {now : Drafting} {next : NodeRead} {e : Refused} (calls : LeafCall g 8 leaf d1 d2 k1 k2 mid now next (Err e)) (error : Refused) (same : error ≡ told_after (nat_lt (offset / 512) leaf) e) where
+  module _ {d2 : D} {k2 : Kept} {now : Drafting} {next : NodeRead} {e : Refused} (calls : LeafCall g 8 leaf d1 d2 k1 k2 mid now next (Err e)) (error : Refused) (same : error ≡ refusal_after (nat_lt (offset / 512) leaf) e) where
     first : nat_lt (offset / 512) leaf ≡ false → leaf ≡ offset / 512
     first early = omega (arith, ltb-false (offset / 512) leaf early, run.from)
 
     pub err_stays : StaysBut was now
     err_stays = stays_then was mid now run.stays calls.stays
 
-    pub err_full : is_full error ≡ false
-    err_full = ap is_full same ∙ still_room _ e (calls.room leaf_room)
+    pub err_full : is_full_refusal error ≡ false
+    err_full = ap is_full_refusal same ∙ still_room _ e (calls.room leaf_room)
 
     pub err_goes : (v : View g d0 k0 was) → offset + length bytes ≤ was.root.size → Writes d2 k2 now next (Err e) → to ≡ leaves_in (offset + length bytes) → Goes {A = Unit {0}} g v.graph (Unit {0}) d0 d2 (Err error)
     err_goes v within writes end =
@@ -130,23 +130,23 @@ module _ {D : Type 0} {g : Ghosts D} {offset : ℕ} {bytes : List ℕ} {leaf to 
     pub err_ends : (floor : ℕ) → to ≡ leaves_in (offset + length bytes) → EndsBy floor error
     err_ends floor end = subst (EndsBy floor) (sym same) (by (nat_lt (offset / 512) leaf) refl)
       where
-        by : (b : Bool) → nat_lt (offset / 512) leaf ≡ b → EndsBy floor (told_after b e)
+        by : (b : Bool) → nat_lt (offset / 512) leaf ≡ b → EndsBy floor (refusal_after b e)
         by true is =
-            let all = ends_then_err g was.at 0 d0 d1 d2 k0 k1 k2 (tt {0}) e (8 * (leaf - offset / 512)) (4 * (leaf - offset / 512)) (sum k0.free) 8 4 (leaf_takes mid leaf) run.ends (run.tried (ltb-true (offset / 512) leaf is)) (here calls)
-            (8 * (leaf + 1 - offset / 512)) (4 * (leaf + 1 - offset / 512)) (sum k0.free + leaf_takes mid leaf) (omega (arith, run.from)) (omega (arith, run.from)) (omega arith) in
+            let all = ends_then_err g was.at 0 d0 d1 d2 k0 k1 k2 (tt {0}) e (8 * (leaf - offset / 512)) (4 * (leaf - offset / 512)) (sum k0.free) 8 4 (draft_takes mid leaf) run.ends (run.tried (ltb-true (offset / 512) leaf is)) (here calls)
+            (8 * (leaf + 1 - offset / 512)) (4 * (leaf + 1 - offset / 512)) (sum k0.free + draft_takes mid leaf) (omega (arith, run.from)) (omega (arith, run.from)) (omega arith) in
             ends_wider floor _ _ (sum k0.free) all (omega (arith, more, end)) (omega (arith, more, end)) (omega arith)
         by false is =
             let begun = run.begun (first is) in
-            let from_d0 = subst (λ (d : D). Ends {A = Unit {0}} g was.at 0 8 4 (leaf_takes mid leaf) d d2 k1 k2 (Err e)) begun.0 (here calls) in
-            let from_k0 = subst (λ (k : Kept). Ends {A = Unit {0}} g was.at 0 8 4 (leaf_takes mid leaf) d0 d2 k k2 (Err e)) begun.1 from_d0 in
+            let from_d0 = subst (λ (d : D). Ends {A = Unit {0}} g was.at 0 8 4 (draft_takes mid leaf) d d2 k1 k2 (Err e)) begun.0 (here calls) in
+            let from_k0 = subst (λ (k : Kept). Ends {A = Unit {0}} g was.at 0 8 4 (draft_takes mid leaf) d0 d2 k k2 (Err e)) begun.1 from_d0 in
             ends_wider floor _ _ (sum k0.free) from_k0 (omega (arith, more, end, first is)) (omega (arith, more, end, first is)) (omega arith)
 
     pub err_kept : error ≡ refusals.Disk false → now ≡ was
     err_kept told = by (nat_lt (offset / 512) leaf) refl
       where
         by : (b : Bool) → nat_lt (offset / 512) leaf ≡ b → now ≡ was
-        by true late = absurd (not_untried e ((λ i. told_after (sym late i) e) ∙ sym same ∙ told))
-        by false early = calls.kept ((λ i. told_after (sym early i) e) ∙ sym same ∙ told) ∙ (run.begun (first early)).2
+        by true late = absurd (not_untried e ((λ i. refusal_after (sym late i) e) ∙ sym same ∙ told))
+        by false early = calls.kept ((λ i. refusal_after (sym early i) e) ∙ sym same ∙ told) ∙ (run.begun (first early)).2
 
 -- ---- what it takes
 

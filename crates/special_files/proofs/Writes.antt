@@ -1,6 +1,6 @@
 -- Leaves written into a draft one after another, and what has become of it then.
 use Rattle.std.proofs.Common.{◌≡◌, inl, ℕ, suc, ◌+◌, ◌-◌, ◌/◌, ◌<◌, ◌≤◌, Bool, true, List, [], length, get_or, set, Some, refl, sym, ◌∙◌, ap, subst, arith}
-use Rattle.special_files.proofs.Words.{AreClaimed, Becomes, Draft, Drafting, File, Ghosts, Graph, HasDraft, Holds, Image, IsOpen, IsRead, IsTree, Kept, Leaves, NodeRead, Object, Opened, Overwrite, Puid, PutsLeaf, StaysBut, Steps, StoreHas, WritesTo, changed_draft, changed_object, changes_begin, changes_then, claims_from, claims_then, draft_in, leaf_claims, leaf_content, leaves_in, leaves_of, object_at, object_with, opened_as, patched, replaced, root_spelling, same_object, then, tree_in, writes_begin, writes_more, writes_object, fresh_of}
+use Rattle.special_files.proofs.Words.{AreClaimed, Becomes, Draft, Drafting, File, Ghosts, Graph, HasDraft, Holds, Image, IsOpen, IsRead, IsTree, Kept, Leaves, NodeRead, Object, Opened, Overwrite, Puid, PutsLeaf, StaysBut, Steps, StoreHas, WritesTo, changed_draft, changed_object, changes_begin, changes_then, claims_by_leaf, claims_then, draft_in, leaf_claims, leaf_content, leaves_in, leaves_of, object_at, object_with, opened_as, patched, replaced, root_spelling, same_object, then, tree_in, writes_begin, writes_more, writes_object, fresh_of}
 use Rattle.ufs_model.specs.declared.object.Object.TheVariants as objects
 use Rattle.special_files.proofs.Amid.{amid_begins}
 use Rattle.special_files.proofs.Lists.{replaced_again, replaced_same}
@@ -19,7 +19,7 @@ pub record WrittenTo {D : Type 0} (g : Ghosts D) (graph : Graph) (ds : List Open
   pub node_marks : Marks (λ l. l / 128) (offset / 512) leaf was.nodes is.nodes
   pub read_is : IsRead (g.content now) is read
   -- what is claimed for more leaves follows what was claimed for these
-  pub order : (n : ℕ) (c : Image) → AreClaimed (claims_from is.at is.leaves is.nodes leaf n) (g.content now) c → AreClaimed (claims_from was.at was.leaves was.nodes (offset / 512) (leaf - offset / 512 + n)) (g.content old) c
+  pub order : (n : ℕ) (c : Image) → AreClaimed (claims_by_leaf is.at is.leaves is.nodes leaf n) (g.content now) c → AreClaimed (claims_by_leaf was.at was.leaves was.nodes (offset / 512) (leaf - offset / 512 + n)) (g.content old) c
 
 module _ {D : Type 0} (g : Ghosts D) (graph : Graph) (ds : List Opened) (id : Puid) (o : Object) (at : object_at graph id ≡ Some o) where
   pub becomes_begin : (d0 : D) (k0 : Kept) (was : Drafting) (d : Draft) → StoreHas g graph ds d0 k0 → IsOpen ds id was d → Becomes g graph ds id d d0 d0 k0 was
@@ -71,7 +71,7 @@ module _ {D : Type 0} (g : Ghosts D) (graph : Graph) (ds : List Opened) (id : Pu
       leaf_marks = marks_begin (λ l. l) (offset / 512) was.leaves;
       node_marks = marks_begin (λ l. l / 128) (offset / 512) was.nodes;
       read_is = is;
-      order = λ n c more. subst (λ (k : ℕ). AreClaimed (claims_from was.at was.leaves was.nodes (offset / 512) k) (g.content d0) c) (omega arith) more;
+      order = λ n c more. subst (λ (k : ℕ). AreClaimed (claims_by_leaf was.at was.leaves was.nodes (offset / 512) k) (g.content d0) c) (omega arith) more;
     }
 
     -- a leaf that was put with its bytes
@@ -89,10 +89,10 @@ module _ {D : Type 0} (g : Ghosts D) (graph : Graph) (ds : List Opened) (id : Pu
       node_marks = marks_more (λ l. l / 128) (offset / 512) leaf was.nodes mid.nodes now.nodes done.node_marks from (omega (arith, done.becomes.is_open.node_flags, most)) puts.sets.nodes;
       read_is = puts.read_is;
       order = λ n c more.
-          let rest = λ (at : ℕ) (ls ns : List Bool). AreClaimed (claims_from at ls ns (leaf + 1) n) (g.content d2) c in
+          let rest = λ (at : ℕ) (ls ns : List Bool). AreClaimed (claims_by_leaf at ls ns (leaf + 1) n) (g.content d2) c in
           let moved : rest mid.at (set mid.leaves leaf true) (set mid.nodes (leaf / 128) true) = subst (λ (ns : List Bool). rest mid.at (set mid.leaves leaf true) ns) puts.sets.nodes
           (subst (λ (ls : List Bool). rest mid.at ls now.nodes) puts.sets.leaves (subst (λ (at : ℕ). rest at now.leaves now.nodes) stays.at more)) in
-          subst (λ (k : ℕ). AreClaimed (claims_from was.at was.leaves was.nodes (offset / 512) k) (g.content d0) c) (omega (arith, from))
+          subst (λ (k : ℕ). AreClaimed (claims_by_leaf was.at was.leaves was.nodes (offset / 512) k) (g.content d0) c) (omega (arith, from))
           (done.order (suc n) c (claims_then (leaf_claims mid.at mid.leaves mid.nodes leaf) _ (g.content d1) (g.content d2) c puts.order moved));
     }
 

@@ -55,13 +55,13 @@ all_unlike f g zero = []
 all_unlike f g (suc k) = all_unlike f g k ++ unlike (f k) (g k)
 
 -- the pointers to a node and to its leaves: one table of 129
-abbrev pub table : ℕ → List ℕ → ℕ → ℕ
-table block leaves zero = block
-table block leaves (suc k) = get_or leaves k 0
+abbrev pub pointer_table : ℕ → List ℕ → ℕ → ℕ
+pointer_table block leaves zero = block
+pointer_table block leaves (suc k) = get_or leaves k 0
 
 -- the same of the node at a block
 abbrev pub in_node : Image → ℕ → ℕ → ℕ
-in_node image block = table block (leaves_at image block)
+in_node image block = pointer_table block (leaves_at image block)
 
 -- so many blocks at most are more on a list, and they are on a disk of this size
 pub record Adds (size most : ℕ) (old new : List ℕ) : Type 0 where

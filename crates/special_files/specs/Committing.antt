@@ -1,8 +1,8 @@
 -- Entries that are changed one after another, as a commit and an abort do.
 use Rattle.std.specs.Prelude.{◌≡◌, ◌⊎◌, ℕ, ◌≤◌, ◌≢◌, ◌%◌, true, false, List, [], ◌∷◌, ◌++◌, set, IfErr, OnOk, Result}
-use Rattle.std.specs.Prelude.{Ok, Err, Option, Some, None, option_to_list}
+use Rattle.std.specs.Prelude.{Ok, Err, IsSome, Option, Some, None, option_to_list}
 use Rattle.cfs_base.specs.Codes.{past_disk}
-use Rattle.cfs_base.specs.Calls.{HasFailed, MakesAtMost}
+use Rattle.cfs_base.specs.Calls.{HasFailed, HasTried, MakesAtMost}
 use Rattle.cfs_base.specs.Disk.{Image, block_at}
 use Rattle.cfs_base.specs.Refusals.{refused_by}
 use Rattle.cfs_base.specs.declared.refusal.Refused.{Refused}
@@ -12,6 +12,7 @@ use Rattle.cfs_base.specs.declared.identifier.Puid.{Puid}
 use Rattle.cfs_base.specs.declared.refusal.Trouble.{Trouble}
 use Rattle.cfs_base.specs.declared.refusal.Trouble.TheVariants as trouble
 use Rattle.block_tree.specs.Root.{root_spelling}
+use Rattle.cyl_alloc.specs.Left.{Left}
 use Rattle.cyl_alloc.specs.Space.{IsLeastFree, AreCounts, Kept, after_giving}
 use Rattle.cyl_map.specs.Volume.{entry_in, is_free_in}
 use Rattle.intentions.specs.Flips.{Flip, MayFlip, flipped, flips}
@@ -26,6 +27,7 @@ use Rattle.vol_image.specs.Seen.{tree_in}
 use Rattle.vol_image.specs.Part.{SameAt}
 use Rattle.vol_image.specs.Reading.{bare_object}
 use Rattle.vol_image.specs.Sound.{Holds, IsBareRoot}
+use Rattle.intentions.specs.Left.{AreOpen, IsGoing, StoreIs, copied_if, end_of, plan}
 use Rattle.intentions.specs.Store.{StoreHas}
 use Rattle.vol_owners.specs.Account.{HasItsBlocks, IsMade, Opened, StandsIn, content_of, drafts_of, is_meant_for}
 use Rattle.vol_owners.specs.Account.{numbers_differ}
@@ -103,8 +105,8 @@ abbrev pub root_copied : Image → ℕ → ℕ → List ℕ → Image
 root_copied a r s dropped = set (bit_set a r dropped) r (block_at (bit_set a r dropped) s)
 
 -- the identifier of an object with this root block
-abbrev pub named : ℕ → ℕ → Puid
-named block word = record { block = block; word = word }
+abbrev pub puid_at : ℕ → ℕ → Puid
+puid_at block word = record { block = block; word = word }
 
 -- the image holds these objects, or those with this one as it is afterwards
 abbrev pub IsOldOrNew : (graph full : Graph) → Puid → Object → Image → Type 0
@@ -116,20 +118,39 @@ pub record IsEntered (a b : Image) (c : ℕ) : Type 0 where
   pub alone : (n : ℕ) → is_of is_taken c (entry_in b n) ≡ true → n ≡ c
   pub same : SameAt a b c
 
--- The draft of an object became the object, and the root of the one that is made with it is there. No block of them
--- waits for anything, and the Free blocks are counted.
-pub record CarriedOut {D : Type 0} (g : Ghosts D) (graph : Graph) (id : Puid) (o : Object) (s : ℕ) (created : Option ℕ)
-    (old new : D) (before after : Kept) : Type 0 where
-  pub carries : Carries g (with_object graph id o) new
+-- One commit, of the object with this root block, is past its bit, and all of it is left.
+pub record IsNoted (at : ℕ) (kept : Option Left) (l : Left) : Type 0 where
+  pub is : kept ≡ Some l
+  pub root : l.root ≡ at
+  pub uncopied : l.copied ≡ false
+
+-- Where a commit is unfinished now, its bit was tried in this call, and no write waits.
+pub record IsAtBit {D : Type 0} (g : Ghosts D) (old new : D) (left : Option Left) : Type 0 where
+  pub tried : IsSome left → HasTried g old new
+  pub settled : IsSome left → Tells g old → IsSettled g new
+
+-- The draft of an object is its object from its commit bit on, which is durable: what is left of the commit is kept. In
+-- the image that is to come no block of the object waits for anything, and the root of the one that is made with it is
+-- there.
+pub record Decided {D : Type 0} (g : Ghosts D) (graph : Graph) (id : Puid) (o : Object) (s : ℕ) (created : Option ℕ)
+    (old new : D) (after : Kept) : Type 0 where
+  pub left : Left
+  pub kept : IsNoted id.block after.left left
+  pub going : IsGoing g (with_object graph id o) new after left
+  pub opens : AreOpen (λ e. of_owners (id.block ∷ option_to_list created) e)
+      (copied_if left.copied left (g.content new)) (plan left)
   pub settled : IsSettled g new
-  pub has : HasItsBlocks (g.content new) id.block
-  pub none_meant : (n : ℕ) → is_meant_for (g.content new) id.block n ≡ false
-  pub made : (c : ℕ) → created ≡ Some c → IsEntered (g.content old) (g.content new) c
-  pub only : ChangesOnly (λ entry. of_owners (id.block ∷ option_to_list created) entry) (g.content old) (g.content new)
-  pub counts : AreCounts (g.content old) before → AreCounts (g.content new) after
-  pub tree : tree_in (g.content new) (block_at (g.content new) id.block)
+  pub holds : Holds (end_of g new after) (with_object graph id o)
+  pub has : HasItsBlocks (end_of g new after) id.block
+  pub none_meant : (n : ℕ) → is_meant_for (end_of g new after) id.block n ≡ false
+  pub made : (c : ℕ) → created ≡ Some c → IsEntered (g.content old) (end_of g new after) c
+  pub only : ChangesOnly (λ entry. of_owners (id.block ∷ option_to_list created) entry) (g.content old)
+      (end_of g new after)
+  pub tree : tree_in (end_of g new after) (block_at (end_of g new after) id.block)
       ≡ tree_in (g.content old) (block_at (g.content old) s)
-  pub left : (n : ℕ) → n % 64 ≢ 0 → n ≢ id.block → block_at (g.content new) n ≡ block_at (g.content old) n
+  pub stays : (n : ℕ) → n % 64 ≢ 0 → n ≢ id.block → block_at (end_of g new after) n ≡ block_at (g.content old) n
+  pub copied : block_at (end_of g new after) id.block ≡ block_at (g.content old) s
+  pub given_back : is_free_in (end_of g new after) s ≡ true
 
 -- A draft that stands ready becomes its object. Each image that a crash leaves on the way has all old, or all new, and
 -- no damage is met.
@@ -137,15 +158,15 @@ pub record Finishes {D : Type 0} (g : Ghosts D) (at s : ℕ) (taken dropped : Li
     (before after : Kept) (result : Result (Unit {0}) Trouble) : Type 0 where
   pub done : (graph full : Graph) (word : ℕ) (was o : Object) → Carries g graph old
       → AreCounts (g.content old) before
-      → IsReady (g.content old) full (named at word) was o s taken dropped created
-      → OnOk result (CarriedOut g full (named at word) o s created old new before after)
+      → IsReady (g.content old) full (puid_at at word) was o s taken dropped created
+      → OnOk result (Decided g full (puid_at at word) o s created old new after)
   pub leaves : (graph full : Graph) (word : ℕ) (was o : Object) → Carries g graph old
       → AreCounts (g.content old) before
-      → IsReady (g.content old) full (named at word) was o s taken dropped created
-      → Leaves g old new (IsOldOrNew graph full (named at word) o)
+      → IsReady (g.content old) full (puid_at at word) was o s taken dropped created
+      → Leaves g old new (IsOldOrNew graph full (puid_at at word) o)
   pub sound : (graph full : Graph) (word : ℕ) (was o : Object) → Carries g graph old
       → AreCounts (g.content old) before
-      → IsReady (g.content old) full (named at word) was o s taken dropped created
+      → IsReady (g.content old) full (puid_at at word) was o s taken dropped created
       → IfErr result (λ t. is_damage t ≡ false)
 
 -- the draft in memory leads past the disk
@@ -159,13 +180,13 @@ pub record Making : Type 0 where
   pub object : Object
 
 -- its root block, if one is made
-abbrev pub root_of : Option Making → Option ℕ
-root_of None = None
-root_of (Some m) = Some m.id.block
+abbrev pub making_root : Option Making → Option ℕ
+making_root None = None
+making_root (Some m) = Some m.id.block
 
-abbrev pub with_made : Graph → Option Making → Graph
-with_made graph None = graph
-with_made graph (Some m) = with_object graph m.id m.object
+abbrev pub with_making : Graph → Option Making → Graph
+with_making graph None = graph
+with_making graph (Some m) = with_object graph m.id m.object
 
 -- The draft makes no object; or this one, whose root is written, and leads to nothing.
 abbrev pub Makes : Image → Option ℕ → Option Making → Type 0
@@ -173,27 +194,38 @@ Makes image created None = created ≡ None
 Makes image created (Some m) = (created ≡ Some m.id.block) × ((root : roots.Root) × IsBareRoot image m.id root
     × (bare_object root ≡ m.object))
 
--- The store has this object in place of its draft, and the one that is made with it. Nothing waits, and only blocks of
--- these and Free ones changed.
+-- The least Free block of image a was taken for a shadow root of the object with this root block. In image b it is Free
+-- again, and has what was copied from it to the root block.
+pub record TakesShadow (at : ℕ) (a b : Image) : Type 0 where
+  pub shadow : ℕ
+  pub least : IsLeastFree a shadow
+  pub given_back : is_free_in b shadow ≡ true
+  pub copied : block_at b shadow ≡ block_at b at
+
+-- The store has this object in place of its draft, and the one that is made with it. Nothing waits. In the image that
+-- is to come only blocks of these and Free ones changed.
 pub record Committed {D : Type 0} (g : Ghosts D) (graph : Graph) (ds : List Opened) (id : Puid) (o : Object)
     (made : Option Making) (old new : D) (space : Kept) : Type 0 where
-  pub store : StoreHas g (with_object (with_made graph made) id o) (without_draft id ds) new space
+  pub store : StoreIs g (with_object (with_making graph made) id o) (without_draft id ds) new space
   pub settled : IsSettled g new
-  pub only : ChangesOnly (λ entry. of_owners (id.block ∷ option_to_list (root_of made)) entry) (g.content old)
-      (g.content new)
+  pub only : ChangesOnly (λ entry. of_owners (id.block ∷ option_to_list (making_root made)) entry) (g.content old)
+      (end_of g new space)
   -- the object's tree is the draft's: each node and leaf stands where it stood, in the same block, with its part and
   -- content
-  pub tree : (d : Opened) → drafts_of ds id ≡ d ∷ [] → tree_in (g.content new) (block_at (g.content new) id.block)
-      ≡ tree_in (g.content old) (content_of d)
-  -- a draft without a shadow root took the least Free block for it, in which its root still is
+  pub tree : (d : Opened) → drafts_of ds id ≡ d ∷ [] → tree_in (end_of g new space)
+      (block_at (end_of g new space) id.block) ≡ tree_in (g.content old) (content_of d)
+  -- a draft without a shadow root took the least Free block for it, and gave it back
   pub order : (d : Opened) → drafts_of ds id ≡ d ∷ [] → d.shadow ≡ None
-      → (s : ℕ) × IsLeastFree (g.content old) s × (block_at (g.content new) s ≡ root_spelling d.root)
+      → TakesShadow id.block (g.content old) (end_of g new space)
+  -- the object's root is the draft's
+  pub root : (d : Opened) → drafts_of ds id ≡ d ∷ []
+      → block_at (end_of g new space) id.block ≡ root_spelling d.root
 
 -- how a commit ends where the store has the draft
 pub record CommitEnds {D : Type 0} (g : Ghosts D) (graph : Graph) (ds : List Opened) (id : Puid) (o : Object)
     (made : Option Making) (old new : D) (space : Kept) (result : Result (Unit {0}) Trouble) : Type 0 where
   pub done : OnOk result (Committed g graph ds id o made old new space)
-  pub leaves : Leaves g old new (IsOldOrNew graph (with_made graph made) id o)
+  pub leaves : Leaves g old new (IsOldOrNew graph (with_making graph made) id o)
   pub sound : IfErr result (λ t. is_damage t ≡ false)
 
 -- of a draft as the layers above see it: where its root and its shadow root are, its two roots, and what it makes

@@ -22,9 +22,9 @@ pub record Drafting : Type 0 where
   pub nodes : List Bool
   pub created : Option ℕ
 
-abbrev pub number_of : Option BlockNo → Option ℕ
-number_of None = None
-number_of (Some block) = Some block.0
+abbrev pub number_if : Option BlockNo → Option ℕ
+number_if None = None
+number_if (Some block) = Some block.0
 
 -- so many flags, none of which is set
 unfoldable pub none_of : ℕ → List Bool
@@ -94,8 +94,8 @@ abbrev pub one_unless : Bool → ℕ
 one_unless b = if b then 0 else 1
 
 -- a leaf that isn't fresh takes a block, and one for its node where that isn't fresh
-abbrev pub leaf_takes : Drafting → ℕ → ℕ
-leaf_takes drafting leaf =
+abbrev pub draft_takes : Drafting → ℕ → ℕ
+draft_takes drafting leaf =
     if is_fresh_leaf drafting leaf then 0 else 1 + one_unless (is_fresh_node drafting (leaf / 128))
 
 -- those of the flags from one on and before another that aren't set

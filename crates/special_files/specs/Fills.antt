@@ -25,14 +25,14 @@ filled_draft i slot what d = record {
 -- ---- what was put, where the draft was its object before
 
 -- the blocks that a commit takes then: the leaf, and the node above it; and those that stood there, which it drops
-abbrev pub taken_by : Drafting → Swap → List ℕ
-taken_by w s = unlike (node_of w.root (s.leaf / 128)) (node_of w.own (s.leaf / 128)) ++ unlike s.is s.was
+abbrev pub swap_takes : Drafting → Swap → List ℕ
+swap_takes w s = unlike (node_of w.root (s.leaf / 128)) (node_of w.own (s.leaf / 128)) ++ unlike s.is s.was
 
 abbrev pub dropped_by : Drafting → Swap → List ℕ
 dropped_by w s = unlike (node_of w.own (s.leaf / 128)) (node_of w.root (s.leaf / 128)) ++ unlike s.was s.is
 
 abbrev pub IsSwapped : Image → Puid → Drafting → Draft → Swap → Type 0
-IsSwapped image id w d s = IsChanged image id (opened_as id w d) (taken_by w s) (dropped_by w s)
+IsSwapped image id w d s = IsChanged image id (opened_as id w d) (swap_takes w s) (dropped_by w s)
 
 -- on any disk of this size they lie on it
 pub record IsNearSwap (size : ℕ) (w : Drafting) (s : Swap) : Type 0 where

@@ -12,7 +12,7 @@ use Rattle.block_tree.specs.Pointers.{node_pointers}
 use Rattle.special_files.specs.Drafting.{Drafting, node_of}
 use Rattle.block_tree.specs.Reads.{is_damage, leaves_at}
 use Rattle.special_files.specs.Refusal.{IsTrouble}
-use Rattle.special_files.specs.View.{View}
+use Rattle.special_files.specs.View.{HasTree}
 use Rattle.special_files.specs.declared.node.NodeRead.{NodeRead}
 
 -- what was read last, if anything, is a node of the draft
@@ -34,6 +34,6 @@ pub record TurnsTo {D A : Type 0} (g : Ghosts D) (was : Drafting) (number n : �
   pub number_is : OnOk result (after.number ≡ number)
   pub refused : (kept : Kept) → IfErr result (IsTrouble g was.at old new kept)
   pub untried : IfErr result (λ t. trouble_had_tried t ≡ false)
-  -- no damage where the disk holds the object
-  pub sound : (kept : Kept) → View g old kept was → IfErr result (λ t. is_damage t ≡ false)
+  -- no damage where the disk holds its tree
+  pub sound : HasTree g old was → IfErr result (λ t. is_damage t ≡ false)
   pub reads : OnlyReads g n old new

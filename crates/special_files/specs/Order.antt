@@ -21,14 +21,14 @@ leaf_claims at leaves nodes leaf =
     if get_or leaves leaf false then [] else intended (Leaf leaf) at ∷ node_claims at nodes (leaf / 128)
 
 -- so many leaves, one after another from one on; each is fresh then, and so is its node
-abbrev pub claims_from : (at : ℕ) → (leaves nodes : List Bool) → (leaf count : ℕ) → List MapEntry
-claims_from at leaves nodes leaf zero = []
-claims_from at leaves nodes leaf (suc n) =
-    leaf_claims at leaves nodes leaf ++ claims_from at (set leaves leaf true) (set nodes (leaf / 128) true) (leaf + 1) n
+abbrev pub claims_by_leaf : (at : ℕ) → (leaves nodes : List Bool) → (leaf count : ℕ) → List MapEntry
+claims_by_leaf at leaves nodes leaf zero = []
+claims_by_leaf at leaves nodes leaf (suc n) =
+    leaf_claims at leaves nodes leaf ++ claims_by_leaf at (set leaves leaf true) (set nodes (leaf / 128) true) (leaf + 1) n
 
 -- the leaves of a draft from one on and before another
-abbrev pub claims_of : Drafting → (from to : ℕ) → List MapEntry
-claims_of drafting from to = claims_from drafting.at drafting.leaves drafting.nodes from (to - from)
+abbrev pub claims_between : Drafting → (from to : ℕ) → List MapEntry
+claims_between drafting from to = claims_by_leaf drafting.at drafting.leaves drafting.nodes from (to - from)
 
 -- of the blocks that the model writes anew those that aren't fresh: leaves, and then nodes
 abbrev pub claims_anew : (at : ℕ) → (anew fresh : List (List ℕ)) → List MapEntry

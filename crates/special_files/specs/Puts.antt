@@ -18,12 +18,12 @@ use Rattle.vol_image.specs.Reading.{leaf_content}
 use Rattle.vol_image.specs.Seen.{tree_in}
 use Rattle.vol_owners.specs.Account.{Opened}
 use Rattle.special_files.specs.Calls.{SetsFlags, SetsFresh}
-use Rattle.special_files.specs.Drafting.{Drafting, IsOpen, leaf_takes, opened_as}
+use Rattle.special_files.specs.Drafting.{Drafting, IsOpen, draft_takes, opened_as}
 use Rattle.special_files.specs.Ends.{Ends}
 use Rattle.special_files.specs.Leaves.{PutsAt, SameBeside, draft_in, leaves_of}
 use Rattle.special_files.specs.Nodes.{IsRead, IsSafe}
 use Rattle.special_files.specs.Order.{leaf_claims}
-use Rattle.special_files.specs.Refusal.{is_full}
+use Rattle.special_files.specs.Refusal.{is_full_refusal}
 use Rattle.special_files.specs.Store.{Steps, replaced}
 use Rattle.special_files.specs.declared.node.NodeRead.{NodeRead}
 
@@ -72,8 +72,8 @@ pub record LeafCall {D : Type 0} (g : Ghosts D) (n leaf : ℕ) (old new : D) (be
   pub flags : OnOk result (SetsFlags leaf was now)
   pub number : OnOk result (read.number ≡ leaf / 128)
   pub safe : OnOk result (IsSafe (g.blocks new) now read)
-  pub ends : Ends g was.at 0 n 4 (leaf_takes was leaf) old new before after result
+  pub ends : Ends g was.at 0 n 4 (draft_takes was leaf) old new before after result
   pub tried : OnOk result (HasTried g old new)
   -- where nothing was tried yet the draft is as it was
   pub kept : IfErr result (λ e. e ≡ refusals.Disk false → now ≡ was)
-  pub room : leaf_takes was leaf ≤ sum before.free → IfErr result (λ e. is_full e ≡ false)
+  pub room : draft_takes was leaf ≤ sum before.free → IfErr result (λ e. is_full_refusal e ≡ false)

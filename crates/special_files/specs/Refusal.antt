@@ -55,13 +55,6 @@ IsRefusal g at floor old new kept (refused.Disk tried) = HasStopped g tried old 
 IsRefusal g at floor old new kept (refused.Damaged damage) = IsDamage g at old new kept damage
 IsRefusal g at floor old new kept refused.Memory = ⊥
 
--- the same, or want of memory
-abbrev pub IsRefusalOrMemory : {D : Type 0} → Ghosts D → ℕ → ℕ → D → D → Kept → Refused → Type 0
-IsRefusalOrMemory g at floor old new kept (refused.Full need) = need.free < need.need + floor
-IsRefusalOrMemory g at floor old new kept (refused.Disk tried) = HasStopped g tried old new
-IsRefusalOrMemory g at floor old new kept (refused.Damaged damage) = IsDamage g at old new kept damage
-IsRefusalOrMemory g at floor old new kept refused.Memory = Unit {0}
-
 -- ---- which it is
 
 abbrev pub is_damaged : Refused → Bool
@@ -70,12 +63,12 @@ is_damaged (refused.Disk tried) = false
 is_damaged (refused.Damaged damage) = true
 is_damaged refused.Memory = false
 
-abbrev pub is_full : Refused → Bool
-is_full (refused.Full need) = true
-is_full (refused.Disk tried) = false
-is_full (refused.Damaged damage) = false
-is_full refused.Memory = false
+abbrev pub is_full_refusal : Refused → Bool
+is_full_refusal (refused.Full need) = true
+is_full_refusal (refused.Disk tried) = false
+is_full_refusal (refused.Damaged damage) = false
+is_full_refusal refused.Memory = false
 
 -- the refusal of a call that had tried a write before, or hadn't
-abbrev pub told_after : Bool → Refused → Refused
-told_after tried e = if tried then after_try e else e
+abbrev pub refusal_after : Bool → Refused → Refused
+refusal_after tried e = if tried then after_try e else e

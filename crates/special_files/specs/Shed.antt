@@ -27,7 +27,7 @@ use Rattle.ufs_model.specs.declared.object.Draft.{Draft}
 use Rattle.vol_owners.specs.Account.{Opened, content_of, is_meant_for, numbers_differ}
 use Rattle.special_files.specs.Becomes.{Becomes}
 use Rattle.special_files.specs.Calls.{GetsNode, WritesBlock}
-use Rattle.special_files.specs.Drafting.{Drafting, HasNoneFresh, IsOpen, is_fresh_leaf, is_fresh_node, leaf_takes}
+use Rattle.special_files.specs.Drafting.{Drafting, HasNoneFresh, IsOpen, is_fresh_leaf, is_fresh_node, draft_takes}
 use Rattle.special_files.specs.Drafting.{need_beside, node_of, one_unless, shadow_need}
 use Rattle.special_files.specs.Ends.{Ends}
 use Rattle.special_files.specs.Leaves.{draft_in, leaves_of}
@@ -35,7 +35,7 @@ use Rattle.block_tree.specs.Reads.{leaves_at}
 use Rattle.special_files.specs.Nodes.{IsRead, IsSafe}
 use Rattle.special_files.specs.Order.{ClaimsAndDrops, claims_anew, node_claims}
 use Rattle.special_files.specs.Puts.{CutsLeaf, LeafCall, StaysBut, drafts_with}
-use Rattle.special_files.specs.Refusal.{is_full}
+use Rattle.special_files.specs.Refusal.{is_full_refusal}
 use Rattle.special_files.specs.Store.{Steps}
 use Rattle.special_files.specs.View.{Goes, View}
 use Rattle.special_files.specs.declared.node.NodeRead.{NodeRead}
@@ -62,14 +62,14 @@ pub record AreShed (image : Image) (id : Puid) (d : Opened) (from : ℕ) (ns : L
   pub once : numbers_differ ns ≡ true
 
 -- how they are listed: a block, if it is to be
-abbrev pub one_if : Bool → ℕ → List ℕ
-one_if b n = if b then n ∷ [] else []
+abbrev pub list_if : Bool → ℕ → List ℕ
+list_if b n = if b then n ∷ [] else []
 
 -- of a node's pointers those of fresh leaves, so many from a place on
 unfoldable pub fresh_in : (flags : List Bool) (leaves : List ℕ) (node from count : ℕ) → List ℕ
 fresh_in flags leaves node from zero = []
 fresh_in flags leaves node from (suc k) = fresh_in flags leaves node from k
-    ++ one_if (get_or flags (128 * node + (from + k)) false) (slice_index leaves (from + k))
+    ++ list_if (get_or flags (128 * node + (from + k)) false) (slice_index leaves (from + k))
 
 -- From which leaf on a draft drops its leaves that is to keep those before `to`, where that lies in a node with these
 -- leaves, or at its end: where that is within the node, the node keeps a leaf and drops one.
@@ -175,7 +175,7 @@ pub record DropCall {D : Type 0} (g : Ghosts D) (from : ℕ) (old new : D) (befo
   pub untried : from % 128 ≡ 0 → ((n : ℕ) → is_fresh_node was n ≡ false) → (new ≡ old) × (after ≡ before)
   pub ends : Ends g was.at 0 31083 15482 (sum before.free) old new before after result
   pub kept : IfErr result (λ e. now ≡ was)
-  pub room : border_takes was from ≤ sum before.free → IfErr result (λ e. is_full e ≡ false)
+  pub room : border_takes was from ≤ sum before.free → IfErr result (λ e. is_full_refusal e ≡ false)
 
 -- ---- a resize to less
 
@@ -196,7 +196,7 @@ pub data CutsIf {D : Type 0} (g : Ghosts D) (size : ℕ) (cut : Bool) (old new :
 
 -- the leaf within which the size ends takes its blocks where it is cut
 abbrev pub cut_takes : Drafting → Bool → ℕ → ℕ
-cut_takes was cut leaf = if cut then leaf_takes was leaf else 0
+cut_takes was cut leaf = if cut then draft_takes was leaf else 0
 
 -- whether the leaf takes one
 abbrev pub is_stale_cut : Drafting → Bool → ℕ → Bool
@@ -261,7 +261,7 @@ pub record IsFullFor (size floor : ℕ) (d : Draft) (space : Kept) (was : Drafti
 pub record ResizeCall {D : Type 0} (g : Ghosts D) (size floor : ℕ) (old new : D) (before after : Kept)
     (was now : Drafting) (result : Result (Unit {0}) Refused) : Type 0 where
   pub stays : Resizes size was now result
-  pub spared : IfErr result (λ e. is_full e ≡ true → OnlyReads g 1 old new × (after ≡ before) × (now ≡ was))
+  pub spared : IfErr result (λ e. is_full_refusal e ≡ true → OnlyReads g 1 old new × (after ≡ before) × (now ≡ was))
   pub told : HasNoneFresh was → OnOk result (IsToldByNodes g old new before after now)
   pub ends : Ends g was.at floor 31092 15486 (sum before.free) old new before after result
   pub kept : IfErr result (λ e. e ≡ refusals.Disk false → now ≡ was)

@@ -8,7 +8,7 @@ ghost use Rattle.cfs_base.specs.declared.refusal.Trouble.TheVariants as troubles
 ghost use Rattle.intentions.specs.Store.{StoreHas};
 ghost use Rattle.special_files.specs.Changed.{AreTaken};
 ghost use Rattle.special_files.specs.Committing as spec;
-ghost use Rattle.special_files.specs.Drafting.{Drafting, IsOpen, number_of, opened_as};
+ghost use Rattle.special_files.specs.Drafting.{Drafting, IsOpen, number_if, opened_as};
 ghost use Rattle.block_tree.specs.Reads.{is_damage};
 ghost use Rattle.special_files.specs.Refusal.{IsTrouble};
 ghost use Rattle.special_files.specs.View.{View};
@@ -18,12 +18,12 @@ ghost use Rattle.ufs_model.specs.declared.object.Object.{Object};
 ghost use Rattle.vol_image.specs.Sound.{Holds};
 ghost use Rattle.vol_owners.specs.Account.{Opened};
 
+use crate::becoming::part_on_disk;
 use crate::blocks::Blocks;
-use crate::carry::flip_made;
 use crate::changed::changed;
+use crate::commit_bit::flip_made;
 use crate::draft::Draft;
 use crate::flips::{flip_all, give_all};
-use crate::whole::part_on_disk;
 use block_tree::Root;
 use cfs_base::{BlockNo, Disk, Trouble};
 use cyl_alloc::{KnownMaps, Space};
@@ -39,10 +39,10 @@ fn undo_all<D: Disk>(
     created: Option<BlockNo>,
 ) -> Result<(), Trouble>
     requires taken_on_disk { All (λ n. n < D.blocks disk.old) taken.now }
-    requires shadow_on_disk { (n : ℕ) → number_of shadow ≡ Some n → n < D.blocks disk.old }
-    requires created_on_disk { (n : ℕ) → number_of created ≡ Some n → n < D.blocks disk.old }
+    requires shadow_on_disk { (n : ℕ) → number_if shadow ≡ Some n → n < D.blocks disk.old }
+    requires created_on_disk { (n : ℕ) → number_if created ≡ Some n → n < D.blocks disk.old }
     ensures flips { spec.Flips D.Disk (2 * length taken.now + (2 + 2)) (length taken.now + (1 + 1))
-        (spec.undoing taken.now (number_of shadow) (number_of created)) disk.old disk.new result }
+        (spec.undoing taken.now (number_if shadow) (number_if created)) disk.old disk.new result }
 {
     flip_all(disk, known, taken, Change::Undo)?;
     flip_made(disk, known, shadow, Change::Undo)?;
@@ -51,8 +51,8 @@ fn undo_all<D: Disk>(
 
 /// Counts a block as Free again, if there is one.
 fn give_made(space: &mut Space, block: Option<BlockNo>)
-    requires on_disk { (n : ℕ) → number_of block ≡ Some n → n < 64 * length space.old.free }
-    ensures given { space.new ≡ spec.given_all space.old (option_to_list (number_of block)) }
+    requires on_disk { (n : ℕ) → number_if block ≡ Some n → n < 64 * length space.old.free }
+    ensures given { space.new ≡ spec.given_all space.old (option_to_list (number_if block)) }
     ensures cylinders { length space.new.free ≡ length space.old.free }
     ensures left { space.new.left ≡ space.old.left }
 {
@@ -71,10 +71,10 @@ fn give_up<D: Disk>(
 ) -> Result<(), Trouble>
     requires size { D.blocks disk.old ≡ 64 * length space.old.free }
     requires taken_on_disk { All (λ n. n < D.blocks disk.old) taken.now }
-    requires shadow_on_disk { (n : ℕ) → number_of shadow ≡ Some n → n < D.blocks disk.old }
-    requires created_on_disk { (n : ℕ) → number_of created ≡ Some n → n < D.blocks disk.old }
+    requires shadow_on_disk { (n : ℕ) → number_if shadow ≡ Some n → n < D.blocks disk.old }
+    requires created_on_disk { (n : ℕ) → number_if created ≡ Some n → n < D.blocks disk.old }
     ensures ends { (was : Drafting) (v : View D.Disk disk.old space.old was)
-        → was.shadow ≡ number_of shadow → was.created ≡ number_of created
+        → was.shadow ≡ number_if shadow → was.created ≡ number_if created
         → AreTaken (D.content disk.old) v.id (opened_as v.id was v.draft) taken.now
         → spec.AbortEnds D.Disk v.graph v.ds v.id was.created disk.old disk.new space.new result }
     ensures fails { (at : ℕ) → IfErr result (spec.Fails D.Disk at disk.old disk.new space.new) }
@@ -108,7 +108,7 @@ fn abort_parts<D: Disk>(
     requires on_disk { at.0 < D.blocks disk.old }
     requires size { D.blocks disk.old ≡ 64 * length space.old.free }
     ensures ends { (was : Drafting) (v : View D.Disk disk.old space.old was)
-        → spec.AreParts was at.0 (number_of shadow) own.now root.now (number_of created)
+        → spec.AreParts was at.0 (number_if shadow) own.now root.now (number_if created)
         → spec.AbortEnds D.Disk v.graph v.ds v.id was.created disk.old disk.new space.new result }
     ensures refused { IfErr result (IsTrouble D.Disk at.0 disk.old disk.new space.new) }
     ensures tried { IfErr result (λ t. t ≢ troubles.Disk false) }

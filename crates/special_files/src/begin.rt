@@ -11,9 +11,9 @@ ghost use Rattle.cfs_base.specs.declared.refusal.Refused.TheVariants as refused;
 ghost use Rattle.cfs_base.specs.declared.identifier.Puid.{Puid};
 ghost use Rattle.cyl_alloc.specs.Space.{IsLeastFree, Kept};
 ghost use Rattle.intentions.specs.Store.{StoreHas};
-ghost use Rattle.special_files.specs.Drafting.{begun_at, none_of, number_of, opened_as};
+ghost use Rattle.special_files.specs.Drafting.{begun_at, none_of, number_if, opened_as};
 ghost use Rattle.block_tree.specs.Reads.{is_damage};
-ghost use Rattle.special_files.specs.Refusal.{IsRefusalOrMemory, IsTrouble, is_damaged, is_full};
+ghost use Rattle.special_files.specs.Refusal.{IsRefusal, IsTrouble, is_damaged, is_full_refusal};
 ghost use Rattle.special_files.specs.Store.{Steps};
 ghost use Rattle.vol_image.specs.Sound.{Holds};
 ghost use Rattle.ufs_model.specs.Graph.{Graph, object_at};
@@ -27,21 +27,32 @@ use block_tree::{Root, read_root};
 use cfs_base::{BlockNo, Disk, NoMemory, Place, Refused};
 use cyl_alloc::Space;
 use std::alloc::Global;
+use std::marker::Model;
 
-/// All memory that a draft will ever need.
-#[derive(Drop)]
-struct Room {
+/// All memory that a draft will ever need, and the space that keeps its commit. What begins with one takes none.
+#[derive(Debug, Drop)]
+pub struct Room {
     leaves: Flags,
     nodes: Flags,
     taken: Blocks,
     dropped: Blocks,
 }
 
+impl Model for Room {
+    ghost use Rattle.std.specs.Prelude.{◌≡◌};
+    ghost use Rattle.block_tree.specs.Pointers.{leaf_limit, node_pointers};
+    ghost use Rattle.special_files.specs.Drafting.{none_of};
+
+    ghost Value = { Unit {0} };
+
+    ghost view = { λ _. tt };
+
+    ghost invariant = { λ a. (a.leaves ≡ none_of leaf_limit) × (a.nodes ≡ none_of node_pointers.count) };
+}
+
 impl Room {
-    fn new(alloc: Global) -> Result<Room, NoMemory>
-        ensures { IfOk result (λ room.
-            (room.leaves ≡ none_of leaf_limit) × (room.nodes ≡ none_of node_pointers.count)) }
-    {
+    /// Takes it.
+    pub fn new(alloc: Global) -> Result<Room, NoMemory> {
         let leaves = Flags::none(alloc, 15_360)?;
         let nodes = Flags::none(alloc, 120)?;
         let taken = Blocks::new(alloc)?;
@@ -58,8 +69,7 @@ impl Room {
     fn draft(self, at: BlockNo, shadow: Option<BlockNo>, root: Root) -> Draft
         requires some { at.0 ≢ 0 }
         requires limit { root.size ≤ 7864320 }
-        requires none { (self.leaves ≡ none_of leaf_limit) × (self.nodes ≡ none_of node_pointers.count) }
-        ensures { result ≡ begun_at at.0 (number_of shadow) root }
+        ensures { result ≡ begun_at at.0 (number_if shadow) root }
     {
         Draft {
             at,
@@ -78,9 +88,9 @@ impl Room {
 impl Draft {
     /// Begins a draft with its shadow root, for which the least-numbered Free block is claimed. `Full` where fewer
     /// blocks are Free than 1 and the floor; nothing was written then. `Damaged` names the root block, with code 3,
-    /// which is none, or the map in which no Free block was found, with code 2 where it is none.
+    /// which is none, or the map in which no Free block was found, with code 2 where it is none. Never `Memory`.
     pub fn begin<D: Disk>(
-        alloc: Global,
+        room: Room,
         disk: &mut D,
         space: &mut Space,
         at: BlockNo,
@@ -108,10 +118,10 @@ impl Draft {
             → id.block ≡ at.0 → object_at graph id ≡ Some o → Leaves D.Disk disk.old disk.new (λ c. Holds c graph) }
         // The floor is kept: where it is begun that many blocks were Free beside its own.
         ensures floor { IfOk result (λ draft. 1 + floor ≤ sum space.old.free) }
-        ensures full { IfErr result (λ e. is_full e ≡ true
+        ensures full { IfErr result (λ e. is_full_refusal e ≡ true
             → (e ≡ refused.Full (record { free = sum space.old.free; need = 1 })) × (sum space.old.free < 1 + floor)
             × (disk.new ≡ disk.old)) }
-        ensures refused { IfErr result (IsRefusalOrMemory D.Disk at.0 floor disk.old disk.new space.new) }
+        ensures refused { IfErr result (IsRefusal D.Disk at.0 floor disk.old disk.new space.new) }
         ensures untried { IfErr result (λ e. had_tried e ≡ false
             → (space.new ≡ space.old) × OnlyReads D.Disk 2 disk.old disk.new) }
         ensures sound { (graph : Graph) (ds : List Opened) (id : Puid) (o : Object)
@@ -121,7 +131,6 @@ impl Draft {
         ensures left { space.new.left ≡ space.old.left }
         ensures calls { MakesAtMost D.Disk 3 1 disk.old disk.new }
     {
-        let room = Room::new(alloc)?;
         space.has_room(1, floor)?;
         let root = read_root(disk, at)?;
         match space.intend(disk, Place::ShadowRoot, at.0) {
@@ -131,9 +140,9 @@ impl Draft {
     }
 
     /// Begins a draft without a shadow root, which `commit` claims. Nothing is written. `Damaged` names the root block,
-    /// with code 3, which is none. Never `Full`.
+    /// with code 3, which is none. Never `Full` or `Memory`.
     pub fn begin_direct<D: Disk>(
-        alloc: Global,
+        room: Room,
         disk: &mut D,
         space: &mut Space,
         at: BlockNo,
@@ -148,8 +157,8 @@ impl Draft {
             → StoreHas D.Disk graph ds disk.old space.old
             → id.block ≡ at.0 → object_at graph id ≡ Some o → drafts_of ds id ≡ [] → IfOk result (λ draft.
             StoreHas D.Disk graph (opened_as id draft (record { object = o; fresh = [] }) ∷ ds) disk.new space.new) }
-        ensures refused { IfErr result (IsRefusalOrMemory D.Disk at.0 0 disk.old disk.new space.new) }
-        ensures spare { IfErr result (λ error. is_full error ≡ false) }
+        ensures refused { IfErr result (IsRefusal D.Disk at.0 0 disk.old disk.new space.new) }
+        ensures spare { IfErr result (λ error. is_full_refusal error ≡ false) }
         ensures untried { IfErr result (λ error. had_tried error ≡ false) }
         // No damage where the disk holds the object.
         ensures sound { (graph : Graph) (ds : List Opened) (id : Puid) (o : Object)
@@ -158,7 +167,6 @@ impl Draft {
         ensures space { space.new ≡ space.old }
         ensures reads { OnlyReads D.Disk 1 disk.old disk.new }
     {
-        let room = Room::new(alloc)?;
         let root = read_root(disk, at)?;
         Ok(room.draft(at, None, root))
     }

@@ -30,7 +30,7 @@ pub(crate) fn add_unlike(list: &mut Blocks, block: u32, other: u32)
 fn add_node(list: &mut Blocks, block: u32, node: &Node, other: u32, other_node: &Node)
     requires { length list.old + 129 ≤ 15480 }
     ensures { list.new ≡ list.old
-        ++ spec.all_unlike (spec.table block node.now.leaves) (spec.table other other_node.now.leaves) 129 }
+        ++ spec.all_unlike (spec.pointer_table block node.now.leaves) (spec.pointer_table other other_node.now.leaves) 129 }
 {
     add_unlike(list, block, other);
     for leaf in 0..128 {

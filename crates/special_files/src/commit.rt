@@ -1,24 +1,24 @@
 //! A draft committed.
 ghost use Rattle.std.specs.Prelude.{◌≡◌, ◌≢◌, ◌<◌, ◌≤◌, ◌+◌, ◌*◌, ◌++◌, ◌∷◌, [], ℕ, false, length, option_to_list};
-ghost use Rattle.std.specs.Prelude.{Option, None, Some, IfErr, OnOk};
+ghost use Rattle.std.specs.Prelude.{Option, None, Some, IfErr, IsErr, OnOk};
 ghost use Rattle.std.specs.List.{All};
 ghost use Rattle.cfs_base.specs.Calls.{HasTried, MakesAtMost};
-ghost use Rattle.cfs_base.specs.Disk.{block_at};
+ghost use Rattle.cyl_alloc.specs.Left.{Left};
+ghost use Rattle.cfs_base.specs.Run.{IsSettled, Tells};
 ghost use Rattle.cfs_base.specs.declared.refusal.Refused.TheVariants as refused;
 ghost use Rattle.cfs_base.specs.declared.refusal.Trouble.TheVariants as troubles;
 ghost use Rattle.special_files.specs.Committing as spec;
-ghost use Rattle.special_files.specs.Drafting.{Drafting, number_of};
+ghost use Rattle.special_files.specs.Drafting.{Drafting, number_if};
 ghost use Rattle.special_files.specs.Refusal.{IsTrouble};
 ghost use Rattle.special_files.specs.View.{View};
 
 use crate::blocks::Blocks;
-use crate::carry::decide;
 use crate::changed::changed;
+use crate::commit_bit::decide;
 use crate::leaf::write_own;
 use block_tree::Root;
-use cfs_base::{Block, BlockNo, Disk, Trouble};
+use cfs_base::{BlockNo, Disk, Trouble};
 use cyl_alloc::Space;
-use finisher::finish_written;
 
 /// The entries that a commit changes past its bit, the shadow root's as the last.
 fn rest_of(
@@ -28,7 +28,7 @@ fn rest_of(
     shadow: BlockNo,
 ) -> cyl_alloc::Blocks
     requires few { length taken + length dropped.now ≤ 30960 }
-    ensures { result ≡ taken ++ (dropped.now ++ (option_to_list (number_of created) ++ shadow.0 ∷ [])) }
+    ensures { result ≡ taken ++ (dropped.now ++ (option_to_list (number_if created) ++ shadow.0 ∷ [])) }
 {
     let mut rest = taken;
     rest.add_all(dropped);
@@ -39,14 +39,12 @@ fn rest_of(
     rest.into_rest()
 }
 
-/// Makes a draft its object, whose shadow root was written with this content: the commit bit is set, the commit is
-/// kept, and then it is carried out.
+/// Makes a draft its object, whose shadow root was written: the commit bit is set, and what is left is kept.
 pub(crate) fn finish<D: Disk>(
     disk: &mut D,
     space: &mut Space,
     at: BlockNo,
     shadow: BlockNo,
-    content: &Block,
     taken: Blocks,
     dropped: &[u32],
     created: Option<BlockNo>,
@@ -56,31 +54,27 @@ pub(crate) fn finish<D: Disk>(
     requires shadow_on_disk { shadow.0 < D.blocks disk.old }
     requires taken_on_disk { All (λ n. n < D.blocks disk.old) taken }
     requires dropped_on_disk { All (λ n. n < D.blocks disk.old) dropped.now }
-    requires created_on_disk { (n : ℕ) → number_of created ≡ Some n → n < D.blocks disk.old }
+    requires created_on_disk { (n : ℕ) → number_if created ≡ Some n → n < D.blocks disk.old }
     requires left { space.old.left ≡ None }
     requires few { length taken + length dropped.now ≤ 30960 }
-    ensures finishes { block_at (D.content disk.old) shadow.0 ≡ content.now
-        → spec.Finishes D.Disk at.0 shadow.0 taken dropped.now (number_of created) disk.old disk.new
+    ensures finishes { spec.Finishes D.Disk at.0 shadow.0 taken dropped.now (number_if created) disk.old disk.new
         space.old space.new result }
     ensures fails { IfErr result (spec.Fails D.Disk at.0 disk.old disk.new space.new) }
+    ensures settled { Tells D.Disk disk.old → OnOk result (IsSettled D.Disk disk.new) }
     ensures cylinders { length space.new.free ≡ length space.old.free }
-    ensures left { OnOk result (space.new.left ≡ None) }
-    ensures calls { MakesAtMost D.Disk (2 * length taken + 4 * length dropped.now + 14)
-        (length taken + 2 * length dropped.now + 10) disk.old disk.new }
+    ensures left { OnOk result ((l : Left) × spec.IsNoted at.0 space.new.left l) }
+    ensures kept { IsErr result → space.new ≡ space.old }
+    ensures calls { MakesAtMost D.Disk (2 * length dropped.now + 4) (length dropped.now + 3) disk.old disk.new }
 {
     match decide(disk, space.known(), at, dropped) {
         Ok(()) => {}
         Err(trouble) => return Err(trouble),
     }
-    let rest = rest_of(taken, dropped, created, shadow);
-    space.note(at, shadow, rest);
-    match finish_written(disk, space, at, content) {
-        Ok(()) => Ok(()),
-        Err(trouble) => Err(trouble.after_try()),
-    }
+    space.note(at, shadow, rest_of(taken, dropped, created, shadow));
+    Ok(())
 }
 
-/// Commits a draft of these parts, whose shadow root is written first, and then all is carried out.
+/// Commits a draft of these parts, whose shadow root is written first.
 pub(crate) fn commit_begun<D: Disk>(
     disk: &mut D,
     space: &mut Space,
@@ -95,19 +89,21 @@ pub(crate) fn commit_begun<D: Disk>(
     requires on_disk { at.0 < D.blocks disk.old }
     requires size { D.blocks disk.old ≡ 64 * length space.old.free }
     requires shadow_on_disk { shadow.0 < D.blocks disk.old }
-    requires created_on_disk { (n : ℕ) → number_of created ≡ Some n → n < D.blocks disk.old }
+    requires created_on_disk { (n : ℕ) → number_if created ≡ Some n → n < D.blocks disk.old }
     requires left { space.old.left ≡ None }
     ensures commits { (was : Drafting) (v : View D.Disk disk.old space.old was) (made : Option spec.Making)
-        → spec.AreParts was at.0 (Some shadow.0) own.now root.now (number_of created)
-        → spec.Makes (D.content disk.old) (number_of created) made
+        → spec.AreParts was at.0 (Some shadow.0) own.now root.now (number_if created)
+        → spec.Makes (D.content disk.old) (number_if created) made
         → spec.CommitEnds D.Disk v.graph v.ds v.id v.draft.object made disk.old disk.new space.new result }
     ensures refused { IfErr result (IsTrouble D.Disk at.0 disk.old disk.new space.new) }
     ensures made { HasTried D.Disk disk.old disk.new }
     // No device call comes before the first try.
     ensures untried { IfErr result (λ t. t ≢ troubles.Disk false) }
+    ensures settled { Tells D.Disk disk.old → OnOk result (IsSettled D.Disk disk.new) }
     ensures cylinders { length space.new.free ≡ length space.old.free }
-    ensures left { OnOk result (space.new.left ≡ None) }
-    ensures calls { MakesAtMost D.Disk 93135 46451 disk.old disk.new }
+    ensures left { OnOk result ((l : Left) × spec.IsNoted at.0 space.new.left l) }
+    ensures kept { IsErr result → space.new ≡ space.old }
+    ensures calls { MakesAtMost D.Disk 31205 15484 disk.old disk.new }
 {
     let content = root.encode();
     match write_own(disk, shadow, &content) {
@@ -118,14 +114,5 @@ pub(crate) fn commit_begun<D: Disk>(
         Ok(()) => {}
         Err(trouble) => return Err(trouble.after_try()),
     }
-    finish(
-        disk,
-        space,
-        at,
-        shadow,
-        &content,
-        taken,
-        dropped.as_slice(),
-        created,
-    )
+    finish(disk, space, at, shadow, taken, dropped.as_slice(), created)
 }

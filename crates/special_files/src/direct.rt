@@ -4,15 +4,17 @@ ghost use Rattle.std.specs.Prelude.{IfErr, OnOk};
 ghost use Rattle.std.specs.List.{All};
 ghost use Rattle.cfs_base.specs.Calls.{HasTried, MakesAtMost, OnlyReads};
 ghost use Rattle.cfs_base.specs.Refusals.{refused_by};
+ghost use Rattle.cfs_base.specs.Run.{IsSettled, Tells};
 ghost use Rattle.cfs_base.specs.declared.kind.Place.TheVariants.{ShadowRoot};
 ghost use Rattle.cfs_base.specs.declared.refusal.Refused.TheVariants as refused;
 ghost use Rattle.cfs_base.specs.declared.refusal.Trouble.TheVariants as troubles;
 ghost use Rattle.cyl_alloc.specs.Enters.{Enters};
+ghost use Rattle.cyl_alloc.specs.Left.{Left};
 ghost use Rattle.cyl_alloc.specs.Space.{intended};
 ghost use Rattle.special_files.specs.Changed.{IsChanged};
 ghost use Rattle.special_files.specs.Committing as spec;
-ghost use Rattle.special_files.specs.Drafting.{Drafting, number_of, opened_as};
-ghost use Rattle.special_files.specs.Refusal.{IsTrouble, is_full};
+ghost use Rattle.special_files.specs.Drafting.{Drafting, number_if, opened_as};
+ghost use Rattle.special_files.specs.Refusal.{IsTrouble, is_full_refusal};
 ghost use Rattle.special_files.specs.View.{View};
 
 use crate::blocks::Blocks;
@@ -25,7 +27,7 @@ use cyl_alloc::Space;
 
 /// A refusal of a call that takes no block and no memory.
 fn trouble_of(error: Refused) -> Trouble
-    requires room { is_full error ≡ false }
+    requires room { is_full_refusal error ≡ false }
     requires memory { error ≢ refused.Memory }
     ensures { refused_by result ≡ error }
 {
@@ -51,8 +53,7 @@ fn claim_shadow<D: Disk>(disk: &mut D, space: &mut Space, at: BlockNo) -> Result
     }
 }
 
-/// Commits a draft of these parts, which takes and drops these blocks: its shadow root is claimed and written, and then
-/// all is carried out.
+/// Commits a draft of these parts, which takes and drops these blocks: its shadow root is claimed and written.
 pub(crate) fn commit_listed<D: Disk>(
     disk: &mut D,
     space: &mut Space,
@@ -68,22 +69,22 @@ pub(crate) fn commit_listed<D: Disk>(
     requires room { 1 ≤ sum space.old.free }
     requires taken_on_disk { All (λ n. n < D.blocks disk.old) taken }
     requires dropped_on_disk { All (λ n. n < D.blocks disk.old) dropped.now }
-    requires created_on_disk { (n : ℕ) → number_of created ≡ Some n → n < D.blocks disk.old }
+    requires created_on_disk { (n : ℕ) → number_if created ≡ Some n → n < D.blocks disk.old }
     requires left { space.old.left ≡ None }
     requires few { length taken + length dropped.now ≤ 30960 }
     ensures commits { (was : Drafting) (v : View D.Disk disk.old space.old was) (made : Option spec.Making)
-        → spec.AreParts was at.0 None was.own root.now (number_of created)
-        → spec.Makes (D.content disk.old) (number_of created) made
+        → spec.AreParts was at.0 None was.own root.now (number_if created)
+        → spec.Makes (D.content disk.old) (number_if created) made
         → IsChanged (D.content disk.old) v.id (opened_as v.id was v.draft) taken dropped.now
         → spec.CommitEnds D.Disk v.graph v.ds v.id v.draft.object made disk.old disk.new space.new result }
     ensures refused { IfErr result (IsTrouble D.Disk at.0 disk.old disk.new space.new) }
     ensures made { OnOk result (HasTried D.Disk disk.old disk.new) }
     ensures untried { IfErr result (λ t. t ≡ troubles.Disk false
         → (space.new ≡ space.old) × OnlyReads D.Disk 1 disk.old disk.new) }
+    ensures settled { Tells D.Disk disk.old → OnOk result (IsSettled D.Disk disk.new) }
     ensures cylinders { length space.new.free ≡ length space.old.free }
-    ensures left { OnOk result (space.new.left ≡ None) }
-    ensures calls { MakesAtMost D.Disk (2 * length taken + 4 * length dropped.now + 17)
-        (length taken + 2 * length dropped.now + 12) disk.old disk.new }
+    ensures left { OnOk result ((l : Left) × spec.IsNoted at.0 space.new.left l) }
+    ensures calls { MakesAtMost D.Disk (2 * length dropped.now + 7) (length dropped.now + 5) disk.old disk.new }
 {
     let shadow = match claim_shadow(disk, space, at) {
         Ok(block) => block,
@@ -94,7 +95,7 @@ pub(crate) fn commit_listed<D: Disk>(
         Ok(()) => {}
         Err(_) => return Err(Trouble::Disk { tried: true }),
     }
-    finish(disk, space, at, shadow, &content, taken, dropped, created)
+    finish(disk, space, at, shadow, taken, dropped, created)
 }
 
 /// Commits a draft of these parts, which has no shadow root.
@@ -112,19 +113,20 @@ pub(crate) fn commit_direct<D: Disk>(
     requires on_disk { at.0 < D.blocks disk.old }
     requires size { D.blocks disk.old ≡ 64 * length space.old.free }
     requires room { 1 ≤ sum space.old.free }
-    requires created_on_disk { (n : ℕ) → number_of created ≡ Some n → n < D.blocks disk.old }
+    requires created_on_disk { (n : ℕ) → number_if created ≡ Some n → n < D.blocks disk.old }
     requires left { space.old.left ≡ None }
     ensures commits { (was : Drafting) (v : View D.Disk disk.old space.old was) (made : Option spec.Making)
-        → spec.AreParts was at.0 None own.now root.now (number_of created)
-        → spec.Makes (D.content disk.old) (number_of created) made
+        → spec.AreParts was at.0 None own.now root.now (number_if created)
+        → spec.Makes (D.content disk.old) (number_if created) made
         → spec.CommitEnds D.Disk v.graph v.ds v.id v.draft.object made disk.old disk.new space.new result }
     ensures refused { IfErr result (IsTrouble D.Disk at.0 disk.old disk.new space.new) }
     ensures made { OnOk result (HasTried D.Disk disk.old disk.new) }
     ensures untried { IfErr result (λ t. t ≡ troubles.Disk false
         → (space.new ≡ space.old) × OnlyReads D.Disk 241 disk.old disk.new) }
+    ensures settled { Tells D.Disk disk.old → OnOk result (IsSettled D.Disk disk.new) }
     ensures cylinders { length space.new.free ≡ length space.old.free }
-    ensures left { OnOk result (space.new.left ≡ None) }
-    ensures calls { MakesAtMost D.Disk 93137 46452 disk.old disk.new }
+    ensures left { OnOk result ((l : Left) × spec.IsNoted at.0 space.new.left l) }
+    ensures calls { MakesAtMost D.Disk 31207 15485 disk.old disk.new }
 {
     match changed(disk, at, own, root, &mut taken, dropped) {
         Ok(()) => {}

@@ -3,7 +3,7 @@ ghost use Rattle.std.specs.Prelude.{◌≡◌, ◌+◌, ◌<◌, ℕ, List, true
 ghost use Rattle.std.specs.List.{sum_by};
 ghost use Rattle.cfs_base.specs.declared.identifier.Puid.{Puid};
 ghost use Rattle.special_files.specs.Drafting.{IsOpen, shadow_count, shadow_need, is_fresh_leaf, is_fresh_node};
-ghost use Rattle.special_files.specs.Refusal.{told_after};
+ghost use Rattle.special_files.specs.Refusal.{refusal_after};
 ghost use Rattle.ufs_model.specs.declared.object.Draft as drafts;
 ghost use Rattle.vol_owners.specs.Account.{Opened};
 
@@ -36,18 +36,18 @@ pub struct Draft {
 
 impl Model for Draft {
     ghost use Rattle.std.specs.Prelude.{◌≡◌, ◌≢◌, ◌≤◌, length};
-    ghost use Rattle.special_files.specs.Drafting.{Drafting, number_of};
+    ghost use Rattle.special_files.specs.Drafting.{Drafting, number_if};
 
     ghost Value = { Drafting };
 
     ghost view = { λ a. record {
       at = a.at.0;
-      shadow = number_of a.shadow;
+      shadow = number_if a.shadow;
       own = a.own;
       root = a.root;
       leaves = a.leaves;
       nodes = a.nodes;
-      created = number_of a.created;
+      created = number_if a.created;
     } };
 
     ghost invariant = { λ a. (a.at.0 ≢ 0) × (length a.leaves ≡ 15360) × (length a.nodes ≡ 120)
@@ -124,7 +124,7 @@ impl Draft {
 
 /// The same refusal of a call that may have tried a write before.
 pub(crate) fn after(tried: bool, error: Refused) -> Refused
-    ensures { result ≡ told_after tried error }
+    ensures { result ≡ refusal_after tried error }
 {
     if tried { error.after_try() } else { error }
 }

@@ -10,13 +10,13 @@ ghost use Rattle.claims.specs.Claims.{AreClaimed};
 ghost use Rattle.intentions.specs.Store.{StoreHas};
 ghost use Rattle.leaf_changes.specs.Bytes.{IsSlot};
 ghost use Rattle.special_files.specs.Becomes.{Becomes};
-ghost use Rattle.special_files.specs.Drafting.{IsOpen, leaf_takes};
+ghost use Rattle.special_files.specs.Drafting.{IsOpen, draft_takes};
 ghost use Rattle.special_files.specs.Ends.{Ends};
 ghost use Rattle.special_files.specs.Fills.{IsNearSwap, IsSwapped, filled_draft};
 ghost use Rattle.special_files.specs.Leaves.{SameBeside};
 ghost use Rattle.special_files.specs.Order.{leaf_claims};
 ghost use Rattle.special_files.specs.Puts.{StaysBut};
-ghost use Rattle.special_files.specs.Refusal.{is_damaged, is_full};
+ghost use Rattle.special_files.specs.Refusal.{is_damaged, is_full_refusal};
 ghost use Rattle.ufs_model.specs.Graph.{Graph, object_at};
 ghost use Rattle.ufs_model.specs.declared.object.Draft as drafts;
 ghost use Rattle.ufs_model.specs.declared.object.Index.{Index};
@@ -94,7 +94,7 @@ impl Draft {
             → StoreHas D.Disk graph ds disk.old space.old → object_at graph id ≡ Some o → IsOpen ds id self.old d
             → Leaves D.Disk disk.old disk.new (λ c. Holds c graph) }
         ensures stays { StaysBut self.old self.new }
-        ensures ends { Ends D.Disk self.old.at 0 8 4 (leaf_takes self.old (slot / 64))
+        ensures ends { Ends D.Disk self.old.at 0 8 4 (draft_takes self.old (slot / 64))
             disk.old disk.new space.old space.new result }
         ensures done { IfOk result (λ put. is_some put ≡ true → HasTried D.Disk disk.old disk.new) }
         ensures spared { IfOk result (λ put. put ≡ None
@@ -102,7 +102,7 @@ impl Draft {
         ensures empty { IfOk result (λ put. put ≡ None → what ≡ None) }
         ensures kept { IfErr result (λ e. e ≡ refused.Disk false → self.new ≡ self.old) }
         // Never Full where the blocks that it takes are Free.
-        ensures room { leaf_takes self.old (slot / 64) ≤ sum space.old.free → IfErr result (λ e. is_full e ≡ false) }
+        ensures room { draft_takes self.old (slot / 64) ≤ sum space.old.free → IfErr result (λ e. is_full_refusal e ≡ false) }
         ensures sound { (graph : Graph) (ds : List Opened) (id : Puid) (o : Object) (d : drafts.Draft)
             → StoreHas D.Disk graph ds disk.old space.old → object_at graph id ≡ Some o → IsOpen ds id self.old d
             → IfErr result (λ e. is_damaged e ≡ false) }

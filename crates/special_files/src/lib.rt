@@ -4,24 +4,26 @@
 
 mod abort;
 mod adopt;
+mod becoming;
 mod begin;
 mod blocks;
-mod carry;
 mod changed;
 mod commit;
+mod commit_bit;
 mod direct;
 mod draft;
 mod fill;
 mod flags;
 mod flips;
+mod freed;
 mod leaf;
-mod listed;
 mod node;
 mod read;
 mod resize;
 mod shrink;
-mod whole;
+mod slot;
 mod write;
 
+pub use begin::Room;
 pub use draft::Draft;
 pub use fill::Swap;

@@ -5,13 +5,13 @@ ghost use Rattle.cfs_base.specs.Calls.{OnlyReads};
 ghost use Rattle.cfs_base.specs.Refusals.{trouble_had_tried};
 ghost use Rattle.cfs_base.specs.declared.identifier.Puid.{Puid};
 ghost use Rattle.cyl_alloc.specs.Space.{Kept};
-ghost use Rattle.intentions.specs.Store.{StoreHas};
+ghost use Rattle.intentions.specs.Left.{StoreIs};
 ghost use Rattle.special_files.specs.Drafting.{IsOpen};
 ghost use Rattle.special_files.specs.Leaves.{leaves_of};
 ghost use Rattle.special_files.specs.Nodes.{IsRead, IsSafe, TurnsTo};
 ghost use Rattle.block_tree.specs.Reads.{is_damage};
 ghost use Rattle.special_files.specs.Refusal.{IsTrouble};
-ghost use Rattle.special_files.specs.View.{View};
+ghost use Rattle.special_files.specs.View.{HasTree};
 ghost use Rattle.ufs_model.specs.Graph.{Graph, object_at};
 ghost use Rattle.ufs_model.specs.Object as spec;
 ghost use Rattle.ufs_model.specs.declared.object.Draft as drafts;
@@ -38,8 +38,7 @@ impl Draft {
         requires below { leaf < 15360 }
         requires some { 0 < D.blocks disk.old }
         requires safe { IsSafe (D.blocks disk.old) self.now read.old }
-        ensures bytes { (kept : Kept) (v : View D.Disk disk.old kept self.now)
-            → IsRead (D.content disk.old) self.now read.old
+        ensures bytes { HasTree D.Disk disk.old self.now → IsRead (D.content disk.old) self.now read.old
             → IfOk result (λ content. content ≡ leaf_content self.now.root.fill
             (leaves_of (D.content disk.old) self.now.root leaf)) }
         ensures turns { TurnsTo D.Disk self.now (leaf / 128) 2 disk.old disk.new read.old read.new result }
@@ -63,17 +62,17 @@ impl Draft {
         // The part has the bytes of the draft of the model.
         ensures bytes { (graph : Graph) (ds : List Opened) (space : Kept) (id : Puid) (o : Object) (d : drafts.Draft)
             (f : File)
-            → StoreHas D.Disk graph ds disk.old space → object_at graph id ≡ Some o → IsOpen ds id self.now d
+            → StoreIs D.Disk graph ds disk.old space → object_at graph id ≡ Some o → IsOpen ds id self.now d
             → d.object ≡ objects.File f
             → OnOk result (into.new ≡ slice_range f.bytes offset (offset + length into.old)) }
         ensures long { length into.new ≡ length into.old }
-        ensures store { (graph : Graph) (ds : List Opened) (space : Kept) → StoreHas D.Disk graph ds disk.old space
-            → StoreHas D.Disk graph ds disk.new space }
+        ensures store { (graph : Graph) (ds : List Opened) (space : Kept) → StoreIs D.Disk graph ds disk.old space
+            → StoreIs D.Disk graph ds disk.new space }
         ensures refused { (kept : Kept) → IfErr result (IsTrouble D.Disk self.now.at disk.old disk.new kept) }
         ensures untried { IfErr result (λ trouble. trouble_had_tried trouble ≡ false) }
         // No damage where the disk holds the object.
         ensures sound { (graph : Graph) (ds : List Opened) (space : Kept) (id : Puid) (o : Object) (d : drafts.Draft)
-            → StoreHas D.Disk graph ds disk.old space → object_at graph id ≡ Some o → IsOpen ds id self.now d
+            → StoreIs D.Disk graph ds disk.old space → object_at graph id ≡ Some o → IsOpen ds id self.now d
             → IfErr result (λ trouble. is_damage trouble ≡ false) }
         ensures reads { OnlyReads D.Disk
             (2 * (spec.leaves_in (offset + length into.old) - offset / 512)) disk.old disk.new }

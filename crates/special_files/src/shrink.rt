@@ -12,7 +12,7 @@ ghost use Rattle.special_files.specs.Drafting.{HasNoneFresh, IsOpen, need_beside
 ghost use Rattle.special_files.specs.Ends.{Ends};
 ghost use Rattle.special_files.specs.Nodes.{IsRead, IsSafe};
 ghost use Rattle.special_files.specs.Order.{ClaimsAndDrops, claims_anew};
-ghost use Rattle.special_files.specs.Refusal.{is_damaged, is_full};
+ghost use Rattle.special_files.specs.Refusal.{is_damaged, is_full_refusal};
 ghost use Rattle.special_files.specs.Shed as spec;
 ghost use Rattle.special_files.specs.View.{Goes, View};
 ghost use Rattle.ufs_model.specs.Graph.{Graph, object_at};
@@ -28,8 +28,8 @@ ghost use Rattle.vol_owners.specs.Account.{Opened};
 
 use crate::draft::{Draft, after};
 use crate::flips::give_all;
+use crate::freed::{list_from, undo_listed};
 use crate::leaf::write_own;
-use crate::listed::{list_from, undo_listed};
 use crate::node::NodeRead;
 use block_tree::{Node, SIZE_LIMIT};
 use cfs_base::{BlockNo, Disk, Refused};
@@ -262,7 +262,7 @@ impl Draft {
         ensures goes { (v : View D.Disk disk.old space.now self.now)
             → IfErr result (λ e. Goes {A = Unit {0}} D.Disk v.graph (Unit {0}) disk.old disk.new (Err e)) }
         ensures full { (v : View D.Disk disk.old space.now self.now) (f : File) → v.draft.object ≡ objects.File f
-            → IfErr result (λ e. is_full e ≡ true → spec.IsFullFor size floor v.draft space.now self.now e) }
+            → IfErr result (λ e. is_full_refusal e ≡ true → spec.IsFullFor size floor v.draft space.now self.now e) }
         ensures calls { IfErr result (λ e.
             spec.ResizeCall D.Disk size floor disk.old disk.new space.now space.now self.now self.now (Err e)) }
     {
@@ -298,7 +298,7 @@ impl Draft {
             ((f : File) → v.draft.object ≡ objects.File f → spec.Resized D.Disk v.graph v.ds v.id v.draft size floor
             disk.old disk.new space.old space.new self.old self.new) disk.old disk.new result }
         ensures full { (v : View D.Disk disk.old space.old self.old) (f : File) → v.draft.object ≡ objects.File f
-            → IfErr result (λ e. is_full e ≡ true → spec.IsFullFor size floor v.draft space.old self.old e) }
+            → IfErr result (λ e. is_full_refusal e ≡ true → spec.IsFullFor size floor v.draft space.old self.old e) }
         ensures calls { spec.ResizeCall D.Disk size floor disk.old disk.new space.old space.new self.old self.new
             result }
     {
@@ -349,13 +349,13 @@ impl Draft {
         // Full exactly where the model's need and the floor aren't Free.
         ensures full { (graph : Graph) (ds : List Opened) (id : Puid) (o : Object) (d : drafts.Draft) (f : File)
             → StoreHas D.Disk graph ds disk.old space.old → object_at graph id ≡ Some o → IsOpen ds id self.old d
-            → d.object ≡ objects.File f → IfErr result (λ e. is_full e ≡ true → (e ≡ refused.Full (record {
+            → d.object ≡ objects.File f → IfErr result (λ e. is_full_refusal e ≡ true → (e ≡ refused.Full (record {
               free = sum space.old.free;
               need = need_beside (SetSize size) d self.old;
             }))
             × (sum space.old.free < need_beside (SetSize size) d self.old + floor)) }
         // Nothing but a node was read then.
-        ensures spared { IfErr result (λ e. is_full e ≡ true
+        ensures spared { IfErr result (λ e. is_full_refusal e ≡ true
             → OnlyReads D.Disk 1 disk.old disk.new × (space.new ≡ space.old) × (self.new ≡ self.old)) }
         ensures room { (graph : Graph) (ds : List Opened) (id : Puid) (o : Object) (d : drafts.Draft) (f : File)
             → StoreHas D.Disk graph ds disk.old space.old → object_at graph id ≡ Some o → IsOpen ds id self.old d

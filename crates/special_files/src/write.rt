@@ -15,9 +15,9 @@ ghost use Rattle.special_files.specs.Drafting.{IsOpen, leaves_take, need_beside}
 ghost use Rattle.special_files.specs.Ends.{Ends};
 ghost use Rattle.special_files.specs.Leaves.{leaves_of};
 ghost use Rattle.special_files.specs.Nodes.{IsRead, IsSafe, TurnsTo};
-ghost use Rattle.special_files.specs.Order.{claims_of};
+ghost use Rattle.special_files.specs.Order.{claims_between};
 ghost use Rattle.special_files.specs.Puts.{PutsLeaf, StaysBut, LeafCall};
-ghost use Rattle.special_files.specs.Refusal.{is_damaged, is_full};
+ghost use Rattle.special_files.specs.Refusal.{is_damaged, is_full_refusal};
 ghost use Rattle.special_files.specs.View.{Goes, View};
 ghost use Rattle.ufs_model.specs.Graph.{Graph, object_at};
 ghost use Rattle.ufs_model.specs.Object as spec;
@@ -141,7 +141,7 @@ impl Draft {
         // Each leaf that isn't fresh takes the least Free block, and after it its node: in increasing order.
         ensures order { (graph : Graph) (ds : List Opened) (id : Puid) (o : Object) (d : drafts.Draft)
             → StoreHas D.Disk graph ds disk.old space.old → object_at graph id ≡ Some o → IsOpen ds id self.old d
-            → OnOk result (AreClaimed (claims_of self.old (offset / 512) (spec.leaves_in (offset + length bytes.now)))
+            → OnOk result (AreClaimed (claims_between self.old (offset / 512) (spec.leaves_in (offset + length bytes.now)))
             (D.content disk.old) (D.content disk.new)) }
         ensures leaves { (graph : Graph) (ds : List Opened) (id : Puid) (o : Object) (d : drafts.Draft)
             → StoreHas D.Disk graph ds disk.old space.old → object_at graph id ≡ Some o → IsOpen ds id self.old d
@@ -149,7 +149,7 @@ impl Draft {
         ensures stays { StaysBut self.old self.new }
         // Full exactly where the model's need and the floor aren't Free; all is as it was then.
         ensures full { (ds : List Opened) (id : Puid) (d : drafts.Draft) → IsOpen ds id self.old d
-            → IfErr result (λ e. is_full e ≡ true → (e ≡ refused.Full (record {
+            → IfErr result (λ e. is_full_refusal e ≡ true → (e ≡ refused.Full (record {
               free = sum space.old.free;
               need = need_beside (Overwrite offset bytes.now) d self.old;
             }))

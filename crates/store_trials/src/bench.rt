@@ -218,7 +218,7 @@ impl Bench {
 
     fn end(&mut self, commits: bool) -> Result<(), Refused> {
         match self.draft.take() {
-            Some(draft) => Ok(self.volume.end(draft, commits)?),
+            Some(draft) => self.volume.end(draft, commits),
             None => Err(Refused::Memory),
         }
     }

@@ -11,6 +11,8 @@ mod files;
 #[cfg(test)]
 mod laid;
 #[cfg(test)]
+mod moments;
+#[cfg(test)]
 mod openings;
 #[cfg(test)]
 mod refusals;

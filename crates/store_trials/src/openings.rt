@@ -46,7 +46,7 @@ fn file_node(leaves: u8) -> Block {
 
 /// A volume of one cylinder on this disk, whose blocks are zero; the file has so many leaves, and a byte less than
 /// they may have.
-fn lay(disk: &mut MemoryDisk, leaves: u8) -> Result<(), Fail> {
+pub fn lay(disk: &mut MemoryDisk, leaves: u8) -> Result<(), Fail> {
     let size = (512 * leaves as u64).saturating_sub(1);
     put(disk, 0, &map_with(leaves))?;
     put(

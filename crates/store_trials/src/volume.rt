@@ -10,9 +10,9 @@ use cfs_base::{
 use cfs_fakes::{MemoryDisk, Seen, Watched};
 use cyl_alloc::Space;
 use file_ops::{read, read_root, resize, write};
-use finisher::finish_all;
+use finisher::{finish_all, step};
 use index_ops::{create, delete, retain, retrieve};
-use special_files::Draft;
+use special_files::{Draft, Room};
 use std::alloc::Global;
 use std::test::Fail;
 use vol_format::format_volume;
@@ -97,6 +97,14 @@ impl Volume {
         self.disk.blocks() > 8 && self.space.free() >= 8 && self.space.unfinished() == 0
     }
 
+    /// Finishes what the last change left, which had tried a write.
+    fn finish(&mut self) -> Result<(), Refused> {
+        match finish_all(&mut self.disk, &mut self.space) {
+            Ok(()) => Ok(()),
+            Err(trouble) => Err(Refused::from(trouble.after_try())),
+        }
+    }
+
     /// Makes an object, and puts it into a slot of the root index.
     fn make(
         &mut self,
@@ -113,8 +121,9 @@ impl Volume {
             return Err(Refused::Memory);
         }
         let (disk, space) = (&mut self.disk, &mut self.space);
-        create(alloc, disk, space, BlockNo(2), slot, kind, fill, size, word)?;
-        Ok(())
+        let room = Room::new(alloc)?;
+        create(room, disk, space, BlockNo(2), slot, kind, fill, size, word)?;
+        self.finish()
     }
 
     /// Makes an object in a slot of the root index: an index of so many slots, or a file with this fill byte.
@@ -148,11 +157,13 @@ impl Volume {
         if at.0 == 0 || at.0 > 8 || slot >= 983_040 || !self.is_ready() {
             return Err(Refused::Memory);
         }
+        let room = Room::new(alloc)?;
         let (disk, space) = (&mut self.disk, &mut self.space);
         match what {
-            Some(id) if id.block != 0 => retain(alloc, disk, space, at, slot, id),
-            _ => delete(alloc, disk, space, at, slot),
+            Some(id) if id.block != 0 => retain(room, disk, space, at, slot, id)?,
+            _ => delete(room, disk, space, at, slot)?,
         }
+        self.finish()
     }
 
     /// Writes bytes into the file at a block.
@@ -173,18 +184,11 @@ impl Volume {
         {
             return Err(Refused::Memory);
         }
+        let room = Room::new(alloc)?;
         let root = read_root(&mut self.disk, at)?;
-        write(
-            alloc,
-            &mut self.disk,
-            &mut self.space,
-            at,
-            kind,
-            &root,
-            offset,
-            bytes,
-            4,
-        )
+        let (disk, space) = (&mut self.disk, &mut self.space);
+        write(Some(room), disk, space, at, kind, &root, offset, bytes, 4)?;
+        self.finish()
     }
 
     /// Sets the size of the file at a block.
@@ -198,7 +202,10 @@ impl Volume {
         if at.0 == 0 || at.0 > 8 || size > LIMIT || !self.is_ready() {
             return Err(Refused::Memory);
         }
-        resize(alloc, &mut self.disk, &mut self.space, at, kind, size, 4)
+        let room = Room::new(alloc)?;
+        let (disk, space) = (&mut self.disk, &mut self.space);
+        resize(Some(room), disk, space, at, kind, size, 4)?;
+        self.finish()
     }
 
     /// Begins a draft of the file at a block, with a shadow root or without one.
@@ -206,11 +213,12 @@ impl Volume {
         if at.0 == 0 || at.0 > 8 || !self.is_ready() {
             return Err(Refused::Memory);
         }
+        let room = Room::new(alloc)?;
         let (disk, space) = (&mut self.disk, &mut self.space);
         if is_direct {
-            return Draft::begin_direct(alloc, disk, space, at);
+            return Draft::begin_direct(room, disk, space, at);
         }
-        Draft::begin(alloc, disk, space, at, 4)
+        Draft::begin(room, disk, space, at, 4)
     }
 
     /// Writes bytes into a draft.
@@ -231,18 +239,36 @@ impl Volume {
     }
 
     /// Commits a draft, and finishes what is left of that, or aborts it.
-    pub fn end(&mut self, draft: Draft, commits: bool) -> Result<(), Trouble> {
-        if draft.at().0 >= self.disk.blocks() || self.space.free() == 0 {
-            return Err(Trouble::Disk { tried: false });
+    pub fn end(&mut self, draft: Draft, commits: bool) -> Result<(), Refused> {
+        if commits {
+            self.commit(draft)?;
+            return self.finish();
         }
-        if !commits {
-            return draft.abort(&mut self.disk, &mut self.space);
+        if draft.at().0 >= self.disk.blocks() {
+            return Err(Refused::Memory);
         }
-        if self.space.unfinished() > 0 {
-            return Err(Trouble::Disk { tried: false });
+        draft.abort(&mut self.disk, &mut self.space)?;
+        Ok(())
+    }
+
+    /// Commits a draft, and leaves the parts past its bit.
+    pub fn commit(&mut self, draft: Draft) -> Result<(), Refused> {
+        let is_one = self.space.free() > 0 && self.space.unfinished() == 0;
+        if draft.at().0 >= self.disk.blocks() || !is_one {
+            return Err(Refused::Memory);
         }
         draft.commit(&mut self.disk, &mut self.space)?;
-        finish_all(&mut self.disk, &mut self.space)
+        Ok(())
+    }
+
+    /// Makes one part of the commit that is left, or all at once. Answers whether more are left.
+    pub fn go_on(&mut self, all: bool) -> Result<bool, Refused> {
+        if all {
+            self.finish()?;
+        } else {
+            step(&mut self.disk, &mut self.space)?;
+        }
+        Ok(self.space.unfinished() > 0)
     }
 
     /// Reads so many bytes of a draft.

@@ -1,4 +1,4 @@
-use Rattle.std.proofs.Common.{List, length, ℕ, ◌<◌, get_or, sym, ◌∙◌, ap, subst, below_more, arith}
+use Rattle.std.proofs.Common.{List, length, ℕ, ◌<◌, ◌^◌, get_or, sym, ◌∙◌, ap, subst, below_more, arith}
 use Rattle.std.proofs.lemmas.List.{length-replicate}
 use Rattle.block_tree.proofs.Words.{All, All-from_get_or, All-replicate, leaf_pointers, pointers_of}
 use Rattle.block_tree.proofs.Nodes.{leaves_there}
@@ -23,3 +23,9 @@ loop-leaf-preserved g c = below_more _ _ c.loop-leaf.invariant (omega arith)
 
 pub returns-then-block-eq0-clause-count : goal.returns-then-block-eq0-clause-count
 returns-then-block-eq0-clause-count g c = ap (length {A = ℕ}) c.empty.ensures ∙ length-replicate {A = ℕ} leaf_pointers.count 0
+
+pub returns-then-block-eq0-clause-good : goal.returns-then-block-eq0-clause-good
+returns-then-block-eq0-clause-good g c = record {
+  count = returns-then-block-eq0-clause-count g c;
+  fit = subst (All (λ n. n < 2 ^ 32)) (sym c.empty.ensures) (All-replicate (λ n. n < 2 ^ 32) leaf_pointers.count 0 (omega arith));
+}

@@ -2,7 +2,7 @@ use Rattle.std.proofs.Common.{[], ◌∷◌, length, arith}
 use Rattle.cfs_core.proofs.Words.{need_beside, Overwrite}
 use Rattle.cfs_core.specs.Claimed.{claims_in_draft}
 use Rattle.cfs_core.proofs.Claimed.{claims_all}
-use Rattle.cfs_core.proofs.Seated.{on_ok}
+use Rattle.cfs_core.proofs.Handled.{on_ok}
 use Rattle.cfs_core.proofs.Rewritten.{few_leaves, spared_so, told_of_full, untried_so}
 use Rattle.cfs_core.proofs.Went.{fewer_calls}
 use Rattle.cfs_core.proofs.drafting.overwrite.Goals as goal

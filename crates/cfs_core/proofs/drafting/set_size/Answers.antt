@@ -2,7 +2,7 @@ use Rattle.std.proofs.Common.{arith}
 use Rattle.cfs_core.proofs.Words.{SetSize}
 use Rattle.cfs_core.specs.Claimed.{claims_in_draft}
 use Rattle.cfs_core.proofs.Claimed.{claims_dropped}
-use Rattle.cfs_core.proofs.Seated.{on_ok}
+use Rattle.cfs_core.proofs.Handled.{on_ok}
 use Rattle.cfs_core.proofs.Rewritten.{resized_stays, spared_one, untried_so}
 use Rattle.cfs_core.proofs.drafting.set_size.Goals as goal
 

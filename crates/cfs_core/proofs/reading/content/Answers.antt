@@ -12,7 +12,7 @@ pub returns-in-Ok-read-clause-exact : goal.returns-in-Ok-read-clause-exact
 returns-in-Ok-read-clause-exact g c = λ f knows.
     let on = knows_on g.D.Disk 1 c.args.disk.now c.root_in.new.disk c.args.file.0 (objects.File f) c.root_in.ensures.calm.reads knows in
     let is : is_range (length f.bytes) c.args.offset c.args.count ≡ true = ap (λ (n : ℕ). is_range n c.args.offset c.args.count) (sym (c.in-Ok.ensures.exact f knows)) ∙ sym c.is_range.ensures ∙ c.if-not-is_range.false in
-    ap replies.Content (c.in-Ok-read.ensures.read on.graph on.drafts on.space on.id f (record { store = on.store; root = on.root; there = on.there; shut = on.shut }) (rooted g.D.Disk c.root_in.ensures.calm.reads (objects.File f) knows c.in-Ok.ensures.rooted) (range_parts (length f.bytes) c.args.offset c.args.count is).2)
+    ap replies.Content (c.in-Ok-read.ensures.read on.graph on.drafts on.space on.id f on.seen (rooted g.D.Disk c.root_in.ensures.calm.reads (objects.File f) knows c.in-Ok.ensures.rooted) (range_parts (length f.bytes) c.args.offset c.args.count is).2)
     ∙ rw is refl
 
 pub returns-in-Err-read-clause-calm : goal.returns-in-Err-read-clause-calm
@@ -21,5 +21,5 @@ returns-in-Err-read-clause-calm g c =
     c.root_in.ensures.calm.reads c.read.ensures.reads (omega arith)
     (λ f knows.
     let on = knows_on g.D.Disk 1 c.args.disk.now c.root_in.new.disk c.args.file.0 (objects.File f) c.root_in.ensures.calm.reads knows in
-    c.in-Err-read.ensures.sound on.graph on.drafts on.space on.id f (record { store = on.store; root = on.root; there = on.there; shut = on.shut }) (rooted g.D.Disk c.root_in.ensures.calm.reads (objects.File f) knows c.in-Ok.ensures.rooted))
+    c.in-Err-read.ensures.sound on.graph on.drafts on.space on.id f on.seen (rooted g.D.Disk c.root_in.ensures.calm.reads (objects.File f) knows c.in-Ok.ensures.rooted))
     c.in-Err-read.ensures.untried c.in-Err-read.ensures.refused

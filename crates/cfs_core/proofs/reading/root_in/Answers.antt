@@ -5,10 +5,10 @@ use Rattle.cfs_core.proofs.Calm.{calm_trouble}
 use Rattle.cfs_core.proofs.reading.root_in.Goals as goal
 
 pub returns-in-Ok-clause-exact : goal.returns-in-Ok-clause-exact
-returns-in-Ok-clause-exact g c = λ f knows. c.in-Ok.ensures.size knows.graph knows.drafts knows.space knows.id f (record { store = knows.store; root = knows.root; there = knows.there; shut = knows.shut })
+returns-in-Ok-clause-exact g c = λ f knows. c.in-Ok.ensures.size knows.graph knows.drafts knows.space knows.id f knows.seen
 
 pub returns-in-Err-clause-calm : goal.returns-in-Err-clause-calm
 returns-in-Err-clause-calm g c = subst (λ e. IsCalm g.D.Disk objects.File 1 c.args.file.0 c.args.disk.now c.read_root.new.disk (Err e)) (sym c.from.ensures)
     (calm_trouble g.D.Disk objects.File 1 c.args.file.0 c.args.disk.now c.read_root.new.disk c.in-Err.trouble c.read_root.ensures.reads
-    (λ f knows. c.in-Err.ensures.sound knows.graph knows.drafts knows.space knows.id f (record { store = knows.store; root = knows.root; there = knows.there; shut = knows.shut }))
+    (λ f knows. c.in-Err.ensures.sound knows.graph knows.drafts knows.space knows.id f knows.seen)
     c.in-Err.ensures.untried c.in-Err.ensures.refused)

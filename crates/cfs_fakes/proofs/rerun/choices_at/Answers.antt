@@ -1,6 +1,6 @@
 use Rattle.std.proofs.Common.{◌≡◌, List, take, sym, subst, ap, ◌∙◌}
 use Rattle.std.proofs.lemmas.List.{take_all}
-use Rattle.cfs_fakes.specs.declared.kept.Kept.{Kept}
+use Rattle.cfs_fakes.specs.declared.kept.KeptCall.{KeptCall}
 use Rattle.cfs_fakes.specs.Replay.{State, zeros, made, made_at, replay, choices_of}
 use Rattle.cfs_base.proofs.Replays.{replay_take}
 use Rattle.cfs_fakes.proofs.rerun.choices_at.Goals as goal
@@ -13,4 +13,4 @@ loop-kept-preserved c =
     subst (λ (s : State). c.waiting_after-count.result ≡ choices_of s c.args.block) (sym at) (c.waiting_after-count.ensures (replay start c.args.at (take c.loop-kept.kept-index calls)) c.loop-kept.invariant)
 
 pub returns : goal.returns
-returns c = c.loop-kept.invariant ∙ ap (λ (l : List Kept). choices_of (replay (zeros c.args.blocks) c.args.at l) c.args.block) (take_all c.loop-kept.kept-index c.args.calls.now c.loop-kept-test.false)
+returns c = c.loop-kept.invariant ∙ ap (λ (l : List KeptCall). choices_of (replay (zeros c.args.blocks) c.args.at l) c.args.block) (take_all c.loop-kept.kept-index c.args.calls.now c.loop-kept-test.false)

@@ -1,6 +1,6 @@
 use Rattle.std.proofs.Common.{List, take, get_or, sym, subst, ap, arith}
 use Rattle.std.proofs.lemmas.List.{take_all}
-use Rattle.cfs_fakes.specs.declared.kept.Kept.{Kept}
+use Rattle.cfs_fakes.specs.declared.kept.KeptCall.{KeptCall}
 use Rattle.cfs_fakes.specs.Picks.{choice_of}
 use Rattle.cfs_fakes.specs.Replay.{State, zeros, made, made_at, replay, IsChoice}
 use Rattle.cfs_fakes.specs.Rerun.{Follows}
@@ -24,6 +24,6 @@ pub returns : goal.returns
 returns c =
     let i = c.loop-kept.invariant in
     let r = c.loop-kept.rerun in
-    let all = ap (λ (l : List Kept). replay (zeros c.args.blocks) c.args.at l) (take_all c.loop-kept.kept-index c.args.calls.now c.loop-kept-test.false) in
+    let all = ap (λ (l : List KeptCall). replay (zeros c.args.blocks) c.args.at l) (take_all c.loop-kept.kept-index c.args.calls.now c.loop-kept-test.false) in
     let last = subst (λ (s : State). IsChoice s (λ n. get_or r.wanted.items n 0) r.image) all i.follows.image in
     same_choice (replay (zeros c.args.blocks) c.args.at c.args.calls.now) (λ n. get_or r.wanted.items n 0) (choice_of c.args.picks.now) r.image last (λ n le. i.wanted n (omega (arith, le, r.image_size, r.wanted_size, i.size)))

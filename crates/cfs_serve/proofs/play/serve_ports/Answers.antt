@@ -2,7 +2,7 @@ use Rattle.std.proofs.Common.{◌≡◌, ◌∙◌, ℕ, ◌+◌, ◌-◌, ◌*�
 use Rattle.collector_steps.specs.Left.{most_steps}
 use Rattle.cfs_core.specs.Left.{events_ahead, steps_ahead}
 use Rattle.cfs_core.specs.declared.collecting.Collections.{Collections}
-use Rattle.cfs_serve.proofs.Cited.{AreOver, Stands, draft_blocks, opening, client_of, sum_by}
+use Rattle.cfs_serve.proofs.Cited.{AreOver, Stands, blocks_of_grant, opening, client_of, sum_by}
 use Rattle.cfs_serve.proofs.Playing.{IsServed, IsStatusOf, none_lost, served}
 use Rattle.cfs_serve.proofs.play.serve_ports.Goals as goal
 
@@ -77,7 +77,7 @@ returns g c =
     trail parts.trail.moments c.len-sessions.result parts.ending c.report_on-report.result last.result last_is c.args.collections c.requires.runs
     (subst (IsServed g.D.Disk c.args.collections parts.ending parts.server trail parts.trail.moments) c.call_for.ensures served_so) over (omega (arith, c.len-sessions.ensures))
     (rw (c.has_broken-broken.ensures, c.as_slice.ensures.value, facts.failed, facts.starved) at c.report_on-report.ensures)
-    (λ s serves calm none. let undrafted : sum_by draft_blocks s.grants ≡ 0 = ap (sum_by draft_blocks) none in omega (arith, c.has_room-2.ensures.room s serves calm, undrafted))
+    (λ s serves calm none. let undrafted : sum_by blocks_of_grant s.grants ≡ 0 = ap (sum_by blocks_of_grant) none in omega (arith, c.has_room-2.ensures.room s serves calm, undrafted))
     (λ graph reads. c.runs_survive.ensures.begin c.args.core.words.seed graph c.args.core.disk reads)))
 
 pub returns-in-Err : goal.returns-in-Err

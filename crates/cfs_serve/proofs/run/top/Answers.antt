@@ -1,5 +1,5 @@
 use Rattle.std.proofs.Common.{ap, ◌∙◌}
-use Rattle.cfs_serve.proofs.Cited.{after, asked_by, before, ended, length-map}
+use Rattle.cfs_serve.proofs.Cited.{outside_after, asked_by, before, status_at_end, length-map}
 use Rattle.cfs_serve.proofs.Spinning.{says}
 use Rattle.cfs_serve.proofs.run.top.Goals as goal
 
@@ -10,7 +10,7 @@ returns-clause-said g c =
     let told = done.played.report in
     let written = c.write_report-written.result in
     says c.scripts_have_so_many_lines.ensures.lines c.scripts_have_so_many_lines.ensures.short g.D.Disk bay.disk (before g.D.Disk.faults g.S.Source.supply g.K.Sink.intake bay)
-    (after g.D.Disk.faults g.S.Source.supply g.K.Sink.intake (record {
+    (outside_after g.D.Disk.faults g.S.Source.supply g.K.Sink.intake (record {
       status = c.status_of.result;
       disk = done.disk;
       sources = c.do_asked-played.new.sources;
@@ -20,5 +20,5 @@ returns-clause-said g c =
       told = told;
       ending = done.played.ending;
     }))
-    told c.status_of.result done.played.ending done.played.trail.events done.trace written c.write_report-written.ensures (c.status_of.ensures ∙ ap (ended written.whole) c.at_last.ensures)
+    told c.status_of.result done.played.ending done.played.trail.events done.trace written c.write_report-written.ensures (c.status_of.ensures ∙ ap (status_at_end written.whole) c.at_last.ensures)
     (asked_by c.args.words.now) c.do_asked-played.ensures.trace (rw (length-map bay.sources.items g.S.Source.supply, length-map bay.sinks.items g.K.Sink.intake) c.requires.places) c.do_asked-played.ensures.asks

@@ -1,7 +1,18 @@
-use Rattle.file_ops.proofs.Words.{inl, inr, Ok, Err, length, sym, ◌∙◌, subst, arith, reads_within, FileKind, makes_within, needs, Overwrite}
-use Rattle.file_ops.specs.Changes.{ChangesFile, EndsChange, OfClaims, OfFile}
+use Rattle.file_ops.proofs.Words.{◌≡◌, Refused, inl, inr, Ok, Err, length, sym, ◌∙◌, subst, arith, reads_within, FileKind, makes_within, needs, Overwrite}
+use Rattle.file_ops.specs.Changes.{ChangesFile, EndsChange, IsFileRefusal, OfClaims, OfFile}
 use Rattle.file_ops.proofs.InPlace.{handed, place_full, place_refusal, same_damaged}
 use Rattle.cfs_base.specs.declared.kind.FileKind.TheVariants as kinds
+use Rattle.cyl_alloc.specs.Left.{Left}
+use Rattle.ufs_model.specs.Graph.{with_object}
+use Rattle.ufs_model.specs.Object.{changed_object}
+use Rattle.ufs_model.specs.declared.object.Object.TheVariants as objects
+use Rattle.intentions.specs.Left.{StoreWith, coming}
+use Rattle.std.specs.Prelude.{Option}
+use Rattle.std.proofs.Common.{ap}
+use Rattle.vol_owners.specs.Change.{ChangesOnly, of_owner}
+use Rattle.claims.specs.Claims.{AreClaimed}
+use Rattle.normal_files.specs.Order.{claims_of}
+use Rattle.special_files.proofs.CommitLeft.{none_unfinished}
 use Rattle.file_ops.proofs.changing.write.Goals as goal
 
 pub returns-in-Ok : goal.returns-in-Ok
@@ -12,12 +23,13 @@ returns-in-Ok g c =
       untried = tt;
       cylinders = e.cylinders;
       left = e.left ∙ c.requires.left;
-      calls = makes_within g.D.Disk c.args.disk.now c.write.new.disk 72 43 124230 61938 (omega arith) (omega arith) e.calls;
+      bit = none_unfinished g.D.Disk c.args.disk.now c.write.new.disk c.write.new.space.left (e.left ∙ c.requires.left);
+      calls = makes_within g.D.Disk c.args.disk.now c.write.new.disk 72 43 62300 30971 (omega arith) (omega arith) e.calls;
     } in
     record {
       changes = λ rooted. subst (λ (kind : FileKind). ChangesFile g.D.Disk c.args.at.0 kind c.args.floor (Overwrite c.args.offset c.args.bytes.now) c.args.disk.now c.write.new.disk c.args.space.now c.write.new.space (Ok tt)) (sym c.in-Normal.is) (record {
-        done = λ graph ds id f may. let all = e.writes (handed may) rooted may.inside in record { store = all.done.store; only = all.done.only; settled = λ durable. all.settled };
-        order = λ graph ds id f may. (e.writes (handed may) rooted may.inside).order;
+        done = λ graph ds id f may. let all = e.writes (handed may) rooted may.inside in record { store = subst (λ (w : Option Left). StoreWith g.D.Disk (with_object graph id (changed_object (Overwrite c.args.offset c.args.bytes.now) (objects.File f))) ds c.write.new.disk c.write.new.space w) (sym (e.left ∙ c.requires.left)) all.done.store; only = subst (ChangesOnly (λ entry. of_owner id.block entry) (g.D.Disk.content c.args.disk.now)) (sym (ap (coming (g.D.Disk.content c.write.new.disk)) (e.left ∙ c.requires.left))) all.done.only; settled = λ durable. all.settled };
+        order = λ graph ds id f may. subst (AreClaimed (claims_of c.args.at.0 f c.args.offset (length c.args.bytes.now)) (g.D.Disk.content c.args.disk.now)) (sym (ap (coming (g.D.Disk.content c.write.new.disk)) (e.left ∙ c.requires.left))) (e.writes (handed may) rooted may.inside).order;
         leaves = λ graph ds id f may. (e.writes (handed may) rooted may.inside).images;
         room = λ graph ds id f may. (e.writes (handed may) rooted may.inside).room;
         full = λ graph ds id f may. tt;
@@ -25,18 +37,20 @@ returns-in-Ok g c =
         sound = λ graph ds id f may. tt;
         ends = ends;
       });
+      memory = λ some. tt;
       ends = subst (λ (kind : FileKind). EndsChange g.D.Disk c.args.at.0 kind c.args.floor (Overwrite c.args.offset c.args.bytes.now) c.args.disk.now c.write.new.disk c.args.space.now c.write.new.space (Ok tt)) (sym c.in-Normal.is) ends;
     }
 
-pub returns-in-Err : goal.returns-in-Err
-returns-in-Err g c =
+pub returns-in-Normal : goal.returns-in-Normal
+returns-in-Normal g c =
     let e = c.in-Err.ensures in
     let ends : EndsChange g.D.Disk c.args.at.0 kinds.Normal c.args.floor (Overwrite c.args.offset c.args.bytes.now) c.args.disk.now c.write.new.disk c.args.space.now c.write.new.space (Err c.in-Err.error) = record {
       refused = place_refusal g.D.Disk _ c.args.at.0 c.args.floor (Overwrite c.args.offset c.args.bytes.now) c.args.disk.now c.write.new.disk c.args.space.now c.write.new.space (λ damage is. elim is [ inl file ↦ OfFile file | inr claims ↦ OfClaims claims ]) c.in-Err.error e.refused;
       untried = λ un. let two = e.untried un in (two.0, reads_within g.D.Disk c.args.disk.now c.write.new.disk 72 31093 (omega arith) two.1);
       cylinders = e.cylinders;
       left = tt;
-      calls = makes_within g.D.Disk c.args.disk.now c.write.new.disk 72 43 124230 61938 (omega arith) (omega arith) e.calls;
+      bit = tt;
+      calls = makes_within g.D.Disk c.args.disk.now c.write.new.disk 72 43 62300 30971 (omega arith) (omega arith) e.calls;
     } in
     record {
       changes = λ rooted. subst (λ (kind : FileKind). ChangesFile g.D.Disk c.args.at.0 kind c.args.floor (Overwrite c.args.offset c.args.bytes.now) c.args.disk.now c.write.new.disk c.args.space.now c.write.new.space (Err c.in-Err.error)) (sym c.in-Normal.is) (record {
@@ -50,5 +64,6 @@ returns-in-Err g c =
         sound = λ graph ds id f may. same_damaged c.in-Err.error ∙ (e.writes (handed may) rooted may.inside).sound;
         ends = ends;
       });
+      memory = λ some same. (let no : kinds.Normal ≡ kinds.Special = subst (λ (x : Refused). IsFileRefusal g.D.Disk c.args.at.0 kinds.Normal c.args.floor (Overwrite c.args.offset c.args.bytes.now) c.args.disk.now c.write.new.disk c.write.new.space x) same ends.refused in cc);
       ends = subst (λ (kind : FileKind). EndsChange g.D.Disk c.args.at.0 kind c.args.floor (Overwrite c.args.offset c.args.bytes.now) c.args.disk.now c.write.new.disk c.args.space.now c.write.new.space (Err c.in-Err.error)) (sym c.in-Normal.is) ends;
     }

@@ -1,16 +1,18 @@
-use Rattle.file_ops.proofs.Words.{sym, ◌∙◌, ap, Root, file_to_leaves, file_of, one_root_block}
+use Rattle.file_ops.proofs.Words.{sym, ◌∙◌, ap, Root, file_to_leaves, one_root_block}
 use Rattle.normal_files.proofs.Refusals.{root_trouble}
+use Rattle.file_ops.proofs.Shown.{file_at}
+use Rattle.intentions.proofs.Shown.{shown_tells}
 use Rattle.file_ops.proofs.reading.read_root.Goals as goal
 
 pub returns-in-Ok-clause-size : goal.returns-in-Ok-clause-size
 returns-in-Ok-clause-size g c = λ graph ds space id f has.
-    let file = file_of (g.D.Disk.content c.args.disk.now) graph ds id f c.args.at.0 has.store.account has.there has.root in
-    ap (λ (r : Root). r.size) (one_root_block _ c.in-Ok.root file.root (c.in-Ok.ensures.root has.store.carries.tells) file.tree.spelled) ∙ sym (file_to_leaves file.root _ f file.tree.object).size
+    let file = file_at has in
+    ap (λ (r : Root). r.size) (one_root_block _ c.in-Ok.root file.root (c.in-Ok.ensures.root (shown_tells has)) file.tree.spelled) ∙ sym (file_to_leaves file.root _ f file.tree.object).size
 
 pub returns-in-Err-clause-sound : goal.returns-in-Err-clause-sound
 returns-in-Err-clause-sound g c = λ graph ds space id f has.
-    let file = file_of (g.D.Disk.content c.args.disk.now) graph ds id f c.args.at.0 has.store.account has.there has.root in
-    c.in-Err.ensures.sound file.root has.store.carries.tells file.tree.spelled
+    let file = file_at has in
+    c.in-Err.ensures.sound file.root (shown_tells has) file.tree.spelled
 
 pub returns-in-Err-clause-refused : goal.returns-in-Err-clause-refused
 returns-in-Err-clause-refused g c = root_trouble g.D.Disk c.args.at.0 c.args.disk.now c.read_root.new.disk c.in-Err.trouble c.in-Err.ensures.refused

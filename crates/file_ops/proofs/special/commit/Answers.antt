@@ -21,3 +21,6 @@ returns-in-Err-clause-refused g c = subst (λ (e : Refused). IsCommitRefusal g.D
 
 pub returns-in-Err-clause-untried : goal.returns-in-Err-clause-untried
 returns-in-Err-clause-untried g c = λ same. c.in-Err.ensures.untried (untried_since c.args.wrote c.in-Err.trouble (sym c.since.ensures ∙ same))
+
+pub returns-in-Ok-clause-bit : goal.returns-in-Ok-clause-bit
+returns-in-Ok-clause-bit g c = record { tried = λ some. c.in-Ok.ensures.made; settled = λ some. c.in-Ok.ensures.settled }

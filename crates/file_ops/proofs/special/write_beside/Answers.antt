@@ -1,12 +1,13 @@
-use Rattle.file_ops.proofs.Words.{inl, ◌+◌, ◌-◌, ◌/◌, ◌<◌, true, List, length, Ok, Err, refl, sym, ◌∙◌, ap, subst, arith, sum, Kept, OnlyReads, Puid, reads_within, AreClaimed, reads_none, Drafting, claims_from, Graph, leaves_in, Overwrite, File, Opened}
+use Rattle.file_ops.proofs.Words.{inl, ◌+◌, ◌-◌, ◌/◌, ◌<◌, true, List, length, Ok, Err, refl, sym, ◌∙◌, ap, subst, arith, sum, Kept, OnlyReads, Puid, reads_within, AreClaimed, reads_none, Drafting, claims_by_leaf, Graph, leaves_in, Overwrite, File, Opened}
 use Rattle.file_ops.specs.Changes.{MayChange}
-use Rattle.file_ops.proofs.Beside.{any_id, any_open, begun, ended, ends_more, err_change, err_read, opens, short_not, short_why}
+use Rattle.file_ops.proofs.Beside.{any_id, any_open, begun, ended, ends_more, err_change, err_read, from_begin, opens, short_not, short_why}
 use Rattle.cfs_base.specs.declared.kind.FileKind.TheVariants as kinds
 use Rattle.ufs_model.specs.declared.object.Object.TheVariants as objects
+use Rattle.file_ops.proofs.Since.{no_memory}
 use Rattle.file_ops.proofs.special.write_beside.Goals as goal
 
-pub returns-then-size-offset : goal.returns-then-size-offset
-returns-then-size-offset g c =
+pub returns-then-size-offset-clause-changes : goal.returns-then-size-offset-clause-changes
+returns-then-size-offset-clause-changes g c =
     let e = c.in-Ok.ensures in
     let change = Overwrite c.args.offset c.args.bytes.now in
     let short : c.in-Ok.draft.own.size < c.args.offset + length c.args.bytes.now = omega (arith, c.if-size-offset.true, c.size.ensures, ap (λ (x : Drafting). x.root.size) e.begun) in
@@ -14,8 +15,8 @@ returns-then-size-offset g c =
     (short_why g.D.Disk c.args.at.0 c.args.floor change c.args.disk.now c.args.space.now c.begin_direct.new.disk c.begin_direct.new.space c.in-Ok.draft.own e.root short) refl
     (λ graph ds id f may. absurd (short_not g.D.Disk c.args.at.0 c.args.floor change c.args.disk.now c.args.space.now c.args.offset c.args.bytes.now c.in-Ok.draft.own e.root short graph ds id f may))
 
-pub returns-in-Err-write : goal.returns-in-Err-write
-returns-in-Err-write g c =
+pub returns-in-Err-write-clause-changes : goal.returns-in-Err-write-clause-changes
+returns-in-Err-write-clause-changes g c =
     let e = c.in-Ok.ensures in
     let change = Overwrite c.args.offset c.args.bytes.now in
     let starts = λ (graph : Graph) (ds : List Opened) (id : Puid) (f : File) (may : MayChange g.D.Disk c.args.at.0 kinds.Special (Overwrite c.args.offset c.args.bytes.now) graph ds id f c.args.disk.now c.args.space.now). e.store graph ds id (objects.File f) may.has.store may.has.root may.has.there may.has.shut in
@@ -35,8 +36,8 @@ returns-in-Err-write g c =
     (λ full. let all = c.in-Err-write.ensures.full _ (any_id g.D.Disk c.args.at.0 c.args.floor change c.args.disk.now d1 c.args.space.now c.begin_direct.new.space c.in-Ok.draft e.begun e.reads e.space starts) _ (any_open g.D.Disk c.args.at.0 c.args.floor change c.args.disk.now d1 c.args.space.now c.begin_direct.new.space c.in-Ok.draft e.begun e.reads e.space starts) full in
     (subst (λ d. OnlyReads g.D.Disk 1 d1 d) (sym all.2) (reads_within g.D.Disk d1 d1 0 1 (omega arith) (reads_none g.D.Disk d1)), all.3))
 
-pub returns-in-Ok-write : goal.returns-in-Ok-write
-returns-in-Ok-write g c =
+pub returns-in-Ok-write-clause-changes : goal.returns-in-Ok-write-clause-changes
+returns-in-Ok-write-clause-changes g c =
     let e = c.in-Ok.ensures in
     let r = c.in-Ok-write.ensures in
     let change = Overwrite c.args.offset c.args.bytes.now in
@@ -49,12 +50,8 @@ returns-in-Ok-write g c =
     let from = c.args.offset / 512 in
     record {
       becomes = r.written graph _ id (objects.File f) (begun f) f (starts graph ds id f may) may.has.there open_now refl;
-      order = record {
-        mid = g.D.Disk.content c.write.new.disk;
-        claimed = subst (λ (x : Drafting). AreClaimed (claims_from was.at x.leaves x.nodes from (leaves_in (c.args.offset + length c.args.bytes.now) - from)) (g.D.Disk.content d1) (g.D.Disk.content c.write.new.disk)) e.begun
-            (r.order graph _ id (objects.File f) (begun f) (starts graph ds id f may) may.has.there open_now);
-        left = λ n. inl refl;
-      };
+      order = subst (λ (x : Drafting). AreClaimed (claims_by_leaf was.at x.leaves x.nodes from (leaves_in (c.args.offset + length c.args.bytes.now) - from)) (g.D.Disk.content d1) (g.D.Disk.content c.write.new.disk)) e.begun
+          (r.order graph _ id (objects.File f) (begun f) (starts graph ds id f may) may.has.there open_now);
       leaves = c.write.ensures.leaves graph _ id (objects.File f) (begun f) (starts graph ds id f may) may.has.there open_now;
       room = r.room _ id (begun f) open_now;
       full = tt;
@@ -62,7 +59,17 @@ returns-in-Ok-write g c =
     })
     (ends_more g.D.Disk was.at c.args.floor _ _ (sum c.begin_direct.new.space.free) 31092 15486 d1 c.write.new.disk c.begin_direct.new.space c.write.new.space (Ok (tt {0})) r.ends (omega (arith, c.requires.most)) (omega (arith, c.requires.most)))
     r.stays.at r.stays.shadow r.stays.created true (λ wrote. r.tried c.requires.least) (λ no. cc) c.commit.new.disk c.commit.new.space c.commit.result
-    (record { done = c.commit.ensures.done; leaves = c.commit.ensures.leaves; sound = c.commit.ensures.sound; refusal = c.commit.ensures.refused; untried = c.commit.ensures.untried; cylinders = c.commit.ensures.cylinders; left = c.commit.ensures.left; calls = c.commit.ensures.calls })
+    (record { done = c.commit.ensures.done; leaves = c.commit.ensures.leaves; sound = c.commit.ensures.sound; refusal = c.commit.ensures.refused; untried = c.commit.ensures.untried; cylinders = c.commit.ensures.cylinders; left = c.commit.ensures.left; bit = c.commit.ensures.bit; calls = c.commit.ensures.calls })
 
 pub commit-requires-clause-left : goal.commit-requires-clause-left
 commit-requires-clause-left g c = c.in-Ok-write.ensures.ends.left ∙ ap (λ (k : Kept). k.left) c.in-Ok.ensures.space ∙ c.requires.left
+
+pub returns-in-Err-clause-changes : goal.returns-in-Err-clause-changes
+returns-in-Err-clause-changes g c =
+    let e = c.in-Err.ensures in
+    err_read g.D.Disk c.args.at.0 c.args.floor (Overwrite c.args.offset c.args.bytes.now) c.args.disk.now c.args.space.now c.begin_direct.new.disk c.begin_direct.new.space 1 c.in-Err.error (omega arith) e.reads e.space
+    (from_begin g.D.Disk c.args.at.0 c.args.floor (Overwrite c.args.offset c.args.bytes.now) c.args.disk.now c.args.space.now c.begin_direct.new.disk c.begin_direct.new.space c.in-Err.error e.refused e.spare) e.spare
+    (λ graph ds id f may. e.sound graph ds id (objects.File f) may.has.store may.has.root may.has.there)
+
+pub returns-in-Ok-write-clause-memory : goal.returns-in-Ok-write-clause-memory
+returns-in-Ok-write-clause-memory g c = no_memory g.D.Disk c.write.new.self.at c.write.new.disk c.commit.new.disk c.commit.new.space true c.commit.result c.commit.ensures.refused

@@ -1,9 +1,10 @@
-use Rattle.std.proofs.Common.{◌≡◌, ◌*◌, ◌+◌, ◌≤◌, ℕ, true, false, length, Ok, None}
+use Rattle.std.proofs.Common.{◌≡◌, ◌*◌, true, false, length, Ok, None}
 use Rattle.std.specs.Prelude.{IsSome}
-use Rattle.cfs_base.specs.Calls.{HasTried, MakesAtMost}
+use Rattle.cfs_base.specs.Calls.{HasTried}
 use Rattle.cfs_base.specs.Run.{IsSettled, Tells}
 use Rattle.cyl_alloc.specs.Left.{parts_left}
-use Rattle.finisher.specs.Going.{Goes, calls_left, tries_left}
+use Rattle.finisher.specs.Going.{Goes}
+use Rattle.finisher.specs.Runs.{Spends}
 use Rattle.finisher.proofs.finish.finish_all.Given as goal
 
 abbrev pub invariant-parts : goal.invariant-parts
@@ -16,8 +17,7 @@ invariant-parts g l = record {
   tried : l.tried ≡ true → HasTried g.D.Disk l.fn.disk l.disk;
   some : l.tried ≡ true → IsSome l.fn.space.left;
   settled : l.tried ≡ true → l.space.left ≡ None → Tells g.D.Disk l.fn.disk → IsSettled g.D.Disk l.disk;
-  calls : (n t : ℕ) × (n + calls_left l.space.left ≤ calls_left l.fn.space.left) × (t + tries_left l.space.left ≤ tries_left l.fn.space.left)
-      × MakesAtMost g.D.Disk n t l.fn.disk l.disk;
+  spends : Spends g.D.Disk l.fn.disk l.disk l.fn.space.left l.space.left;
 }
 
 abbrev pub decreases-parts : goal.decreases-parts

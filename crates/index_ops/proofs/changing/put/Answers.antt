@@ -1,13 +1,15 @@
 use Rattle.index_ops.proofs.Words.{ℕ, List, ◌+◌, ◌*◌, ◌/◌, ◌<◌, Err, None, length, refl, sym, ◌∙◌, ap, subst, arith, is_some, sum, refused_by, Refused, Puid, Kept, Graph, Index, Opened, Drafting, filled_draft, IsTrouble}
 use Rattle.index_ops.specs.Changes.{HasSlot, PutsSlot, short_at}
-use Rattle.index_ops.proofs.Putting.{begun_draft, begun_open, commit_done, commit_leaf, ends_settled, err_commit, err_fill, err_read, from_begin, ok_commit, settle_done, short_not, short_why, takes_two}
+use Rattle.index_ops.proofs.Putting.{begun_draft, begun_open, commit_done, commit_leaf, ends_settled, err_commit, err_fill, err_read, from_refusal, ok_commit, settle_done, short_not, short_why, takes_two}
 use Rattle.ufs_model.specs.declared.object.Object.TheVariants as objects
+use Rattle.cyl_alloc.specs.Left.{Left}
+use Rattle.special_files.specs.Committing.{IsNoted}
 use Rattle.index_ops.proofs.changing.put.Goals as goal
 
 pub returns-in-Err : goal.returns-in-Err
 returns-in-Err g c =
     err_read g.D.Disk c.args.index.0 c.args.slot c.args.what c.args.disk.now c.args.space.now c.begin_direct.new.disk c.begin_direct.new.space 1 c.in-Err.error (omega arith) c.in-Err.ensures.reads c.in-Err.ensures.space
-    (from_begin g.D.Disk c.args.index.0 c.args.slot c.args.disk.now c.begin_direct.new.disk c.begin_direct.new.space c.in-Err.error c.in-Err.ensures.refused c.in-Err.ensures.spare)
+    (from_refusal g.D.Disk c.args.index.0 c.args.slot c.args.disk.now c.begin_direct.new.disk c.begin_direct.new.space c.in-Err.error c.in-Err.ensures.refused c.in-Err.ensures.spare)
     (λ graph ds id i has. c.in-Err.ensures.sound graph ds id (objects.Index i) has.store has.root has.there)
 
 pub returns-then-size-slot : goal.returns-then-size-slot
@@ -44,7 +46,7 @@ returns-in-Ok-None g c =
     let begun = c.in-Ok.ensures.store graph ds id (objects.Index i) has.store has.root has.there has.shut in
     let open_now = begun_open g.D.Disk graph ds id i c.args.index.0 c.args.slot c.args.what d0 d1 k0 was has c.in-Ok.ensures.begun reads in
     settle_done g.D.Disk graph ds id i c.args.index.0 c.args.slot c.args.what d0 d1 k0 was has c.in-Ok.ensures.begun reads c.fill.new.disk c.settle.new.disk c.begin_direct.new.space c.fill.new.space c.fill.new.self spared.0
-    (c.in-Ok-None.ensures.filled graph _ id (objects.Index i) (begun_draft i) i begun has.there open_now refl) begun kept spared.2 settled c.settle.ensures.content store)
+    (c.in-Ok-None.ensures.filled graph _ id (objects.Index i) (begun_draft i) i begun has.there open_now refl) begun kept spared.2 (ap (λ (k : Kept). k.left) kept ∙ c.requires.left) settled c.settle.ensures.content store)
 
 -- ---- refused while it was filled
 
@@ -102,11 +104,11 @@ returns-in-Ok-commit_swap g c =
     (rw c.in-Ok-Some.field-0-is at (c.in-Ok-Some.ensures.swaps graph _ id (objects.Index i) (begun_draft i) i (begins graph ds id i has) has.there (opens graph ds id i has) refl (ap (λ (x : Drafting). x.root) begun))) in
     ok_commit G at slot what d0 k0 d1 d2 c.begin_direct.new.space k2 c.in-Ok.ensures.space was reads d3 k3 _ c.in-Ok-Some.ensures.ends (c.in-Ok-Some.ensures.done (ap is_some c.in-Ok-Some.field-0-is)) c.commit_swap.ensures.cylinders c.commit_swap.ensures.calls
     (λ graph ds id i has. (c.fill.ensures.leaves graph _ id (objects.Index i) (begun_draft i) (begins graph ds id i has) has.there (opens graph ds id i has), (ends graph ds id i has).leaves))
-    c.in-Ok-commit_swap.ensures.left
+    (subst (λ (n : ℕ). (l : Left) × IsNoted n k3.left l) (c.fill.ensures.stays.at ∙ ap (λ (x : Drafting). x.at) begun) c.in-Ok-commit_swap.ensures.left) c.in-Ok-commit_swap.ensures.settled
     (λ graph ds id i has. commit_done G graph ds id i at slot what d0 d1 k0 was has begun reads d2 d3 k2 k3 c.fill.new.self (becomes graph ds id i has) (ends graph ds id i has).done)
     (λ graph ds id i has. commit_leaf G graph ds id i at slot what d0 d1 k0 was has begun reads d2 d3 k2 k3 c.fill.new.self (becomes graph ds id i has) (c.in-Ok.ensures.root has.store.carries.tells)
     (c.in-Ok-Some.ensures.order graph _ id (objects.Index i) (begun_draft i) i (begins graph ds id i has) has.there (opens graph ds id i has) refl (ap is_some c.in-Ok-Some.field-0-is))
-    (c.in-Ok-Some.ensures.beside graph _ id (objects.Index i) (begun_draft i) i (begins graph ds id i has) has.there (opens graph ds id i has) refl) (ends graph ds id i has).done)
+    (c.in-Ok-Some.ensures.beside graph _ id (objects.Index i) (begun_draft i) i (begins graph ds id i has) has.there (opens graph ds id i has) refl) (c.fill.ensures.stays.shadow ∙ ap (λ (x : Drafting). x.shadow) begun) (ends graph ds id i has).done)
 
 pub returns-in-Err-commit_swap : goal.returns-in-Err-commit_swap
 returns-in-Err-commit_swap g c =

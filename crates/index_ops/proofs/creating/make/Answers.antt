@@ -1,17 +1,19 @@
-use Rattle.index_ops.proofs.Words.{◌≡◌, ℕ, ◌+◌, ◌*◌, ◌<◌, List, length, true, false, None, Ok, Err, inl, inr, ⊎_elim, sym, ◌∙◌, ap, subst, arith, IfErr, IfOk, OnOk, Result, MakesAtMost, OnlyReads, Image, Ghosts, Puid, reads_then, tells_on, AreCounts, IsLeastFree, Kept, is_free_in, Refused, named, Drafting, IsRefusal, is_full, store_reads, refusal_after_reads, Graph, Index, Opened, bare_object}
+use Rattle.index_ops.proofs.Words.{◌≡◌, ℕ, ◌+◌, ◌*◌, ◌<◌, List, length, true, false, None, Ok, Err, inl, inr, ⊎_elim, sym, ◌∙◌, ap, subst, arith, IfErr, IfOk, OnOk, Result, MakesAtMost, OnlyReads, Image, Ghosts, Puid, reads_then, tells_on, AreCounts, IsLeastFree, Kept, is_free_in, Refused, puid_at, Drafting, IsRefusal, is_full_refusal, store_reads, refusal_after_reads, Graph, Index, Opened, bare_object}
 use Rattle.index_ops.specs.Changes.{HasSlot, short_at}
 use Rattle.index_ops.specs.Creates.{IsOpenMap, MakeEnds, PutsObject}
 use Rattle.index_ops.proofs.NewEnds.{err_reads, made_done, made_err}
-use Rattle.index_ops.proofs.Putting.{from_begin, from_refusal, short_not, short_why}
+use Rattle.index_ops.proofs.Putting.{from_refusal, short_not, short_why}
 use Rattle.cfs_base.specs.declared.refusal.Refused.TheVariants as refusals
 use Rattle.block_tree.specs.declared.root.Root as roots
 use Rattle.ufs_model.specs.declared.object.Object.TheVariants as objects
+use Rattle.cyl_alloc.specs.Left.{Left}
+use Rattle.special_files.specs.Committing.{IsAtBit, IsNoted}
 use Rattle.index_ops.proofs.creating.make.Goals as goal
 
 pub returns-in-Err : goal.returns-in-Err
 returns-in-Err g c =
     err_reads g.D.Disk c.args.index.0 c.args.slot c.args.disk.now c.args.space.now (bare_object c.args.root.now) c.args.root.now.word c.begin_direct.new.disk c.begin_direct.new.space 1 c.in-Err.error (omega arith) c.in-Err.ensures.reads c.in-Err.ensures.space
-    (inl (from_begin g.D.Disk c.args.index.0 c.args.slot c.args.disk.now c.begin_direct.new.disk c.begin_direct.new.space c.in-Err.error c.in-Err.ensures.refused c.in-Err.ensures.spare))
+    (inl (from_refusal g.D.Disk c.args.index.0 c.args.slot c.args.disk.now c.begin_direct.new.disk c.begin_direct.new.space c.in-Err.error c.in-Err.ensures.refused c.in-Err.ensures.spare))
     (λ graph ds id i has. c.in-Err.ensures.sound graph ds id (objects.Index i) has.store has.root has.there)
 
 pub returns-then-size-slot : goal.returns-then-size-slot
@@ -30,13 +32,13 @@ map_before g n old mid before after e reads kept map = record {
       (map.free (tells_on g old mid mid n reads tells) (subst (λ (i : Image). AreCounts i after) (sym reads.content) (subst (AreCounts (g.content old)) (sym kept) counts)));
 }
 
-made_either : {D : Type 0} (g : Ghosts D) (at slot : ℕ) (d0 d2 d3 : D) (k0 k1 k3 : Kept) (n : ℕ) (root : roots.Root) (reads : OnlyReads g 2 d0 d2) (kept : k1 ≡ k0) (cylinders : length k3.free ≡ length k1.free) (calls : MakesAtMost g 40 24 d2 d3)
-    → ((graph : Graph) (ds : List Opened) (id : Puid) (i : Index) → HasSlot g graph ds d0 k0 at id i slot → IsLeastFree (g.content d0) n) → (r : Result Puid Refused) → OnOk r (k3.left ≡ None) → IfOk r (λ p. p ≡ named n root.word)
-    → IfErr r (λ e. IsRefusal g at 0 d2 d3 k3 e × (is_full e ≡ false)) → IfErr r (λ e. e ≡ refusals.Disk false → (k3 ≡ k1) × OnlyReads g 3 d2 d3)
-    → ((graph : Graph) (ds : List Opened) (id : Puid) (i : Index) → HasSlot g graph ds d0 k0 at id i slot → MakeEnds g graph ds id i slot (named n root.word) (bare_object root) d2 d3 k3 r)
+made_either : {D : Type 0} (g : Ghosts D) (at slot : ℕ) (d0 d2 d3 : D) (k0 k1 k3 : Kept) (n : ℕ) (root : roots.Root) (reads : OnlyReads g 2 d0 d2) (kept : k1 ≡ k0) (cylinders : length k3.free ≡ length k1.free) (calls : MakesAtMost g 22 13 d2 d3)
+    → ((graph : Graph) (ds : List Opened) (id : Puid) (i : Index) → HasSlot g graph ds d0 k0 at id i slot → IsLeastFree (g.content d0) n) → (r : Result Puid Refused) → OnOk r ((l : Left) × IsNoted at k3.left l) → OnOk r (IsAtBit g d2 d3 k3.left) → IfOk r (λ p. p ≡ puid_at n root.word)
+    → IfErr r (λ e. IsRefusal g at 0 d2 d3 k3 e × (is_full_refusal e ≡ false)) → IfErr r (λ e. e ≡ refusals.Disk false → (k3 ≡ k1) × OnlyReads g 3 d2 d3)
+    → ((graph : Graph) (ds : List Opened) (id : Puid) (i : Index) → HasSlot g graph ds d0 k0 at id i slot → MakeEnds g graph ds id i slot (puid_at n root.word) (bare_object root) d2 d3 k3 r)
     → PutsObject g at slot (bare_object root) root.word d0 d3 k0 k3 r
-made_either g at slot d0 d2 d3 k0 k1 k3 n root reads kept cylinders calls least (Ok p) left value why untried ends = made_done g at slot d0 k0 d2 d3 k1 k3 n root reads kept cylinders calls least p left value ends
-made_either g at slot d0 d2 d3 k0 k1 k3 n root reads kept cylinders calls least (Err e) left value why untried ends = made_err g at slot d0 k0 d2 d3 k1 k3 n root reads kept cylinders calls least e why untried ends
+made_either g at slot d0 d2 d3 k0 k1 k3 n root reads kept cylinders calls least (Ok p) left bit value why untried ends = made_done g at slot d0 k0 d2 d3 k1 k3 n root reads kept cylinders calls least p left bit value ends
+made_either g at slot d0 d2 d3 k0 k1 k3 n root reads kept cylinders calls least (Err e) left bit value why untried ends = made_err g at slot d0 k0 d2 d3 k1 k3 n root reads kept cylinders calls least e why untried ends
 
 pub returns-in-Err-least : goal.returns-in-Err-least
 returns-in-Err-least g c =
@@ -75,8 +77,8 @@ returns-in-Ok-least g c =
     let least1 = λ (graph : Graph) (ds : List Opened) (id : Puid) (i : Index) (has : HasSlot G graph ds d0 k0 at id i c.args.slot).
     let store1 = c.in-Ok.ensures.store graph ds id (objects.Index i) has.store has.root has.there has.shut in c.in-Ok-least.ensures.found store1.carries.tells store1.counts in
     made_either G at c.args.slot d0 d2 d3 k0 k1 k3 n c.args.root.now reads c.in-Ok.ensures.space c.make_at.ensures.cylinders c.make_at.ensures.calls
-    (λ graph ds id i has. subst (λ (x : Image). IsLeastFree x n) first.content (least1 graph ds id i has)) c.make_at.result c.make_at.ensures.left c.make_at.ensures.value
-    (subst (λ (a : ℕ). IfErr c.make_at.result (λ e. IsRefusal G a 0 d2 d3 k3 e × (is_full e ≡ false))) at_is c.make_at.ensures.refused) c.make_at.ensures.untried
+    (λ graph ds id i has. subst (λ (x : Image). IsLeastFree x n) first.content (least1 graph ds id i has)) c.make_at.result (subst (λ (a : ℕ). OnOk c.make_at.result ((l : Left) × IsNoted a k3.left l)) at_is c.make_at.ensures.left) c.make_at.ensures.bit c.make_at.ensures.value
+    (subst (λ (a : ℕ). IfErr c.make_at.result (λ e. IsRefusal G a 0 d2 d3 k3 e × (is_full_refusal e ≡ false))) at_is c.make_at.ensures.refused) c.make_at.ensures.untried
     (λ graph ds id i has.
     let store1 = c.in-Ok.ensures.store graph ds id (objects.Index i) has.store has.root has.there has.shut in
     c.make_at.ensures.makes graph ds id i (store_reads G graph _ d1 d2 k1 1 store1 c.least.ensures.reads) has.there (has.root ∙ sym at_is) has.shut

@@ -1,5 +1,5 @@
 use Rattle.std.proofs.Common.{◌+◌, ◌*◌, ◌++◌, length, arith}
-use Rattle.special_files.proofs.Words.{Undo, flips, number_of, option_to_list, undoing}
+use Rattle.special_files.proofs.Words.{Undo, flips, number_if, option_to_list, undoing}
 use Rattle.special_files.proofs.CommitRuns.{flips_passed, flips_stop, flips_then}
 use Rattle.special_files.proofs.abort.undo_all.Goals as goal
 
@@ -12,20 +12,20 @@ flip_made-requires-2-clause-on_disk g c = λ n is. omega (arith, c.requires.crea
 pub returns-in_err-flip_all : goal.returns-in_err-flip_all
 returns-in_err-flip_all g c =
     let nt = length c.args.taken.now in
-    let s = option_to_list (number_of c.args.shadow) in
-    let made = option_to_list (number_of c.args.created) in
+    let s = option_to_list (number_if c.args.shadow) in
+    let made = option_to_list (number_if c.args.created) in
     record {
-      flips = flips_passed g.D.Disk (2 * nt + (2 + 2)) (nt + (1 + 1)) (undoing c.args.taken.now (number_of c.args.shadow) (number_of c.args.created)) c.args.disk.now c.flip_all.new.disk _ _ c.from_residual.ensures.1
+      flips = flips_passed g.D.Disk (2 * nt + (2 + 2)) (nt + (1 + 1)) (undoing c.args.taken.now (number_if c.args.shadow) (number_if c.args.created)) c.args.disk.now c.flip_all.new.disk _ _ c.from_residual.ensures.1
           (flips_stop g.D.Disk c.args.disk.now c.flip_all.new.disk (2 * nt) nt (2 * nt + (2 + 2)) (nt + (1 + 1)) (flips Undo c.args.taken.now) (flips Undo s ++ flips Undo made) _ (omega arith) (omega arith) c.in_err-flip_all.ensures.flips);
     }
 
 pub returns-in_err-flip_made : goal.returns-in_err-flip_made
 returns-in_err-flip_made g c =
     let nt = length c.args.taken.now in
-    let s = option_to_list (number_of c.args.shadow) in
-    let made = option_to_list (number_of c.args.created) in
+    let s = option_to_list (number_if c.args.shadow) in
+    let made = option_to_list (number_if c.args.created) in
     record {
-      flips = flips_passed g.D.Disk (2 * nt + (2 + 2)) (nt + (1 + 1)) (undoing c.args.taken.now (number_of c.args.shadow) (number_of c.args.created)) c.args.disk.now c.flip_made.new.disk _ _ c.from_residual-in_err-flip_made.ensures.1
+      flips = flips_passed g.D.Disk (2 * nt + (2 + 2)) (nt + (1 + 1)) (undoing c.args.taken.now (number_if c.args.shadow) (number_if c.args.created)) c.args.disk.now c.flip_made.new.disk _ _ c.from_residual-in_err-flip_made.ensures.1
           (flips_then g.D.Disk (flips Undo c.args.taken.now) (flips Undo s ++ flips Undo made) c.args.disk.now c.flip_all.new.disk c.flip_made.new.disk (2 * nt) nt (2 + 2) (1 + 1) c.in_ok-flip_all.ensures.flips _
           (flips_stop g.D.Disk c.flip_all.new.disk c.flip_made.new.disk 2 1 (2 + 2) (1 + 1) (flips Undo s) (flips Undo made) _ (omega arith) (omega arith) c.in_err-flip_made.ensures.flips));
     }
@@ -33,8 +33,8 @@ returns-in_err-flip_made g c =
 pub returns : goal.returns
 returns g c =
     let nt = length c.args.taken.now in
-    let s = option_to_list (number_of c.args.shadow) in
-    let made = option_to_list (number_of c.args.created) in
+    let s = option_to_list (number_if c.args.shadow) in
+    let made = option_to_list (number_if c.args.created) in
     record {
       flips = flips_then g.D.Disk (flips Undo c.args.taken.now) (flips Undo s ++ flips Undo made) c.args.disk.now c.flip_all.new.disk c.flip_made-2.new.disk (2 * nt) nt (2 + 2) (1 + 1) c.in_ok-flip_all.ensures.flips _
           (flips_then g.D.Disk (flips Undo s) (flips Undo made) c.flip_all.new.disk c.flip_made.new.disk c.flip_made-2.new.disk 2 1 2 1 c.in_ok-flip_made.ensures.flips _ c.flip_made-2.ensures.flips);

@@ -1,11 +1,11 @@
 use Rattle.std.proofs.Common.{List, ℕ, ◌++◌, sym, ◌∙◌, ap}
-use Rattle.special_files.proofs.Words.{table}
+use Rattle.special_files.proofs.Words.{pointer_table}
 use Rattle.special_files.proofs.ChangedRun.{leaf_more, leaf_room}
 use Rattle.special_files.proofs.Unlike.{first_unlike}
 use Rattle.special_files.proofs.changed.add_node.Goals as goal
 
 pub loop-leaf-init : goal.loop-leaf-init
-loop-leaf-init c = c.add_unlike.ensures ∙ ap (λ (ns : List ℕ). c.args.list.now ++ ns) (sym (first_unlike (table c.args.block c.args.node.now.leaves) (table c.args.other c.args.other_node.now.leaves)))
+loop-leaf-init c = c.add_unlike.ensures ∙ ap (λ (ns : List ℕ). c.args.list.now ++ ns) (sym (first_unlike (pointer_table c.args.block c.args.node.now.leaves) (pointer_table c.args.other c.args.other_node.now.leaves)))
 
 pub add_unlike-requires-in-loop-leaf : goal.add_unlike-requires-in-loop-leaf
 add_unlike-requires-in-loop-leaf c =

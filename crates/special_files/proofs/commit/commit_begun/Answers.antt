@@ -1,8 +1,8 @@
 use Rattle.std.proofs.Common.{Some, ◌≡◌, ◌≢◌, ℕ, ◌+◌, ◌*◌, ◌<◌, false, length, None, refl, sym, ◌∙◌, ap, subst, arith}
-use Rattle.special_files.proofs.Words.{All, AreOnDisk, Holds, Image, IsChanged, IsReady, IsTrouble, Trouble, block_at, is_damage, makes_then, number_of, opened_as, reads_make, root_spelling, still_tells, tells_on, then, tree_in, tried_then}
+use Rattle.special_files.proofs.Words.{All, AreOnDisk, Holds, Image, IsChanged, IsReady, IsTrouble, Tells, Trouble, block_at, is_damage, makes_then, number_if, opened_as, reads_make, root_spelling, still_tells, tells_on, then, tree_in, tried_then}
 use Rattle.cfs_base.specs.declared.refusal.Trouble.TheVariants as troubles
 use Rattle.special_files.proofs.Amid.{amid_reads}
-use Rattle.special_files.proofs.CommitDraft.{after_damage, amid1, below_all, finish_apart, finish_tried, ready1, shadow_has, shadow_leaves, store1, tree1, tried_apart}
+use Rattle.special_files.proofs.CommitDraft.{after_damage, amid1, below_all, finish_apart, finish_tried, ready1, root1, shadow_leaves, store1, tree1, tried_apart}
 use Rattle.special_files.proofs.CommitStore.{commit_ends, commit_stops}
 use Rattle.special_files.proofs.CommitDone.{makes_more}
 use Rattle.special_files.proofs.Endings.{trouble_after_tried}
@@ -16,9 +16,11 @@ returns-in-Err g c = record {
   refused = c.in-Err.ensures.stopped;
   made = c.write_own.ensures.tried;
   untried = λ same. cc;
+  settled = λ tells. tt;
   cylinders = refl;
   left = tt;
-  calls = makes_more g.D.Disk c.args.disk.now c.write_own.new.disk 1 1 93135 46451 (omega arith) (omega arith) c.write_own.ensures.calls;
+  kept = λ is. refl;
+  calls = makes_more g.D.Disk c.args.disk.now c.write_own.new.disk 1 1 31205 15484 (omega arith) (omega arith) c.write_own.ensures.calls;
 }
 
 pub changed-requires : goal.changed-requires
@@ -36,9 +38,11 @@ returns-in-Err-changed g c =
           (trouble_after_tried g.D.Disk c.args.at.0 0 c.args.disk.now c.write_own.new.disk c.changed.new.disk c.args.space.now 1 1 c.write_own.ensures.calls c.write_own.ensures.tried told c.in-Err-changed.trouble (c.in-Err-changed.ensures.refused c.args.space.now));
       made = tried_then g.D.Disk c.args.disk.now c.write_own.new.disk c.changed.new.disk 240 0 c.write_own.ensures.tried (reads_make g.D.Disk c.write_own.new.disk c.changed.new.disk 240 reads);
       untried = subst (λ (t : Trouble). t ≢ troubles.Disk false) (sym c.after_try.ensures) (tried_apart c.in-Err-changed.trouble);
+      settled = λ tells. tt;
       cylinders = refl;
       left = tt;
-      calls = makes_then g.D.Disk c.args.disk.now c.write_own.new.disk c.changed.new.disk 1 240 93135 1 0 46451 c.write_own.ensures.calls (reads_make g.D.Disk c.write_own.new.disk c.changed.new.disk 240 reads) (omega arith) (omega arith);
+      kept = λ is. refl;
+      calls = makes_then g.D.Disk c.args.disk.now c.write_own.new.disk c.changed.new.disk 1 240 31205 1 0 15484 c.write_own.ensures.calls (reads_make g.D.Disk c.write_own.new.disk c.changed.new.disk 240 reads) (omega arith) (omega arith);
     }
 
 pub finish-requires : goal.finish-requires
@@ -62,24 +66,28 @@ returns g c =
     let reads = c.changed.ensures.reads in
     let room = c.in-Ok-changed.ensures.room in
     let first = makes_then g.D.Disk c.args.disk.now c.write_own.new.disk c.changed.new.disk 1 240 241 1 0 1 c.write_own.ensures.calls (reads_make g.D.Disk c.write_own.new.disk c.changed.new.disk 240 reads) (omega arith) (omega arith) in
-    let calls = makes_then g.D.Disk c.args.disk.now c.changed.new.disk c.finish.new.disk 241 (2 * length c.changed.new.taken + 4 * length c.as_slice.result.now + 14) 93135 1 (length c.changed.new.taken + 2 * length c.as_slice.result.now + 10) 46451 first c.finish.ensures.calls (omega (arith, room.0, room.1, ap (length {A = ℕ}) c.as_slice.ensures)) (omega (arith, room.0, room.1, ap (length {A = ℕ}) c.as_slice.ensures)) in
-    let tried = tried_then g.D.Disk c.args.disk.now c.write_own.new.disk c.finish.new.disk 93135 46451 c.write_own.ensures.tried (makes_then g.D.Disk c.write_own.new.disk c.changed.new.disk c.finish.new.disk 240 (2 * length c.changed.new.taken + 4 * length c.as_slice.result.now + 14) 93135 0 (length c.changed.new.taken + 2 * length c.as_slice.result.now + 10) 46451 (reads_make g.D.Disk c.write_own.new.disk c.changed.new.disk 240 reads) c.finish.ensures.calls (omega (arith, room.0, room.1, ap (length {A = ℕ}) c.as_slice.ensures)) (omega (arith, room.0, room.1, ap (length {A = ℕ}) c.as_slice.ensures))) in
+    let calls = makes_then g.D.Disk c.args.disk.now c.changed.new.disk c.finish.new.disk 241 (2 * length c.as_slice.result.now + 4) 31205 1 (length c.as_slice.result.now + 3) 15484 first c.finish.ensures.calls (omega (arith, room.0, room.1, ap (length {A = ℕ}) c.as_slice.ensures)) (omega (arith, room.0, room.1, ap (length {A = ℕ}) c.as_slice.ensures)) in
+    let tells_amid = λ (tells : Tells g.D.Disk c.args.disk.now). tells_on g.D.Disk c.write_own.new.disk c.changed.new.disk c.finish.new.disk 240 reads (still_tells g.D.Disk tells told c.write_own.ensures.calls.same) in
+    let tried = tried_then g.D.Disk c.args.disk.now c.write_own.new.disk c.finish.new.disk 31205 15484 c.write_own.ensures.tried (makes_then g.D.Disk c.write_own.new.disk c.changed.new.disk c.finish.new.disk 240 (2 * length c.as_slice.result.now + 4) 31205 0 (length c.as_slice.result.now + 3) 15484 (reads_make g.D.Disk c.write_own.new.disk c.changed.new.disk 240 reads) c.finish.ensures.calls (omega (arith, room.0, room.1, ap (length {A = ℕ}) c.as_slice.ensures)) (omega (arith, room.0, room.1, ap (length {A = ℕ}) c.as_slice.ensures))) in
     record {
       commits = λ was v made parts makes.
           let amid = amid1 g.D.Disk v.graph v.ds v.id v.object c.args.disk.now c.write_own.new.disk c.changed.new.disk c.args.space.now was v.draft c.args.shadow.0 c.encode-content.result v.store v.at v.opened parts.shadow_is c.write_own.ensures.images c.in-Ok.ensures.written told c.write_own.ensures.calls.same in
           let lists = c.in-Ok-changed.ensures.changed c.args.space.now was (view (store1 g.D.Disk v.graph v.ds v.id v.object c.args.disk.now c.write_own.new.disk c.changed.new.disk c.args.space.now was v.draft c.args.shadow.0 c.encode-content.result v.store v.at v.opened parts.shadow_is c.write_own.ensures.images c.in-Ok.ensures.written told c.write_own.ensures.calls.same) v.at v.opened) parts.own_is parts.root_is in
           let ready = ready1 g.D.Disk v.graph v.ds v.id v.object c.args.disk.now c.write_own.new.disk c.changed.new.disk c.args.space.now was v.draft c.args.shadow.0 c.encode-content.result v.store v.at v.opened parts.shadow_is c.write_own.ensures.images c.in-Ok.ensures.written told c.write_own.ensures.calls.same c.changed.new.taken c.as_slice.result.now (c.encode-content.ensures.spelled ∙ ap root_spelling (sym parts.root_is))
           (subst (IsChanged (g.D.Disk.content c.write_own.new.disk) v.id (opened_as v.id was v.draft) c.changed.new.taken) (sym c.as_slice.ensures) lists) in
-          commit_ends g.D.Disk v.graph v.ds v.id v.object v.draft.object (opened_as v.id was v.draft) (number_of c.args.created) c.args.disk.now c.changed.new.disk c.args.space.now c.args.space.now c.args.shadow.0 c.changed.new.taken c.as_slice.result.now v.store v.at v.opened.alone parts.created_is
+          commit_ends g.D.Disk v.graph v.ds v.id v.object v.draft.object (opened_as v.id was v.draft) (number_if c.args.created) c.args.disk.now c.changed.new.disk c.args.space.now c.args.space.now c.args.shadow.0 c.changed.new.taken c.as_slice.result.now v.store v.at v.opened.alone parts.created_is
           (amid_reads g.D.Disk v.graph v.ds v.id v.object c.args.disk.now c.args.space.now v.store v.at c.write_own.new.disk c.changed.new.disk c.args.space.now 240 amid reads)
           (subst (λ (i : Image). IsReady i v.graph v.id v.object v.draft.object c.args.shadow.0 c.changed.new.taken c.as_slice.result.now None) (sym reads.content) ready)
           (ap (λ (i : Image). tree_in i (block_at i c.args.shadow.0)) reads.content ∙ tree1 g.D.Disk v.graph v.ds v.id v.object c.args.disk.now c.write_own.new.disk c.changed.new.disk c.args.space.now was v.draft c.args.shadow.0 c.encode-content.result v.store v.at v.opened parts.shadow_is c.write_own.ensures.images c.in-Ok.ensures.written told c.write_own.ensures.calls.same (c.encode-content.ensures.spelled ∙ ap root_spelling (sym parts.root_is)))
+          (ap (λ (i : Image). block_at i c.args.shadow.0) reads.content ∙ root1 g.D.Disk v.graph v.ds v.id v.object c.args.disk.now c.write_own.new.disk c.changed.new.disk c.args.space.now was v.draft c.args.shadow.0 c.encode-content.result v.store v.at v.opened parts.shadow_is c.write_own.ensures.images c.in-Ok.ensures.written told c.write_own.ensures.calls.same (c.encode-content.ensures.spelled ∙ ap root_spelling (sym parts.root_is)))
           (λ none. let no : Some c.args.shadow.0 ≡ None = sym parts.shadow_is ∙ none in cc)
-          made makes c.args.at.0 (v.opened.at ∙ parts.at_is) c.finish.new.disk c.finish.new.space c.finish.result (c.finish.ensures.finishes (ap (λ (i : Image). block_at i c.args.shadow.0) reads.content ∙ shadow_has g.D.Disk v.graph v.ds v.id v.object c.args.disk.now c.write_own.new.disk c.changed.new.disk c.args.space.now was v.draft c.args.shadow.0 c.encode-content.result v.store v.at v.opened parts.shadow_is c.write_own.ensures.images c.in-Ok.ensures.written told c.write_own.ensures.calls.same));
-      refused = finish_tried g.D.Disk c.args.at.0 c.args.disk.now c.changed.new.disk c.finish.new.disk c.finish.new.space 241 1 _ _ first (λ tells. tells_on g.D.Disk c.write_own.new.disk c.changed.new.disk c.finish.new.disk 240 reads (still_tells g.D.Disk tells told c.write_own.ensures.calls.same)) c.finish.ensures.calls tried c.finish.result c.finish.ensures.fails;
+          made makes c.args.at.0 (v.opened.at ∙ parts.at_is) c.finish.new.disk c.finish.new.space c.finish.result c.finish.ensures.finishes;
+      refused = finish_tried g.D.Disk c.args.at.0 c.args.disk.now c.changed.new.disk c.finish.new.disk c.finish.new.space 241 1 _ _ first tells_amid c.finish.ensures.calls tried c.finish.result c.finish.ensures.fails;
       made = tried;
       untried = finish_apart g.D.Disk c.args.at.0 c.changed.new.disk c.finish.new.disk c.finish.new.space c.finish.result c.finish.ensures.fails;
+      settled = λ tells. c.finish.ensures.settled (tells_amid tells);
       cylinders = c.finish.ensures.cylinders;
       left = c.finish.ensures.left;
+      kept = c.finish.ensures.kept;
       calls = calls;
     }

@@ -1,5 +1,5 @@
 use Rattle.std.proofs.Common.{refl, subst, sym}
-use Rattle.special_files.proofs.Words.{Image, Makes, number_of}
+use Rattle.special_files.proofs.Words.{Image, Makes, number_if, tells_on}
 use Rattle.special_files.proofs.Begun.{store_reads}
 use Rattle.special_files.proofs.CommitStore.{commit_after, commit_stops}
 use Rattle.special_files.proofs.WriteLeaf.{leaves_read}
@@ -23,5 +23,10 @@ returns-clause-commits g c = λ was v made parts makes.
     commit_after g.D.Disk v.graph v.ds v.id v.draft.object made d0 d1 c.commit_listed.new.disk c.commit_listed.new.space 240 c.commit_listed.result reads
     (c.commit_listed.ensures.commits was (view (store_reads g.D.Disk v.graph v.ds d0 d1 k0 240 v.store reads) v.at v.opened) made
     (record { at_is = parts.at_is; shadow_is = parts.shadow_is; own_is = refl; root_is = parts.root_is; created_is = parts.created_is })
-    (subst (λ (i : Image). Makes i (number_of c.args.created) made) (sym reads.content) makes)
+    (subst (λ (i : Image). Makes i (number_if c.args.created) made) (sym reads.content) makes)
     (rw (reads.content, c.as_slice.ensures) (c.in-Ok.ensures.changed k0 was v parts.own_is parts.root_is)))
+
+pub returns-clause-settled : goal.returns-clause-settled
+returns-clause-settled g c = λ tells.
+    let d1 = c.changed.new.disk in
+    c.commit_listed.ensures.settled (tells_on g.D.Disk c.args.disk.now d1 d1 240 c.changed.ensures.reads tells)

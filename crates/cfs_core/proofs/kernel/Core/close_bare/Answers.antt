@@ -4,7 +4,7 @@ use Rattle.ufs_model.specs.declared.asked.Reply.TheVariants as replies
 use Rattle.ufs_model.specs.declared.asked.Request.TheVariants as asks
 use Rattle.cfs_core.specs.Calls.{Tries}
 use Rattle.cfs_core.specs.Kernel.{Kernel}
-use Rattle.cfs_core.specs.Seats.{have_draft, is_at}
+use Rattle.cfs_core.specs.Handles.{have_draft, is_at}
 use Rattle.cfs_core.proofs.Answering.{tries_refusal}
 use Rattle.cfs_core.proofs.Ending.{none_there, shown_by}
 use Rattle.cfs_core.proofs.Granted.{close_none, tries_closed}
@@ -12,27 +12,27 @@ use Rattle.cfs_core.proofs.Readied.{sized_but}
 use Rattle.cfs_core.proofs.kernel.Core.close_bare.Goals as goal
 
 pub close-requires : goal.close-requires
-close-requires g c = record { undrafted = ap (λ x. have_draft (is_at c.args.grant.draw) x.seats) c.self.view_is ∙ c.requires.undrafted }
+close-requires g c = record { undrafted = ap (λ x. have_draft (is_at c.args.grant.draw) x.handles) c.self.view_is ∙ c.requires.undrafted }
 
 pub invariant_of-self-2 : goal.invariant_of-self-2
-invariant_of-self-2 g c = sized_but c.self.invariant _ _ c.in_default.ensures.seats
+invariant_of-self-2 g c = sized_but c.self.invariant _ _ c.in_default.ensures.handles
 
 pub returns : goal.returns
 returns g c =
-    let k : Kernel _ = record { disk = c.self.inside.disk; root = c.self.inside.root; names = c.self.inside.names; space = c.self.inside.space; words = c.self.inside.words; seats = c.self.inside.seats.seats; collections = c.self.inside.collections; stop = c.self.inside.stop } in
+    let k : Kernel _ = record { disk = c.self.inside.disk; root = c.self.inside.root; names = c.self.inside.names; space = c.self.inside.space; words = c.self.inside.words; handles = c.self.inside.handles.handles; collections = c.self.inside.collections; stop = c.self.inside.stop } in
     let request = asks.Close c.args.grant c.args.commit in
-    let none = ap (λ x. have_draft (is_at c.args.grant.draw) x.seats) c.self.view_is ∙ c.requires.undrafted in
-    subst (λ x. Tries g.D.Disk x (record k { seats = c.close.new.self.seats }) c.args.who request (Ok replies.Done)) c.self.view_is
-    (subst (λ ss. Tries g.D.Disk k (record k { seats = ss }) c.args.who request (Ok replies.Done)) (sym c.in_default.ensures.seats)
+    let none = ap (λ x. have_draft (is_at c.args.grant.draw) x.handles) c.self.view_is ∙ c.requires.undrafted in
+    subst (λ x. Tries g.D.Disk x (record k { handles = c.close.new.self.handles }) c.args.who request (Ok replies.Done)) c.self.view_is
+    (subst (λ ss. Tries g.D.Disk k (record k { handles = ss }) c.args.who request (Ok replies.Done)) (sym c.in_default.ensures.handles)
     (tries_closed g.D.Disk g.met.D.Disk.left_sized g.met.D.Disk.sized k c.args.who c.args.grant c.args.commit none
     (λ s serves. shown_by (grant_of s c.args.who c.args.grant) c.in_default.field-0 (sym c.in_default.ensures.found ∙ ap (λ gs. grant_in gs c.args.who c.args.grant) serves.front.grants ∙ c.table_follows_the_model.ensures.found s c.args.who c.args.grant))))
 
 pub returns-in-Err : goal.returns-in-Err
 returns-in-Err g c =
-    let k : Kernel _ = record { disk = c.self.inside.disk; root = c.self.inside.root; names = c.self.inside.names; space = c.self.inside.space; words = c.self.inside.words; seats = c.self.inside.seats.seats; collections = c.self.inside.collections; stop = c.self.inside.stop } in
+    let k : Kernel _ = record { disk = c.self.inside.disk; root = c.self.inside.root; names = c.self.inside.names; space = c.self.inside.space; words = c.self.inside.words; handles = c.self.inside.handles.handles; collections = c.self.inside.collections; stop = c.self.inside.stop } in
     let request = asks.Close c.args.grant c.args.commit in
-    subst (λ x. Tries g.D.Disk x (record k { seats = c.close.new.self.seats }) c.args.who request (Ok replies.NoGrant)) c.self.view_is
-    (subst (λ ss. Tries g.D.Disk k (record k { seats = ss }) c.args.who request (Ok replies.NoGrant)) (sym (ap (λ t. t.seats) c.in-Err.ensures.err))
+    subst (λ x. Tries g.D.Disk x (record k { handles = c.close.new.self.handles }) c.args.who request (Ok replies.NoGrant)) c.self.view_is
+    (subst (λ ss. Tries g.D.Disk k (record k { handles = ss }) c.args.who request (Ok replies.NoGrant)) (sym (ap (λ t. t.handles) c.in-Err.ensures.err))
     (tries_refusal g.D.Disk g.met.D.Disk.left_sized g.met.D.Disk.sized k c.args.who request replies.NoGrant tt
     (λ s serves. close_none 0 s c.args.who c.args.grant c.args.commit
     (none_there (grant_of s c.args.who c.args.grant) (sym c.in-Err.ensures.none ∙ ap (λ gs. grant_in gs c.args.who c.args.grant) serves.front.grants ∙ c.table_follows_the_model.ensures.found s c.args.who c.args.grant)))))

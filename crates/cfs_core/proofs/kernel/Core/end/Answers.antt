@@ -5,46 +5,46 @@ use Rattle.ufs_model.specs.declared.asked.Reply.TheVariants as replies
 use Rattle.ufs_model.specs.declared.asked.Request.TheVariants as asks
 use Rattle.cfs_core.specs.Calls.{Tries}
 use Rattle.cfs_core.specs.Kernel.{Kernel, grants_in, is_ready_for}
-use Rattle.cfs_core.specs.Seats.{have_draft, is_at, seats_but}
-use Rattle.cfs_core.proofs.Ending.{closed_seats, held_in, tries_ended, tries_unended}
+use Rattle.cfs_core.specs.Handles.{have_draft, is_at, handles_but}
+use Rattle.cfs_core.proofs.Ending.{closed_handles, held_in, tries_ended, tries_unended}
 use Rattle.cfs_core.proofs.Readied.{ready_for, sized_but, sized_with}
-use Rattle.cfs_core.proofs.Seated.{grants_with}
+use Rattle.cfs_core.proofs.Handled.{grants_with}
 use Rattle.cfs_core.proofs.kernel.Core.end.Goals as goal
 
 pub end_draft-requires : goal.end_draft-requires
 end_draft-requires g c = record { ready = subst (λ x. is_ready_for (g.D.Disk.blocks x.disk) c.args.draft ≡ true) (sym c.self.view_is) c.requires.ready; size = c.self.invariant.size; left = ap (λ x. x.space.left) c.self.view_is ∙ c.requires.left }
 
 pub close-requires : goal.close-requires
-close-requires g c = record { undrafted = ap (λ x. have_draft (is_at c.args.grant.draw) x.seats) c.self.view_is ∙ c.requires.taken }
+close-requires g c = record { undrafted = ap (λ x. have_draft (is_at c.args.grant.draw) x.handles) c.self.view_is ∙ c.requires.taken }
 
 pub invariant_of-self : goal.invariant_of-self
 invariant_of-self g c =
-    let left = closed_seats c.args.who c.args.grant c.close.result c.self.inside.seats.seats c.close.new.self.seats (subst (λ x. IsSome (grant_in (grants_in x.seats) c.args.who c.args.grant)) (sym c.self.view_is) c.requires.found) c.close.ensures.seats c.close.ensures.none in
-    let fewer = sized_but c.self.invariant (is_grant c.args.who c.args.grant) c.close.new.self.seats left in
-    sized_with fewer c.end_draft.new.disk c.end_draft.new.space _ _ c.end_draft.ensures.calls.same.size c.end_draft.ensures.cylinders fewer.drawn_all fewer.ready
+    let left = closed_handles c.args.who c.args.grant c.close.result c.self.inside.handles.handles c.close.new.self.handles (subst (λ x. IsSome (grant_in (grants_in x.handles) c.args.who c.args.grant)) (sym c.self.view_is) c.requires.found) c.close.ensures.handles c.close.ensures.none in
+    let fewer = sized_but c.self.invariant (is_grant c.args.who c.args.grant) c.close.new.self.handles left in
+    sized_with fewer c.end_draft.new.disk c.end_draft.new.space _ _ c.end_draft.ensures.calls.calls.same.size c.end_draft.ensures.cylinders fewer.drawn_all fewer.ready
 
 pub returns-in-Ok : goal.returns-in-Ok
-returns-in-Ok g c = λ seats was drafting.
-    let k : Kernel _ = record { disk = c.self.inside.disk; root = c.self.inside.root; names = c.self.inside.names; space = c.self.inside.space; words = c.self.inside.words; seats = c.self.inside.seats.seats; collections = c.self.inside.collections; stop = c.self.inside.stop } in
-    let had = subst (λ gs. IsSome (grant_in gs c.args.who c.args.grant)) (ap grants_in was ∙ grants_with c.args.grant.draw None seats) c.requires.found in
-    let left = closed_seats c.args.who c.args.grant c.close.result c.self.inside.seats.seats c.close.new.self.seats (subst (λ x. IsSome (grant_in (grants_in x.seats) c.args.who c.args.grant)) (sym c.self.view_is) c.requires.found) c.close.ensures.seats c.close.ensures.none
-    ∙ ap (seats_but (is_grant c.args.who c.args.grant)) (ap (λ x. x.seats) c.self.view_is ∙ was) in
-    subst (λ x. Tries g.D.Disk (record x { seats = seats }) (record k { disk = c.end_draft.new.disk; space = c.end_draft.new.space; seats = c.close.new.self.seats }) c.args.who (asks.Close c.args.grant c.args.commit) (Ok replies.Done)) c.self.view_is
-    (subst (λ ss. Tries g.D.Disk (record k { seats = seats }) (record k { disk = c.end_draft.new.disk; space = c.end_draft.new.space; seats = ss }) c.args.who (asks.Close c.args.grant c.args.commit) (Ok replies.Done)) (sym left)
-    (tries_ended g.D.Disk g.met.D.Disk.left_sized g.met.D.Disk.sized (record k { seats = seats }) c.args.who c.args.grant c.args.draft drafting (ready_for _ c.args.draft c.requires.ready).bare
-    (held_in g.D.Disk (record k { seats = seats }) c.args.who c.args.grant c.args.draft drafting had (λ s. c.table_follows_the_model.ensures.found s c.args.who c.args.grant))
+returns-in-Ok g c = λ handles was drafting.
+    let k : Kernel _ = record { disk = c.self.inside.disk; root = c.self.inside.root; names = c.self.inside.names; space = c.self.inside.space; words = c.self.inside.words; handles = c.self.inside.handles.handles; collections = c.self.inside.collections; stop = c.self.inside.stop } in
+    let had = subst (λ gs. IsSome (grant_in gs c.args.who c.args.grant)) (ap grants_in was ∙ grants_with c.args.grant.draw None handles) c.requires.found in
+    let left = closed_handles c.args.who c.args.grant c.close.result c.self.inside.handles.handles c.close.new.self.handles (subst (λ x. IsSome (grant_in (grants_in x.handles) c.args.who c.args.grant)) (sym c.self.view_is) c.requires.found) c.close.ensures.handles c.close.ensures.none
+    ∙ ap (handles_but (is_grant c.args.who c.args.grant)) (ap (λ x. x.handles) c.self.view_is ∙ was) in
+    subst (λ x. Tries g.D.Disk (record x { handles = handles }) (record k { disk = c.end_draft.new.disk; space = c.end_draft.new.space; handles = c.close.new.self.handles }) c.args.who (asks.Close c.args.grant c.args.commit) (Ok replies.Done)) c.self.view_is
+    (subst (λ ss. Tries g.D.Disk (record k { handles = handles }) (record k { disk = c.end_draft.new.disk; space = c.end_draft.new.space; handles = ss }) c.args.who (asks.Close c.args.grant c.args.commit) (Ok replies.Done)) (sym left)
+    (tries_ended g.D.Disk g.met.D.Disk.left_sized g.met.D.Disk.sized (record k { handles = handles }) c.args.who c.args.grant c.args.draft drafting (ready_for _ c.args.draft c.requires.ready).bare
+    (held_in g.D.Disk (record k { handles = handles }) c.args.who c.args.grant c.args.draft drafting had (λ s. c.table_follows_the_model.ensures.found s c.args.who c.args.grant))
     c.end_draft.new.disk c.end_draft.new.space c.args.commit c.in-Ok.ensures))
 
 pub invariant_of-self-in-Err : goal.invariant_of-self-in-Err
-invariant_of-self-in-Err g c = sized_with c.self.invariant c.end_draft.new.disk c.end_draft.new.space _ _ c.end_draft.ensures.calls.same.size c.end_draft.ensures.cylinders c.self.invariant.drawn_all c.self.invariant.ready
+invariant_of-self-in-Err g c = sized_with c.self.invariant c.end_draft.new.disk c.end_draft.new.space _ _ c.end_draft.ensures.calls.calls.same.size c.end_draft.ensures.cylinders c.self.invariant.drawn_all c.self.invariant.ready
 
 pub returns-in-Err : goal.returns-in-Err
-returns-in-Err g c = λ seats was drafting.
-    let k : Kernel _ = record { disk = c.self.inside.disk; root = c.self.inside.root; names = c.self.inside.names; space = c.self.inside.space; words = c.self.inside.words; seats = c.self.inside.seats.seats; collections = c.self.inside.collections; stop = c.self.inside.stop } in
-    let had = subst (λ gs. IsSome (grant_in gs c.args.who c.args.grant)) (ap grants_in was ∙ grants_with c.args.grant.draw None seats) c.requires.found in
-    subst (λ e. Tries g.D.Disk (record c.args.self.now { seats = seats }) (record k { disk = c.end_draft.new.disk; space = c.end_draft.new.space }) c.args.who (asks.Close c.args.grant c.args.commit) (Err e)) (sym c.from.ensures)
-    (subst (λ x. Tries g.D.Disk (record x { seats = seats }) (record k { disk = c.end_draft.new.disk; space = c.end_draft.new.space }) c.args.who (asks.Close c.args.grant c.args.commit) (Err (refused_by c.in-Err.trouble))) c.self.view_is
-    (subst (λ ss. Tries g.D.Disk (record k { seats = seats }) (record k { disk = c.end_draft.new.disk; space = c.end_draft.new.space; seats = ss }) c.args.who (asks.Close c.args.grant c.args.commit) (Err (refused_by c.in-Err.trouble))) (sym (ap (λ x. x.seats) c.self.view_is ∙ was))
-    (tries_unended g.D.Disk g.met.D.Disk.left_sized g.met.D.Disk.sized (record k { seats = seats }) c.args.who c.args.grant c.args.draft drafting (ready_for _ c.args.draft c.requires.ready).bare
-    (held_in g.D.Disk (record k { seats = seats }) c.args.who c.args.grant c.args.draft drafting had (λ s. c.table_follows_the_model.ensures.found s c.args.who c.args.grant))
+returns-in-Err g c = λ handles was drafting.
+    let k : Kernel _ = record { disk = c.self.inside.disk; root = c.self.inside.root; names = c.self.inside.names; space = c.self.inside.space; words = c.self.inside.words; handles = c.self.inside.handles.handles; collections = c.self.inside.collections; stop = c.self.inside.stop } in
+    let had = subst (λ gs. IsSome (grant_in gs c.args.who c.args.grant)) (ap grants_in was ∙ grants_with c.args.grant.draw None handles) c.requires.found in
+    subst (λ e. Tries g.D.Disk (record c.args.self.now { handles = handles }) (record k { disk = c.end_draft.new.disk; space = c.end_draft.new.space }) c.args.who (asks.Close c.args.grant c.args.commit) (Err e)) (sym c.from.ensures)
+    (subst (λ x. Tries g.D.Disk (record x { handles = handles }) (record k { disk = c.end_draft.new.disk; space = c.end_draft.new.space }) c.args.who (asks.Close c.args.grant c.args.commit) (Err (refused_by c.in-Err.trouble))) c.self.view_is
+    (subst (λ ss. Tries g.D.Disk (record k { handles = handles }) (record k { disk = c.end_draft.new.disk; space = c.end_draft.new.space; handles = ss }) c.args.who (asks.Close c.args.grant c.args.commit) (Err (refused_by c.in-Err.trouble))) (sym (ap (λ x. x.handles) c.self.view_is ∙ was))
+    (tries_unended g.D.Disk g.met.D.Disk.left_sized g.met.D.Disk.sized (record k { handles = handles }) c.args.who c.args.grant c.args.draft drafting (ready_for _ c.args.draft c.requires.ready).bare
+    (held_in g.D.Disk (record k { handles = handles }) c.args.who c.args.grant c.args.draft drafting had (λ s. c.table_follows_the_model.ensures.found s c.args.who c.args.grant))
     c.end_draft.new.disk c.end_draft.new.space c.args.commit c.in-Err.trouble c.in-Err.ensures)))

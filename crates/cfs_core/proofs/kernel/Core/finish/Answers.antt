@@ -8,13 +8,13 @@ use Rattle.cfs_core.proofs.kernel.Core.finish.Goals as goal
 
 pub overflow_add-self : goal.overflow_add-self
 overflow_add-self g c =
-    let k : Kernel _ = record { disk = c.self.inside.disk; root = c.self.inside.root; names = c.self.inside.names; space = c.self.inside.space; words = c.self.inside.words; seats = c.self.inside.seats.seats; collections = c.self.inside.collections; stop = c.self.inside.stop } in
+    let k : Kernel _ = record { disk = c.self.inside.disk; root = c.self.inside.root; names = c.self.inside.names; space = c.self.inside.space; words = c.self.inside.words; handles = c.self.inside.handles.handles; collections = c.self.inside.collections; stop = c.self.inside.stop } in
     let swept = ap phase_of (sym c.in-Some.is) ∙ ap (λ x. phase_of x.collections.collector) c.self.view_is ∙ c.requires in
     omega (arith, few_ended g.D.Disk k c.in-Some.collector c.end.new.self c.in-Some.is swept c.end.ensures.phase c.self.inside.names.room c.self.invariant.kept)
 
 pub returns : goal.returns
 returns g c =
-    let k : Kernel _ = record { disk = c.self.inside.disk; root = c.self.inside.root; names = c.self.inside.names; space = c.self.inside.space; words = c.self.inside.words; seats = c.self.inside.seats.seats; collections = c.self.inside.collections; stop = c.self.inside.stop } in
+    let k : Kernel _ = record { disk = c.self.inside.disk; root = c.self.inside.root; names = c.self.inside.names; space = c.self.inside.space; words = c.self.inside.words; handles = c.self.inside.handles.handles; collections = c.self.inside.collections; stop = c.self.inside.stop } in
     let col = c.in-Some.collector in
     let l = c.end.new.self in
     let swept = ap phase_of (sym c.in-Some.is) ∙ ap (λ x. phase_of x.collections.collector) c.self.view_is ∙ c.requires in

@@ -1,5 +1,5 @@
 use Rattle.std.proofs.Common.{◌≡◌, Option, Some, None, is_some, refl, sym, ◌∙◌, ap, subst, true, false}
-use Rattle.cfs_core.specs.Asked.{stopped_by, told}
+use Rattle.cfs_core.specs.Asked.{stopped_by, reply_to}
 use Rattle.cfs_core.specs.Kernel.{Kernel, is_ready_for}
 use Rattle.cfs_core.specs.Leaving.{GivesUp}
 use Rattle.cfs_core.proofs.GivenUp.{given_up, not_given_up}
@@ -17,16 +17,16 @@ none_of (Some x) is = cc
 
 pub returns-in-Err : goal.returns-in-Err
 returns-in-Err g c =
-    let k : Kernel _ = record { disk = c.self.inside.disk; root = c.self.inside.root; names = c.self.inside.names; space = c.self.inside.space; words = c.self.inside.words; seats = c.self.inside.seats.seats; collections = c.self.inside.collections; stop = c.self.inside.stop } in
+    let k : Kernel _ = record { disk = c.self.inside.disk; root = c.self.inside.root; names = c.self.inside.names; space = c.self.inside.space; words = c.self.inside.words; handles = c.self.inside.handles.handles; collections = c.self.inside.collections; stop = c.self.inside.stop } in
     let runs = none_of c.self.inside.stop (sym c.is_some.ensures ∙ c.if-is_some.false) in
     let after : Kernel _ = record k { disk = c.abort.new.disk; space = c.abort.new.space } in
     subst (λ x. GivesUp g.D.Disk c.args.draft x c.refuse.new.self) c.self.view_is
-    (subst (λ x. GivesUp g.D.Disk c.args.draft k x) (sym (c.refuse.ensures.stop ∙ ap (λ e. record after { stop = stopped_by (told e (g.D.Disk.moment c.abort.new.disk)) k.stop }) c.from.ensures))
+    (subst (λ x. GivesUp g.D.Disk c.args.draft k x) (sym (c.refuse.ensures.stop ∙ ap (λ e. record after { stop = stopped_by (reply_to e (g.D.Disk.moment c.abort.new.disk)) k.stop }) c.from.ensures))
     (not_given_up g.D.Disk c.args.draft k c.abort.new.disk c.abort.new.space _ _ c.abort.ensures.calls runs c.abort.ensures.left c.abort.ensures.leaves c.in-Err.trouble c.in-Err.ensures.tried c.in-Err.ensures.refused c.in-Err.ensures.sound))
 
 pub returns-in_default : goal.returns-in_default
 returns-in_default g c =
-    let k : Kernel _ = record { disk = c.self.inside.disk; root = c.self.inside.root; names = c.self.inside.names; space = c.self.inside.space; words = c.self.inside.words; seats = c.self.inside.seats.seats; collections = c.self.inside.collections; stop = c.self.inside.stop } in
+    let k : Kernel _ = record { disk = c.self.inside.disk; root = c.self.inside.root; names = c.self.inside.names; space = c.self.inside.space; words = c.self.inside.words; handles = c.self.inside.handles.handles; collections = c.self.inside.collections; stop = c.self.inside.stop } in
     let runs = none_of c.self.inside.stop (sym c.is_some.ensures ∙ c.if-is_some.false) in
     subst (λ x. GivesUp g.D.Disk c.args.draft x (record k { disk = c.abort.new.disk; space = c.abort.new.space })) c.self.view_is
     (given_up g.D.Disk c.args.draft k c.abort.new.disk c.abort.new.space _ _ c.abort.ensures.calls runs c.abort.ensures.left c.abort.ensures.leaves c.in_default.ensures.done)

@@ -9,5 +9,5 @@ returns-in-Direct g c = λ s serves. ap (goes_through_reading s c.args.who) (sym
 
 pub returns-in-Through : goal.returns-in-Through
 returns-in-Through g c = λ s serves.
-    let found = c.find.ensures ∙ ap (λ gs. grant_in gs c.args.who c.in-Through.grant) (ap (λ k. grants_in k.seats) c.self.view_is ∙ serves.front.grants) ∙ c.table_follows_the_model.ensures.found s c.args.who c.in-Through.grant in
+    let found = c.find.ensures ∙ ap (λ gs. grant_in gs c.args.who c.in-Through.grant) (ap (λ k. grants_in k.handles) c.self.view_is ∙ serves.front.grants) ∙ c.table_follows_the_model.ensures.found s c.args.who c.in-Through.grant in
     c.reads.ensures ∙ reads_of c.find.result (grant_of s c.args.who c.in-Through.grant) found ∙ ap (goes_through_reading s c.args.who) (sym c.in-Through.is)

@@ -8,4 +8,4 @@ abbrev pub invariant-loop-grant : goal.invariant-loop-grant
 invariant-loop-grant g l = Sheds g.D.Disk l.who l.fn.self l.self
 
 abbrev pub decreases-loop-grant : goal.decreases-loop-grant
-decreases-loop-grant g l = length (grants_of (grants_in l.self.seats) l.who)
+decreases-loop-grant g l = length (grants_of (grants_in l.self.handles) l.who)

@@ -14,6 +14,6 @@ invariant_of-self g c = record {
   room = c.add.ensures.room ∙ c.self.invariant.room;
   kept = subst (λ (n : ℕ). AreKept n c.self.inside.collections) (sym c.add.ensures.room) c.self.invariant.kept;
   some = ap (λ named. has_root_in named 0) c.add.ensures.named ∙ none_more c.args.id c.args.kind c.self.inside.names.named (other c.args.id.block c.if-id-eq0.false) c.self.invariant.some;
-  ready = ap (λ n. list_all (is_ready n) c.self.inside.seats.seats) c.add.ensures.room ∙ c.self.invariant.ready;
-  drawn_all = drawn_more c.self.inside.seats.seats c.self.inside.words.drawn _ (ap (λ w. w.drawn) c.next.ensures.drawn) c.self.invariant.drawn_all;
+  ready = ap (λ n. list_all (is_ready n) c.self.inside.handles.handles) c.add.ensures.room ∙ c.self.invariant.ready;
+  drawn_all = drawn_more c.self.inside.handles.handles c.self.inside.words.drawn _ (ap (λ w. w.drawn) c.next.ensures.drawn) c.self.invariant.drawn_all;
 }

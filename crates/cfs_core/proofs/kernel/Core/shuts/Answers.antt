@@ -15,5 +15,5 @@ held gs is = at (none_collide gs) (tuids_differ gs) (few_each gs) is
 pub returns : goal.returns
 returns g c = λ s id serves name bare free.
     let k = c.args.self.now in
-    shut_by _ s c.args.who c.args.way.changes c.args.way.to id k.seats serves.front.grants serves.drafts
-    (held (grants_in k.seats) (subst (λ x. IsTrue (is_held (grants_in x.seats))) c.self.view_is c.len.ensures.held)) name bare free
+    shut_by _ s c.args.who c.args.way.changes c.args.way.to id k.handles serves.front.grants serves.drafts
+    (held (grants_in k.handles) (subst (λ x. IsTrue (is_held (grants_in x.handles))) c.self.view_is c.len.ensures.held)) name bare free

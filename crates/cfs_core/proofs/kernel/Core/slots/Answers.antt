@@ -13,9 +13,9 @@ returns-in-Err g c = c.in-Err.ensures.refused (asks.Slots c.args.to) (record { t
 
 pub returns : goal.returns
 returns g c =
-    let k : Kernel _ = record { disk = c.self.inside.disk; root = c.self.inside.root; names = c.self.inside.names; space = c.self.inside.space; words = c.self.inside.words; seats = c.self.inside.seats.seats; collections = c.self.inside.collections; stop = c.self.inside.stop } in
+    let k : Kernel _ = record { disk = c.self.inside.disk; root = c.self.inside.root; names = c.self.inside.names; space = c.self.inside.space; words = c.self.inside.words; handles = c.self.inside.handles.handles; collections = c.self.inside.collections; stop = c.self.inside.stop } in
     let request = asks.Slots c.args.to in
     let reach = subst (λ x. ReachesAll g.D.Disk objects.Index x c.args.who request c.in-Ok.index) (sym c.self.view_is) (c.in-Ok.ensures.reached request (record { to = refl; each = λ s who. refl })) in
     subst (λ x. Tries g.D.Disk x (record k { disk = c.count.new.disk }) c.args.who request c.count.result) c.self.view_is
-    (tries_seen g.D.Disk g.met.D.Disk.left_sized g.met.D.Disk.sized objects.Index k c.in-Ok.index c.args.who request reach 1 c.count.new.disk counted c.count.result refl (λ s reply. refl)
+    (tries_seen g.D.Disk g.met.D.Disk.left_sized g.met.D.Disk.sized objects.Index k c.in-Ok.index c.args.who request reach 1 c.count.new.disk counted c.count.result refl (λ s reply. (refl, refl))
     (λ s i serves r. (refl, slots_seen k.words.seed s c.args.who c.args.to c.in-Ok.index i r)) c.count.ensures.plain c.count.ensures.exact c.count.ensures.calm)

@@ -1,4 +1,4 @@
-use Rattle.std.proofs.Common.{ℕ, length, Ok, Err, refl, sym, ◌∙◌, ap, subst}
+use Rattle.std.proofs.Common.{◌*◌, ℕ, length, Ok, Err, refl, sym, ◌∙◌, ap, subst}
 use Rattle.ufs_model.specs.declared.asked.Reply.TheVariants as replies
 use Rattle.ufs_model.specs.declared.asked.Request.TheVariants as asks
 use Rattle.cfs_core.proofs.Words.{Image, is_range, Overwrite}
@@ -8,7 +8,8 @@ use Rattle.cfs_core.specs.Calls.{Tries}
 use Rattle.cfs_core.specs.Kernel.{Kernel}
 use Rattle.cfs_core.specs.Looks.{ReachesAll}
 use Rattle.cfs_core.specs.StandsFor.{Serves}
-use Rattle.cfs_core.proofs.Answering.{tries_failed, tries_refused}
+use Rattle.cfs_core.proofs.Answering.{tries_failed, tries_refused, tries_want}
+use Rattle.cfs_core.proofs.Carried.{alters, ends_altered}
 use Rattle.cfs_core.proofs.Calm.{range_parts}
 use Rattle.cfs_core.proofs.Filed.{tries_changed, write_changes}
 use Rattle.cfs_core.proofs.Refusing.{write_goes, write_range}
@@ -19,7 +20,7 @@ returns-in-Err g c = c.in-Err.ensures.refused (asks.Write c.args.to c.args.offse
 
 pub returns-in-Err-root_in : goal.returns-in-Err-root_in
 returns-in-Err-root_in g c =
-    let k : Kernel _ = record { disk = c.self.inside.disk; root = c.self.inside.root; names = c.self.inside.names; space = c.self.inside.space; words = c.self.inside.words; seats = c.self.inside.seats.seats; collections = c.self.inside.collections; stop = c.self.inside.stop } in
+    let k : Kernel _ = record { disk = c.self.inside.disk; root = c.self.inside.root; names = c.self.inside.names; space = c.self.inside.space; words = c.self.inside.words; handles = c.self.inside.handles.handles; collections = c.self.inside.collections; stop = c.self.inside.stop } in
     let request = asks.Write c.args.to c.args.offset c.args.bytes.now in
     let reach = subst (λ x. ReachesAll g.D.Disk objects.File x c.args.who request c.in-Ok.there.0) (sym c.self.view_is) (c.in-Ok.ensures.reached request (record { to = refl; each = λ s who. refl })) in
     subst (λ x. Tries g.D.Disk x (record k { disk = c.root_in.new.disk }) c.args.who request (Err c.in-Err-root_in.refused)) c.self.view_is
@@ -27,7 +28,7 @@ returns-in-Err-root_in g c =
 
 pub returns-then-not-is_range : goal.returns-then-not-is_range
 returns-then-not-is_range g c =
-    let k : Kernel _ = record { disk = c.self.inside.disk; root = c.self.inside.root; names = c.self.inside.names; space = c.self.inside.space; words = c.self.inside.words; seats = c.self.inside.seats.seats; collections = c.self.inside.collections; stop = c.self.inside.stop } in
+    let k : Kernel _ = record { disk = c.self.inside.disk; root = c.self.inside.root; names = c.self.inside.names; space = c.self.inside.space; words = c.self.inside.words; handles = c.self.inside.handles.handles; collections = c.self.inside.collections; stop = c.self.inside.stop } in
     let request = asks.Write c.args.to c.args.offset c.args.bytes.now in
     let reach = subst (λ x. ReachesAll g.D.Disk objects.File x c.args.who request c.in-Ok.there.0) (sym c.self.view_is) (c.in-Ok.ensures.reached request (record { to = refl; each = λ s who. refl })) in
     subst (λ x. Tries g.D.Disk x (record k { disk = c.root_in.new.disk }) c.args.who request (Ok replies.Range)) c.self.view_is
@@ -35,15 +36,38 @@ returns-then-not-is_range g c =
     (λ s f serves r knows. write_range k.words.seed s c.args.who c.args.to c.in-Ok.there.0 f c.args.offset c.args.bytes.now r
     (ap (λ (n : ℕ). is_range n c.args.offset (length c.args.bytes.now)) (sym (c.in-Ok-root_in.ensures.exact f knows)) ∙ sym c.is_range.ensures ∙ c.if-not-is_range.true)))
 
+pub returns-in-Err-room_for : goal.returns-in-Err-room_for
+returns-in-Err-room_for g c =
+    let k : Kernel _ = record { disk = c.self.inside.disk; root = c.self.inside.root; names = c.self.inside.names; space = c.self.inside.space; words = c.self.inside.words; handles = c.self.inside.handles.handles; collections = c.self.inside.collections; stop = c.self.inside.stop } in
+    let request = asks.Write c.args.to c.args.offset c.args.bytes.now in
+    let new : Kernel _ = record k { disk = c.root_in.new.disk } in
+    subst (λ x. Tries g.D.Disk x new c.args.who request (Err c.in-Err-room_for.refused)) c.self.view_is
+    (tries_want g.D.Disk g.met.D.Disk.left_sized g.met.D.Disk.sized 1 k new c.root_in.ensures.calm.reads refl c.args.who request c.in-Err-room_for.refused c.in-Err-room_for.ensures.wants)
+
+pub carry_on-requires : goal.carry_on-requires
+carry_on-requires g c =
+    let ends = c.write-ended.ensures.ends in
+    ends.calls.same.size ∙ c.root_in.ensures.calm.reads.same.size ∙ c.self.invariant.size ∙ ap (λ (n : ℕ). 64 * n) (sym ends.cylinders)
+
 pub returns : goal.returns
 returns g c =
-    let k : Kernel _ = record { disk = c.self.inside.disk; root = c.self.inside.root; names = c.self.inside.names; space = c.self.inside.space; words = c.self.inside.words; seats = c.self.inside.seats.seats; collections = c.self.inside.collections; stop = c.self.inside.stop } in
+    let k : Kernel _ = record { disk = c.self.inside.disk; root = c.self.inside.root; names = c.self.inside.names; space = c.self.inside.space; words = c.self.inside.words; handles = c.self.inside.handles.handles; collections = c.self.inside.collections; stop = c.self.inside.stop } in
     let request = asks.Write c.args.to c.args.offset c.args.bytes.now in
     let reach = subst (λ x. ReachesAll g.D.Disk objects.File x c.args.who request c.in-Ok.there.0) (sym c.self.view_is) (c.in-Ok.ensures.reached request (record { to = refl; each = λ s who. refl })) in
-    let new : Kernel _ = record k { disk = c.write.new.disk; space = c.write.new.space } in
-    let done = tries_changed g.D.Disk g.met.D.Disk.left_sized g.met.D.Disk.sized 1 k c.root_in.new.disk c.write.new.disk c.write.new.space c.root_in.ensures.calm.reads c.in-Ok.there.0 c.in-Ok.there.1 (Overwrite c.args.offset c.args.bytes.now) request
-    (write_changes c.args.to c.args.offset c.args.bytes.now c.are_bytes.ensures) c.write.result
-    (λ tells. c.write.ensures.changes (subst (λ (a : Image). IsRootAt a c.in-Ok.there.0.block c.in-Ok-root_in.root) (sym c.root_in.ensures.calm.reads.content) (c.in-Ok-root_in.ensures.rooted tells))) c.write.ensures.ends c.args.who reach
+    let change = Overwrite c.args.offset c.args.bytes.now in
+    let at = c.in-Ok.there.0.block in
+    let kind = c.in-Ok.there.1 in
+    let d0 = c.root_in.new.disk in
+    let d1 = c.write-ended.new.disk in
+    let k1 = c.write-ended.new.space in
+    let d2 = c.carry_on.new.disk in
+    let k2 = c.carry_on.new.space in
+    let new : Kernel _ = record k { disk = d2; space = k2 } in
+    let done = tries_changed g.D.Disk g.met.D.Disk.left_sized g.met.D.Disk.sized 1 k d0 d2 k2 c.root_in.ensures.calm.reads c.in-Ok.there.0 kind change request
+    (write_changes c.args.to c.args.offset c.args.bytes.now c.are_bytes.ensures) c.carry_on.result
+    (λ tells. alters g.D.Disk d0 d1 d2 k.space k1 k2 at kind 4 change c.write-ended.result c.carry_on.result
+    (c.write-ended.ensures.changes (subst (λ (a : Image). IsRootAt a at c.in-Ok-root_in.root) (sym c.root_in.ensures.calm.reads.content) (c.in-Ok-root_in.ensures.rooted tells))) c.carry_on.ensures)
+    (ends_altered g.D.Disk d0 d1 d2 k.space k1 k2 at kind 4 change c.write-ended.result c.carry_on.result c.write-ended.ensures.ends c.carry_on.ensures) c.args.who reach
     (λ s f serves r knows.
     let range = ap (λ (n : ℕ). is_range n c.args.offset (length c.args.bytes.now)) (sym (c.in-Ok-root_in.ensures.exact f knows)) ∙ sym c.is_range.ensures ∙ c.if-not-is_range.false in
     (c.in-Ok.ensures.kind s f (subst (λ x. Serves g.D.Disk x s) c.self.view_is serves) r.there, (range_parts (length f.bytes) c.args.offset (length c.args.bytes.now) range).2, write_goes k.words.seed s c.args.who c.args.to c.in-Ok.there.0 f c.args.offset c.args.bytes.now r range)) in

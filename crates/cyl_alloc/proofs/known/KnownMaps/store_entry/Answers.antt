@@ -1,5 +1,6 @@
 use Rattle.std.proofs.Common.{◌≡◌, ◌*◌, ◌/◌, ◌%◌, ℕ, List, set, ◌∙◌, ap, sym, subst, arith}
-use Rattle.cyl_alloc.proofs.Words.{All-set, IsMap-set, IsMapOf, Leaves, OnOk, SpellsMap, Written, entries_of, left_now, length-entries_of, map_spelling-set, map_with, spelling, spells_these, with_bytes, with_entry}
+use Rattle.cyl_alloc.proofs.Entries.{spells_with}
+use Rattle.cyl_alloc.proofs.Words.{All-set, IsMapOf, Leaves, OnOk, SpellsMap, Written, entries_of, left_now, map_with, spelling, with_bytes, with_entry}
 use Rattle.cyl_alloc.proofs.known.KnownMaps.store_entry.Goals as goal
 
 -- what is written is the map with the entry
@@ -18,12 +19,7 @@ returns-clause-images g c is =
 
 -- and it is a map
 spells : (g : _) (c : goal.After-write g) → SpellsMap c.put_in.new.block
-spells g c =
-    let was = entries_of c.args.map.now in
-    let k = c.args.block % 64 in
-    let e = c.args.entry in
-    let put = c.put_in.ensures ∙ ap (λ (b : List ℕ). with_bytes b k (spelling e)) c.requires.spells.spelled ∙ sym (map_spelling-set was k e (omega (arith, length-entries_of c.args.map.now))) in
-    (spells_these c.put_in.new.block (set was k e) (IsMap-set was k e c.requires.spells.entries c.requires.entry) put).1
+spells g c = subst SpellsMap (sym c.put_in.ensures) (spells_with c.args.map.now (c.args.block % 64) c.args.entry c.requires.spells (omega arith) c.requires.entry)
 
 pub returns-clause-spells : goal.returns-clause-spells
 returns-clause-spells g c = spells g c

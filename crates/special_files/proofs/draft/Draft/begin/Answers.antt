@@ -1,15 +1,15 @@
 use Rattle.std.proofs.Common.{◌≡◌, ℕ, false, [], ◌∷◌, Ok, Err, Some, ◌∙◌, sym, ap, subst}
-use Rattle.special_files.proofs.Words.{Drafting, Enters, IsRefusalOrMemory, IsRootBlock, ShadowRoot, Steps, begun_at, block_at, intended, is_damaged, opened_as}
+use Rattle.special_files.proofs.Words.{Drafting, Enters, IsRefusal, IsRootBlock, ShadowRoot, Steps, begun_at, block_at, intended, is_damaged, opened_as}
 use Rattle.special_files.proofs.Begins.{begin_leaves, begin_steps}
 use Rattle.special_files.proofs.Begun.{own_root}
-use Rattle.special_files.proofs.Refusals.{damaged_by, or_memory, root_trouble, told}
+use Rattle.special_files.proofs.Refusals.{damaged_by, refusal_of, root_trouble, told}
 use Rattle.special_files.proofs.draft.Draft.begin.Goals as goal
 
 pub returns-in_err-root-clause-refused : goal.returns-in_err-root-clause-refused
 returns-in_err-root-clause-refused g c =
     let t = c.in_err-root.field-0.0 in
-    told (IsRefusalOrMemory g.D.Disk c.args.at.0 c.args.floor c.args.disk.now c.read_root.new.disk c.args.space.now) c.from_residual-in_err-root.result t c.from_residual-in_err-root.ensures.1
-    (or_memory g.D.Disk c.args.at.0 c.args.floor c.args.disk.now c.read_root.new.disk c.args.space.now t (root_trouble g.D.Disk c.args.at.0 c.args.disk.now c.read_root.new.disk c.args.space.now t c.in_err-root.ensures.reads c.in_err-root.ensures.refused))
+    told (IsRefusal g.D.Disk c.args.at.0 c.args.floor c.args.disk.now c.read_root.new.disk c.args.space.now) c.from_residual-in_err-root.result t c.from_residual-in_err-root.ensures.1
+    (refusal_of g.D.Disk c.args.at.0 c.args.floor c.args.disk.now c.read_root.new.disk c.args.space.now t (root_trouble g.D.Disk c.args.at.0 c.args.disk.now c.read_root.new.disk c.args.space.now t c.in_err-root.ensures.reads c.in_err-root.ensures.refused))
 
 pub returns-in_err-root-clause-sound : goal.returns-in_err-root-clause-sound
 returns-in_err-root-clause-sound g c = λ graph ds id o store at there.

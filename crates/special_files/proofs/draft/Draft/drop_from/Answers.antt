@@ -1,5 +1,5 @@
 use Rattle.std.proofs.Common.{ℕ, ◌/◌, ◌<◌, Ok, Err, length, sym, ◌∙◌, ap, subst, arith, ◌≡◌, false}
-use Rattle.special_files.proofs.Words.{All, AreShed, Drafting, DropCall, Forgets, HasParts, IsRead, IsSafe, IsTrouble, PutsWithin, given_all, is_fresh_node, node_of, opened_as, told_after}
+use Rattle.special_files.proofs.Words.{All, AreShed, Drafting, DropCall, Forgets, HasParts, IsRead, IsSafe, IsTrouble, PutsWithin, given_all, is_fresh_node, node_of, opened_as, refusal_after}
 use Rattle.special_files.proofs.ShedDrop.{drop_done, drop_ok_call, drop_put_err, drop_undo_err, list_err_call, put_ends, put_err_call, undo_err_call}
 use Rattle.special_files.proofs.WriteLeaf.{goes_stopped}
 use Rattle.special_files.proofs.draft.Draft.drop_from.Goals as goal
@@ -54,7 +54,7 @@ returns-in-Err-undo_listed-clause-goes g c = λ v is keeps.
     let listed = c.in-Ok.ensures.listed c.args.space.now c.args.self.now v (parts c.args.self.now _ c.self.view_is) (subst (λ (w : Drafting). IsRead (g.D.Disk.content c.args.disk.now) w c.args.read.now) (sym c.self.view_is) is) in
     drop_undo_err v c.args.from c.args.read.now c.in-Ok.ensures.reads c.requires.limit is c.requires.here keeps c.put_within.new.disk c.put_within.new.space c.in-Ok-put_within.block puts c.as_slice.result.now
     (subst (AreShed (g.D.Disk.content c.args.disk.now) v.id (opened_as v.id c.args.self.now v.draft) c.args.from) (sym c.as_slice.ensures) listed) c.undo_listed.new.disk _ _ c.in-Err-undo_listed.trouble c.in-Err-undo_listed.ensures.flips
-    _ _ (c.after.ensures ∙ ap (told_after _) c.from-in-Err-undo_listed.ensures)
+    _ _ (c.after.ensures ∙ ap (refusal_after _) c.from-in-Err-undo_listed.ensures)
 
 pub returns-in-Err-undo_listed-clause-calls : goal.returns-in-Err-undo_listed-clause-calls
 returns-in-Err-undo_listed-clause-calls g c =
@@ -63,7 +63,7 @@ returns-in-Err-undo_listed-clause-calls g c =
     subst (λ (w : Drafting). DropCall g.D.Disk c.args.from c.args.disk.now c.undo_listed.new.disk c.args.space.now c.put_within.new.space c.args.self.now w (Err c.after.result)) (sym c.self.view_is)
     (undo_err_call c.in-Ok.ensures.reads (λ stale. (list stale).2) c.args.from c.args.read.now.node.leaves c.in-Ok-put_within.block puts (length c.as_slice.result.now) (omega (arith, c.in-Ok.ensures.room, ap (length {A = ℕ}) c.as_slice.ensures)) c.undo_listed.new.disk
     c.in-Err-undo_listed.ensures.flips.calls (λ stale. c.undo_listed.ensures.none (c.as_slice.ensures ∙ (list stale).1)) c.in-Err-undo_listed.trouble c.in-Err-undo_listed.ensures.refused c.in-Err-undo_listed.ensures.untried
-    _ (c.after.ensures ∙ ap (told_after _) c.from-in-Err-undo_listed.ensures))
+    _ (c.after.ensures ∙ ap (refusal_after _) c.from-in-Err-undo_listed.ensures))
 
 pub give_all-requires : goal.give_all-requires
 give_all-requires g c =

@@ -5,7 +5,7 @@ use Rattle.special_files.proofs.Endings.{ends_err}
 use Rattle.special_files.proofs.Fills.{ended_by, put_fits, slot_put, stays_empty}
 use Rattle.special_files.proofs.Refusals.{damaged_by, told}
 use Rattle.special_files.proofs.Swapped.{is_swapped, near_swap}
-use Rattle.special_files.proofs.View.{view, view_reads}
+use Rattle.special_files.proofs.View.{view, view_reads, view_tree}
 use Rattle.special_files.proofs.WriteLeaf.{ends_as, ends_since, ends_trouble, images_since, leaf_since}
 use Rattle.special_files.proofs.draft.Draft.fill.Goals as goal
 
@@ -17,12 +17,12 @@ returns-in_err-content-clause-ends g c =
 pub returns-in_err-content-clause-sound : goal.returns-in_err-content-clause-sound
 returns-in_err-content-clause-sound g c = λ graph ds id o d store at opened.
     let t = c.in_err-content.field-0.0 in
-    told (λ e. is_damaged e ≡ false) c.from_residual.result t c.from_residual.ensures.1 (damaged_by t (c.in_err-content.ensures.turns.sound _ (view store at opened)))
+    told (λ e. is_damaged e ≡ false) c.from_residual.result t c.from_residual.ensures.1 (damaged_by t (c.in_err-content.ensures.turns.sound (view_tree (view store at opened))))
 
 pub returns-then-is_empty_already-clause-filled : goal.returns-then-is_empty_already-clause-filled
 returns-then-is_empty_already-clause-filled g c = λ graph ds id o d i store at opened index.
     let v = view store at opened in
-    stays_empty v i index c.in_ok-content.ensures.turns.reads c.args.slot c.args.what c.requires.within c.in_ok-content.content (c.in_ok-content.ensures.bytes _ v (λ few. absurd (omega (arith, few, c.nothing-read.ensures))))
+    stays_empty v i index c.in_ok-content.ensures.turns.reads c.args.slot c.args.what c.requires.within c.in_ok-content.content (c.in_ok-content.ensures.bytes (view_tree v) (λ few. absurd (omega (arith, few, c.nothing-read.ensures))))
     c.is_empty_already.result c.is_empty_already.ensures c.if-is_empty_already.true
 
 pub returns-in-Ok : goal.returns-in-Ok
@@ -41,9 +41,9 @@ returns-in-Ok g c =
     let none : IsRead (G.content d0) was c.nothing-read.result = λ few. absurd (omega (arith, few, c.nothing-read.ensures)) in
     let puts = λ (v : View G d0 k0 was).
     c.in-Ok.ensures.goes (view_reads v reads) (subst (λ (a : Image). IsRead a was c.leaf_bytes.new.read) (sym reads.content) (turns.node v.store.carries.tells none))
-    (subst (FitsLeaf was.root leaf) (sym c.put_slot.ensures.put) (put_fits v c.args.slot c.args.what c.requires.within c.in_ok-content.content (c.in_ok-content.ensures.bytes k0 v none))) in
+    (subst (FitsLeaf was.root leaf) (sym c.put_slot.ensures.put) (put_fits v c.args.slot c.args.what c.requires.within c.in_ok-content.content (c.in_ok-content.ensures.bytes (view_tree v) none))) in
     let filled = λ (v : View G d0 k0 was) (i : Index) (index : v.draft.object ≡ objects.Index i).
-    slot_put v i index reads c.args.slot c.args.what c.requires.within c.in_ok-content.content (c.in_ok-content.ensures.bytes k0 v none) c.is_empty_already.result c.is_empty_already.ensures c.if-is_empty_already.false
+    slot_put v i index reads c.args.slot c.args.what c.requires.within c.in_ok-content.content (c.in_ok-content.ensures.bytes (view_tree v) none) c.is_empty_already.result c.is_empty_already.ensures c.if-is_empty_already.false
     c.requires.slot d2 c.put_leaf.new.space now c.put_leaf.new.read c.put_slot.new.block c.put_slot.ensures.put calls.stays (puts v).done in
     let beside = λ (v : View G d0 k0 was) (i : Index) (index : v.draft.object ≡ objects.Index i).
     subst (λ (a : Image). SameBeside leaf (tree_in a (root_spelling was.root)) (tree_in (G.content d2) (root_spelling now.root))) reads.content (puts v).done.beside in
@@ -74,7 +74,7 @@ pub returns-in-Err-clause-leaves : goal.returns-in-Err-clause-leaves
 returns-in-Err-clause-leaves g c = λ graph ds id o d store at opened. images_since c.in_ok-content.ensures.turns.reads c.put_leaf.new.disk _ (c.in-Err.ensures.goes (view_reads (view store at opened) c.in_ok-content.ensures.turns.reads)
     (subst (λ (a : Image). IsRead a c.args.self.now c.leaf_bytes.new.read) (sym c.in_ok-content.ensures.turns.reads.content) (c.in_ok-content.ensures.turns.node store.carries.tells (λ few. absurd (omega (arith, few, c.nothing-read.ensures)))))
     (subst (FitsLeaf c.args.self.now.root (c.args.slot / 64)) (sym c.put_slot.ensures.put)
-    (put_fits (view store at opened) c.args.slot c.args.what c.requires.within c.in_ok-content.content (c.in_ok-content.ensures.bytes _ (view store at opened) (λ few. absurd (omega (arith, few, c.nothing-read.ensures))))))).leaves
+    (put_fits (view store at opened) c.args.slot c.args.what c.requires.within c.in_ok-content.content (c.in_ok-content.ensures.bytes (view_tree (view store at opened)) (λ few. absurd (omega (arith, few, c.nothing-read.ensures))))))).leaves
 
 pub returns-in-Err-clause-ends : goal.returns-in-Err-clause-ends
 returns-in-Err-clause-ends g c =
@@ -84,4 +84,4 @@ pub returns-in-Err-clause-sound : goal.returns-in-Err-clause-sound
 returns-in-Err-clause-sound g c = λ graph ds id o d store at opened. (c.in-Err.ensures.goes (view_reads (view store at opened) c.in_ok-content.ensures.turns.reads)
     (subst (λ (a : Image). IsRead a c.args.self.now c.leaf_bytes.new.read) (sym c.in_ok-content.ensures.turns.reads.content) (c.in_ok-content.ensures.turns.node store.carries.tells (λ few. absurd (omega (arith, few, c.nothing-read.ensures)))))
     (subst (FitsLeaf c.args.self.now.root (c.args.slot / 64)) (sym c.put_slot.ensures.put)
-    (put_fits (view store at opened) c.args.slot c.args.what c.requires.within c.in_ok-content.content (c.in_ok-content.ensures.bytes _ (view store at opened) (λ few. absurd (omega (arith, few, c.nothing-read.ensures))))))).sound
+    (put_fits (view store at opened) c.args.slot c.args.what c.requires.within c.in_ok-content.content (c.in_ok-content.ensures.bytes (view_tree (view store at opened)) (λ few. absurd (omega (arith, few, c.nothing-read.ensures))))))).sound

@@ -1,13 +1,12 @@
 use Rattle.std.proofs.Common.{◌≡◌, ◌%◌, ◌∙◌, ap, subst, arith}
 use Rattle.special_files.proofs.Words.{Drafting, IfOk, Image, bytes_in, slice_index, tells_on}
 use Rattle.special_files.proofs.ReadLeaves.{if_ok_is, leaf_below, leaf_read_is}
-use Rattle.special_files.proofs.View.{draft_of}
 use Rattle.special_files.proofs.draft.Draft.leaf_bytes.Goals as goal
 
 pub returns-clause-bytes : goal.returns-clause-bytes
-returns-clause-bytes g c = λ kept v is.
-    let tells = v.store.carries.tells in
-    let fits = (draft_of v).tree.spelled.good.0 in
+returns-clause-bytes g c = λ v is.
+    let tells = v.tells in
+    let fits = v.tree.spelled.good.0 in
     let d0 = c.args.disk.now in
     let a = g.D.Disk.content d0 in
     let v = slice_index c.turn_to.new.read.node.leaves (c.args.leaf % 128) in

@@ -1,16 +1,17 @@
 use Rattle.std.proofs.Common.{◌-◌, ◌∙◌, ap, ℕ, ◌/◌, ◌+◌, length, sym, subst, arith}
-use Rattle.special_files.proofs.Words.{Drafting, IsBorder, IsPlan, both_ways, is_full, last_node, shadow_need, shrink_takes}
+use Rattle.special_files.proofs.Words.{Drafting, IsBorder, IsPlan, both_ways, is_full_refusal, last_node, shadow_need, shrink_takes}
 use Rattle.special_files.proofs.ShrinkCall.{resize_stopped, call_full}
+use Rattle.special_files.proofs.View.{view_tree}
 use Rattle.special_files.proofs.WriteLeaf.{goes_stopped, not_full}
 use Rattle.special_files.proofs.draft.Draft.plan.Goals as goal
 
 -- ---- the node couldn't be read
 
 pub returns-in-Err-clause-goes : goal.returns-in-Err-clause-goes
-returns-in-Err-clause-goes g c = λ v. goes_stopped c.in-Err.ensures.turns.reads c.in-Err.trouble _ c.from.ensures (c.in-Err.ensures.turns.sound _ v)
+returns-in-Err-clause-goes g c = λ v. goes_stopped c.in-Err.ensures.turns.reads c.in-Err.trouble _ c.from.ensures (c.in-Err.ensures.turns.sound (view_tree v))
 
 pub returns-in-Err-clause-full : goal.returns-in-Err-clause-full
-returns-in-Err-clause-full g c = λ v f file full. absurd (both_ways _ (ap is_full c.from.ensures ∙ not_full c.in-Err.trouble) full)
+returns-in-Err-clause-full g c = λ v f file full. absurd (both_ways _ (ap is_full_refusal c.from.ensures ∙ not_full c.in-Err.trouble) full)
 
 pub returns-in-Err-clause-calls : goal.returns-in-Err-clause-calls
 returns-in-Err-clause-calls g c = resize_stopped c.in-Err.ensures.turns.reads c.args.size c.args.floor c.args.self.now c.args.space.now c.in-Err.trouble _ c.from.ensures (c.in-Err.ensures.turns.refused _)

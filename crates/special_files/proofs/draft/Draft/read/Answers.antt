@@ -1,7 +1,8 @@
 use Rattle.std.proofs.Common.{◌*◌, ◌-◌, ◌/◌, arith}
+use Rattle.intentions.proofs.Reading.{store_reads}
 use Rattle.special_files.proofs.ReadLeaves.{read_then, read_whole}
 use Rattle.special_files.proofs.Refusals.{trouble_after_reads}
-use Rattle.special_files.proofs.View.{view, view_reads}
+use Rattle.special_files.proofs.View.{draft_tree, tree_reads}
 use Rattle.special_files.proofs.draft.Draft.read.Goals as goal
 
 pub returns-in-Err-clause-refused : goal.returns-in-Err-clause-refused
@@ -9,7 +10,7 @@ returns-in-Err-clause-refused g c = λ kept.
     trouble_after_reads g.D.Disk c.args.self.now.at c.args.disk.now c.loop-leaf.disk c.leaf_bytes.new.disk kept (2 * (c.loop-leaf.leaf - c.args.offset / 512)) c.in-Err.trouble c.loop-leaf.invariant.reads (c.in-Err.ensures.turns.refused kept)
 
 pub returns-in-Err-clause-sound : goal.returns-in-Err-clause-sound
-returns-in-Err-clause-sound g c = λ graph ds space id o d store at opened. c.in-Err.ensures.turns.sound space (view_reads (view store at opened) c.loop-leaf.invariant.reads)
+returns-in-Err-clause-sound g c = λ graph ds space id o d store at opened. c.in-Err.ensures.turns.sound (tree_reads (draft_tree g.D.Disk graph ds c.args.disk.now space store at opened) c.loop-leaf.invariant.reads)
 
 pub loop-leaf-preserved : goal.loop-leaf-preserved
 loop-leaf-preserved g c =
@@ -18,5 +19,14 @@ loop-leaf-preserved g c =
 
 pub returns-clause-bytes : goal.returns-clause-bytes
 returns-clause-bytes g c = λ graph ds space id o d f store at opened file.
-    read_whole (view store at opened) f c.args.offset c.loop-leaf.leaf c.args.into.now c.loop-leaf.disk c.loop-leaf.read c.loop-leaf.into file c.loop-leaf.invariant
+    read_whole (draft_tree g.D.Disk graph ds c.args.disk.now space store at opened) f c.args.offset c.loop-leaf.leaf c.args.into.now c.loop-leaf.disk c.loop-leaf.read c.loop-leaf.into file c.loop-leaf.invariant
     (omega (arith, c.leaves_in-leaf-end.ensures, c.loop-leaf-test.false)) c.requires.within
+
+pub returns-in-Err-clause-store : goal.returns-in-Err-clause-store
+returns-in-Err-clause-store g c = λ graph ds space store.
+    store_reads g.D.Disk graph c.loop-leaf.disk c.leaf_bytes.new.disk space 2 c.in-Err.ensures.turns.reads ds space.left
+    (store_reads g.D.Disk graph c.args.disk.now c.loop-leaf.disk space (2 * (c.loop-leaf.leaf - c.args.offset / 512)) c.loop-leaf.invariant.reads ds space.left store)
+
+pub returns-clause-store : goal.returns-clause-store
+returns-clause-store g c = λ graph ds space store.
+    store_reads g.D.Disk graph c.args.disk.now c.loop-leaf.disk space (2 * (c.loop-leaf.leaf - c.args.offset / 512)) c.loop-leaf.invariant.reads ds space.left store

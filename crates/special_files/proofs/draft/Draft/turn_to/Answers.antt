@@ -11,6 +11,6 @@ returns-in-Err-clause-turns g c = record {
   number_is = tt;
   refused = λ kept. subst (λ (d : Drafting). IsTrouble g.D.Disk d.at c.args.disk.now c.read_node.new.disk kept c.in-Err.trouble) c.self.view_is (node_trouble g.D.Disk _ _ c.args.disk.now c.read_node.new.disk kept c.in-Err.trouble c.in-Err.ensures.reads c.in-Err.ensures.refused);
   untried = c.in-Err.ensures.untried;
-  sound = λ kept v. c.in-Err.ensures.sound v.store.carries.tells (subst (λ (d : Drafting). IsNear (g.D.Disk.blocks c.args.disk.now) (g.D.Disk.content c.args.disk.now) (node_of d.root c.args.number)) (sym c.self.view_is) (near_there v (g.met.D.Disk.sized c.args.disk.now v.store.carries.tells.honest) c.requires.some c.args.number));
+  sound = λ v. c.in-Err.ensures.sound v.tells (subst (λ (d : Drafting). IsNear (g.D.Disk.blocks c.args.disk.now) (g.D.Disk.content c.args.disk.now) (node_of d.root c.args.number)) (sym c.self.view_is) (near_there v (g.met.D.Disk.sized c.args.disk.now v.tells.honest) c.requires.some c.args.number));
   reads = c.in-Err.ensures.reads;
 }

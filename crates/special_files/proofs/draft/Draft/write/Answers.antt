@@ -1,5 +1,5 @@
 use Rattle.std.proofs.Common.{refl, ℕ, ◌*◌, ◌/◌, length, sym, ◌∙◌, ap, subst, arith}
-use Rattle.special_files.proofs.Words.{AreClaimed, Drafting, both_ways, claims_from, sum}
+use Rattle.special_files.proofs.Words.{AreClaimed, Drafting, both_ways, claims_by_leaf, sum}
 use Rattle.cfs_base.specs.declared.refusal.Refused.TheVariants as refused
 use Rattle.special_files.proofs.View.{view}
 use Rattle.special_files.proofs.WriteRuns.{err_ends, err_full, err_goes, err_kept, err_stays, need_told, run_begin, run_ends, run_more, run_written}
@@ -72,7 +72,7 @@ returns-clause-ends g c = run_ends c.loop-leaf.invariant (omega (arith, c.loop-l
 
 pub returns-clause-order : goal.returns-clause-order
 returns-clause-order g c = λ graph ds id o d store at opened.
-    subst (λ (n : ℕ). AreClaimed (claims_from c.args.self.now.at c.args.self.now.leaves c.args.self.now.nodes (c.args.offset / 512) n) (g.D.Disk.content c.args.disk.now) (g.D.Disk.content c.loop-leaf.disk))
+    subst (λ (n : ℕ). AreClaimed (claims_by_leaf c.args.self.now.at c.args.self.now.leaves c.args.self.now.nodes (c.args.offset / 512) n) (g.D.Disk.content c.args.disk.now) (g.D.Disk.content c.loop-leaf.disk))
     (omega (arith, c.loop-leaf-test.false, c.loop-leaf.invariant.upto, c.leaves_in-to.ensures)) ((c.loop-leaf.invariant.model (view store at opened) c.requires.within).order 0 _ (λ m. refl))
 
 pub returns-clause-tried : goal.returns-clause-tried

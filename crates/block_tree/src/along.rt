@@ -1,0 +1,224 @@
+//! The nodes along one leaf's path, read from the root down, each once; and other blocks put along it.
+ghost use Rattle.std.specs.Prelude.{◌≡◌, ◌<◌, ◌≤◌, ℕ};
+ghost use Rattle.block_tree.specs.Path as paths;
+ghost use Rattle.block_tree.specs.Path.{IsGoodWay};
+ghost use Rattle.block_tree.specs.Pointers.{leaf_limit, node_levels};
+
+use crate::leaf::LEAF_LIMIT;
+use crate::node::{LEAVES, Node};
+use crate::reads::read_node;
+use crate::root::{NODE_LEVELS, NODES, Root};
+use cfs_base::{BlockNo, Disk, Trouble};
+
+/// The places of a path: that of a pointer of the root, and then one in each node.
+pub const PLACES: usize = NODE_LEVELS as usize + 1;
+
+/// The nodes of a path.
+const INNER: usize = NODE_LEVELS as usize;
+
+/// The path of a leaf.
+fn path_of(leaf: u32) -> [u32; PLACES]
+    requires { leaf < leaf_limit }
+    ensures path { result ≡ paths.path_of leaf }
+    ensures places { paths.IsPath result }
+{
+    let mut path = [0; PLACES];
+    let mut rest = leaf;
+    let mut width = LEAF_LIMIT / NODES as u32;
+    for depth in 0..PLACES {
+        path[depth] = rest / width;
+        rest = rest % width;
+        width = width / LEAVES as u32;
+    }
+    path
+}
+
+/// How many places two paths share, of so many.
+fn shared(one: &[u32; PLACES], other: &[u32; PLACES], most: usize) -> usize
+    requires { most ≤ node_levels }
+    ensures less { result ≤ most }
+    ensures same { paths.SamePlaces result one.now other.now }
+    ensures most { (n : ℕ) → n ≤ most → paths.SamePlaces n one.now other.now → n ≤ result }
+{
+    for depth in 0..most {
+        if one[depth] != other[depth] {
+            return depth;
+        }
+    }
+    most
+}
+
+/// The nodes along a path, as far as they were read from the root down.
+#[derive(Clone, Copy, Debug)]
+pub struct Way {
+    path: [u32; PLACES],
+    nodes: [Node; INNER],
+    /// How many of the nodes were read.
+    read: usize,
+    ghost good: { IsGoodWay path nodes read },
+}
+
+impl Way {
+    ghost use Rattle.std.specs.Prelude.{◌+◌, ◌-◌, ◌^◌, false, get_or, IfErr, IfOk, OnOk};
+    ghost use Rattle.block_tree.specs.Along as spec;
+    ghost use Rattle.block_tree.specs.declared.root.Root as roots;
+    ghost use Rattle.block_tree.specs.Pointers.{levels_below, node_pointers};
+    ghost use Rattle.block_tree.specs.Reads.{IsNear, is_damage};
+    ghost use Rattle.block_tree.specs.Root.{Fits, root_spelling};
+    ghost use Rattle.block_tree.specs.Tree.{leaf_block, pointer};
+    ghost use Rattle.block_tree.specs.Way.{LeadsTo, with_node};
+    ghost use Rattle.cfs_base.specs.Calls.{OnlyReads};
+    ghost use Rattle.cfs_base.specs.Disk.{Image};
+    ghost use Rattle.cfs_base.specs.Refusals.{trouble_had_tried};
+    ghost use Rattle.cfs_base.specs.Run.{Tells};
+
+    /// No node was read yet.
+    pub fn new() -> Way
+        ensures { result.read ≡ 0 }
+    {
+        Way {
+            path: [0; PLACES],
+            nodes: [Node::empty(); INNER],
+            read: 0,
+        }
+    }
+
+    /// Turns to another path. The nodes that it shares stay read.
+    fn turn(&mut self, path: [u32; PLACES])
+        requires { paths.IsPath path }
+        ensures path { self.new.path ≡ path }
+        ensures nodes { self.new.nodes ≡ self.old.nodes }
+        ensures less { self.new.read ≤ self.old.read }
+        ensures most { (n : ℕ) → n ≤ self.old.read → paths.SamePlaces n self.old.path path → n ≤ self.new.read }
+        ensures way { (image : Image) (root : roots.Root) → spec.IsWay image root self.old
+            → spec.IsWay image root self.new }
+    {
+        *self = Way {
+            path,
+            nodes: self.nodes,
+            read: shared(&self.path, &path, self.read),
+        };
+    }
+
+    /// The pointer on the path at a depth below the root, above which the nodes were read.
+    fn pointer(&self, root: &Root, depth: usize) -> u32
+        requires { depth ≤ node_levels }
+        ensures pointer { result ≡ spec.pointer_on root.now self.now depth }
+        ensures top { get_or root.now.nodes (get_or self.now.path 0 0) 0 < 2 ^ 32 }
+    {
+        let top = root.nodes[self.path[0] as usize];
+        if depth == 0 {
+            return top;
+        }
+        self.nodes[depth - 1].leaves[self.path[depth] as usize]
+    }
+
+    /// The block with that pointer.
+    fn holder(&self, at: BlockNo, root: &Root, depth: usize) -> BlockNo
+        requires { depth ≤ node_levels }
+        ensures { result.0 ≡ spec.holder_on at.0 root.now self.now depth }
+    {
+        if depth == 0 {
+            return at;
+        }
+        BlockNo(self.pointer(root, depth - 1))
+    }
+
+    /// Reads the next node along the path. `Damaged` as in `get`.
+    fn go_down<D: Disk>(&mut self, disk: &mut D, at: BlockNo, root: &Root) -> Result<(), Trouble>
+        requires more { self.old.read < node_levels }
+        requires some { 0 < D.blocks disk.old }
+        requires within { spec.IsWithin (D.blocks disk.old) self.old }
+        ensures way { Tells D.Disk disk.old → spec.IsWay (D.content disk.old) root.now self.old
+            → spec.IsWay (D.content disk.old) root.now self.new }
+        ensures path { self.new.path ≡ self.old.path }
+        ensures top { get_or root.now.nodes (get_or self.old.path 0 0) 0 < 2 ^ 32 }
+        ensures read { OnOk result (self.new.read ≡ self.old.read + 1) }
+        ensures within { spec.IsWithin (D.blocks disk.old) self.new }
+        ensures refused { IfErr result (spec.IsWayTrouble D.Disk at.0 root.now disk.old disk.new) }
+        ensures untried { IfErr result (λ trouble. trouble_had_tried trouble ≡ false) }
+        ensures sound { Tells D.Disk disk.old
+            → IsNear (D.blocks disk.old) (D.content disk.old) (spec.pointer_on root.now self.old self.old.read)
+            → IfErr result (λ trouble. is_damage trouble ≡ false) }
+        ensures reads { OnlyReads D.Disk 1 disk.old disk.new }
+    {
+        let depth = self.read;
+        let block = self.pointer(root, depth);
+        let holder = self.holder(at, root, depth);
+        let node = match read_node(disk, block, holder) {
+            Ok(node) => node,
+            Err(trouble) => return Err(trouble),
+        };
+        let mut nodes = self.nodes;
+        nodes[depth] = node;
+        *self = Way {
+            path: self.path,
+            nodes,
+            read: depth + 1,
+        };
+        Ok(())
+    }
+
+    /// The block of a leaf below the root in this block, 0 where the leaf is absent. Reads the nodes on its path, but
+    /// those that the way has. `Damaged` names the root block, with code 4, where a pointer to a node lies past the
+    /// disk, and a node where one of its own does.
+    pub fn get<D: Disk>(
+        &mut self,
+        disk: &mut D,
+        at: BlockNo,
+        root: &Root,
+        leaf: u32,
+    ) -> Result<u32, Trouble>
+        requires some { 0 < D.blocks disk.old }
+        requires below { leaf < leaf_limit }
+        requires within { spec.IsWithin (D.blocks disk.old) self.old }
+        ensures block { Tells D.Disk disk.old → spec.IsWay (D.content disk.old) root.now self.old
+            → IfOk result (λ n. n ≡ leaf_block (D.content disk.old) (root_spelling root.now) leaf) }
+        ensures way { Tells D.Disk disk.old → spec.IsWay (D.content disk.old) root.now self.old
+            → spec.IsWay (D.content disk.old) root.now self.new }
+        ensures to { OnOk result (spec.IsTo leaf self.new) }
+        ensures there { IfOk result (λ n. n < D.blocks disk.old) }
+        ensures within { spec.IsWithin (D.blocks disk.old) self.new }
+        ensures refused { IfErr result (spec.IsWayTrouble D.Disk at.0 root.now disk.old disk.new) }
+        ensures untried { IfErr result (λ trouble. trouble_had_tried trouble ≡ false) }
+        ensures sound { Tells D.Disk disk.old → spec.IsWay (D.content disk.old) root.now self.old
+            → spec.IsNearTree (D.blocks disk.old) (D.content disk.old) (root_spelling root.now)
+            → IfErr result (λ trouble. is_damage trouble ≡ false) }
+        // One read for each node that the path doesn't share with that on which the way was.
+        ensures reads { (n : ℕ) → n ≤ self.old.read → paths.SamePlaces n self.old.path (paths.path_of leaf)
+            → OnlyReads D.Disk (node_levels - n) disk.old disk.new }
+    {
+        self.turn(path_of(leaf));
+        for depth in self.read..INNER {
+            match self.go_down(disk, at, root) {
+                Ok(()) => {}
+                Err(trouble) => return Err(trouble),
+            }
+        }
+        Ok(self.pointer(root, INNER))
+    }
+
+    /// Leads to other blocks along the path, all of whose nodes were read: one for each place, the leaf's last. Each
+    /// node is a copy of the old one with the next of the blocks at its place. They are to be written: nothing is.
+    pub fn put(&mut self, root: &mut Root, blocks: [u32; PLACES])
+        requires { self.old.read ≡ node_levels }
+        ensures root { root.new ≡ with_node root.old (get_or self.old.path 0 0) (get_or blocks 0 0) }
+        ensures path { self.new.path ≡ self.old.path }
+        ensures read { self.new.read ≡ self.old.read }
+        ensures leads { (a b : Image) → Fits root.old → spec.IsWay a root.old self.old → spec.ArePut b self.new.nodes blocks
+            → LeadsTo a b (levels_below node_levels) (pointer node_pointers (root_spelling root.old))
+            (pointer node_pointers (root_spelling root.new)) self.old.path blocks }
+        ensures way { (b : Image) → spec.ArePut b self.new.nodes blocks → spec.IsWay b root.new self.new }
+    {
+        let mut nodes = self.nodes;
+        for depth in 0..INNER {
+            nodes[depth] = nodes[depth].with_leaf(self.path[depth + 1], blocks[depth + 1]);
+        }
+        *root = root.with_node(self.path[0], blocks[0]);
+        *self = Way {
+            path: self.path,
+            nodes,
+            read: self.read,
+        };
+    }
+}

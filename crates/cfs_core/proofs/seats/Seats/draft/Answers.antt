@@ -1,7 +1,0 @@
-use Rattle.std.proofs.Common.{◌∙◌, ap}
-use Rattle.cfs_core.specs.Seats.{drafting_at}
-use Rattle.cfs_core.proofs.Seated.{held_at}
-use Rattle.cfs_core.proofs.seats.Seats.draft.Goals as goal
-
-pub returns : goal.returns
-returns c = c.get.ensures.value ∙ held_at _ c.self.inside.grants.grants c.args.draw (c.self.invariant c.args.draw) ∙ ap (λ t. drafting_at t.seats c.args.draw) c.self.view_is

@@ -1,7 +1,0 @@
-use Rattle.std.proofs.Common.{ap, sym, ◌∙◌}
-use Rattle.cfs_core.specs.Kernel.{grants_in}
-use Rattle.cfs_core.proofs.Seated.{seated_grants}
-use Rattle.cfs_core.proofs.seats.Seats.grants.Goals as goal
-
-pub returns : goal.returns
-returns c = sym (seated_grants _ c.self.inside.grants.grants) ∙ ap (λ t. grants_in t.seats) c.self.view_is

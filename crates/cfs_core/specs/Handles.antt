@@ -1,0 +1,46 @@
+-- The grants of all sessions, with the drafts of special files that are open for writing.
+use Rattle.std.specs.Prelude.{◌≡◌, ℕ, Bool, false, not, ◌&&◌, ◌==◌, if◌then◌else◌, List}
+use Rattle.std.specs.Prelude.{map, filter, find, Option, None, option_and_then, is_some}
+use Rattle.std.specs.List.{list_any}
+use Rattle.open_table.specs.declared.grant.Grant.{Grant}
+use Rattle.special_files.specs.Drafting.{Drafting}
+use Rattle.cfs_core.specs.Kernel.{Handle}
+
+-- the handles in the order of acquiring, and whether there is room for one more, with a draft
+pub record Handleing : Type 0 where
+  pub handles : List Handle
+  pub has_room : Bool
+
+-- these grants, each with the draft that is held for its draw
+abbrev pub handled : (ℕ → Option Drafting) → List Grant → List Handle
+handled held grants = map (λ grant. record { grant = grant; drafting = held grant.tuid.draw }) grants
+
+-- nothing is held for a draw that no grant has
+abbrev pub AreOfGrants : (ℕ → Option Drafting) → List Grant → Type 0
+AreOfGrants held grants = (draw : ℕ) → list_any (λ grant. draw == grant.tuid.draw) grants ≡ false → held draw ≡ None
+
+-- ---- the handle of one draw
+
+abbrev pub is_drawn : ℕ → Handle → Bool
+is_drawn draw handle = draw == handle.grant.tuid.draw
+
+abbrev pub drafting_at : List Handle → ℕ → Option Drafting
+drafting_at handles draw = option_and_then (λ handle. handle.drafting) (find (is_drawn draw) handles)
+
+-- the handles with this draft there, or with none
+abbrev pub with_drafting : ℕ → Option Drafting → List Handle → List Handle
+with_drafting draw drafting handles =
+    map (λ handle. if is_drawn draw handle then record { grant = handle.grant; drafting = drafting } else handle) handles
+
+-- a handle whose grant passes the test has a draft
+abbrev pub have_draft : (Grant → Bool) → List Handle → Bool
+have_draft test handles = list_any (λ handle. test handle.grant && is_some handle.drafting) handles
+
+abbrev pub is_at : ℕ → Grant → Bool
+is_at draw grant = draw == grant.tuid.draw
+
+-- ---- what is left
+
+-- those whose grants don't pass the test
+abbrev pub handles_but : (Grant → Bool) → List Handle → List Handle
+handles_but test handles = filter (λ handle. not (test handle.grant)) handles

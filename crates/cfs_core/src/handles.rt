@@ -1,0 +1,199 @@
+//! The grants of all sessions, with the drafts of special files that are open for writing.
+ghost use Rattle.std.specs.Prelude.{◌≡◌, ◌+◌, ◌*◌, ◌<◌, ◌≤◌, ◌++◌, [], ◌∷◌, IfOk, IfSome, IsSome, None};
+ghost use Rattle.std.specs.Prelude.{OnErr, OnOk, Some, IsTrue, length, option_copied, true, false};
+ghost use Rattle.std.specs.List.{list_any};
+ghost use Rattle.cfs_core.specs.Drafts.{ChangesDraft};
+ghost use Rattle.cfs_core.specs.Kernel.{grants_in};
+ghost use Rattle.cfs_core.specs.Handles.{drafting_at, have_draft, is_at, is_drawn, handles_but, with_drafting};
+ghost use Rattle.open_table.specs.Grants.{fault_of, first_of, grant_in, is_grant, is_held, mode_in};
+ghost use Rattle.special_files.specs.Drafting.{Drafting};
+ghost use Rattle.ufs_model.specs.declared.change.Change.TheVariants.{Overwrite, SetSize};
+
+use crate::drafting::{overwrite, set_size};
+use cfs_base::{Disk, Mode, NoMemory, Puid, Refused, Session, Tuid};
+use cyl_alloc::Space;
+use open_table::{AcquireFault, Grant, Grants, NoGrant};
+use special_files::Draft;
+use std::alloc::Global;
+use std::collections::HashMap;
+use std::marker::Model;
+
+/// The grants of all sessions in the order of acquiring, each with its draft if it has one. Only `reserve` takes
+/// memory.
+#[derive(Drop)]
+pub(crate) struct Handles {
+    grants: Grants,
+    /// By the number of words that were drawn with the grant's.
+    drafts: HashMap<u32, Draft>,
+}
+
+impl Model for Handles {
+    ghost use Rattle.std.specs.Prelude.{◌&&◌, nat_eq, nat_lt};
+    ghost use Rattle.std.specs.HashMap.{get, spare};
+    ghost use Rattle.cfs_core.specs.Handles.{AreOfGrants, Handleing, handled};
+
+    ghost Value = { Handleing };
+
+    ghost view = { λ t. record {
+      handles = handled (get nat_eq t.drafts) t.grants.grants;
+      has_room = t.grants.has_room && nat_lt 0 (spare t.drafts);
+    } };
+
+    ghost invariant = { λ t. AreOfGrants (get nat_eq t.drafts) t.grants.grants };
+}
+
+impl Handles {
+    /// No grants. Takes no memory.
+    pub fn new(alloc: Global) -> Handles
+        ensures { result.handles ≡ [] }
+    {
+        Handles {
+            grants: Grants::new(alloc),
+            drafts: HashMap::new(alloc),
+        }
+    }
+
+    /// Makes room for one more, with a draft. Where memory is wanting all stay as they were.
+    pub fn reserve(&mut self) -> Result<(), NoMemory>
+        ensures handles { self.new.handles ≡ self.old.handles }
+        ensures room { OnOk result (self.new.has_room ≡ true) }
+    {
+        self.grants.reserve()?;
+        self.drafts.reserve(1)?;
+        Ok(())
+    }
+
+    /// Why a grant can't be acquired, if it can't.
+    pub fn fault(&self, grant: Grant) -> Option<AcquireFault>
+        ensures { result ≡ fault_of (grants_in self.now.handles) grant }
+    {
+        self.grants.fault(grant)
+    }
+
+    /// Adds a grant that may be acquired, of which no other has the draw, with its draft if it has one. Takes no
+    /// memory.
+    pub fn open(&mut self, grant: Grant, draft: Option<Draft>)
+        requires room { self.old.has_room ≡ true }
+        requires new { list_any (is_drawn grant.tuid.draw) self.old.handles ≡ false }
+        requires allowed { fault_of (grants_in self.old.handles) grant ≡ None }
+        ensures { self.new.handles ≡ self.old.handles ++ record { grant = grant; drafting = draft } ∷ [] }
+    {
+        let Ok(()) = self.grants.acquire(grant) else {
+            unreachable!()
+        };
+        if let Some(draft) = draft {
+            let _ = self.drafts.insert(grant.tuid.draw, draft);
+        }
+    }
+
+    /// The session's grant with this temporary identifier.
+    pub fn find(&self, who: Session, tuid: Tuid) -> Option<Grant>
+        ensures { result ≡ grant_in (grants_in self.now.handles) who tuid }
+    {
+        self.grants.find(who, tuid)
+    }
+
+    /// How an object is open.
+    pub fn mode_on(&self, id: Puid) -> Option<Mode>
+        ensures { result ≡ mode_in (grants_in self.now.handles) id }
+    {
+        self.grants.mode_on(id)
+    }
+
+    /// The first of the session's grants.
+    pub fn next_of(&self, who: Session) -> Option<Grant>
+        ensures { result ≡ first_of (grants_in self.now.handles) who }
+    {
+        self.grants.next_of(who)
+    }
+
+    /// The number of grants.
+    pub fn len(&self) -> u32
+        ensures len { result ≡ length self.now.handles }
+        ensures held { IsTrue (is_held (grants_in self.now.handles)) }
+    {
+        self.grants.len()
+    }
+
+    /// The grants, without drafts.
+    pub fn grants(&self) -> &Grants
+        ensures { result.now.grants ≡ grants_in self.now.handles }
+    {
+        &self.grants
+    }
+
+    /// The draft of one draw, if there is one.
+    pub fn draft(&self, draw: u32) -> Option<&Draft>
+        ensures { option_copied result ≡ drafting_at self.now.handles draw }
+    {
+        self.drafts.get(&draw)
+    }
+
+    /// Writes bytes into the draft of one draw, within its size.
+    pub fn write<D: Disk>(
+        &mut self,
+        draw: u32,
+        disk: &mut D,
+        space: &mut Space,
+        offset: u64,
+        bytes: &[u8],
+    ) -> Result<(), Refused>
+        requires has { IsSome (drafting_at self.old.handles draw) }
+        requires within { IfSome (drafting_at self.old.handles draw) (λ d. (d.at < D.blocks disk.old)
+            × (offset + length bytes.now ≤ d.root.size)) }
+        requires most { length bytes.now ≤ 4096 }
+        requires size { D.blocks disk.old ≡ 64 * length space.old.free }
+        ensures { IfSome (drafting_at self.old.handles draw) (λ was. (now : Drafting)
+            × (self.new.handles ≡ with_drafting draw (Some now) self.old.handles)
+            × ChangesDraft D.Disk (Overwrite offset bytes.now) disk.old disk.new space.old space.new was now result) }
+    {
+        match self.drafts.get_mut(&draw) {
+            Some(draft) => overwrite(draft, disk, space, offset, bytes),
+            None => unreachable!(),
+        }
+    }
+
+    /// Sets the size of the draft of one draw.
+    pub fn resize<D: Disk>(
+        &mut self,
+        draw: u32,
+        disk: &mut D,
+        space: &mut Space,
+        size: u64,
+    ) -> Result<(), Refused>
+        requires has { IsSome (drafting_at self.old.handles draw) }
+        requires on_disk { IfSome (drafting_at self.old.handles draw) (λ d. d.at < D.blocks disk.old) }
+        requires limit { size ≤ 7864320 }
+        requires size { D.blocks disk.old ≡ 64 * length space.old.free }
+        ensures { IfSome (drafting_at self.old.handles draw) (λ was. (now : Drafting)
+            × (self.new.handles ≡ with_drafting draw (Some now) self.old.handles)
+            × ChangesDraft D.Disk (SetSize size) disk.old disk.new space.old space.new was now result) }
+    {
+        match self.drafts.get_mut(&draw) {
+            Some(draft) => set_size(draft, disk, space, size),
+            None => unreachable!(),
+        }
+    }
+
+    /// Takes out the draft of one draw, if there is one. Takes no memory.
+    pub fn take(&mut self, draw: u32) -> Option<Draft>
+        ensures draft { result ≡ drafting_at self.old.handles draw }
+        ensures kept { result ≡ None → self.new.handles ≡ self.old.handles }
+        ensures handles { self.new.handles ≡ with_drafting draw None self.old.handles }
+        ensures room { self.old.has_room ≡ true → self.new.has_room ≡ true }
+    {
+        self.drafts.remove(&draw)
+    }
+
+    /// Takes the session's grant with this temporary identifier out, which has no draft. Where there is none all stays
+    /// as it was. Takes no memory.
+    pub fn close(&mut self, who: Session, tuid: Tuid) -> Result<Grant, NoGrant>
+        requires undrafted { have_draft (is_at tuid.draw) self.old.handles ≡ false }
+        ensures found { IfOk result (λ grant. grant_in (grants_in self.old.handles) who tuid ≡ Some grant) }
+        ensures handles { OnOk result (self.new.handles ≡ handles_but (is_grant who tuid) self.old.handles) }
+        ensures none { OnErr result (grant_in (grants_in self.old.handles) who tuid ≡ None) }
+        ensures err { OnErr result (self.new ≡ self.old) }
+    {
+        self.grants.close(who, tuid)
+    }
+}

@@ -1,0 +1,93 @@
+-- An object made, and its identifier put into a slot of the draft of an index. The object is in the graph at once.
+use Rattle.std.specs.Prelude.{◌≡◌, ◌⊎◌, ℕ, ◌+◌, ◌/◌, ◌≤◌, ◌||◌, false, List, ◌∷◌, length, sum, Some, IfErr, IfOk}
+use Rattle.std.specs.Prelude.{IsTrue, OnOk, Result}
+use Rattle.cfs_base.specs.Calls.{MakesAtMost, OnlyReads}
+use Rattle.cfs_base.specs.Run.{Leaves}
+use Rattle.cfs_base.specs.declared.disk.Disk.{Ghosts}
+use Rattle.cfs_base.specs.declared.identifier.Puid.{Puid}
+use Rattle.cfs_base.specs.declared.kind.Place.TheVariants as places
+use Rattle.cfs_base.specs.declared.refusal.Refused.{Refused}
+use Rattle.cfs_base.specs.declared.refusal.Refused.TheVariants as refusals
+use Rattle.claims.specs.Claims.{AreClaimed, IsClaimed}
+use Rattle.cyl_alloc.specs.Space.{IsLeastFree, Kept, allocated}
+use Rattle.cyl_map.specs.declared.entry.MapEntry.{MapEntry}
+use Rattle.index_drafts.specs.Puts.{IndexView, IsFullBelow}
+use Rattle.index_ops.specs.Creates.{IsOpenMap}
+use Rattle.intentions.specs.Store.{StoreHas}
+use Rattle.special_files.specs.Committing.{puid_at}
+use Rattle.special_files.specs.Drafting.{Drafting, IsOpen, draft_takes, opened_as}
+use Rattle.special_files.specs.Fills.{filled_draft}
+use Rattle.special_files.specs.Order.{leaf_claims}
+use Rattle.special_files.specs.Puts.{StaysBut}
+use Rattle.special_files.specs.Refusal.{IsRefusal, is_damaged}
+use Rattle.special_files.specs.Store.{replaced}
+use Rattle.ufs_model.specs.Graph.{Graph, has_block, with_object}
+use Rattle.ufs_model.specs.declared.object.Draft.{Draft}
+use Rattle.ufs_model.specs.declared.object.Object.{Object}
+use Rattle.vol_image.specs.Sound.{Holds}
+use Rattle.vol_owners.specs.Account.{Opened}
+use Rattle.vol_owners.specs.Change.{ChangesOnly, of_draft, of_owner}
+
+-- the entry of the root of a new object
+abbrev pub root_entry : ℕ → MapEntry
+root_entry n = allocated places.Root n
+
+-- ---- the object alone
+
+-- The store has the object besides. The least Free block was claimed for its root, as Allocated, and only this block
+-- changed.
+pub record MakesAlone {D : Type 0} (g : Ghosts D) (graph : Graph) (ds : List Opened) (id : Puid) (made : Object)
+    (old new : D) (after : Kept) : Type 0 where
+  pub fresh : has_block graph.objects id.block ≡ false
+  pub store : StoreHas g (with_object graph id made) ds new after
+  pub claim : IsClaimed (root_entry id.block) (g.content old) (g.content new)
+  pub only : ChangesOnly (λ entry. of_owner id.block entry) (g.content old) (g.content new)
+
+-- ---- with the slot
+
+-- the draft with the identifier in the slot
+abbrev pub made_in : {D : Type 0} {g : Ghosts D} {old : D} {before : Kept} {was : Drafting}
+    → IndexView g old before was → ℕ → Puid → Draft
+made_in i slot id = filled_draft i.index slot (Some id) i.view.draft
+
+-- the drafts that stand then
+abbrev pub drafts_then : {D : Type 0} {g : Ghosts D} {old : D} {before : Kept} {was : Drafting}
+    → IndexView g old before was → ℕ → Puid → Drafting → List Opened
+drafts_then i slot id now = replaced (opened_as i.view.id now (made_in i slot id)) i.view.ds
+
+-- The store has the object besides, and the draft has its identifier in the slot. The least Free block was claimed for
+-- the object's root, as Allocated, and then the draft's leaf and node as for any slot. Nothing changed but this, what
+-- is meant for the index, and Free blocks.
+pub record CreatesInDraft {D : Type 0} {g : Ghosts D} {old : D} {before : Kept} {was : Drafting}
+    (i : IndexView g old before was) (slot : ℕ) (made : Object) (new : D) (after : Kept) (now : Drafting)
+    (id : Puid) : Type 0 where
+  pub store : StoreHas g (with_object i.view.graph id made) (drafts_then i slot id now) new after
+  pub is_open : IsOpen (drafts_then i slot id now) i.view.id now (made_in i slot id)
+  pub order : AreClaimed (root_entry id.block ∷ leaf_claims was.at was.leaves was.nodes (slot / 64)) (g.content old)
+      (g.content new)
+  pub least : IsLeastFree (g.content old) id.block
+  pub only : ChangesOnly (λ entry. of_owner id.block entry || of_draft i.view.id.block entry) (g.content old)
+      (g.content new)
+
+-- how it ends where the store has the draft: each image on the way holds all objects as they were, or the new one too
+pub record CreateEnds {D : Type 0} {g : Ghosts D} {old : D} {before : Kept} {was : Drafting}
+    (i : IndexView g old before was) (slot : ℕ) (made : Object) (word : ℕ) (new : D) (after : Kept) (now : Drafting)
+    (result : Result Puid Refused) : Type 0 where
+  pub done : IfOk result (λ id. (id.word ≡ word) × CreatesInDraft i slot made new after now id)
+  pub leaves : Leaves g old new (λ c. Holds c i.view.graph
+      ⊎ ((b : ℕ) × IsLeastFree (g.content old) b × Holds c (with_object i.view.graph (puid_at b word) made)))
+  pub sound : IfErr result (λ e. is_damaged e ≡ false)
+
+-- how it ends on any disk
+pub record CreateCall {D : Type 0} (g : Ghosts D) (slot floor : ℕ) (old new : D) (before after : Kept)
+    (was now : Drafting) (result : Result Puid Refused) : Type 0 where
+  pub stays : StaysBut was now
+  pub full : IsFullBelow (1 + draft_takes was (slot / 64)) floor old new before after was now result
+  pub told : OnOk result ((b : ℕ) → IsTrue (g.told old b) → IsTrue (g.told new b))
+  pub refused : IfErr result (λ e. IsRefusal g was.at floor old new after e ⊎ IsOpenMap g old before e)
+  pub untried : IfErr result (λ e. e ≡ refusals.Disk false
+      → (now ≡ was) × (after ≡ before) × OnlyReads g 5 old new)
+  pub cylinders : length after.free ≡ length before.free
+  pub left : after.left ≡ before.left
+  pub takes : sum before.free ≤ sum after.free + (1 + draft_takes was (slot / 64))
+  pub calls : MakesAtMost g 13 7 old new

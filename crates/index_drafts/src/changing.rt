@@ -1,0 +1,82 @@
+//! Slots of the draft of an index, filled and emptied.
+ghost use Rattle.std.specs.Prelude.{◌≡◌, ◌≢◌, ◌+◌, ◌*◌, ◌/◌, ◌<◌, ◌≤◌, length, None, Some};
+ghost use Rattle.index_drafts.specs.Puts.{IndexView, PutCall, PutsInDraft, slot_need};
+ghost use Rattle.leaf_changes.specs.Bytes.{IsSlot};
+ghost use Rattle.special_files.specs.Drafting.{draft_takes};
+ghost use Rattle.special_files.specs.View.{Goes};
+
+use crate::draft::IndexDraft;
+use cfs_base::{Disk, Puid, Refused};
+use cyl_alloc::Space;
+
+impl IndexDraft {
+    /// Makes a slot hold this, or nothing.
+    fn put<D: Disk>(
+        &mut self,
+        disk: &mut D,
+        space: &mut Space,
+        slot: u64,
+        what: Option<Puid>,
+        floor: u32,
+    ) -> Result<(), Refused>
+        requires on_disk { self.old.at < D.blocks disk.old }
+        requires size { D.blocks disk.old ≡ 64 * length space.old.free }
+        requires within { 8 * slot + 8 ≤ self.old.root.size }
+        requires slot { IsSlot what }
+        ensures puts { (i : IndexView D.Disk disk.old space.old self.old) → Goes D.Disk i.view.graph
+            (PutsInDraft i slot what disk.new space.new self.new) disk.old disk.new result }
+        ensures need { (i : IndexView D.Disk disk.old space.old self.old)
+            → draft_takes self.old (slot / 64) ≡ slot_need slot i.view.draft }
+        ensures call { PutCall D.Disk slot floor disk.old disk.new space.old space.new self.old self.new result }
+    {
+        space.has_room(self.draft.slot_takes(slot), floor)?;
+        self.draft.fill(disk, space, slot, what)?;
+        Ok(())
+    }
+
+    /// Puts an identifier of an object that the disk holds into a slot, whatever stood there. `Full` exactly where
+    /// fewer blocks are Free than it takes and the floor: one for the slot's leaf where that isn't fresh, and one for
+    /// the leaf's node where that isn't; nothing was done then. `Damaged` names a map block, with code 2, which is none
+    /// or has no Free block, with code 12, or a node or the root block, with code 4, where a pointer leads past the
+    /// disk. Takes no memory.
+    pub fn retain<D: Disk>(
+        &mut self,
+        disk: &mut D,
+        space: &mut Space,
+        slot: u64,
+        id: Puid,
+        floor: u32,
+    ) -> Result<(), Refused>
+        requires on_disk { self.old.at < D.blocks disk.old }
+        requires size { D.blocks disk.old ≡ 64 * length space.old.free }
+        requires within { 8 * slot + 8 ≤ self.old.root.size }
+        requires id { id.block ≢ 0 }
+        ensures puts { (i : IndexView D.Disk disk.old space.old self.old) → Goes D.Disk i.view.graph
+            (PutsInDraft i slot (Some id) disk.new space.new self.new) disk.old disk.new result }
+        ensures need { (i : IndexView D.Disk disk.old space.old self.old)
+            → draft_takes self.old (slot / 64) ≡ slot_need slot i.view.draft }
+        ensures call { PutCall D.Disk slot floor disk.old disk.new space.old space.new self.old self.new result }
+    {
+        self.put(disk, space, slot, Some(id), floor)
+    }
+
+    /// Empties a slot; where it is empty nothing is done. `Full` and `Damaged` as in `retain`. Takes no memory.
+    pub fn delete<D: Disk>(
+        &mut self,
+        disk: &mut D,
+        space: &mut Space,
+        slot: u64,
+        floor: u32,
+    ) -> Result<(), Refused>
+        requires on_disk { self.old.at < D.blocks disk.old }
+        requires size { D.blocks disk.old ≡ 64 * length space.old.free }
+        requires within { 8 * slot + 8 ≤ self.old.root.size }
+        ensures puts { (i : IndexView D.Disk disk.old space.old self.old) → Goes D.Disk i.view.graph
+            (PutsInDraft i slot None disk.new space.new self.new) disk.old disk.new result }
+        ensures need { (i : IndexView D.Disk disk.old space.old self.old)
+            → draft_takes self.old (slot / 64) ≡ slot_need slot i.view.draft }
+        ensures call { PutCall D.Disk slot floor disk.old disk.new space.old space.new self.old self.new result }
+    {
+        self.put(disk, space, slot, None, floor)
+    }
+}

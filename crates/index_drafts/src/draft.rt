@@ -1,0 +1,147 @@
+//! The draft of an index: begun, read, committed and given up.
+ghost use Rattle.std.specs.Prelude.{◌≡◌, ◌≢◌, ◌+◌, ◌*◌, ◌/◌, ◌<◌, ◌≤◌, ℕ, List, None, false, length, IfErr, IfOk};
+ghost use Rattle.std.specs.Prelude.{OnOk, Some};
+ghost use Rattle.block_tree.specs.Reads.{is_damage};
+ghost use Rattle.cfs_base.specs.Calls.{HasTried, MakesAtMost, OnlyReads};
+ghost use Rattle.cfs_base.specs.Disk.{Image};
+ghost use Rattle.cfs_base.specs.Refusals.{trouble_had_tried};
+ghost use Rattle.cfs_base.specs.declared.identifier.Puid.{Puid};
+ghost use Rattle.cfs_base.specs.declared.refusal.Trouble.TheVariants as troubles;
+ghost use Rattle.cyl_alloc.specs.Left.{Left};
+ghost use Rattle.cyl_alloc.specs.Space.{Kept};
+ghost use Rattle.index_drafts.specs.Begins.{BeginCall, BeginsDraft, IsShut};
+ghost use Rattle.index_drafts.specs.Puts.{IndexView};
+ghost use Rattle.intentions.specs.Left.{StoreIs};
+ghost use Rattle.special_files.specs.Committing.{AbortEnds, CommitEnds, IsNoted};
+ghost use Rattle.special_files.specs.Drafting.{IsOpen, opened_as};
+ghost use Rattle.special_files.specs.Refusal.{IsTrouble};
+ghost use Rattle.ufs_model.specs.Graph.{Graph, object_at};
+ghost use Rattle.ufs_model.specs.Object.{slot_of};
+ghost use Rattle.ufs_model.specs.declared.object.Draft as drafts;
+ghost use Rattle.ufs_model.specs.declared.object.Index.{Index};
+ghost use Rattle.ufs_model.specs.declared.object.Object.TheVariants as objects;
+ghost use Rattle.ufs_model.specs.declared.object.Object.{Object};
+ghost use Rattle.vol_owners.specs.Account.{HasDraft, Opened};
+
+use block_tree::Root;
+use cfs_base::{BlockNo, Disk, Puid, Refused, Trouble};
+use cyl_alloc::Space;
+use special_files::{Draft, Room};
+use std::marker::Model;
+
+/// A changed index beside the one that stands. It has a shadow root from its beginning on.
+#[derive(Debug, Drop)]
+pub struct IndexDraft {
+    pub(crate) draft: Draft,
+}
+
+impl Model for IndexDraft {
+    ghost use Rattle.std.specs.Prelude.{◌≡◌, ◌≢◌, None};
+    ghost use Rattle.special_files.specs.Drafting.{Drafting};
+
+    ghost Value = { Drafting };
+
+    ghost view = { λ a. a.draft };
+
+    ghost invariant = { λ a. (a.draft.shadow ≢ None) × (a.draft.created ≡ None) };
+}
+
+impl IndexDraft {
+    /// Begins a draft of the index whose root is at this block, equal to it, and claims the least-numbered Free
+    /// block as its shadow root. `room` is all memory that the draft will need, so it takes none. `Full` where fewer
+    /// blocks are Free than 1 and the floor; nothing was written then. `Damaged` names the root block, with code 3, which is none, or
+    /// the map in which no Free block was found, with code 2 where it is none, else with code 12.
+    pub fn begin<D: Disk>(
+        room: Room,
+        disk: &mut D,
+        space: &mut Space,
+        at: BlockNo,
+        floor: u32,
+    ) -> Result<IndexDraft, Refused>
+        requires some { at.0 ≢ 0 }
+        requires on_disk { at.0 < D.blocks disk.old }
+        requires size { D.blocks disk.old ≡ 64 * length space.old.free }
+        ensures begins { (i : IsShut D.Disk disk.old space.old at.0) → BeginsDraft i disk.new space.new result }
+        ensures call { BeginCall D.Disk at.0 floor disk.old disk.new space.old space.new result }
+    {
+        let draft = Draft::begin(room, disk, space, at, floor)?;
+        Ok(IndexDraft { draft })
+    }
+
+    /// How many slots the index has.
+    pub fn slots(&self) -> u64
+        ensures size { result ≡ self.now.root.size / 8 }
+        ensures count { (image : Image) (id : Puid) (d : drafts.Draft) (i : Index)
+            → HasDraft image id (opened_as id self.now d) → d.object ≡ objects.Index i → result ≡ length i.slots }
+    {
+        self.draft.size() / 8
+    }
+
+    /// The root that the index is to get.
+    pub fn root(&self) -> &Root
+        ensures { result.now ≡ self.now.root }
+    {
+        self.draft.root()
+    }
+
+    /// What a slot holds in the draft, also while another object's commit is unfinished: None where it is empty. `Damaged` names the root block, or a node, with code 4,
+    /// where a pointer of it leads past the disk.
+    pub fn retrieve<D: Disk>(&self, disk: &mut D, slot: u64) -> Result<Option<Puid>, Trouble>
+        requires on_disk { self.now.at < D.blocks disk.old }
+        requires within { 8 * slot + 8 ≤ self.now.root.size }
+        ensures slot { (graph : Graph) (ds : List Opened) (space : Kept) (id : Puid) (o : Object) (d : drafts.Draft)
+            (i : Index)
+            → StoreIs D.Disk graph ds disk.old space → object_at graph id ≡ Some o → IsOpen ds id self.now d
+            → d.object ≡ objects.Index i → IfOk result (λ what. what ≡ slot_of i slot) }
+        ensures refused { (kept : Kept) → IfErr result (IsTrouble D.Disk self.now.at disk.old disk.new kept) }
+        ensures untried { IfErr result (λ trouble. trouble_had_tried trouble ≡ false) }
+        // No damage where the disk holds the index.
+        ensures sound { (graph : Graph) (ds : List Opened) (space : Kept) (id : Puid) (o : Object) (d : drafts.Draft)
+            → StoreIs D.Disk graph ds disk.old space → object_at graph id ≡ Some o → IsOpen ds id self.now d
+            → IfErr result (λ trouble. is_damage trouble ≡ false) }
+        ensures reads { OnlyReads D.Disk 2 disk.old disk.new }
+    {
+        self.draft.slot(disk, slot)
+    }
+
+    /// Makes the draft its index. Done, all is durable, and once the commit that the space keeps is carried out the
+    /// index's blocks are exactly those of the draft. Where it is refused the draft is gone, and each image that a crash leaves has the index old or new. `Damaged` names a map
+    /// block, with code 2, which is none, or a node or the root block, with code 4, where a pointer leads past the
+    /// disk.
+    pub fn commit<D: Disk>(self, disk: &mut D, space: &mut Space) -> Result<(), Trouble>
+        requires on_disk { self.at < D.blocks disk.old }
+        requires size { D.blocks disk.old ≡ 64 * length space.old.free }
+        // No commit is kept.
+        requires left { space.old.left ≡ None }
+        ensures commits { (i : IndexView D.Disk disk.old space.old self)
+            → CommitEnds D.Disk i.view.graph i.view.ds i.view.id (objects.Index i.index) None disk.old disk.new
+            space.new result }
+        ensures refused { IfErr result (IsTrouble D.Disk self.at disk.old disk.new space.new) }
+        // Where a device call failed a write or a barrier was tried.
+        ensures tried { IfErr result (λ trouble. trouble ≢ troubles.Disk false) }
+        ensures made { OnOk result (HasTried D.Disk disk.old disk.new) }
+        ensures cylinders { length space.new.free ≡ length space.old.free }
+        // What is left of it is kept.
+        ensures left { OnOk result ((l : Left) × IsNoted self.at space.new.left l) }
+        ensures calls { MakesAtMost D.Disk 31207 15485 disk.old disk.new }
+    {
+        self.draft.commit(disk, space)
+    }
+
+    /// Gives up the draft, whose blocks are Free then. An object that was made in it stays. Where it is refused the
+    /// draft is gone, and each image that a crash leaves has all objects as they were. `Damaged` as in `commit`.
+    pub fn abort<D: Disk>(self, disk: &mut D, space: &mut Space) -> Result<(), Trouble>
+        requires on_disk { self.at < D.blocks disk.old }
+        requires size { D.blocks disk.old ≡ 64 * length space.old.free }
+        ensures aborts { (i : IndexView D.Disk disk.old space.old self)
+            → AbortEnds D.Disk i.view.graph i.view.ds i.view.id None disk.old disk.new space.new result }
+        ensures refused { IfErr result (IsTrouble D.Disk self.at disk.old disk.new space.new) }
+        ensures tried { IfErr result (λ trouble. trouble ≢ troubles.Disk false) }
+        ensures made { OnOk result (HasTried D.Disk disk.old disk.new) }
+        ensures cylinders { length space.new.free ≡ length space.old.free }
+        ensures left { space.new.left ≡ space.old.left }
+        ensures calls { MakesAtMost D.Disk 31205 15483 disk.old disk.new }
+    {
+        self.draft.abort(disk, space)
+    }
+}

@@ -1,0 +1,223 @@
+//! Blocks taken for leaves that are absent, and for their node.
+ghost use Rattle.std.specs.Prelude.{◌≡◌, ◌≢◌, ℕ, ◌+◌, ◌-◌, ◌*◌, ◌<◌, ◌≤◌, true, false, List, length, Ok, IfOk};
+ghost use Rattle.block_tree.specs.Pointers.{leaf_limit, node_pointers};
+ghost use Rattle.cyl_alloc.specs.Space.{Kept};
+ghost use Rattle.normal_files.specs.Ends.{Finishes, refused_after};
+ghost use Rattle.normal_files.specs.Laid.{node_of};
+ghost use Rattle.normal_files.specs.Parts.{IsReadPart, part_need};
+ghost use Rattle.normal_files.specs.Takes as spec;
+
+use crate::in_place::write_block;
+use crate::next::Next;
+use crate::part::Part;
+use block_tree::{LEAVES, Root};
+use cfs_base::{Block, BlockNo, Disk, Place, Refused};
+use cyl_alloc::Space;
+use leaf_changes::patch_leaf;
+
+/// The block of a leaf that was taken, and that of its node.
+#[derive(Clone, Copy)]
+pub(crate) struct Taken {
+    pub leaf: u32,
+    pub node: u32,
+}
+
+/// The same refusal of a call that may have tried a write before.
+pub(crate) fn refused(tried: bool, error: Refused) -> Refused
+    ensures { result ≡ refused_after tried error }
+{
+    if tried { error.after_try() } else { error }
+}
+
+/// The block of a node, which is taken where it has none.
+fn take_node<D: Disk>(
+    disk: &mut D,
+    space: &mut Space,
+    at: BlockNo,
+    number: u32,
+    held: bool,
+    block: u32,
+) -> Result<BlockNo, Refused>
+    requires size { D.blocks disk.old ≡ 64 * length space.old.free }
+    requires some { at.0 ≢ 0 }
+    requires below { number < node_pointers.count }
+    ensures { spec.GetsNode D.Disk number at.0 held block disk.old disk.new space.old space.new result }
+{
+    if held {
+        return Ok(BlockNo(block));
+    }
+    space.claim(disk, Place::Node(number as u16), at.0)
+}
+
+/// Takes a block for a leaf, and after it one for its node where that has none, and writes the leaf.
+fn take_leaf<D: Disk>(
+    disk: &mut D,
+    space: &mut Space,
+    at: BlockNo,
+    leaf: u32,
+    held: bool,
+    block: u32,
+    content: &Block,
+) -> Result<Taken, Refused>
+    requires size { D.blocks disk.old ≡ 64 * length space.old.free }
+    requires some { at.0 ≢ 0 }
+    requires below { leaf < leaf_limit }
+    ensures takes { (offset : ℕ) (bytes : List ℕ)
+        → spec.Takes D.Disk at.0 offset bytes disk.old disk.new space.old space.new
+        result (λ a c taken. spec.TakesLeaf a c at.0 leaf held block taken.leaf taken.node content.now) }
+    ensures near { block < D.blocks disk.old → IfOk result (λ taken. taken.node < D.blocks disk.old) }
+    ensures ends { Finishes D.Disk 5 3 (spec.leaf_takes held) disk.old disk.new space.old space.new result (λ taken.
+        true) }
+{
+    let leaf_block = match space.claim(disk, Place::Leaf(leaf as u16), at.0) {
+        Ok(block) => block,
+        Err(error) => return Err(error),
+    };
+    let node = match take_node(disk, space, at, leaf / LEAVES as u32, held, block) {
+        Ok(node) => node,
+        Err(error) => return Err(error.after_try()),
+    };
+    match write_block(disk, leaf_block.0, content) {
+        Ok(()) => Ok(Taken {
+            leaf: leaf_block.0,
+            node: node.0,
+        }),
+        Err(trouble) => Err(Refused::from(trouble.after_try())),
+    }
+}
+
+impl Part {
+    /// Takes one of the leaves, where it is absent.
+    fn take_one<D: Disk>(
+        &self,
+        disk: &mut D,
+        space: &mut Space,
+        at: BlockNo,
+        fill: u8,
+        leaf: u32,
+        offset: u64,
+        bytes: &[u8],
+        had: u32,
+        next: Next,
+    ) -> Result<Next, Refused>
+        requires size { D.blocks disk.old ≡ 64 * length space.old.free }
+        requires some { at.0 ≢ 0 }
+        requires read { IsReadPart (D.blocks disk.old) self.now }
+        requires from { self.now.leaves.from ≤ leaf }
+        requires to { leaf < self.now.leaves.to }
+        ensures takes { (d : D) (kept : Kept)
+            → spec.Takes D.Disk at.0 offset bytes.now d disk.old kept space.old (Ok next)
+            (λ a c now. spec.HasTaken a c at.0 fill offset bytes.now self.now had leaf now)
+            → spec.Takes D.Disk at.0 offset bytes.now d disk.new kept space.new result
+            (λ a c now. spec.HasTaken a c at.0 fill offset bytes.now self.now had (leaf + 1) now) }
+        ensures near { next.block < D.blocks disk.old → IfOk result (λ more. more.block < D.blocks disk.old) }
+        ensures ends { spec.Passes D.Disk had self.now.own.leaves leaf next disk.old disk.new space.old space.new
+            result }
+        ensures size { D.blocks disk.new ≡ D.blocks disk.old }
+        ensures cylinders { length space.new.free ≡ length space.old.free }
+        ensures left { space.new.left ≡ space.old.left }
+    {
+        let place = leaf % LEAVES as u32;
+        let block = self.own.leaves[place as usize];
+        if block != 0 {
+            return Ok(next);
+        }
+        let mut content = Block::of([fill; 512]);
+        patch_leaf(&mut content, leaf, offset, bytes);
+        match take_leaf(
+            disk,
+            space,
+            at,
+            leaf,
+            next.is_held(had),
+            next.block,
+            &content,
+        ) {
+            Ok(taken) => Ok(next.with(place, taken)),
+            Err(error) => Err(error),
+        }
+    }
+
+    /// Takes each of the leaves that is absent, in increasing order.
+    fn take_leaves<D: Disk>(
+        &self,
+        disk: &mut D,
+        space: &mut Space,
+        at: BlockNo,
+        root: &Root,
+        offset: u64,
+        bytes: &[u8],
+    ) -> Result<Next, Refused>
+        requires size { D.blocks disk.old ≡ 64 * length space.old.free }
+        requires some { at.0 ≢ 0 }
+        requires read { IsReadPart (D.blocks disk.old) self.now }
+        requires near { self.now.leaves.from < self.now.leaves.to
+            → node_of root.now self.now.number < D.blocks disk.old }
+        ensures takes { spec.Takes D.Disk at.0 offset bytes.now disk.old disk.new space.old space.new result
+            (λ a c next.
+            spec.HasTaken a c at.0 root.now.fill offset bytes.now self.now (node_of root.now self.now.number)
+            self.now.leaves.to next) }
+        ensures near { IfOk result (λ next. next.grown ≡ true → next.block < D.blocks disk.old) }
+        ensures ends { Finishes D.Disk (5 * (self.now.leaves.to - self.now.leaves.from))
+            (3 * (self.now.leaves.to - self.now.leaves.from)) (part_need root.now self.now)
+            disk.old disk.new space.old space.new result (λ next. next.grown) }
+        ensures size { D.blocks disk.new ≡ D.blocks disk.old }
+        ensures cylinders { length space.new.free ≡ length space.old.free }
+        ensures left { space.new.left ≡ space.old.left }
+    {
+        let had = root.nodes[self.number as usize];
+        let mut next = Next {
+            block: had,
+            node: self.own,
+            grown: false,
+        };
+        for leaf in self.leaves.from..self.leaves.to {
+            match self.take_one(disk, space, at, root.fill, leaf, offset, bytes, had, next) {
+                Ok(more) => next = more,
+                Err(error) => return Err(refused(next.grown, error)),
+            }
+        }
+        Ok(next)
+    }
+
+    /// The same, and writes the node where it is new. Nothing leads to it yet.
+    pub fn take<D: Disk>(
+        &self,
+        disk: &mut D,
+        space: &mut Space,
+        at: BlockNo,
+        root: &Root,
+        offset: u64,
+        bytes: &[u8],
+    ) -> Result<Next, Refused>
+        requires size { D.blocks disk.old ≡ 64 * length space.old.free }
+        requires some { at.0 ≢ 0 }
+        requires read { IsReadPart (D.blocks disk.old) self.now }
+        requires near { self.now.leaves.from < self.now.leaves.to
+            → node_of root.now self.now.number < D.blocks disk.old }
+        ensures takes { spec.Takes D.Disk at.0 offset bytes.now disk.old disk.new space.old space.new result
+            (λ a c next.
+            spec.HasTaken a c at.0 root.now.fill offset bytes.now self.now (node_of root.now self.now.number)
+            self.now.leaves.to next × spec.IsWhole c (node_of root.now self.now.number) next) }
+        ensures near { IfOk result (λ next. next.grown ≡ true → next.block < D.blocks disk.old) }
+        ensures ends { Finishes D.Disk (5 * (self.now.leaves.to - self.now.leaves.from) + 1)
+            (3 * (self.now.leaves.to - self.now.leaves.from) + 1) (part_need root.now self.now)
+            disk.old disk.new space.old space.new result (λ next. next.grown) }
+        ensures size { D.blocks disk.new ≡ D.blocks disk.old }
+        ensures cylinders { length space.new.free ≡ length space.old.free }
+        ensures left { space.new.left ≡ space.old.left }
+    {
+        let next = match self.take_leaves(disk, space, at, root, offset, bytes) {
+            Ok(next) => next,
+            Err(error) => return Err(error),
+        };
+        let new = next.is_new(root.nodes[self.number as usize]);
+        if !new {
+            return Ok(next);
+        }
+        match write_block(disk, next.block, &next.node.encode()) {
+            Ok(()) => Ok(next),
+            Err(trouble) => Err(Refused::from(trouble.after_try())),
+        }
+    }
+}

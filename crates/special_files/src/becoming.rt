@@ -1,0 +1,217 @@
+//! A draft becomes its object.
+ghost use Rattle.std.specs.Prelude.{◌≡◌, ◌≢◌, ◌<◌, ◌≤◌, ◌*◌, ◌++◌, ℕ, List, false, length, sum, Option, None, Some};
+ghost use Rattle.std.specs.Prelude.{IfErr, OnOk};
+ghost use Rattle.cfs_base.specs.Calls.{HasTried, MakesAtMost, OnlyReads};
+ghost use Rattle.cfs_base.specs.Run.{IsSettled, Leaves, Tells};
+ghost use Rattle.cfs_base.specs.declared.identifier.Puid.{Puid};
+ghost use Rattle.cfs_base.specs.declared.refusal.Trouble.TheVariants as troubles;
+ghost use Rattle.cyl_alloc.specs.Left.{Left};
+ghost use Rattle.intentions.specs.Store.{StoreHas};
+ghost use Rattle.special_files.specs.Changed.{unlike};
+ghost use Rattle.special_files.specs.Committing as spec;
+ghost use Rattle.special_files.specs.Drafting.{Drafting, IsOpen, number_if};
+ghost use Rattle.special_files.specs.Fills.{IsNearSwap, IsSwapped};
+ghost use Rattle.block_tree.specs.Reads.{is_damage};
+ghost use Rattle.special_files.specs.Refusal.{IsTrouble};
+ghost use Rattle.special_files.specs.View.{View};
+ghost use Rattle.ufs_model.specs.Graph.{Graph, object_at};
+ghost use Rattle.ufs_model.specs.declared.object.Draft as drafts;
+ghost use Rattle.ufs_model.specs.declared.object.Object.{Object};
+ghost use Rattle.vol_owners.specs.Account.{Opened};
+
+use crate::blocks::Blocks;
+use crate::changed::add_unlike;
+use crate::commit::commit_begun;
+use crate::direct::{commit_direct, commit_listed};
+use crate::draft::Draft;
+use crate::fill::Swap;
+use block_tree::Root;
+use cfs_base::{BlockNo, Damage, Disk, Trouble, code};
+use cyl_alloc::Space;
+
+/// Whether a block of the draft's own lies on the disk.
+fn is_on_disk<D: Disk>(disk: &D, at: BlockNo, block: BlockNo) -> Result<(), Trouble>
+    ensures on_disk { OnOk result (block.0 < D.blocks disk.now) }
+    ensures far { IfErr result (λ t. (D.blocks disk.now ≤ block.0) × (t ≡ spec.far_root at.0)) }
+{
+    if block.0 < disk.blocks() {
+        return Ok(());
+    }
+    Err(Trouble::Damaged(Damage {
+        block: at.0,
+        code: code::PAST_DISK,
+    }))
+}
+
+/// Whether a block of the draft's own lies on the disk, if there is one.
+pub(crate) fn part_on_disk<D: Disk>(
+    disk: &D,
+    at: BlockNo,
+    block: Option<BlockNo>,
+) -> Result<(), Trouble>
+    ensures on_disk { OnOk result ((n : ℕ) → number_if block ≡ Some n → n < D.blocks disk.now) }
+    ensures far { IfErr result (λ t. spec.IsFar (D.blocks disk.now) (number_if block) × (t ≡ spec.far_root at.0)) }
+{
+    match block {
+        Some(block) => is_on_disk(disk, at, block),
+        None => Ok(()),
+    }
+}
+
+/// Commits a draft of these parts.
+fn commit_parts<D: Disk>(
+    disk: &mut D,
+    space: &mut Space,
+    at: BlockNo,
+    shadow: Option<BlockNo>,
+    own: &Root,
+    root: &Root,
+    taken: Blocks,
+    dropped: &mut Blocks,
+    created: Option<BlockNo>,
+) -> Result<(), Trouble>
+    requires some { at.0 ≢ 0 }
+    requires on_disk { at.0 < D.blocks disk.old }
+    requires size { D.blocks disk.old ≡ 64 * length space.old.free }
+    requires room { number_if shadow ≡ None → 1 ≤ sum space.old.free }
+    requires left { space.old.left ≡ None }
+    ensures commits { (was : Drafting) (v : View D.Disk disk.old space.old was) (made : Option spec.Making)
+        → spec.AreParts was at.0 (number_if shadow) own.now root.now (number_if created)
+        → spec.Makes (D.content disk.old) (number_if created) made
+        → spec.CommitEnds D.Disk v.graph v.ds v.id v.draft.object made disk.old disk.new space.new result }
+    ensures refused { IfErr result (IsTrouble D.Disk at.0 disk.old disk.new space.new) }
+    ensures made { OnOk result (HasTried D.Disk disk.old disk.new) }
+    ensures tried { number_if shadow ≢ None → IfErr result (λ t. t ≢ troubles.Disk false) }
+    ensures untried { IfErr result (λ t. t ≡ troubles.Disk false
+        → (space.new ≡ space.old) × OnlyReads D.Disk 241 disk.old disk.new) }
+    ensures settled { Tells D.Disk disk.old → OnOk result (IsSettled D.Disk disk.new) }
+    ensures cylinders { length space.new.free ≡ length space.old.free }
+    ensures left { OnOk result ((l : Left) × spec.IsNoted at.0 space.new.left l) }
+    ensures calls { MakesAtMost D.Disk 31207 15485 disk.old disk.new }
+{
+    match part_on_disk(disk, at, created) {
+        Ok(()) => {}
+        Err(trouble) => return Err(trouble),
+    }
+    let Some(block) = shadow else {
+        return commit_direct(disk, space, at, own, root, taken, dropped, created);
+    };
+    match is_on_disk(disk, at, block) {
+        Ok(()) => commit_begun(disk, space, at, block, own, root, taken, dropped, created),
+        Err(trouble) => Err(trouble),
+    }
+}
+
+/// Lists a node and a leaf, each unless it is 0 or the same as the other at its place.
+fn list_two(list: &mut Blocks, node: u32, other_node: u32, leaf: u32, other_leaf: u32)
+    ensures { list.new ≡ unlike node other_node ++ unlike leaf other_leaf }
+{
+    list.clear();
+    add_unlike(list, node, other_node);
+    add_unlike(list, leaf, other_leaf);
+}
+
+impl Draft {
+    /// Makes the draft its object. A draft without a shadow root takes one Free block for it. Done, all is durable, and
+    /// the object's blocks are exactly those of the draft; of an object that is made with it the root is Allocated.
+    /// Where it is refused the draft is gone, and each image that a crash leaves has the object old, or it new and what
+    /// is made with it. `Damaged` names a map block, with code 2, which is none or has no Free block, with code 12, or
+    /// a node or the root block, with code 4, where a pointer leads past the disk.
+    pub fn commit<D: Disk>(mut self, disk: &mut D, space: &mut Space) -> Result<(), Trouble>
+        requires on_disk { self.at < D.blocks disk.old }
+        requires size { D.blocks disk.old ≡ 64 * length space.old.free }
+        requires room { self.shadow ≡ None → 1 ≤ sum space.old.free }
+        // No commit is kept.
+        requires left { space.old.left ≡ None }
+        // The store has the object, and the one that is made with it, and nothing waits.
+        ensures done { (graph : Graph) (ds : List Opened) (id : Puid) (o : Object) (d : drafts.Draft)
+            (made : Option spec.Making) → StoreHas D.Disk graph ds disk.old space.old → object_at graph id ≡ Some o
+            → IsOpen ds id self d → spec.Makes (D.content disk.old) self.created made
+            → OnOk result (spec.Committed D.Disk graph ds id d.object made disk.old disk.new space.new) }
+        // Each image that a crash leaves on the way holds all as it was, or this object new and the one that is made.
+        ensures leaves { (graph : Graph) (ds : List Opened) (id : Puid) (o : Object) (d : drafts.Draft)
+            (made : Option spec.Making) → StoreHas D.Disk graph ds disk.old space.old → object_at graph id ≡ Some o
+            → IsOpen ds id self d → spec.Makes (D.content disk.old) self.created made
+            → Leaves D.Disk disk.old disk.new (spec.IsOldOrNew graph (spec.with_making graph made) id d.object) }
+        // No damage where the disk holds the object.
+        ensures sound { (graph : Graph) (ds : List Opened) (id : Puid) (o : Object) (d : drafts.Draft)
+            (made : Option spec.Making) → StoreHas D.Disk graph ds disk.old space.old → object_at graph id ≡ Some o
+            → IsOpen ds id self d → spec.Makes (D.content disk.old) self.created made
+            → IfErr result (λ t. is_damage t ≡ false) }
+        ensures refused { IfErr result (IsTrouble D.Disk self.at disk.old disk.new space.new) }
+        ensures made { OnOk result (HasTried D.Disk disk.old disk.new) }
+        // Of a draft that has a shadow root, where a call of the disk failed a write or a barrier was tried.
+        ensures tried { self.shadow ≢ None → IfErr result (λ t. t ≢ troubles.Disk false) }
+        // Where a device call failed before the first try, only reads were made.
+        ensures untried { IfErr result (λ t. t ≡ troubles.Disk false
+            → (space.new ≡ space.old) × OnlyReads D.Disk 241 disk.old disk.new) }
+        // Past its bit no write waits, of whatever disk that tells its content.
+        ensures settled { Tells D.Disk disk.old → OnOk result (IsSettled D.Disk disk.new) }
+        ensures cylinders { length space.new.free ≡ length space.old.free }
+        // What is left of it is kept.
+        ensures left { OnOk result ((l : Left) × spec.IsNoted self.at space.new.left l) }
+        ensures calls { MakesAtMost D.Disk 31207 15485 disk.old disk.new }
+    {
+        let taken = self.taken;
+        commit_parts(
+            disk,
+            space,
+            self.at,
+            self.shadow,
+            &self.own,
+            &self.root,
+            taken,
+            &mut self.dropped,
+            self.created,
+        )
+    }
+
+    /// The same of a draft without a shadow root that equalled its object until one slot was filled, by what was put.
+    /// No node is read.
+    pub fn commit_swap<D: Disk>(
+        mut self,
+        disk: &mut D,
+        space: &mut Space,
+        swap: Swap,
+    ) -> Result<(), Trouble>
+        requires on_disk { self.at < D.blocks disk.old }
+        requires size { D.blocks disk.old ≡ 64 * length space.old.free }
+        requires room { 1 ≤ sum space.old.free }
+        requires left { space.old.left ≡ None }
+        requires direct { self.shadow ≡ None }
+        requires near { IsNearSwap (D.blocks disk.old) self swap }
+        ensures commits { (graph : Graph) (ds : List Opened) (id : Puid) (o : Object) (d : drafts.Draft)
+            (made : Option spec.Making) → StoreHas D.Disk graph ds disk.old space.old → object_at graph id ≡ Some o
+            → IsOpen ds id self d → spec.Makes (D.content disk.old) self.created made
+            → IsSwapped (D.content disk.old) id self d swap
+            → spec.CommitEnds D.Disk graph ds id d.object made disk.old disk.new space.new result }
+        ensures refused { IfErr result (IsTrouble D.Disk self.at disk.old disk.new space.new) }
+        ensures made { OnOk result (HasTried D.Disk disk.old disk.new) }
+        // Past its bit no write waits, of whatever disk that tells its content.
+        ensures settled { Tells D.Disk disk.old → OnOk result (IsSettled D.Disk disk.new) }
+        ensures cylinders { length space.new.free ≡ length space.old.free }
+        // What is left of it is kept.
+        ensures left { OnOk result ((l : Left) × spec.IsNoted self.at space.new.left l) }
+        ensures calls { MakesAtMost D.Disk 11 7 disk.old disk.new }
+    {
+        let mut taken = self.taken;
+        match part_on_disk(disk, self.at, self.created) {
+            Ok(()) => {}
+            Err(trouble) => return Err(trouble),
+        }
+        let number = (swap.leaf / 128) as usize;
+        let own = self.own.nodes[number];
+        let node = self.root.nodes[number];
+        list_two(&mut taken, node, own, swap.is, swap.was);
+        list_two(&mut self.dropped, own, node, swap.was, swap.is);
+        commit_listed(
+            disk,
+            space,
+            self.at,
+            &self.root,
+            taken,
+            self.dropped.as_slice(),
+            self.created,
+        )
+    }
+}

@@ -1,0 +1,165 @@
+//! The blocks of a draft's own that become Free where leaves are dropped.
+ghost use Rattle.std.specs.Prelude.{◌≡◌, ◌+◌, ◌-◌, ◌*◌, ◌/◌, ◌<◌, ◌≤◌, ◌==◌, ◌++◌, if◌then◌else◌, ℕ, IsTrue, false, []};
+ghost use Rattle.std.specs.Prelude.{get_or, length, slice_index, Ok, IfErr, IfOk, OnOk};
+ghost use Rattle.std.specs.List.{All};
+ghost use Rattle.cfs_base.specs.Calls.{OnlyReads};
+ghost use Rattle.cfs_base.specs.Refusals.{trouble_after_try, trouble_had_tried};
+ghost use Rattle.cfs_base.specs.Run.{Tells};
+ghost use Rattle.cfs_base.specs.declared.refusal.Trouble.TheVariants as trouble;
+ghost use Rattle.cyl_alloc.specs.Space.{Kept};
+ghost use Rattle.intentions.specs.declared.change.Change.TheVariants.{Undo};
+ghost use Rattle.intentions.specs.Flips.{flips};
+ghost use Rattle.special_files.specs.Committing.{Flips};
+ghost use Rattle.special_files.specs.Drafting.{Drafting, opened_as};
+ghost use Rattle.block_tree.specs.Reads.{is_damage, IsNear, leaves_at};
+ghost use Rattle.special_files.specs.Refusal.{IsTrouble};
+ghost use Rattle.special_files.specs.Shed as spec;
+ghost use Rattle.special_files.specs.View.{View};
+
+use crate::blocks::Blocks;
+use crate::flags::Flags;
+use crate::node::NodeRead;
+use block_tree::{Node, Root, read_node};
+use cfs_base::{BlockNo, Disk, Trouble};
+use cyl_alloc::KnownMaps;
+use intentions::{Change, change_entry};
+
+/// A node of a draft with this root, which is read unless it was the last that was.
+fn node_again<D: Disk>(
+    disk: &mut D,
+    at: BlockNo,
+    root: &Root,
+    read: &NodeRead,
+    number: u32,
+) -> Result<Node, Trouble>
+    requires below { number < 120 }
+    requires some { 0 < D.blocks disk.old }
+    requires safe { spec.IsSafeIn (D.blocks disk.old) root.now read.now }
+    ensures node { Tells D.Disk disk.old → spec.IsReadIn (D.content disk.old) root.now read.now
+        → IfOk result (λ node. node.leaves ≡ leaves_at (D.content disk.old) (slice_index root.now.nodes number)) }
+    ensures there { OnOk result (slice_index root.now.nodes number < D.blocks disk.old) }
+    ensures leaves { IfOk result (λ node. All (λ leaf. leaf < D.blocks disk.old) node.leaves) }
+    ensures refused { (kept : Kept) → IfErr result (IsTrouble D.Disk at.0 disk.old disk.new kept) }
+    ensures untried { IfErr result (λ trouble. trouble_had_tried trouble ≡ false) }
+    ensures sound { Tells D.Disk disk.old
+        → IsNear (D.blocks disk.old) (D.content disk.old) (slice_index root.now.nodes number)
+        → IfErr result (λ trouble. is_damage trouble ≡ false) }
+    ensures reads { OnlyReads D.Disk 1 disk.old disk.new }
+{
+    if read.number == number {
+        return Ok(read.node);
+    }
+    read_node(disk, root.nodes[number as usize], at)
+}
+
+/// Lists a block, if it is to be.
+fn add_if(list: &mut Blocks, add: bool, block: u32)
+    requires { length list.old < 15480 }
+    ensures { list.new ≡ list.old ++ spec.list_if add block }
+{
+    if add {
+        list.add(block);
+    }
+}
+
+/// Lists a fresh node, where leaf 0 of it is dropped, and its fresh leaves from a place on.
+fn list_node(list: &mut Blocks, leaves: &Flags, block: u32, node: &Node, number: u32, from: u32)
+    requires room { length list.old + 129 ≤ 15480 }
+    requires flags { length leaves.now ≡ 15360 }
+    requires below { number < 120 }
+    requires place { from ≤ 128 }
+    ensures { list.new ≡ list.old ++ (spec.list_if (from == 0) block
+        ++ spec.fresh_in leaves.now node.now.leaves number from (128 - from)) }
+{
+    add_if(list, from == 0, block);
+    for place in from..128 {
+        add_if(
+            list,
+            leaves.has(128 * number + place),
+            node.leaves[place as usize],
+        );
+    }
+}
+
+/// Lists the fresh leaves from one on, and the fresh nodes that have no leaf before it.
+pub(crate) fn list_from<D: Disk>(
+    disk: &mut D,
+    at: BlockNo,
+    root: &Root,
+    leaves: &Flags,
+    nodes: &Flags,
+    read: &NodeRead,
+    from: u32,
+    list: &mut Blocks,
+) -> Result<(), Trouble>
+    requires some { 0 < D.blocks disk.old }
+    requires leaf_flags { length leaves.now ≡ 15360 }
+    requires node_flags { length nodes.now ≡ 120 }
+    requires limit { from ≤ 15360 }
+    requires safe { spec.IsSafeIn (D.blocks disk.old) root.now read.now }
+    ensures listed { (space : Kept) (was : Drafting) (v : View D.Disk disk.old space was)
+        → spec.HasParts was root.now leaves.now nodes.now → spec.IsReadIn (D.content disk.old) root.now read.now
+        → OnOk result (spec.AreShed (D.content disk.old) v.id (opened_as v.id was v.draft) from list.new) }
+    // On any disk there are no more than a draft has room for, and each is a block of the disk.
+    ensures room { OnOk result (length list.new ≤ 15480) }
+    ensures on_disk { OnOk result (All (λ n. n < D.blocks disk.old) list.new) }
+    ensures refused { (kept : Kept) → IfErr result (IsTrouble D.Disk at.0 disk.old disk.new kept) }
+    ensures untried { IfErr result (λ trouble. trouble_had_tried trouble ≡ false) }
+    ensures sound { (space : Kept) (was : Drafting) (v : View D.Disk disk.old space was)
+        → spec.HasParts was root.now leaves.now nodes.now → IfErr result (λ trouble. is_damage trouble ≡ false) }
+    // Where no node is fresh there is none, and nothing is read.
+    ensures none { ((n : ℕ) → get_or nodes.now n false ≡ false)
+        → (result ≡ Ok tt) × (list.new ≡ []) × (disk.new ≡ disk.old) }
+    ensures reads { OnlyReads D.Disk 120 disk.old disk.new }
+{
+    list.clear();
+    for number in from / 128..120 {
+        if nodes.has(number) {
+            let node = match node_again(disk, at, root, read, number) {
+                Ok(node) => node,
+                Err(trouble) => return Err(trouble),
+            };
+            let place = from.saturating_sub(128 * number);
+            list_node(
+                list,
+                leaves,
+                root.nodes[number as usize],
+                &node,
+                number,
+                place,
+            );
+        }
+    }
+    Ok(())
+}
+
+/// The trouble of a call that may have tried a write before.
+fn since(tried: bool, trouble: Trouble) -> Trouble
+    ensures { result ≡ if tried then trouble_after_try trouble else trouble }
+{
+    if tried { trouble.after_try() } else { trouble }
+}
+
+/// Takes back what was claimed for these blocks, one after another. A failure before the first write tells so.
+pub(crate) fn undo_listed<D: Disk>(
+    disk: &mut D,
+    known: &mut KnownMaps,
+    blocks: &[u32],
+) -> Result<(), Trouble>
+    requires { All (λ n. n < D.blocks disk.old) blocks.now }
+    ensures flips { Flips D.Disk (2 * length blocks.now) (length blocks.now) (flips Undo blocks.now)
+        disk.old disk.new (spec.as_tried result) }
+    ensures told { OnOk result ((n : ℕ) → IsTrue (D.told disk.old n) → IsTrue (D.told disk.new n)) }
+    ensures refused { (at : ℕ) (kept : Kept) → IfErr result (IsTrouble D.Disk at disk.old disk.new kept) }
+    ensures untried { IfErr result (λ t. t ≡ trouble.Disk false → OnlyReads D.Disk 1 disk.old disk.new) }
+    ensures none { blocks.now ≡ [] → disk.new ≡ disk.old }
+{
+    let mut tried = false;
+    for block in blocks {
+        match change_entry(disk, known, BlockNo(*block), Change::Undo) {
+            Ok(_) => tried = true,
+            Err(trouble) => return Err(since(tried, trouble)),
+        }
+    }
+    Ok(())
+}
